@@ -1,0 +1,90 @@
+-- The answer to a set: what is fixed, the maps, the emitted integers, the clauses; and its words.
+use mathlib.Core.Bool.{Bool, true, false}
+use mathlib.Core.Option.{Option, none as nothing, some}
+use mathlib.Core.List.{List, [], _∷_, _++_, map}
+use Prim.Native.Nat.{ℕ, suc}
+use lib.IntN.{ℤ, pos, negsuc}
+use lib.ListN.{length}
+use Rattle.laws.specs.Lists.{below, counted}
+use Rattle.syntax.specs.Syntax.{Domain, lower-bound, upper-bound, num-candidates, encode-op, Stmt, Rule, Table, Problem}
+use Rattle.fold.specs.Fold.{Fixed}
+use Rattle.sums.specs.LinearSum.{Term, term, linear-sum}
+use Rattle.clauses.specs.Clause.{BoolLit, lit, LinearLit, linear, Clause, clause}
+use Rattle.clauses.specs.Log.{next-bool, get-bool-var, get-int-var}
+use Rattle.clauses.specs.Disjunction.{Out}
+use Rattle.clauses.specs.Normalize.{Run}
+use Rattle.clauses.specs.Split.{normalize-and-register-expr}
+use Rattle.tables.specs.Tables.{normalize-table, emitted-domains}
+
+-- ---- normalize
+
+unfoldable pub normalize-stmt : List Domain → Stmt → Run
+normalize-stmt ds (Rule e) s = normalize-and-register-expr e s
+normalize-stmt ds (Table es rows) s = normalize-table ds es rows s
+
+unfoldable pub normalize-stmts : List Domain → List Stmt → Run
+normalize-stmts ds [] s = ([], s)
+normalize-stmts ds (t ∷ ts) s =
+    let a = normalize-stmt ds t s in
+    let b = normalize-stmts ds ts (a .1) in
+    (a .0 ++ b .0, b .1)
+
+pub record Answer : Type 0 where
+  -- of each declared Boolean: its value if fixed; its emitted number if any
+  pub fixed : List (Option Bool)
+  pub bool-map : List (Option ℕ)
+  -- of each declared integer
+  pub int-map : List (Option ℕ)
+  pub emitted-bools : ℕ
+  pub emitted-ints : List Domain
+  pub clauses : List Clause
+
+unfoldable pub answer-of : Problem → Fixed → Out → Answer
+answer-of p f out = record {
+  fixed = map f (below (p .bools));
+  bool-map = map (λ v. get-bool-var v (out .1)) (below (p .bools));
+  int-map = map (λ v. get-int-var v (out .1)) (below (length (p .domains)));
+  emitted-bools = next-bool (out .1);
+  emitted-ints = emitted-domains (p .domains) (out .1);
+  clauses = out .0;
+}
+
+-- f and ss: what the passes left
+unfoldable pub normalize : Problem → Fixed → List Stmt → Answer
+normalize p f ss = answer-of p f (normalize-stmts (p .domains) ss [])
+
+-- ---- the words
+
+abbrev pub fixed-word : Option Bool → ℤ
+fixed-word (some false) = pos 0
+fixed-word (some true) = pos 1
+fixed-word nothing = pos 2
+
+-- number plus 1, or 0
+abbrev pub map-word : Option ℕ → ℤ
+map-word (some n) = pos (suc n)
+map-word nothing = pos 0
+
+abbrev pub domain-words : Domain → List ℤ
+domain-words d = lower-bound d ∷ upper-bound d ∷ num-candidates d ∷ []
+
+-- number plus 1, negative if negated: negsuc n is -(n + 1)
+abbrev pub lit-words : BoolLit → List ℤ
+lit-words (lit n false) = pos (suc n) ∷ []
+lit-words (lit n true) = negsuc n ∷ []
+
+abbrev pub term-words : Term → List ℤ
+term-words (term v a) = pos v ∷ a ∷ []
+
+abbrev pub linear-words : LinearLit → List ℤ
+linear-words (linear o (linear-sum c ts)) = encode-op o ∷ c ∷ counted term-words ts
+
+abbrev pub clause-words : Clause → List ℤ
+clause-words (clause ls ks) = counted lit-words ls ++ counted linear-words ks
+
+unfoldable pub layout : Answer → List ℤ
+layout a =
+    map fixed-word (a .fixed)
+    ++ (map map-word (a .bool-map)
+    ++ (map map-word (a .int-map)
+    ++ (pos (a .emitted-bools) ∷ (counted domain-words (a .emitted-ints) ++ counted clause-words (a .clauses)))))

@@ -1,0 +1,130 @@
+-- When an assignment passes an answer, from the answer's words alone.
+use mathlib.Core.Path.{_≡_}
+use mathlib.Core.Bool.{Bool, true, false, not, _&&_, _||_, Bool·beq, cond}
+use mathlib.Core.List.{List, [], _∷_}
+use Prim.Native.Nat.{ℕ, zero, suc}
+use lib.IntN.{ℤ, pos, negsuc, natAbs, _+ℤ_, _*ℤ_}
+use lib.Signed.{leZ}
+use lib.ListN.{length, getD, drop}
+use Rattle.laws.specs.Ints.{eqZ}
+use Rattle.laws.specs.Lists.{all, any, below}
+use Rattle.syntax.specs.Syntax.{op-at}
+use Rattle.syntax.specs.Satisfies.{Val, IVal, compare}
+use Rattle.sums.specs.LinearSum.{Term, term, LinearSum, linear-sum}
+use Rattle.clauses.specs.Clause.{BoolLit, lit, LinearLit, linear, Clause, clause, clause-true}
+
+-- ---- the clauses of words. Each function gives what it read and the words after it
+
+abbrev pub head-word : List ℤ → ℤ
+head-word ws = getD ws 0 (pos 0)
+
+abbrev pub tail-words : List ℤ → List ℤ
+tail-words ws = drop 1 ws
+
+abbrev pub lit-of : ℤ → BoolLit
+lit-of (pos zero) = lit 0 false
+lit-of (pos (suc n)) = lit n false
+lit-of (negsuc n) = lit n true
+
+unfoldable pub decode-times : {A : Type 0} → (List ℤ → A × List ℤ) → ℕ → List ℤ → List A × List ℤ
+decode-times f zero ws = ([], ws)
+decode-times f (suc n) ws =
+    let a = f ws in
+    let b = decode-times f n (a .1) in
+    (a .0 ∷ b .0, b .1)
+
+-- a count, and as many as it says
+unfoldable pub decode-counted : {A : Type 0} → (List ℤ → A × List ℤ) → List ℤ → List A × List ℤ
+decode-counted f ws = decode-times f (natAbs (head-word ws)) (tail-words ws)
+
+unfoldable pub decode-lit : List ℤ → BoolLit × List ℤ
+decode-lit ws = (lit-of (head-word ws), tail-words ws)
+
+unfoldable pub decode-term : List ℤ → Term × List ℤ
+decode-term ws = (term (natAbs (head-word ws)) (head-word (tail-words ws)), drop 2 ws)
+
+unfoldable pub decode-linear : List ℤ → LinearLit × List ℤ
+decode-linear ws =
+    let ts = decode-counted decode-term (drop 2 ws) in
+    (linear (op-at (natAbs (head-word ws))) (linear-sum (head-word (tail-words ws)) (ts .0)), ts .1)
+
+unfoldable pub decode-clause : List ℤ → Clause × List ℤ
+decode-clause ws =
+    let ls = decode-counted decode-lit ws in
+    let ks = decode-counted decode-linear (ls .1) in
+    (clause (ls .0) (ks .0), ks .1)
+
+-- ---- the answer's words: b and i are the counts of declared variables
+
+pub record Decoded : Type 0 where
+  pub fixed : List ℤ
+  pub bool-map : List ℤ
+  pub int-map : List ℤ
+  pub emitted-bools : ℤ
+  -- lowest and highest
+  pub bounds : List (ℤ × ℤ)
+  pub clauses : List Clause
+
+unfoldable pub decode-word : List ℤ → ℤ × List ℤ
+decode-word ws = (head-word ws, tail-words ws)
+
+unfoldable pub decode-bounds : List ℤ → (ℤ × ℤ) × List ℤ
+decode-bounds ws = ((head-word ws, head-word (tail-words ws)), drop 3 ws)
+
+unfoldable pub decode : ℕ → ℕ → List ℤ → Decoded
+decode b i ws =
+    let f = decode-times decode-word b ws in
+    let m = decode-times decode-word b (f .1) in
+    let n = decode-times decode-word i (m .1) in
+    let e = decode-word (n .1) in
+    let d = decode-counted decode-bounds (e .1) in
+    let c = decode-counted decode-clause (d .1) in
+    record { fixed = f .0; bool-map = m .0; int-map = n .0; emitted-bools = e .0; bounds = d .0; clauses = c .0 }
+
+-- ---- passing
+
+abbrev pub word-of : List ℤ → ℕ → ℤ
+word-of ws v = getD ws v (pos 0)
+
+-- a fixed variable has its value
+abbrev pub fixed-agrees : ℤ → Bool → Bool
+fixed-agrees w x = cond (eqZ w (pos 0)) (not x) (cond (eqZ w (pos 1)) x true)
+
+-- an emitted declared variable carries its value
+abbrev pub carries-bool : ℤ → Bool → Val → Bool
+carries-bool (pos zero) x ρ = true
+carries-bool (pos (suc n)) x ρ = Bool·beq (ρ n) x
+carries-bool (negsuc n) x ρ = true
+
+abbrev pub carries-int : ℤ → ℤ → IVal → Bool
+carries-int (pos zero) x ι = true
+carries-int (pos (suc n)) x ι = eqZ (ι n) x
+carries-int (negsuc n) x ι = true
+
+-- any other emitted integer is anything from lowest to highest
+abbrev pub is-declared : List ℤ → ℕ → Bool
+is-declared int-map j = any (λ w. eqZ w (pos (suc j))) int-map
+
+abbrev pub between : ℤ × ℤ → ℤ → Bool
+between lh x = leZ (lh .0) x && leZ x (lh .1)
+
+abbrev pub bounds-at : Decoded → ℕ → ℤ × ℤ
+bounds-at a j = getD (a .bounds) j (pos 0, pos 0)
+
+-- δ, ε: the assignment; ρ, ι: the emitted numbers' values
+unfoldable pub passes-decoded : ℕ → ℕ → Decoded → Val → IVal → Val → IVal → Bool
+passes-decoded b i a δ ε ρ ι =
+    all (λ v. fixed-agrees (word-of (a .fixed) v) (δ v)) (below b)
+    && (all (λ v. carries-bool (word-of (a .bool-map) v) (δ v) ρ) (below b)
+    && (all (λ v. carries-int (word-of (a .int-map) v) (ε v) ι) (below i)
+    && (all (λ j. is-declared (a .int-map) j || between (bounds-at a j) (ι j)) (below (length (a .bounds)))
+    && all (clause-true ρ ι) (a .clauses))))
+
+unfoldable pub passes-with : ℕ → ℕ → List ℤ → Val → IVal → Val → IVal → Bool
+passes-with b i ws δ ε ρ ι = passes-decoded b i (decode b i ws) δ ε ρ ι
+
+-- some values of the emitted numbers do
+pub record Passes (b i : ℕ) (ws : List ℤ) (δ : Val) (ε : IVal) : Type 0 where
+  pub bools : Val
+  pub ints : IVal
+  pub passing : passes-with b i ws δ ε bools ints ≡ true

@@ -1,0 +1,60 @@
+-- The call: its result for any words and lengths, and what the output and work slices hold afterwards.
+use mathlib.Core.Path.{_≡_}
+use mathlib.Core.Bool.{false, _||_, cond}
+use mathlib.Core.List.{List, [], _++_}
+use Prim.Native.Nat.{ℕ, zero, suc, _-_}
+use lib.IntN.{ℤ, pos}
+use lib.Dec.{ltb}
+use lib.ListN.{length, replicate}
+use Rattle.syntax.specs.Words.{max-set-words, min-work-words, max-answer-words}
+use Rattle.syntax.specs.Syntax.{Problem}
+use Rattle.read.specs.Read.{Parsed, ok, refuse, read-set}
+use Rattle.limits.specs.Limits.{check}
+use Rattle.fold.specs.Optimize.{Outcome, inconsistent, settled, optimize}
+use Rattle.answer.specs.Answer.{layout, normalize}
+
+pub data Result : Type 0 where
+  compiled : List ℤ → Result
+  contradiction : Result
+  refused : ℕ → Result
+
+-- a set that 2 to 11 let through, and what it says
+pub record Accepted (set : List ℤ) (p : Problem) : Type 0 where
+  pub short : ltb max-set-words (length set) ≡ false
+  pub says : read-set set ≡ ok p []
+  pub unrefused : check p ≡ 0
+
+-- 12: the words do not fit
+unfoldable pub measured : ℕ → List ℤ → Result
+measured out-length ws = cond (ltb out-length (length ws) || ltb max-answer-words (length ws)) (refused 12) (compiled ws)
+
+unfoldable pub answered : ℕ → Problem → Outcome → Result
+answered out-length p inconsistent = contradiction
+answered out-length p (settled f ss) = measured out-length (layout (normalize p f ss))
+
+-- the refusal that `check` gives, if any
+unfoldable pub checked : ℕ → Problem → ℕ → Result
+checked out-length p zero = answered out-length p (optimize p)
+checked out-length p (suc k) = refused (suc k)
+
+unfoldable pub when-read : ℕ → Parsed Problem → Result
+when-read out-length (refuse k) = refused k
+when-read out-length (ok p r) = checked out-length p (check p)
+
+unfoldable pub call : (set : List ℤ) (out-length work-length : ℕ) → Result
+call set out-length work-length =
+    cond (ltb work-length min-work-words) (refused 1)
+    (cond (ltb max-set-words (length set)) (refused 2)
+    (when-read out-length (read-set set)))
+
+abbrev pub zeros : ℕ → List ℤ
+zeros n = replicate n (pos 0)
+
+-- the slices after the call
+unfoldable pub output-after : Result → ℕ → List ℤ
+output-after (compiled ws) out-length = ws ++ zeros (out-length - length ws)
+output-after contradiction out-length = zeros out-length
+output-after (refused k) out-length = zeros out-length
+
+unfoldable pub work-after : Result → ℕ → List ℤ
+work-after r work-length = zeros work-length

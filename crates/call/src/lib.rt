@@ -1,0 +1,1 @@
+// The call: definitions and theorems in specs/; no code here yet.

@@ -1,0 +1,5 @@
+pub mod Clause
+pub mod Log
+pub mod Disjunction
+pub mod Normalize
+pub mod Split

@@ -1,0 +1,1 @@
+// Splitting and clauses: definitions and theorems in specs/; no code here yet.

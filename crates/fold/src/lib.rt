@@ -1,0 +1,1 @@
+// Folding and passes: definitions and theorems in specs/; no code here yet.

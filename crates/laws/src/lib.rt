@@ -1,0 +1,1 @@
+// Laws of integers, lists and Booleans: definitions and theorems in specs/; no code here yet.

@@ -1,0 +1,208 @@
+-- Reading a set: what stands at the front of a list of words and the words after it, or the refusal (3 to 8) at the first offending word.
+use mathlib.Core.Bool.{Bool, true, false, cond}
+use mathlib.Core.List.{List, [], _∷_}
+use Prim.Native.Nat.{ℕ, zero, suc}
+use lib.IntN.{ℤ, pos, negsuc, natAbs}
+use lib.Signed.{ltZ}
+use lib.Dec.{leb, ltb}
+use Rattle.laws.specs.Ints.{eqZ}
+use Rattle.syntax.specs.Words.{star-word, max-bools, max-ints, max-count, max-value, max-depth}
+use Rattle.syntax.specs.Syntax.{op-at, Domain, Range, Enumerative, CmpOp, Eq, Ne, Le, Lt, Ge, Gt, IntExpr, IConst, IVar, Linear, Terms, tnil, tmore, BoolExpr, Const, Var, And, Or, Not, Xor, Iff, Imp, Cmp, Members, none, more, Cell, star, value, Stmt, Rule, Table, Problem}
+
+-- ---- parsers
+
+pub data Parsed (A : Type 0) : Type 0 where
+  ok : A → List ℤ → Parsed A
+  refuse : ℕ → Parsed A
+
+abbrev pub Parser : Type 0 → Type 0
+Parser A = List ℤ → Parsed A
+
+abbrev pub bind : {A B : Type 0} → Parsed A → (A → Parser B) → Parsed B
+bind (ok a r) f = f a r
+bind (refuse k) f = refuse k
+
+-- first p, then q on the words after it
+abbrev pub seq-parser : {A B C : Type 0} → (A → B → C) → Parser A → (A → Parser B) → Parser C
+seq-parser make p q xs = bind (p xs) (λ a r. bind (q a r) (λ b s. ok (make a b) s))
+
+abbrev pub map-parser : {A B : Type 0} → (A → B) → Parser A → Parser B
+map-parser f p xs = bind (p xs) (λ a r. ok (f a) r)
+
+-- n times p
+unfoldable pub times : {A : Type 0} → ℕ → Parser A → Parser (List A)
+times zero p xs = ok [] xs
+times (suc n) p xs = seq-parser (λ a l. a ∷ l) p (λ a. times n p) xs
+
+-- ---- numbers
+
+abbrev pub word : Parser ℤ
+word [] = refuse 3
+word (w ∷ xs) = ok w xs
+
+-- a word that is a number up to the limit, else refusal k
+abbrev pub up-to-at : ℕ → ℕ → ℤ → Parser ℕ
+up-to-at limit k (pos n) r = cond (leb n limit) (ok n r) (refuse k)
+up-to-at limit k (negsuc n) r = refuse k
+
+unfoldable pub up-to : ℕ → ℕ → Parser ℕ
+up-to limit k xs = bind (word xs) (up-to-at limit k)
+
+unfoldable pub count : Parser ℕ
+count = up-to max-count 4
+
+-- an index below n
+abbrev pub index-at : ℕ → ℤ → Parser ℕ
+index-at n (pos i) r = cond (ltb i n) (ok i r) (refuse 6)
+index-at n (negsuc i) r = refuse 6
+
+unfoldable pub index : ℕ → Parser ℕ
+index n xs = bind (word xs) (index-at n)
+
+abbrev pub in-value-range : ℤ → Bool
+in-value-range w = leb (natAbs w) max-value
+
+unfoldable pub number : Parser ℤ
+number xs = bind (word xs) (λ w r. cond (in-value-range w) (ok w r) (refuse 4))
+
+-- ---- domains
+
+-- low above high is 7 at high's word
+unfoldable pub read-range : Parser Domain
+read-range xs = bind (number xs) (λ low r. bind (number r) (λ high s. cond (ltZ high low) (refuse 7) (ok (Range low high) s)))
+
+-- a count below 1 is 7, above 4096 is 4
+abbrev pub size-at : ℤ → Parser ℕ
+size-at (pos zero) r = refuse 7
+size-at (pos (suc n)) r = cond (leb (suc n) max-count) (ok (suc n) r) (refuse 4)
+size-at (negsuc n) r = refuse 7
+
+-- n values, each above the one before it
+unfoldable pub read-rising : ℕ → ℤ → Parser (List ℤ)
+read-rising zero before xs = ok [] xs
+read-rising (suc n) before xs = bind (number xs) (λ x r. cond (ltZ before x) (bind (read-rising n x r) (λ l s. ok (x ∷ l) s)) (refuse 7))
+
+-- every value is above starWord
+unfoldable pub read-enumerative : Parser Domain
+read-enumerative xs = bind (bind (word xs) size-at) (λ n r. bind (read-rising n star-word r) (λ l s. ok (Enumerative l) s))
+
+unfoldable pub read-domain : Parser Domain
+read-domain xs = bind (word xs) (λ w r. cond (eqZ w (pos 0)) (read-range r) (cond (eqZ w (pos 1)) (read-enumerative r) (refuse 5)))
+
+-- ---- expressions
+
+pub data BoolKind : Type 0 where
+  k-const k-var k-and k-or k-not k-xor k-iff k-imp k-cmp k-unknown : BoolKind
+
+unfoldable pub kind-bool : ℤ → BoolKind
+kind-bool w =
+    cond (eqZ w (pos 10)) k-const
+    (cond (eqZ w (pos 11)) k-var
+    (cond (eqZ w (pos 12)) k-and
+    (cond (eqZ w (pos 13)) k-or
+    (cond (eqZ w (pos 14)) k-not
+    (cond (eqZ w (pos 15)) k-xor
+    (cond (eqZ w (pos 16)) k-iff
+    (cond (eqZ w (pos 17)) k-imp
+    (cond (eqZ w (pos 18)) k-cmp k-unknown))))))))
+
+pub data IntKind : Type 0 where
+  i-const i-var i-sum i-unknown : IntKind
+
+unfoldable pub kind-int : ℤ → IntKind
+kind-int w =
+    cond (eqZ w (pos 20)) i-const
+    (cond (eqZ w (pos 21)) i-var
+    (cond (eqZ w (pos 22)) i-sum i-unknown))
+
+-- where no level is left: a known code is 8, an unknown one 5
+abbrev pub too-deep-bool : BoolKind → ℕ
+too-deep-bool k-const = 8
+too-deep-bool k-var = 8
+too-deep-bool k-and = 8
+too-deep-bool k-or = 8
+too-deep-bool k-not = 8
+too-deep-bool k-xor = 8
+too-deep-bool k-iff = 8
+too-deep-bool k-imp = 8
+too-deep-bool k-cmp = 8
+too-deep-bool k-unknown = 5
+
+abbrev pub too-deep-int : IntKind → ℕ
+too-deep-int i-const = 8
+too-deep-int i-var = 8
+too-deep-int i-sum = 8
+too-deep-int i-unknown = 5
+
+-- as many terms as the count says, each a coefficient and an expression read by p
+unfoldable pub read-terms : Parser IntExpr → ℕ → Parser Terms
+read-terms p zero xs = ok tnil xs
+read-terms p (suc n) xs = bind (number xs) (λ k r. bind (p r) (λ e s. bind (read-terms p n s) (λ ts t. ok (tmore k e ts) t)))
+
+unfoldable pub read-members : Parser BoolExpr → ℕ → Parser Members
+read-members p zero xs = ok none xs
+read-members p (suc n) xs = seq-parser more p (λ e. read-members p n) xs
+
+abbrev pub bit-at : ℕ → Bool
+bit-at zero = false
+bit-at (suc n) = true
+
+unfoldable pub read-cell : Parser Cell
+read-cell xs = bind (word xs) (λ w r. cond (eqZ w star-word) (ok star r) (cond (in-value-range w) (ok (value w) r) (refuse 4)))
+
+-- nb and ni: how many variables are declared
+module _ (nb ni : ℕ) where
+  -- what follows an integer code; p reads a part one level down
+  unfoldable pub step-int : Parser IntExpr → IntKind → Parser IntExpr
+  step-int p i-const xs = map-parser IConst number xs
+  step-int p i-var xs = map-parser IVar (index ni) xs
+  step-int p i-sum xs = bind (count xs) (λ n r. map-parser Linear (read-terms p n) r)
+  step-int p i-unknown xs = refuse 5
+
+  -- an integer expression with `left` levels left
+  unfoldable pub read-int : ℕ → Parser IntExpr
+  read-int zero xs = bind (word xs) (λ w r. refuse (too-deep-int (kind-int w)))
+  read-int (suc left) xs = bind (word xs) (λ w r. step-int (read-int left) (kind-int w) r)
+
+  -- what follows a Boolean code; p and q read a part one level down
+  unfoldable pub step-bool : Parser BoolExpr → Parser IntExpr → BoolKind → Parser BoolExpr
+  step-bool p q k-const xs = map-parser (λ b. Const (bit-at b)) (up-to 1 4) xs
+  step-bool p q k-var xs = map-parser Var (index nb) xs
+  step-bool p q k-and xs = bind (count xs) (λ n r. map-parser And (read-members p n) r)
+  step-bool p q k-or xs = bind (count xs) (λ n r. map-parser Or (read-members p n) r)
+  step-bool p q k-not xs = map-parser Not p xs
+  step-bool p q k-xor xs = seq-parser Xor p (λ a. p) xs
+  step-bool p q k-iff xs = seq-parser Iff p (λ a. p) xs
+  step-bool p q k-imp xs = seq-parser Imp p (λ a. p) xs
+  step-bool p q k-cmp xs = bind (up-to 5 4 xs) (λ o r. seq-parser (Cmp (op-at o)) q (λ a. q) r)
+  step-bool p q k-unknown xs = refuse 5
+
+  unfoldable pub read-bool : ℕ → Parser BoolExpr
+  read-bool zero xs = bind (word xs) (λ w r. refuse (too-deep-bool (kind-bool w)))
+  read-bool (suc left) xs = bind (word xs) (λ w r. step-bool (read-bool left) (read-int left) (kind-bool w) r)
+
+  -- ---- statements
+
+  unfoldable pub read-table : Parser Stmt
+  read-table xs = bind (count xs) (λ n r. bind (count r) (λ k s. seq-parser Table (times n (read-int max-depth)) (λ es. times k (times n read-cell)) s))
+
+  unfoldable pub read-stmt : Parser Stmt
+  read-stmt xs = bind (word xs) (λ w r. cond (eqZ w (pos 1)) (map-parser Rule (read-bool max-depth) r) (cond (eqZ w (pos 2)) (read-table r) (refuse 5)))
+
+-- ---- the set
+
+-- words after the last statement are 3
+abbrev pub at-end : Parsed Problem → Parsed Problem
+at-end (ok p []) = ok p []
+at-end (ok p (w ∷ r)) = refuse 3
+at-end (refuse k) = refuse k
+
+unfoldable pub read-set : List ℤ → Parsed Problem
+read-set xs =
+    at-end
+    (bind (up-to max-bools 4 xs) (λ b r.
+    bind (up-to max-ints 4 r) (λ i s.
+    bind (times i read-domain s) (λ ds t.
+    bind (count t) (λ n u.
+    bind (times n (read-stmt b i) u) (λ ss v.
+    ok (record { bools = b; domains = ds; stmts = ss }) v))))))

@@ -1,0 +1,1 @@
+// Reading: definitions and theorems in specs/; no code here yet.

@@ -1,0 +1,3 @@
+pub mod Words
+pub mod Syntax
+pub mod Satisfies

@@ -1,0 +1,1 @@
+// Tables: definitions and theorems in specs/; no code here yet.
