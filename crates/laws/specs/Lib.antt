@@ -2,3 +2,4 @@ pub mod Bools
 pub mod Ints
 pub mod Lists
 pub mod Slices
+pub mod Writes
