@@ -1,2 +1,4 @@
 pub mod Call
 pub mod Claim
+pub mod Compute
+pub mod Cases
