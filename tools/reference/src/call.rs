@@ -1,0 +1,47 @@
+//! Document 01's call: refusals 1 to 11, Contradiction, refusal 12, or the answer.
+use crate::read::Refusal;
+use crate::refuse::accept;
+use crate::set::Set;
+use crate::{rust, size};
+use std::panic::{catch_unwind, AssertUnwindSafe};
+
+/// The longest answer in words.
+pub const ANSWER: u64 = 16777216;
+/// Answers that count longer than this are not built: the Rust would need gigabytes for them.
+pub const BUILT: u64 = 20_000_000;
+
+#[derive(Clone, Debug, PartialEq)]
+pub enum Outcome {
+    Compiled(Vec<i32>),
+    Contradiction,
+    Refused(Refusal),
+    /// The Rust panicked on an accepted set: never seen.
+    Panicked,
+}
+
+/// The call on a set, with an output slice and a work slice of these lengths.
+pub fn call(set: &[i32], out_len: usize, work_len: usize) -> Outcome {
+    match accept(set, work_len) {
+        Err(refusal) => Outcome::Refused(refusal),
+        Ok(set) => compile(&set, out_len),
+    }
+}
+
+/// The rest of the call on a set that refusals 1 to 11 let through.
+pub fn compile(set: &Set, out_len: usize) -> Outcome {
+    catch_unwind(AssertUnwindSafe(|| run(set, out_len))).unwrap_or(Outcome::Panicked)
+}
+
+fn run(set: &Set, out_len: usize) -> Outcome {
+    let Some(csp) = rust::optimized(set) else {
+        return Outcome::Contradiction;
+    };
+    if size::words(set, &csp) > BUILT {
+        return Outcome::Refused(12);
+    }
+    let answer = rust::answer(set, csp);
+    if answer.len() > out_len || answer.len() as u64 > ANSWER {
+        return Outcome::Refused(12);
+    }
+    Outcome::Compiled(answer)
+}

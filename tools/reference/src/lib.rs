@@ -1,0 +1,31 @@
+//! The unchanged Rust normaliser behind document 01's call.
+
+include!(concat!(env!("OUT_DIR"), "/sources.rs"));
+
+#[allow(dead_code)]
+#[path = "standin/backend.rs"]
+mod backend;
+#[path = "standin/config.rs"]
+mod config;
+#[allow(dead_code)]
+#[path = "standin/propagators.rs"]
+mod propagators;
+#[allow(dead_code)]
+#[path = "standin/sat.rs"]
+mod sat;
+#[path = "standin/util.rs"]
+mod util;
+
+pub mod answer;
+pub mod call;
+pub mod cases;
+pub mod listing;
+pub mod meaning;
+mod passes;
+pub mod read;
+pub mod refuse;
+mod rust;
+pub mod set;
+mod size;
+
+pub use call::{call, Outcome};
