@@ -1,7 +1,7 @@
 -- Propositional facts by computation. A fact over truth values that are the lemma's own variables is one line:
 --   name : (a b c : Bool) → .. ≡ ..                  name = eq3 _ _ refl
 --   name : (a b c : Bool) → .. ≡ true → .. ≡ true    name = imp3 _ _ refl      (several hypotheses: one &&)
-use mathlib.Core.Path.{_≡_, refl, sym}
+use mathlib.Core.Path.{_≡_, refl, sym, _∙_}
 use mathlib.Core.Bool.{Bool, true, false, not, _&&_, _||_, Bool·beq, false≢true}
 
 pub and-l : (a b : Bool) → a && b ≡ true → a ≡ true
@@ -105,3 +105,42 @@ or-assoc = eq3 _ _ refl
 
 pub and-assoc : (a b c : Bool) → (a && b) && c ≡ a && (b && c)
 and-assoc = eq3 _ _ refl
+
+pub or-swap : (a b c : Bool) → a || (b || c) ≡ b || (a || c)
+or-swap = eq3 _ _ refl
+
+pub and-swap : (a b c : Bool) → a && (b && c) ≡ b && (a && c)
+and-swap = eq3 _ _ refl
+
+-- ---- one side known
+
+pub never : {X : Type 0} → _≡_ {A = Bool} false true → X
+never e = absurd (false≢true e)
+
+pub or-l : (a b : Bool) → a ≡ true → a || b ≡ true
+or-l a b h = rw h refl
+
+pub or-r : (a b : Bool) → b ≡ true → a || b ≡ true
+or-r true b h = refl
+or-r false b h = h
+
+pub or-no-l : (a b : Bool) → a || b ≡ false → a ≡ false
+or-no-l true b h = h
+or-no-l false b h = refl
+
+pub or-no-r : (a b : Bool) → a || b ≡ false → b ≡ false
+or-no-r true b h = never (sym h)
+or-no-r false b h = h
+
+pub or-left-no : (a b : Bool) → a ≡ false → a || b ≡ true → b ≡ true
+or-left-no a b h k = rw h at k
+
+pub or-right-no : (a b : Bool) → b ≡ false → a || b ≡ true → a ≡ true
+or-right-no true b h k = refl
+or-right-no false b h k = never (sym h ∙ k)
+
+-- two truth values that imply each other
+pub both-ways : (a b : Bool) → (a ≡ true → b ≡ true) → (b ≡ true → a ≡ true) → a ≡ b
+both-ways true b f g = sym (f refl)
+both-ways false true f g = g refl
+both-ways false false f g = refl

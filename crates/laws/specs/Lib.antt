@@ -3,3 +3,4 @@ pub mod Ints
 pub mod Lists
 pub mod Slices
 pub mod Writes
+pub mod Order

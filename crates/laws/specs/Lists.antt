@@ -1,12 +1,12 @@
 -- Lists: tests of every element, filters, counted lists, runs of numbers; and their laws. Assumes nothing.
-use lib.ListN.{length}
+use lib.ListN.{length, take, drop}
 use mathlib.Core.Path.{_≡_, refl, sym, ap, _∙_}
 use mathlib.Core.Bool.{Bool, true, false, _&&_, _||_, cond}
 use mathlib.Core.List.{List, [], _∷_, _++_, map, append-assoc, append-nil}
 use Prim.Native.Nat.{ℕ, zero, suc}
 use lib.IntN.{ℤ, pos}
 use lib.Dec.{eqb}
-use Rattle.laws.specs.Bools.{and-l, and-r, and-i, or-assoc, and-assoc}
+use Rattle.laws.specs.Bools.{and-l, and-r, and-i, or-assoc, and-assoc, or-l, or-r}
 
 module _ {A : Type 0} where
   abbrev pub any : (A → Bool) → List A → Bool
@@ -60,3 +60,54 @@ module _ {A : Type 0} where
   pub flat-append : (xss yss : List (List A)) → flat (xss ++ yss) ≡ flat xss ++ flat yss
   flat-append [] yss = refl
   flat-append (xs ∷ xss) yss = ap (λ l. xs ++ l) (flat-append xss yss) ∙ sym (append-assoc xs (flat xss) (flat yss))
+
+-- ---- tests that follow from tests
+
+module _ {A : Type 0} where
+  pub any-cong : (f g : A → Bool) (xs : List A) → ((x : A) → f x ≡ g x) → any f xs ≡ any g xs
+  any-cong f g [] h = refl
+  any-cong f g (x ∷ xs) h = rw (h x, any-cong f g xs h)
+
+  pub all-cong : (f g : A → Bool) (xs : List A) → ((x : A) → f x ≡ g x) → all f xs ≡ all g xs
+  all-cong f g [] h = refl
+  all-cong f g (x ∷ xs) h = rw (h x, all-cong f g xs h)
+
+  pub any-split : (f : A → Bool) (k : ℕ) (xs : List A) → any f xs ≡ any f (take k xs) || any f (drop k xs)
+  any-split f zero xs = refl
+  any-split f (suc k) [] = refl
+  any-split f (suc k) (x ∷ xs) = rw (any-split f k xs) (sym (or-assoc (f x) (any f (take k xs)) (any f (drop k xs))))
+
+  pub any-mono : (f g : A → Bool) (xs : List A) → ((x : A) → f x ≡ true → g x ≡ true) → any f xs ≡ true → any g xs ≡ true
+  any-mono f g [] h k = k
+  any-mono f g (x ∷ xs) h k = go (f x) refl k (any-mono f g xs h)
+    where
+      go : (t : Bool) → f x ≡ t → t || any f xs ≡ true → (any f xs ≡ true → any g xs ≡ true) → g x || any g xs ≡ true
+      go true e k q = or-l (g x) (any g xs) (h x e)
+      go false e k q = or-r (g x) (any g xs) (q k)
+
+  pub all-mono : (f g : A → Bool) (xs : List A) → ((x : A) → f x ≡ true → g x ≡ true) → all f xs ≡ true → all g xs ≡ true
+  all-mono f g [] h k = refl
+  all-mono f g (x ∷ xs) h k = and-i (g x) (all g xs) (h x (and-l (f x) (all f xs) k)) (all-mono f g xs h (and-r (f x) (all f xs) k))
+
+  -- where f holds of all, and g never with f, g holds of none
+  pub none-of : (f g : A → Bool) (xs : List A) → ((x : A) → f x ≡ true → g x ≡ false) → all f xs ≡ true → any g xs ≡ false
+  none-of f g [] h k = refl
+  none-of f g (x ∷ xs) h k = rw (h x (and-l (f x) (all f xs) k), none-of f g xs h (and-r (f x) (all f xs) k))
+
+  pub all-filter : (f g : A → Bool) (xs : List A) → all f xs ≡ true → all f (filter g xs) ≡ true
+  all-filter f g [] h = refl
+  all-filter f g (x ∷ xs) h = go (g x) (all-filter f g xs (and-r (f x) (all f xs) h))
+    where
+      go : (t : Bool) → all f (filter g xs) ≡ true → all f (keep-if t x (filter g xs)) ≡ true
+      go true q = and-i (f x) (all f (filter g xs)) (and-l (f x) (all f xs) h) q
+      go false q = q
+
+  pub all-take : (f : A → Bool) (k : ℕ) (xs : List A) → all f xs ≡ true → all f (take k xs) ≡ true
+  all-take f zero xs h = refl
+  all-take f (suc k) [] h = refl
+  all-take f (suc k) (x ∷ xs) h = and-i (f x) _ (and-l (f x) (all f xs) h) (all-take f k xs (and-r (f x) (all f xs) h))
+
+  pub all-drop : (f : A → Bool) (k : ℕ) (xs : List A) → all f xs ≡ true → all f (drop k xs) ≡ true
+  all-drop f zero xs h = h
+  all-drop f (suc k) [] h = refl
+  all-drop f (suc k) (x ∷ xs) h = all-drop f k xs (and-r (f x) (all f xs) h)
