@@ -1,0 +1,1 @@
+// Reading words: definitions and theorems in specs/; no code here yet.
