@@ -1,3 +1,4 @@
 pub mod Words
 pub mod Syntax
 pub mod Satisfies
+pub mod Written

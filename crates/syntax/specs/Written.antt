@@ -1,0 +1,96 @@
+-- The declared variables that an expression writes: a property of each Boolean (P) and of each integer (Q).
+-- With v < B and v < I it says that all are declared.
+use mathlib.Core.List.{List, [], _∷_}
+use Prim.Native.Nat.{ℕ}
+use Rattle.syntax.specs.Syntax.{IntExpr, IConst, IVar, Linear, Terms, tnil, tmore, BoolExpr, Const, Var, NVar, And, Or, Not, Xor, Iff, Imp, Cmp, Members, none, more, Stmt, Rule, Table}
+
+module _ (Q : ℕ → Type 0) where
+  unfoldable mutual
+    pub EveryInt : IntExpr → Type 0
+    EveryInt (IConst c) = Unit {0}
+    EveryInt (IVar v) = Q v
+    EveryInt (Linear ts) = EveryTerm ts
+
+    pub EveryTerm : Terms → Type 0
+    EveryTerm tnil = Unit {0}
+    EveryTerm (tmore k e ts) = EveryInt e × EveryTerm ts
+
+  unfoldable pub EveryColumn : List IntExpr → Type 0
+  EveryColumn [] = Unit {0}
+  EveryColumn (e ∷ es) = EveryInt e × EveryColumn es
+
+module _ (P Q : ℕ → Type 0) where
+  unfoldable mutual
+    pub Every : BoolExpr → Type 0
+    Every (Const b) = Unit {0}
+    Every (Var v) = P v
+    Every (NVar n) = Unit {0}
+    Every (And ms) = EveryMember ms
+    Every (Or ms) = EveryMember ms
+    Every (Not e) = Every e
+    Every (Xor a b) = Every a × Every b
+    Every (Iff a b) = Every a × Every b
+    Every (Imp a b) = Every a × Every b
+    Every (Cmp o a b) = EveryInt Q a × EveryInt Q b
+
+    pub EveryMember : Members → Type 0
+    EveryMember none = Unit {0}
+    EveryMember (more e ms) = Every e × EveryMember ms
+
+  unfoldable pub EveryStmt : Stmt → Type 0
+  EveryStmt (Rule e) = Every e
+  EveryStmt (Table es rows) = EveryColumn Q es
+
+  unfoldable pub EveryStmts : List Stmt → Type 0
+  EveryStmts [] = Unit {0}
+  EveryStmts (s ∷ ss) = EveryStmt s × EveryStmts ss
+
+-- ---- a weaker property
+
+module _ (Q Q' : ℕ → Type 0) (to : (v : ℕ) → Q v → Q' v) where
+  mutual
+    unfolding EveryInt
+
+    pub every-int-map : (e : IntExpr) → EveryInt Q e → EveryInt Q' e
+    every-int-map (IConst c) h = tt
+    every-int-map (IVar v) h = to v h
+    every-int-map (Linear ts) h = every-term-map ts h
+
+    pub every-term-map : (ts : Terms) → EveryTerm Q ts → EveryTerm Q' ts
+    every-term-map tnil h = tt
+    every-term-map (tmore k e ts) h = (every-int-map e (h .0), every-term-map ts (h .1))
+
+  pub every-column-map : (es : List IntExpr) → EveryColumn Q es → EveryColumn Q' es
+  unfolding EveryColumn
+  every-column-map [] h = tt
+  every-column-map (e ∷ es) h = (every-int-map e (h .0), every-column-map es (h .1))
+
+module _ (P Q P' Q' : ℕ → Type 0) (toP : (v : ℕ) → P v → P' v) (toQ : (v : ℕ) → Q v → Q' v) where
+  mutual
+    unfolding Every
+
+    pub every-map : (e : BoolExpr) → Every P Q e → Every P' Q' e
+    every-map (Const b) h = tt
+    every-map (Var v) h = toP v h
+    every-map (NVar n) h = tt
+    every-map (And ms) h = every-member-map ms h
+    every-map (Or ms) h = every-member-map ms h
+    every-map (Not e) h = every-map e h
+    every-map (Xor a b) h = (every-map a (h .0), every-map b (h .1))
+    every-map (Iff a b) h = (every-map a (h .0), every-map b (h .1))
+    every-map (Imp a b) h = (every-map a (h .0), every-map b (h .1))
+    every-map (Cmp o a b) h = (every-int-map Q Q' toQ a (h .0), every-int-map Q Q' toQ b (h .1))
+
+    pub every-member-map : (ms : Members) → EveryMember P Q ms → EveryMember P' Q' ms
+    every-member-map none h = tt
+    every-member-map (more e ms) h = (every-map e (h .0), every-member-map ms (h .1))
+
+  pub every-stmt-map : (s : Stmt) → EveryStmt P Q s → EveryStmt P' Q' s
+  unfolding EveryStmt
+  every-stmt-map (Rule e) h = every-map e h
+  every-stmt-map (Table es rows) h = every-column-map Q Q' toQ es h
+
+  pub every-stmts-map : (ss : List Stmt) → EveryStmts P Q ss → EveryStmts P' Q' ss
+  unfolding EveryStmts
+  every-stmts-map [] h = tt
+  every-stmts-map (s ∷ ss) h = (every-stmt-map s (h .0), every-stmts-map ss (h .1))
