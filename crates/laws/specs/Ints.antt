@@ -108,7 +108,7 @@ pub *ℤ-dist : (a b x : ℤ) → (a +ℤ b) *ℤ x ≡ a *ℤ x +ℤ b *ℤ x
     (λ m h. ap (λ (y : ℤ). y *ℤ x) (predℤ-+ℤ m b) ∙ predℤ-*ℤ (m +ℤ b) x ∙ ap (λ (y : ℤ). y +ℤ negℤ x) h ∙ +ℤ-swap-r (m *ℤ x) (b *ℤ x) (negℤ x) ∙ ap (λ (y : ℤ). y +ℤ b *ℤ x) (sym (predℤ-*ℤ m x)))
     a
 
-neg-mul : (b x : ℤ) → negℤ b *ℤ x ≡ negℤ (b *ℤ x)
+pub neg-mul : (b x : ℤ) → negℤ b *ℤ x ≡ negℤ (b *ℤ x)
 neg-mul (pos zero) x = zero-*ℤ x ∙ ap negℤ (sym (zero-*ℤ x))
 neg-mul (pos (suc n)) (pos m) = refl
 neg-mul (pos (suc n)) (negsuc m) = sym (negℤ-negℤ (pos (suc n * suc m)))
@@ -130,3 +130,17 @@ pub *ℤ-dist-l : (k a b : ℤ) → k *ℤ (a +ℤ b) ≡ k *ℤ a +ℤ k *ℤ b
 
 pub *ℤ-minus-one : (x : ℤ) → negsuc zero *ℤ x ≡ negℤ x
 *ℤ-minus-one x = predℤ-*ℤ (pos zero) x ∙ rw (zero-*ℤ x, +ℤ-idl (negℤ x)) refl
+
+pub is-zero-mul : (a b : ℤ) → is-zero a ≡ false → is-zero b ≡ false → is-zero (a *ℤ b) ≡ false
+is-zero-mul a b h k = go (is-zero (a *ℤ b)) refl
+  where
+    size : (z : ℤ) → is-zero z ≡ false → 1 ≤ natAbs z
+    size (pos zero) e = let z : _≡_ {A = ℕ} 0 1 = cc in absurd (omega arith)
+    size (pos (suc n)) e = omega arith
+    size (negsuc n) e = omega arith
+
+    go : (t : Bool) → is-zero (a *ℤ b) ≡ t → is-zero (a *ℤ b) ≡ false
+    go false e = e
+    go true e =
+        let z : natAbs (a *ℤ b) ≡ 0 = ap natAbs (is-zero-true (a *ℤ b) e) in
+        absurd (omega (arith, natAbs-mul a b, size a h, mul-le-mul-right (natAbs b) (size a h), size b k))

@@ -3,12 +3,12 @@ use mathlib.Core.Path.{_≡_, refl, sym, ap, _∙_}
 use mathlib.Core.Bool.{Bool, true, false, not, _&&_, _||_, false≢true}
 use Prim.Native.Nat.{ℕ, zero, suc, _≤_, _<_}
 use native.Mathlib.Omega.{arith}
-use lib.IntN.{ℤ, pos, negsuc, sucℤ}
+use lib.IntN.{ℤ, pos, negsuc, sucℤ, predℤ, negℤ, suc-pred, _+ℤ_, _*ℤ_, +ℤ-idr, +ℤ-comm, +ℤ-sucℤ, +ℤ-predℤ, zero-*ℤ, sucℤ-*ℤ}
 use lib.Signed.{ltZ, leZ}
-use lib.Dec.{eqb, ltb, leb}
+use lib.Dec.{eqb, ltb, leb, leb·zero, leb·suc-zero, leb·suc-suc, eqb·zero-suc, eqb·suc-zero, eqb·suc-suc}
 use borrow.Author.Tests.{ltb-true, ltb-false, lt-ltb, le-ltb, leb-true, leb-false, le-leb, lt-leb, eqb-true, eqb-false, eq-eqb}
 use Rattle.laws.specs.Bools.{never}
-use Rattle.laws.specs.Ints.{eqZ}
+use Rattle.laws.specs.Ints.{eqZ, times-low, times-high, steps, neg-mul}
 
 -- ---- equality
 
@@ -122,3 +122,95 @@ lt-suc (negsuc a) (negsuc (suc b)) = go (ltb (suc b) a) (eqb a (suc b)) refl ref
 
 pub lt-next : (z : ℤ) → ltZ z (sucℤ z) ≡ true
 lt-next z = lt-suc z z ∙ rw (ltZ-irr z, eqZ-refl z)
+
+-- ---- with sums and products
+
+-- a relation that a step of one on both sides keeps is kept by every shift
+module _ (f : ℤ → ℤ → Bool) (step : (a b : ℤ) → f (sucℤ a) (sucℤ b) ≡ f a b) where
+  back : (a b : ℤ) → f (predℤ a) (predℤ b) ≡ f a b
+  back a b = sym (step (predℤ a) (predℤ b)) ∙ rw (suc-pred a, suc-pred b) refl
+
+  shift : (a b c : ℤ) → f (a +ℤ c) (b +ℤ c) ≡ f a b
+  shift a b c = steps (λ (c : ℤ). f (a +ℤ c) (b +ℤ c) ≡ f a b)
+      (rw (+ℤ-idr a, +ℤ-idr b) refl)
+      (λ m h. rw (+ℤ-sucℤ a m, +ℤ-sucℤ b m) (step (a +ℤ m) (b +ℤ m) ∙ h))
+      (λ m h. rw (+ℤ-predℤ a m, +ℤ-predℤ b m) (back (a +ℤ m) (b +ℤ m) ∙ h))
+      c
+
+pub ltZ-not : (a b : ℤ) → ltZ a b ≡ not (leZ b a)
+ltZ-not a b = go (ltZ a b) (leZ-not b a)
+  where
+    go : (t : Bool) → leZ b a ≡ not t → t ≡ not (leZ b a)
+    go true h = rw h refl
+    go false h = rw h refl
+
+leZ-step : (a b : ℤ) → leZ (sucℤ a) (sucℤ b) ≡ leZ a b
+leZ-step (pos a) (pos b) = leb·suc-suc a b
+leZ-step (pos a) (negsuc zero) = leb·suc-zero a
+leZ-step (pos a) (negsuc (suc b)) = refl
+leZ-step (negsuc zero) (pos b) = leb·zero (suc b)
+leZ-step (negsuc (suc a)) (pos b) = refl
+leZ-step (negsuc zero) (negsuc zero) = refl
+leZ-step (negsuc zero) (negsuc (suc b)) = sym (leb·suc-zero b)
+leZ-step (negsuc (suc a)) (negsuc zero) = sym (leb·zero (suc a))
+leZ-step (negsuc (suc a)) (negsuc (suc b)) = sym (leb·suc-suc b a)
+
+eqZ-step : (a b : ℤ) → eqZ (sucℤ a) (sucℤ b) ≡ eqZ a b
+eqZ-step (pos a) (pos b) = eqb·suc-suc a b
+eqZ-step (pos a) (negsuc zero) = eqb·suc-zero a
+eqZ-step (pos a) (negsuc (suc b)) = refl
+eqZ-step (negsuc zero) (pos b) = eqb·zero-suc b
+eqZ-step (negsuc (suc a)) (pos b) = refl
+eqZ-step (negsuc zero) (negsuc zero) = refl
+eqZ-step (negsuc zero) (negsuc (suc b)) = sym (eqb·zero-suc b)
+eqZ-step (negsuc (suc a)) (negsuc zero) = sym (eqb·suc-zero a)
+eqZ-step (negsuc (suc a)) (negsuc (suc b)) = sym (eqb·suc-suc a b)
+
+ltZ-step : (a b : ℤ) → ltZ (sucℤ a) (sucℤ b) ≡ ltZ a b
+ltZ-step a b = ltZ-not (sucℤ a) (sucℤ b) ∙ ap not (leZ-step b a) ∙ sym (ltZ-not a b)
+
+pub leZ-shift : (a b c : ℤ) → leZ (a +ℤ c) (b +ℤ c) ≡ leZ a b
+leZ-shift = shift leZ leZ-step
+
+pub eqZ-shift : (a b c : ℤ) → eqZ (a +ℤ c) (b +ℤ c) ≡ eqZ a b
+eqZ-shift = shift eqZ eqZ-step
+
+pub ltZ-shift : (a b c : ℤ) → ltZ (a +ℤ c) (b +ℤ c) ≡ ltZ a b
+ltZ-shift = shift ltZ ltZ-step
+
+pub leZ-lt : (a b : ℤ) → ltZ a b ≡ true → leZ a b ≡ true
+leZ-lt (pos a) (pos b) h = le-leb a b (omega (arith, ltb-true a b h))
+leZ-lt (pos a) (negsuc b) h = h
+leZ-lt (negsuc a) (pos b) h = refl
+leZ-lt (negsuc a) (negsuc b) h = le-leb b a (omega (arith, ltb-true b a h))
+
+pub leZ-add : (a b c d : ℤ) → leZ a b ≡ true → leZ c d ≡ true → leZ (a +ℤ c) (b +ℤ d) ≡ true
+leZ-add a b c d h k = leZ-trans (a +ℤ c) (b +ℤ c) (b +ℤ d) (leZ-shift a b c ∙ h) (rw (+ℤ-comm b c, +ℤ-comm b d) (leZ-shift c d b ∙ k))
+
+pub leZ-neg : (a b : ℤ) → leZ (negℤ b) (negℤ a) ≡ leZ a b
+leZ-neg (pos zero) (pos zero) = refl
+leZ-neg (pos zero) (pos (suc b)) = sym (leb·zero (suc b))
+leZ-neg (pos (suc a)) (pos zero) = sym (leb·suc-zero a)
+leZ-neg (pos (suc a)) (pos (suc b)) = sym (leb·suc-suc a b)
+leZ-neg (pos zero) (negsuc b) = leb·suc-zero b
+leZ-neg (pos (suc a)) (negsuc b) = refl
+leZ-neg (negsuc a) (pos zero) = leb·zero (suc a)
+leZ-neg (negsuc a) (pos (suc b)) = refl
+leZ-neg (negsuc a) (negsuc b) = leb·suc-suc b a
+
+-- a product with a number keeps the order, with its negative turns it round
+pub leZ-mul : (k : ℕ) (a b : ℤ) → leZ a b ≡ true → leZ (pos k *ℤ a) (pos k *ℤ b) ≡ true
+leZ-mul zero a b h = rw (zero-*ℤ a, zero-*ℤ b) refl
+leZ-mul (suc k) a b h = rw (sucℤ-*ℤ (pos k) a, sucℤ-*ℤ (pos k) b) (leZ-add (pos k *ℤ a) (pos k *ℤ b) a b (leZ-mul k a b h) h)
+
+pub leZ-mul-neg : (k : ℕ) (a b : ℤ) → leZ a b ≡ true → leZ (negsuc k *ℤ b) (negsuc k *ℤ a) ≡ true
+leZ-mul-neg k a b h = rw (neg-mul (pos (suc k)) a, neg-mul (pos (suc k)) b) (leZ-neg (pos (suc k) *ℤ a) (pos (suc k) *ℤ b) ∙ leZ-mul (suc k) a b h)
+
+-- a coefficient's least and greatest product hold every product
+pub times-low-le : (k low high x : ℤ) → leZ low x ≡ true → leZ x high ≡ true → leZ (times-low k low high) (k *ℤ x) ≡ true
+times-low-le (pos k) low high x h g = leZ-mul k low x h
+times-low-le (negsuc k) low high x h g = leZ-mul-neg k x high g
+
+pub times-high-le : (k low high x : ℤ) → leZ low x ≡ true → leZ x high ≡ true → leZ (k *ℤ x) (times-high k low high) ≡ true
+times-high-le (pos k) low high x h g = leZ-mul k x high g
+times-high-le (negsuc k) low high x h g = leZ-mul-neg k low x h

@@ -1,1 +1,2 @@
 pub mod LinearSum
+pub mod Value
