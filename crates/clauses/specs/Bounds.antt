@@ -1,0 +1,171 @@
+-- The bound of the emitted numbers that occur, one more than the greatest: "names only numbers below n" is a bound ≤ n.
+-- What is bounded by n depends on the values of the numbers below n only.
+use mathlib.Core.Path.{_≡_, refl, ap}
+use mathlib.Core.Bool.{Bool, true, false, not, cond}
+use mathlib.Core.List.{List, [], _∷_, _++_}
+use Prim.Native.Nat.{ℕ, suc, _≤_, _<_, max}
+use native.Mathlib.Omega.{arith}
+use lib.Dec.{eqb, ltb}
+use lib.IntN.{ℤ, pos, _+ℤ_, _*ℤ_}
+use Rattle.laws.specs.Ints.{is-zero}
+use Rattle.laws.specs.Lists.{any, all, flat}
+use Rattle.syntax.specs.Syntax.{BoolExpr, Const, Var, NVar, And, Or, Not, Xor, Iff, Imp, Cmp, Members, none, more}
+use Rattle.syntax.specs.Satisfies.{Val, IVal, holds, holds-all, holds-any}
+use Rattle.sums.specs.LinearSum.{Term, term, LinearSum, linear-sum, constant, place, insert-coef, add-coef, add-terms, add-sum, mul-terms, mul-sum, sub-sum, sum-terms-value, sum-value}
+use Rattle.clauses.specs.Clause.{BoolLit, lit, Clause, clause, lit-true, clause-true}
+use Rattle.clauses.specs.Disjunction.{add-bool-each}
+
+-- ---- bounds
+
+abbrev pub lits-bound : List BoolLit → ℕ
+lits-bound [] = 0
+lits-bound (lit n g ∷ ls) = max (suc n) (lits-bound ls)
+
+abbrev pub clauses-bound : List Clause → ℕ
+clauses-bound [] = 0
+clauses-bound (clause ls ks ∷ cs) = max (lits-bound ls) (clauses-bound cs)
+
+abbrev pub lists-bound : List (List Clause) → ℕ
+lists-bound [] = 0
+lists-bound (cs ∷ css) = max (clauses-bound cs) (lists-bound css)
+
+unfoldable mutual
+  pub expr-bound : BoolExpr → ℕ
+  expr-bound (Const b) = 0
+  expr-bound (Var v) = 0
+  expr-bound (NVar n) = suc n
+  expr-bound (And ms) = members-bound ms
+  expr-bound (Or ms) = members-bound ms
+  expr-bound (Not e) = expr-bound e
+  expr-bound (Xor a b) = max (expr-bound a) (expr-bound b)
+  expr-bound (Iff a b) = max (expr-bound a) (expr-bound b)
+  expr-bound (Imp a b) = max (expr-bound a) (expr-bound b)
+  expr-bound (Cmp o a b) = 0
+
+  pub members-bound : Members → ℕ
+  members-bound none = 0
+  members-bound (more e ms) = max (expr-bound e) (members-bound ms)
+
+abbrev pub exprs-bound : List BoolExpr → ℕ
+exprs-bound [] = 0
+exprs-bound (e ∷ es) = max (expr-bound e) (exprs-bound es)
+
+-- of the integers of a sum
+abbrev pub terms-bound : List Term → ℕ
+terms-bound [] = 0
+terms-bound (term v a ∷ ts) = max (suc v) (terms-bound ts)
+
+abbrev pub sum-bound : LinearSum → ℕ
+sum-bound (linear-sum c ts) = terms-bound ts
+
+-- ---- of lists
+
+pub lits-bound-append : (a b : List BoolLit) → lits-bound (a ++ b) ≡ max (lits-bound a) (lits-bound b)
+lits-bound-append [] b = omega arith
+lits-bound-append (lit n g ∷ a) b = rw (lits-bound-append a b) (omega arith)
+
+pub clauses-bound-append : (a b : List Clause) → clauses-bound (a ++ b) ≡ max (clauses-bound a) (clauses-bound b)
+clauses-bound-append [] b = omega arith
+clauses-bound-append (clause ls ks ∷ a) b = rw (clauses-bound-append a b) (omega arith)
+
+pub clauses-bound-add : (n : ℕ) (g : Bool) (cs : List Clause) → clauses-bound (add-bool-each (lit n g) cs) ≤ max (suc n) (clauses-bound cs)
+clauses-bound-add n g [] = omega arith
+clauses-bound-add n g (clause ls ks ∷ cs) = rw (lits-bound-append ls (lit n g ∷ [])) (omega (arith, clauses-bound-add n g cs))
+
+pub clauses-bound-flat : (css : List (List Clause)) → clauses-bound (flat css) ≡ lists-bound css
+clauses-bound-flat [] = refl
+clauses-bound-flat (cs ∷ css) = omega (arith, clauses-bound-append cs (flat css), clauses-bound-flat css)
+
+exprs-bound-append : (a b : List BoolExpr) → exprs-bound (a ++ b) ≡ max (exprs-bound a) (exprs-bound b)
+exprs-bound-append [] b = omega arith
+exprs-bound-append (e ∷ a) b = rw (exprs-bound-append a b) (omega arith)
+
+pub exprs-bound-le : (n : ℕ) (a b : List BoolExpr) → exprs-bound a ≤ n → exprs-bound b ≤ n → exprs-bound (a ++ b) ≤ n
+exprs-bound-le n a b h k = rw (exprs-bound-append a b) (omega arith)
+
+-- ---- of sums
+
+unless-zero-bound : (z : Bool) (v : ℕ) (a : ℤ) (ts : List Term) → terms-bound (cond z ts (term v a ∷ ts)) ≤ max (suc v) (terms-bound ts)
+unless-zero-bound true v a ts = omega arith
+unless-zero-bound false v a ts = omega arith
+
+place-bound : (b e : Bool) (v : ℕ) (a : ℤ) (w : ℕ) (c : ℤ) (ts r : List Term) → terms-bound r ≤ max (suc v) (terms-bound ts) → terms-bound (place b e v a w c ts r) ≤ max (suc v) (max (suc w) (terms-bound ts))
+place-bound true e v a w c ts r h = omega arith
+place-bound false true v a w c ts r h = omega (arith, unless-zero-bound (is-zero (c +ℤ a)) w (c +ℤ a) ts)
+place-bound false false v a w c ts r h = omega arith
+
+insert-bound : (v : ℕ) (a : ℤ) (ts : List Term) → terms-bound (insert-coef v a ts) ≤ max (suc v) (terms-bound ts)
+unfolding insert-coef
+insert-bound v a [] = omega arith
+insert-bound v a (term w c ∷ ts) = place-bound (ltb v w) (eqb v w) v a w c ts (insert-coef v a ts) (insert-bound v a ts)
+
+add-coef-bound : (z : Bool) (v : ℕ) (a : ℤ) (ts : List Term) → terms-bound (cond z ts (insert-coef v a ts)) ≤ max (suc v) (terms-bound ts)
+add-coef-bound true v a ts = omega arith
+add-coef-bound false v a ts = insert-bound v a ts
+
+add-terms-bound : (ts us : List Term) → terms-bound (add-terms ts us) ≤ max (terms-bound ts) (terms-bound us)
+unfolding add-terms add-coef
+add-terms-bound ts [] = omega arith
+add-terms-bound ts (term v a ∷ us) = omega (arith, add-terms-bound (add-coef v a ts) us, add-coef-bound (is-zero a) v a ts)
+
+pub add-sum-bound : (a b : LinearSum) → sum-bound (add-sum a b) ≤ max (sum-bound a) (sum-bound b)
+unfolding add-sum
+add-sum-bound (linear-sum c ts) (linear-sum d us) = add-terms-bound ts us
+
+mul-terms-bound : (k : ℤ) (ts : List Term) → terms-bound (mul-terms k ts) ≡ terms-bound ts
+unfolding mul-terms
+mul-terms-bound k [] = refl
+mul-terms-bound k (term v a ∷ ts) = rw (mul-terms-bound k ts) refl
+
+pub mul-sum-bound : (k : ℤ) (a : LinearSum) → sum-bound (mul-sum k a) ≤ sum-bound a
+unfolding mul-sum
+mul-sum-bound k (linear-sum c ts) = go (is-zero k)
+  where
+    go : (z : Bool) → sum-bound (cond z (constant (pos 0)) (linear-sum (c *ℤ k) (mul-terms k ts))) ≤ terms-bound ts
+    go true = omega arith
+    go false = omega (arith, mul-terms-bound k ts)
+
+-- ---- values that agree below a bound
+
+abbrev pub Same : {A : Type 0} → ℕ → (ℕ → A) → (ℕ → A) → Type 0
+Same n ρ ρ' = (m : ℕ) → m < n → ρ m ≡ ρ' m
+
+module _ (n : ℕ) (ρ ρ' : Val) (same : Same n ρ ρ') where
+  lits-same : (ls : List BoolLit) → lits-bound ls ≤ n → any (lit-true ρ) ls ≡ any (lit-true ρ') ls
+  lits-same [] h = refl
+  lits-same (lit m g ∷ ls) h = rw (same m (omega arith), lits-same ls (omega arith)) refl
+
+  pub clauses-same : (ι : IVal) (cs : List Clause) → clauses-bound cs ≤ n → all (clause-true ρ ι) cs ≡ all (clause-true ρ' ι) cs
+  clauses-same ι [] h = refl
+  clauses-same ι (clause ls ks ∷ cs) h = rw (lits-same ls (omega arith), clauses-same ι cs (omega arith)) refl
+
+  module _ (δ : Val) (ε : IVal) where
+    mutual
+      unfolding holds expr-bound
+
+      pub holds-same : (e : BoolExpr) → expr-bound e ≤ n → holds δ ε ρ e ≡ holds δ ε ρ' e
+      holds-same (Const b) h = refl
+      holds-same (Var v) h = refl
+      holds-same (NVar m) h = same m h
+      holds-same (And ms) h = holds-all-same ms h
+      holds-same (Or ms) h = holds-any-same ms h
+      holds-same (Not e) h = ap not (holds-same e h)
+      holds-same (Xor a b) h = rw (holds-same a (omega arith), holds-same b (omega arith)) refl
+      holds-same (Iff a b) h = rw (holds-same a (omega arith), holds-same b (omega arith)) refl
+      holds-same (Imp a b) h = rw (holds-same a (omega arith), holds-same b (omega arith)) refl
+      holds-same (Cmp o a b) h = refl
+
+      holds-all-same : (ms : Members) → members-bound ms ≤ n → holds-all δ ε ρ ms ≡ holds-all δ ε ρ' ms
+      holds-all-same none h = refl
+      holds-all-same (more e ms) h = rw (holds-same e (omega arith), holds-all-same ms (omega arith)) refl
+
+      holds-any-same : (ms : Members) → members-bound ms ≤ n → holds-any δ ε ρ ms ≡ holds-any δ ε ρ' ms
+      holds-any-same none h = refl
+      holds-any-same (more e ms) h = rw (holds-same e (omega arith), holds-any-same ms (omega arith)) refl
+
+pub sum-terms-same : (n : ℕ) (ι ι' : IVal) → Same n ι ι' → (ts : List Term) → terms-bound ts ≤ n → sum-terms-value ι ts ≡ sum-terms-value ι' ts
+sum-terms-same n ι ι' same [] h = refl
+sum-terms-same n ι ι' same (term v a ∷ ts) h = rw (same v (omega arith), sum-terms-same n ι ι' same ts (omega arith)) refl
+
+pub sum-same : (n : ℕ) (ι ι' : IVal) → Same n ι ι' → (l : LinearSum) → sum-bound l ≤ n → sum-value ι l ≡ sum-value ι' l
+sum-same n ι ι' same (linear-sum c ts) h = rw (sum-terms-same n ι ι' same ts h) refl

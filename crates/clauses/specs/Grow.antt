@@ -1,0 +1,189 @@
+-- How a log grows: the numbers given stay, new ones are above them, and what values owe to a log they owe to what it grew from.
+-- ε: the declared integers, for a column's domain has to hold its sum.
+use mathlib.Core.Path.{_≡_, refl}
+use mathlib.Core.Bool.{Bool, true, false, cond}
+use mathlib.Core.Option.{Option, none as nothing, some}
+use mathlib.Core.List.{List, [], _∷_}
+use Prim.Native.Nat.{ℕ, suc, _≤_, _<_}
+use native.Mathlib.Omega.{arith}
+use lib.Dec.{eqb, eqb→eq, eqb-refl, T}
+use Rattle.syntax.specs.Syntax.{in-domain}
+use Rattle.syntax.specs.Satisfies.{Val, IVal}
+use Rattle.sums.specs.LinearSum.{sum-value}
+use Rattle.clauses.specs.Log.{Made, declared, aux, side, declared-int, column, Log, next-bool, next-int, get-bool-var, get-int-var}
+use Rattle.clauses.specs.Bounds.{clauses-bound, expr-bound, sum-bound}
+use Rattle.clauses.specs.Valuation.{AgreesBools, AgreesInts, Agrees, Fits}
+
+-- what may be made after s: a variable that has no number yet; clauses, a side or a sum over numbers given,
+-- the sum's value in the domain
+abbrev pub Legal : IVal → Made → Log → Type 0
+Legal ε (declared v) s = get-bool-var v s ≡ nothing
+Legal ε (aux cs) s = clauses-bound cs ≤ next-bool s
+Legal ε (side e) s = expr-bound e ≤ next-bool s
+Legal ε (declared-int v) s = get-int-var v s ≡ nothing
+Legal ε (column l d) s = (sum-bound l ≤ next-int s) × ((ι : IVal) → AgreesInts ε ι s → in-domain (sum-value ι l) d ≡ true)
+
+pub data Grows (ε : IVal) (s : Log) : Log → Type 0 where
+  same : Grows ε s s
+  grow : {t : Log} (m : Made) → Legal ε m t → Grows ε s t → Grows ε s (m ∷ t)
+
+pub eqb-same : (v : ℕ) → eqb v v ≡ true
+eqb-same v = go (eqb v v) (eqb-refl v)
+  where
+    go : (b : Bool) → T b → b ≡ true
+    go true t = refl
+    go false t = absurd t
+
+-- ---- numbers
+
+get-below : (k v n : ℕ) (o : Option ℕ) (b : Bool) → (o ≡ some n → n < k) → cond b (some k) o ≡ some n → n < suc k
+get-below k v n o true f h = let q : k ≡ n = cc in omega arith
+get-below k v n o false f h = let q : n < k = f h in omega arith
+
+pub get-bool-below : (s : Log) (v n : ℕ) → get-bool-var v s ≡ some n → n < next-bool s
+unfolding get-bool-var
+get-bool-below [] v n h = let z : _≡_ {A = ℕ} 0 1 = cc in omega arith
+get-bool-below (declared w ∷ s) v n h = get-below (next-bool s) v n (get-bool-var v s) (eqb v w) (get-bool-below s v n) h
+get-bool-below (aux cs ∷ s) v n h = omega (arith, get-bool-below s v n h)
+get-bool-below (side e ∷ s) v n h = omega (arith, get-bool-below s v n h)
+get-bool-below (declared-int w ∷ s) v n h = get-bool-below s v n h
+get-bool-below (column l d ∷ s) v n h = get-bool-below s v n h
+
+pub get-int-below : (s : Log) (v n : ℕ) → get-int-var v s ≡ some n → n < next-int s
+unfolding get-int-var
+get-int-below [] v n h = let z : _≡_ {A = ℕ} 0 1 = cc in omega arith
+get-int-below (declared w ∷ s) v n h = get-int-below s v n h
+get-int-below (aux cs ∷ s) v n h = get-int-below s v n h
+get-int-below (side e ∷ s) v n h = get-int-below s v n h
+get-int-below (declared-int w ∷ s) v n h = get-below (next-int s) v n (get-int-var v s) (eqb v w) (get-int-below s v n) h
+get-int-below (column l d ∷ s) v n h = omega (arith, get-int-below s v n h)
+
+get-stays : (k v n w : ℕ) (o p : Option ℕ) → (v ≡ w → o ≡ p) → p ≡ nothing → o ≡ some n → (b : Bool) → eqb v w ≡ b → cond b (some k) o ≡ some n
+get-stays k v n w o p f l h false e = h
+get-stays k v n w o p f l h true e = let q : o ≡ p = f (eqb→eq v w (rw e tt)) in cc
+
+bool-stays : (ε : IVal) (m : Made) (t : Log) (v n : ℕ) → Legal ε m t → get-bool-var v t ≡ some n → get-bool-var v (m ∷ t) ≡ some n
+unfolding get-bool-var
+bool-stays ε (declared w) t v n l h = get-stays (next-bool t) v n w (get-bool-var v t) (get-bool-var w t) (λ q. rw q refl) l h (eqb v w) refl
+bool-stays ε (aux cs) t v n l h = h
+bool-stays ε (side e) t v n l h = h
+bool-stays ε (declared-int w) t v n l h = h
+bool-stays ε (column s d) t v n l h = h
+
+int-stays : (ε : IVal) (m : Made) (t : Log) (v n : ℕ) → Legal ε m t → get-int-var v t ≡ some n → get-int-var v (m ∷ t) ≡ some n
+unfolding get-int-var
+int-stays ε (declared w) t v n l h = h
+int-stays ε (aux cs) t v n l h = h
+int-stays ε (side e) t v n l h = h
+int-stays ε (declared-int w) t v n l h = get-stays (next-int t) v n w (get-int-var v t) (get-int-var w t) (λ q. rw q refl) l h (eqb v w) refl
+int-stays ε (column s d) t v n l h = h
+
+module _ {ε : IVal} where
+  pub grows-trans : {s t u : Log} → Grows ε s t → Grows ε t u → Grows ε s u
+  grows-trans g same = g
+  grows-trans g (grow m l h) = grow m l (grows-trans g h)
+
+  pub grows-bool : {s t : Log} → Grows ε s t → next-bool s ≤ next-bool t
+  grows-bool same = omega arith
+  grows-bool (grow (declared v) l g) = omega (arith, grows-bool g)
+  grows-bool (grow (aux cs) l g) = omega (arith, grows-bool g)
+  grows-bool (grow (side e) l g) = omega (arith, grows-bool g)
+  grows-bool (grow (declared-int v) l g) = grows-bool g
+  grows-bool (grow (column x d) l g) = grows-bool g
+
+  pub grows-int : {s t : Log} → Grows ε s t → next-int s ≤ next-int t
+  grows-int same = omega arith
+  grows-int (grow (declared v) l g) = grows-int g
+  grows-int (grow (aux cs) l g) = grows-int g
+  grows-int (grow (side e) l g) = grows-int g
+  grows-int (grow (declared-int v) l g) = omega (arith, grows-int g)
+  grows-int (grow (column x d) l g) = omega (arith, grows-int g)
+
+  pub grows-get-bool : {s t : Log} → Grows ε s t → (v n : ℕ) → get-bool-var v s ≡ some n → get-bool-var v t ≡ some n
+  grows-get-bool same v n h = h
+  grows-get-bool (grow {t} m l g) v n h = bool-stays ε m t v n l (grows-get-bool g v n h)
+
+  pub grows-get-int : {s t : Log} → Grows ε s t → (v n : ℕ) → get-int-var v s ≡ some n → get-int-var v t ≡ some n
+  grows-get-int same v n h = h
+  grows-get-int (grow {t} m l g) v n h = int-stays ε m t v n l (grows-get-int g v n h)
+
+-- ---- values
+
+agrees-at : {A : Type 0} (ρ δ : ℕ → A) (k v n w : ℕ) (o : Option ℕ) → ρ k ≡ δ w → (o ≡ some n → ρ n ≡ δ v) → (b : Bool) → eqb v w ≡ b → cond b (some k) o ≡ some n → ρ n ≡ δ v
+agrees-at ρ δ k v n w o new old false e h = old h
+agrees-at ρ δ k v n w o new old true e h = let q : v ≡ w = eqb→eq v w (rw e tt) in cc
+
+-- a variable that has a number has its value there
+pub agrees-bool : (δ ρ : Val) (s : Log) → AgreesBools δ ρ s → (v n : ℕ) → get-bool-var v s ≡ some n → ρ n ≡ δ v
+unfolding get-bool-var
+agrees-bool δ ρ [] a v n h = let z : _≡_ {A = ℕ} 0 1 = cc in absurd (omega arith)
+agrees-bool δ ρ (declared w ∷ s) a v n h = agrees-at ρ δ (next-bool s) v n w (get-bool-var v s) (a .0) (agrees-bool δ ρ s (a .1) v n) (eqb v w) refl h
+agrees-bool δ ρ (aux cs ∷ s) a v n h = agrees-bool δ ρ s a v n h
+agrees-bool δ ρ (side e ∷ s) a v n h = agrees-bool δ ρ s a v n h
+agrees-bool δ ρ (declared-int w ∷ s) a v n h = agrees-bool δ ρ s a v n h
+agrees-bool δ ρ (column l d ∷ s) a v n h = agrees-bool δ ρ s a v n h
+
+pub agrees-int : (ε ι : IVal) (s : Log) → AgreesInts ε ι s → (v n : ℕ) → get-int-var v s ≡ some n → ι n ≡ ε v
+unfolding get-int-var
+agrees-int ε ι [] a v n h = let z : _≡_ {A = ℕ} 0 1 = cc in absurd (omega arith)
+agrees-int ε ι (declared w ∷ s) a v n h = agrees-int ε ι s a v n h
+agrees-int ε ι (aux cs ∷ s) a v n h = agrees-int ε ι s a v n h
+agrees-int ε ι (side e ∷ s) a v n h = agrees-int ε ι s a v n h
+agrees-int ε ι (declared-int w ∷ s) a v n h = agrees-at ι ε (next-int s) v n w (get-int-var v s) (a .0) (agrees-int ε ι s (a .1) v n) (eqb v w) refl h
+agrees-int ε ι (column l d ∷ s) a v n h = agrees-int ε ι s (a .1) v n h
+
+-- the variables of columns have values of their domains
+abbrev pub InColumns : IVal → Log → Type 0
+InColumns ι [] = Unit {0}
+InColumns ι (declared v ∷ s) = InColumns ι s
+InColumns ι (aux cs ∷ s) = InColumns ι s
+InColumns ι (side e ∷ s) = InColumns ι s
+InColumns ι (declared-int v ∷ s) = InColumns ι s
+InColumns ι (column l d ∷ s) = (in-domain (ι (next-int s)) d ≡ true) × InColumns ι s
+
+module _ {ε : IVal} where
+  -- conversely, in a log that grew from nothing, what the maps say of each variable is what each entry says
+  pub bools-agree : (δ ρ : Val) {s : Log} → Grows ε [] s → ((v n : ℕ) → get-bool-var v s ≡ some n → ρ n ≡ δ v) → AgreesBools δ ρ s
+  unfolding get-bool-var
+  bools-agree δ ρ same f = tt
+  bools-agree δ ρ (grow {t} (declared w) l g) f = (f w (next-bool t) (rw (eqb-same w) refl), bools-agree δ ρ g (λ v n h. f v n (bool-stays ε (declared w) t v n l h)))
+  bools-agree δ ρ (grow (aux cs) l g) f = bools-agree δ ρ g f
+  bools-agree δ ρ (grow (side e) l g) f = bools-agree δ ρ g f
+  bools-agree δ ρ (grow (declared-int w) l g) f = bools-agree δ ρ g f
+  bools-agree δ ρ (grow (column x d) l g) f = bools-agree δ ρ g f
+
+  pub ints-agree : (ι : IVal) {s : Log} → Grows ε [] s → ((v n : ℕ) → get-int-var v s ≡ some n → ι n ≡ ε v) → InColumns ι s → AgreesInts ε ι s
+  unfolding get-int-var
+  ints-agree ι same f c = tt
+  ints-agree ι (grow (declared w) l g) f c = ints-agree ι g f c
+  ints-agree ι (grow (aux cs) l g) f c = ints-agree ι g f c
+  ints-agree ι (grow (side e) l g) f c = ints-agree ι g f c
+  ints-agree ι (grow {t} (declared-int w) l g) f c = (f w (next-int t) (rw (eqb-same w) refl), ints-agree ι g (λ v n h. f v n (int-stays ε (declared-int w) t v n l h)) c)
+  ints-agree ι (grow (column x d) l g) f c = (c .0, ints-agree ι g f (c .1))
+
+  bools-back : (δ ρ : Val) {s t : Log} → Grows ε s t → AgreesBools δ ρ t → AgreesBools δ ρ s
+  bools-back δ ρ same a = a
+  bools-back δ ρ (grow (declared v) l g) a = bools-back δ ρ g (a .1)
+  bools-back δ ρ (grow (aux cs) l g) a = bools-back δ ρ g a
+  bools-back δ ρ (grow (side e) l g) a = bools-back δ ρ g a
+  bools-back δ ρ (grow (declared-int v) l g) a = bools-back δ ρ g a
+  bools-back δ ρ (grow (column x d) l g) a = bools-back δ ρ g a
+
+  ints-back : (ι : IVal) {s t : Log} → Grows ε s t → AgreesInts ε ι t → AgreesInts ε ι s
+  ints-back ι same a = a
+  ints-back ι (grow (declared v) l g) a = ints-back ι g a
+  ints-back ι (grow (aux cs) l g) a = ints-back ι g a
+  ints-back ι (grow (side e) l g) a = ints-back ι g a
+  ints-back ι (grow (declared-int v) l g) a = ints-back ι g (a .1)
+  ints-back ι (grow (column x d) l g) a = ints-back ι g (a .1)
+
+  pub agrees-back : {δ ρ : Val} {ι : IVal} {s t : Log} → Grows ε s t → Agrees δ ε ρ ι t → Agrees δ ε ρ ι s
+  agrees-back {δ} {ρ} {ι} g a = record { bools = bools-back δ ρ g (a .bools); ints = ints-back ι g (a .ints) }
+
+  pub fits-back : (δ ρ : Val) (ι : IVal) {s t : Log} → Grows ε s t → Fits δ ε ρ ι t → Fits δ ε ρ ι s
+  fits-back δ ρ ι same f = f
+  fits-back δ ρ ι (grow (declared v) l g) f = fits-back δ ρ ι g (f .1)
+  fits-back δ ρ ι (grow (aux cs) l g) f = fits-back δ ρ ι g (f .1)
+  fits-back δ ρ ι (grow (side e) l g) f = fits-back δ ρ ι g (f .1)
+  fits-back δ ρ ι (grow (declared-int v) l g) f = fits-back δ ρ ι g (f .1)
+  fits-back δ ρ ι (grow (column x d) l g) f = fits-back δ ρ ι g (f .1)
