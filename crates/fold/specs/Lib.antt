@@ -1,3 +1,4 @@
 pub mod Fold
 pub mod Optimize
 pub mod Refold
+pub mod FoldMeaning

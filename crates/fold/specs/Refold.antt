@@ -1,10 +1,11 @@
 -- Folding what is folded already, under more fixed values, is folding the original under them. Assumes nothing else.
 use mathlib.Core.Path.{_≡_, refl, sym, ap, _∙_}
-use mathlib.Core.Bool.{Bool, true, false, not, _||_, Bool·beq, cond, false≢true}
+use mathlib.Core.Bool.{Bool, true, false, not, _||_, Bool·beq, cond}
 use mathlib.Core.Option.{Option, none as nothing, some}
 use mathlib.Core.List.{List, [], _∷_, map}
 use Prim.Native.Nat.{ℕ}
 use lib.IntN.{ℤ, pos}
+use Rattle.laws.specs.Bools.{or-r, or-no-l, or-no-r}
 use Rattle.laws.specs.Ints.{eqZ}
 use Rattle.syntax.specs.Syntax.{Domain, as-constant, domain-of, IntExpr, IConst, IVar, Linear, Terms, tnil, tmore, BoolExpr, Const, Var, NVar, And, Or, Not, Xor, Iff, Imp, Cmp, Members, none, more, Stmt, Rule, Table}
 use Rattle.fold.specs.Fold.{Fixed, is-const, Op, op-xor, op-iff, op-imp, Action, be-false, be-true, left, not-left, right, not-right, keep, action, expr-of, act, fold-binary, is-value, has-const, keep-member, kept, join-and, join-or, fold-and, fold-or, not-of, fold-not, fold-var, fold-int-var, fold-sum, constant-folding-int as fold-int, constant-folding-terms as fold-terms, constant-folding-bool as fold, constant-folding-members as fold-members, constant-folding-stmt as fold-stmt}
@@ -145,14 +146,6 @@ or-both : (x y z : Bool) → (y ≡ true → z ≡ true) → x || y ≡ true →
 or-both true y z f h = refl
 or-both false y z f h = f h
 
-or-right : (x z : Bool) → z ≡ true → x || z ≡ true
-or-right true z h = refl
-or-right false z h = h
-
-or-neither : (x y : Bool) → x || y ≡ false → (x ≡ false) × (y ≡ false)
-or-neither true y h = (h, absurd (false≢true (sym h)))
-or-neither false y h = (refl, h)
-
 and-one : (e : BoolExpr) → fold-and (more e none) ≡ e
 unfolding fold-and has-const kept
 and-one e = const-or e (λ c q. rw q (go c)) (λ q. rw q refl)
@@ -210,13 +203,13 @@ module _ (ds : List Domain) (g : Fixed) where
   has-again b none h = h
   has-again b (more e ms) h = const-or e
       (λ c q. rw q (or-both (Bool·beq b c) (has-const b ms) (has-const b (fold-members ds g ms)) (has-again b ms) (rw q at h)))
-      (λ q. or-right (is-value b (is-const (fold ds g e))) (has-const b (fold-members ds g ms)) (has-again b ms (rw q at h)))
+      (λ q. or-r (is-value b (is-const (fold ds g e))) (has-const b (fold-members ds g ms)) (has-again b ms (rw q at h)))
 
   has-kept : (b : Bool) (ms : Members) → has-const b ms ≡ false → has-const b (fold-members ds g (kept ms)) ≡ has-const b (fold-members ds g ms)
   unfolding has-const kept fold
   has-kept b none h = refl
   has-kept b (more e ms) h = const-or e
-      (λ c q. let p = or-neither (Bool·beq b c) (has-const b ms) (rw q at h) in rw (q, p .0) (has-kept b ms (p .1)))
+      (λ c q. let p : Bool·beq b c || has-const b ms ≡ false = rw q at h in rw (q, or-no-l (Bool·beq b c) (has-const b ms) p) (has-kept b ms (or-no-r (Bool·beq b c) (has-const b ms) p)))
       (λ q. let p : has-const b ms ≡ false = rw q at h in rw (q, has-kept b ms p) refl)
 
   kept-kept : (ms : Members) → kept (fold-members ds g (kept ms)) ≡ kept (fold-members ds g ms)

@@ -3,7 +3,9 @@ use lib.ListN.{length, take, drop}
 use mathlib.Core.Path.{_≡_, refl, sym, ap, _∙_}
 use mathlib.Core.Bool.{Bool, true, false, _&&_, _||_, cond}
 use mathlib.Core.List.{List, [], _∷_, _++_, map, append-assoc, append-nil}
-use Prim.Native.Nat.{ℕ, zero, suc}
+use Prim.Native.Nat.{ℕ, zero, suc, _+_, _≤_, _<_}
+use native.Mathlib.Omega.{arith}
+use borrow.Author.Tests.{eqb-true, eqb-false}
 use lib.IntN.{ℤ, pos}
 use lib.Dec.{eqb}
 use Rattle.laws.specs.Bools.{and-l, and-r, and-i, or-assoc, and-assoc, or-l, or-r}
@@ -111,3 +113,16 @@ module _ {A : Type 0} where
   all-drop f zero xs h = h
   all-drop f (suc k) [] h = refl
   all-drop f (suc k) (x ∷ xs) h = all-drop f k xs (and-r (f x) (all f xs) h)
+
+-- ---- every number of a run
+
+pub all-from : (f : ℕ → Bool) (i n v : ℕ) → all f (from i n) ≡ true → i ≤ v → v < i + n → f v ≡ true
+all-from f i zero v h a b = absurd (omega arith)
+all-from f i (suc n) v h a b = go (eqb i v) refl (λ c. all-from f (suc i) n v (and-r (f i) (all f (from (suc i) n)) h) c (omega arith))
+  where
+    go : (t : Bool) → eqb i v ≡ t → (suc i ≤ v → f v ≡ true) → f v ≡ true
+    go true e k = rw (sym (eqb-true i v e)) (and-l (f i) (all f (from (suc i) n)) h)
+    go false e k = let ne = eqb-false i v e in k (omega arith)
+
+pub all-below : (f : ℕ → Bool) (n v : ℕ) → all f (below n) ≡ true → v < n → f v ≡ true
+all-below f n v h b = all-from f 0 n v h (omega arith) (omega arith)

@@ -214,3 +214,9 @@ times-low-le (negsuc k) low high x h g = leZ-mul-neg k x high g
 pub times-high-le : (k low high x : ℤ) → leZ low x ≡ true → leZ x high ≡ true → leZ (k *ℤ x) (times-high k low high) ≡ true
 times-high-le (pos k) low high x h g = leZ-mul k x high g
 times-high-le (negsuc k) low high x h g = leZ-mul-neg k low x h
+
+pub leZ-antisym : (a b : ℤ) → leZ a b ≡ true → leZ b a ≡ true → a ≡ b
+leZ-antisym (pos a) (pos b) h k = let x = leb-true a b h in let y = leb-true b a k in ap pos (omega arith)
+leZ-antisym (pos a) (negsuc b) h k = never h
+leZ-antisym (negsuc a) (pos b) h k = never k
+leZ-antisym (negsuc a) (negsuc b) h k = let x = leb-true b a h in let y = leb-true a b k in ap negsuc (omega arith)

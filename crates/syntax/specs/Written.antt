@@ -1,8 +1,13 @@
 -- The declared variables that an expression writes: a property of each Boolean (P) and of each integer (Q).
 -- With v < B and v < I it says that all are declared.
+use mathlib.Core.Path.{_≡_}
+use mathlib.Core.Bool.{true}
 use mathlib.Core.List.{List, [], _∷_}
-use Prim.Native.Nat.{ℕ}
-use Rattle.syntax.specs.Syntax.{IntExpr, IConst, IVar, Linear, Terms, tnil, tmore, BoolExpr, Const, Var, NVar, And, Or, Not, Xor, Iff, Imp, Cmp, Members, none, more, Stmt, Rule, Table}
+use Prim.Native.Nat.{ℕ, _<_}
+use lib.ListN.{length}
+use Rattle.laws.specs.Lists.{all-below}
+use Rattle.syntax.specs.Syntax.{Domain, in-domain, domain-of, IntExpr, IConst, IVar, Linear, Terms, tnil, tmore, BoolExpr, Const, Var, NVar, And, Or, Not, Xor, Iff, Imp, Cmp, Members, none, more, Stmt, Rule, Table, Problem}
+use Rattle.syntax.specs.Satisfies.{IVal, in-domains}
 
 module _ (Q : ℕ → Type 0) where
   unfoldable mutual
@@ -94,3 +99,13 @@ module _ (P Q P' Q' : ℕ → Type 0) (toP : (v : ℕ) → P v → P' v) (toQ : 
   unfolding EveryStmts
   every-stmts-map [] h = tt
   every-stmts-map (s ∷ ss) h = (every-stmt-map s (h .0), every-stmts-map ss (h .1))
+
+-- ---- every declared integer has a value of its domain
+
+-- the value of an integer is in its domain
+abbrev pub Within : List Domain → IVal → ℕ → Type 0
+Within ds ε v = in-domain (ε v) (domain-of ds v) ≡ true
+
+pub in-domains-within : (p : Problem) (ε : IVal) → in-domains p ε ≡ true → (v : ℕ) → v < length (p .domains) → Within (p .domains) ε v
+unfolding in-domains
+in-domains-within p ε h v b = all-below (λ v. in-domain (ε v) (domain-of (p .domains) v)) (length (p .domains)) v h b
