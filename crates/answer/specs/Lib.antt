@@ -1,3 +1,4 @@
 pub mod Answer
 pub mod Passes
 pub mod ReadBack
+pub mod Once
