@@ -1,1 +1,207 @@
-// Folding and passes: definitions and theorems in specs/; no code here yet.
+// Folding (constant_folding_int, constant_folding_bool): the words of the set are read, the folded words are written from a place of the work slice on.
+// The fixed values are the first words of the work slice: 0 false, 1 true, else open. `d` is the place of the set's first domain.
+ghost use mathlib.Core.Path.{_≡_};
+ghost use mathlib.Core.Bool.{Bool, cond, _||_};
+ghost use mathlib.Core.List.{List, [], _∷_};
+ghost use mathlib.Core.Option.{Option};
+ghost use Prim.Native.Nat.{ℕ, _+_, _*_, _-_, _≤_, _<_};
+ghost use lib.IntN.{ℤ, pos};
+ghost use lib.Dec.{eqb};
+ghost use lib.ListN.{length, getD, set};
+ghost use lib.Seq.{slice};
+ghost use Rattle.laws.specs.Slices.{Stored};
+ghost use Rattle.fold.specs.Fold.{Op, action as action-of};
+ghost use Rattle.fold.specs.Table.{op-num, action-num, bit, state-num};
+ghost use Rattle.fold.specs.Steps.{Plain, state-of, var-step, not-step, not-state, list-step, list-state, binary-step, binary-state};
+
+pub struct Span {
+    pub next: usize,
+    pub end: usize,
+}
+
+pub struct Folded {
+    pub next: usize,
+    pub end: usize,
+    pub state: usize,
+}
+
+pub struct Listed {
+    pub next: usize,
+    pub end: usize,
+    pub hit: bool,
+    pub kept: usize,
+}
+
+pub struct Closed {
+    pub end: usize,
+    pub state: usize,
+}
+
+// ---- the leaves that know of signs
+
+pub fn number(words: &[i32], at: usize) -> usize
+    requires { ⌜ Plain (now words) at ⌝ }
+    ensures { λ r. ⌜ (getD (now (words .entry)) at (pos 0) ≡ pos r) × (r < 2147483648) ⌝ }
+{
+    let w = words[at];
+    w as usize
+}
+
+pub fn put(work: &mut [i32], o: usize, v: usize)
+    requires { ⌜ (o < length (now work)) × (v < 2147483648) ⌝ }
+    ensures { λ _. ⌜ now (work .exit) ≡ set (now (work .entry)) o (pos v) ⌝ }
+{
+    work[o] = v as i32;
+}
+
+pub fn state_at(work: &[i32], v: usize) -> usize
+    requires { ⌜ v < length (now work) ⌝ }
+    ensures { λ r. ⌜ r ≡ state-num (state-of (getD (now (work .entry)) v (pos 0))) ⌝ }
+{
+    let w = work[v];
+    if w == 0 {
+        return 0;
+    }
+    if w == 1 {
+        return 1;
+    }
+    2
+}
+
+// The words from `from` up to `end`, moved down to `to`.
+pub fn shift(work: &mut [i32], from: usize, end: usize, to: usize) -> usize
+    requires { ⌜ (to ≤ from) × (from ≤ end) × (end ≤ length (now work)) ⌝ }
+    ensures { λ r. ⌜ Stored (now (work .entry)) to (slice from end (now (work .entry))) (now (work .exit)) r ⌝ }
+{
+    let mut i = from;
+    let mut p = to;
+    while i < end {
+        let w = work[i];
+        work[p] = w;
+        i += 1;
+        p += 1;
+    }
+    p
+}
+
+// ---- the table
+
+const ACTIONS: [usize; 27] = [
+    0,
+    1,
+    4,
+    1,
+    0,
+    5,
+    2,
+    3,
+    6,
+    1,
+    0,
+    5,
+    0,
+    1,
+    4,
+    3,
+    2,
+    6,
+    1,
+    1,
+    1,
+    0,
+    1,
+    4,
+    3,
+    1,
+    6,
+];
+
+pub fn action(op: usize, a: usize, b: usize) -> usize
+    requires { ⌜ (op < 3) × (a < 3) × (b < 3) ⌝ }
+    ensures { λ r. ⌜ ((o : Op) (x y : Option Bool) → op ≡ op-num o → a ≡ state-num x → b ≡ state-num y → r ≡ action-num (action-of o x y)) ⌝ }
+{
+    ACTIONS[op * 9 + a * 3 + b]
+}
+
+// ---- closing: the sides or members stand behind the place of the header
+
+pub fn put_two(work: &mut [i32], o: usize, u: usize, v: usize) -> usize
+    requires { ⌜ (o + 2 ≤ length (now work)) × (u < 2147483648) × (v < 2147483648) ⌝ }
+    ensures { λ r. ⌜ Stored (now (work .entry)) o (pos u ∷ pos v ∷ []) (now (work .exit)) r ⌝ }
+{
+    put(work, o, u);
+    put(work, o + 1, v);
+    o + 2
+}
+
+pub fn put_var(work: &mut [i32], o: usize, s: usize, v: usize) -> usize
+    requires { ⌜ (o + 2 ≤ length (now work)) × (s < 3) × (v < 2147483648) ⌝ }
+    ensures { λ r. ⌜ Stored (now (work .entry)) o (var-step s v) (now (work .exit)) r ⌝ }
+{
+    if s == 2 {
+        return put_two(work, o, 11, v);
+    }
+    put_two(work, o, 10, s)
+}
+
+pub fn close_not(work: &mut [i32], o: usize, e: usize, s: usize) -> Closed
+    requires { ⌜ (o + 2 ≤ e) × (e ≤ length (now work)) × (s < 3) ⌝ }
+    ensures { λ r. ⌜ (r .state ≡ not-state s) × Stored (now (work .entry)) o (not-step s (slice (o + 1) e (now (work .entry)))) (now (work .exit)) (r .end) ⌝ }
+{
+    if s == 2 {
+        put(work, o, 14);
+        return Closed { end: e, state: 2 };
+    }
+    let end = put_two(work, o, 10, 1 - s);
+    Closed { end, state: 1 - s }
+}
+
+pub fn close_list(work: &mut [i32], o: usize, e: usize, b: usize, hit: bool, kept: usize) -> Closed
+    requires { ⌜ (o + 2 ≤ e) × (e ≤ length (now work)) × (b < 2) × (kept < 2147483648) ⌝ }
+    ensures { λ r. ⌜ (r .state ≡ list-state b hit kept) × Stored (now (work .entry)) o (list-step b hit kept (slice (o + 2) e (now (work .entry)))) (now (work .exit)) (r .end) ⌝ }
+{
+    if hit {
+        let end = put_two(work, o, 10, b);
+        return Closed { end, state: b };
+    }
+    if kept == 0 {
+        let end = put_two(work, o, 10, 1 - b);
+        return Closed { end, state: 1 - b };
+    }
+    if kept == 1 {
+        let end = shift(work, o + 2, e, o);
+        return Closed { end, state: 2 };
+    }
+    put(work, o, 12 + b);
+    put(work, o + 1, kept);
+    Closed { end: e, state: 2 }
+}
+
+pub fn close_binary(work: &mut [i32], o: usize, m: usize, e: usize, op: usize, k: usize) -> Closed
+    requires { ⌜ (o + 2 ≤ m) × (m ≤ e) × (e ≤ length (now work)) × (op < 3) ⌝ }
+    ensures { λ r. ⌜ (r .state ≡ binary-state k) × Stored (now (work .entry)) o (binary-step k op (slice (o + 1) m (now (work .entry))) (slice m e (now (work .entry)))) (now (work .exit)) (r .end) ⌝ }
+{
+    if k < 2 {
+        let end = put_two(work, o, 10, k);
+        return Closed { end, state: k };
+    }
+    if k == 2 {
+        let end = shift(work, o + 1, m, o);
+        return Closed { end, state: 2 };
+    }
+    if k == 3 {
+        put(work, o, 14);
+        return Closed { end: m, state: 2 };
+    }
+    if k == 4 {
+        let end = shift(work, m, e, o);
+        return Closed { end, state: 2 };
+    }
+    if k == 5 {
+        put(work, o, 14);
+        let end = shift(work, m, e, o + 1);
+        return Closed { end, state: 2 };
+    }
+    put(work, o, 15 + op);
+    Closed { end: e, state: 2 }
+}
