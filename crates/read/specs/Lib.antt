@@ -1,1 +1,4 @@
 pub mod Read
+pub mod WellFormed
+pub mod ExactExpr
+pub mod Exact

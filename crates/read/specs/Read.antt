@@ -137,6 +137,15 @@ module _ (nb ni : ℕ) where
 
 -- ---- the set
 
+abbrev pub read-problem : Parser Problem
+read-problem xs =
+    bind (up-to max-bools 4 xs) (λ b r.
+    bind (up-to max-ints 4 r) (λ i s.
+    bind (times i read-domain s) (λ ds t.
+    bind (count t) (λ n u.
+    bind (times n (read-stmt b i) u) (λ ss v.
+    ok (record { bools = b; domains = ds; stmts = ss }) v)))))
+
 -- words after the last statement are 3
 abbrev pub at-end : Parsed Problem → Parsed Problem
 at-end (ok p []) = ok p []
@@ -144,11 +153,4 @@ at-end (ok p (w ∷ r)) = refuse 3
 at-end (refuse k) = refuse k
 
 unfoldable pub read-set : List ℤ → Parsed Problem
-read-set xs =
-    at-end
-    (bind (up-to max-bools 4 xs) (λ b r.
-    bind (up-to max-ints 4 r) (λ i s.
-    bind (times i read-domain s) (λ ds t.
-    bind (count t) (λ n u.
-    bind (times n (read-stmt b i) u) (λ ss v.
-    ok (record { bools = b; domains = ds; stmts = ss }) v))))))
+read-set xs = at-end (read-problem xs)
