@@ -1,1 +1,5 @@
 pub mod Tables
+pub mod Sorted
+pub mod Domains
+pub mod Agree
+pub mod PlainMeaning
