@@ -6,7 +6,8 @@ use mathlib.Core.Option.{Option, none as nothing, some}
 use mathlib.Core.List.{List, [], _∷_}
 use Prim.Native.Nat.{ℕ, suc, _≤_, _<_}
 use native.Mathlib.Omega.{arith}
-use lib.Dec.{eqb, eqb→eq, eqb-refl, T}
+use lib.Dec.{eqb}
+use borrow.Author.Tests.{eqb-true, eq-eqb}
 use Rattle.syntax.specs.Syntax.{in-domain}
 use Rattle.syntax.specs.Satisfies.{Val, IVal}
 use Rattle.sums.specs.LinearSum.{sum-value}
@@ -26,13 +27,6 @@ Legal ε (column l d) s = (sum-bound l ≤ next-int s) × ((ι : IVal) → Agree
 pub data Grows (ε : IVal) (s : Log) : Log → Type 0 where
   same : Grows ε s s
   grow : {t : Log} (m : Made) → Legal ε m t → Grows ε s t → Grows ε s (m ∷ t)
-
-pub eqb-same : (v : ℕ) → eqb v v ≡ true
-eqb-same v = go (eqb v v) (eqb-refl v)
-  where
-    go : (b : Bool) → T b → b ≡ true
-    go true t = refl
-    go false t = absurd t
 
 -- ---- numbers
 
@@ -60,7 +54,7 @@ get-int-below (column l d ∷ s) v n h = omega (arith, get-int-below s v n h)
 
 get-stays : (k v n w : ℕ) (o p : Option ℕ) → (v ≡ w → o ≡ p) → p ≡ nothing → o ≡ some n → (b : Bool) → eqb v w ≡ b → cond b (some k) o ≡ some n
 get-stays k v n w o p f l h false e = h
-get-stays k v n w o p f l h true e = let q : o ≡ p = f (eqb→eq v w (rw e tt)) in cc
+get-stays k v n w o p f l h true e = let q : o ≡ p = f (eqb-true v w e) in cc
 
 bool-stays : (ε : IVal) (m : Made) (t : Log) (v n : ℕ) → Legal ε m t → get-bool-var v t ≡ some n → get-bool-var v (m ∷ t) ≡ some n
 unfolding get-bool-var
@@ -111,7 +105,7 @@ module _ {ε : IVal} where
 
 agrees-at : {A : Type 0} (ρ δ : ℕ → A) (k v n w : ℕ) (o : Option ℕ) → ρ k ≡ δ w → (o ≡ some n → ρ n ≡ δ v) → (b : Bool) → eqb v w ≡ b → cond b (some k) o ≡ some n → ρ n ≡ δ v
 agrees-at ρ δ k v n w o new old false e h = old h
-agrees-at ρ δ k v n w o new old true e h = let q : v ≡ w = eqb→eq v w (rw e tt) in cc
+agrees-at ρ δ k v n w o new old true e h = let q : v ≡ w = eqb-true v w e in cc
 
 -- a variable that has a number has its value there
 pub agrees-bool : (δ ρ : Val) (s : Log) → AgreesBools δ ρ s → (v n : ℕ) → get-bool-var v s ≡ some n → ρ n ≡ δ v
@@ -146,7 +140,7 @@ module _ {ε : IVal} where
   pub bools-agree : (δ ρ : Val) {s : Log} → Grows ε [] s → ((v n : ℕ) → get-bool-var v s ≡ some n → ρ n ≡ δ v) → AgreesBools δ ρ s
   unfolding get-bool-var
   bools-agree δ ρ same f = tt
-  bools-agree δ ρ (grow {t} (declared w) l g) f = (f w (next-bool t) (rw (eqb-same w) refl), bools-agree δ ρ g (λ v n h. f v n (bool-stays ε (declared w) t v n l h)))
+  bools-agree δ ρ (grow {t} (declared w) l g) f = (f w (next-bool t) (rw (eq-eqb w w refl) refl), bools-agree δ ρ g (λ v n h. f v n (bool-stays ε (declared w) t v n l h)))
   bools-agree δ ρ (grow (aux cs) l g) f = bools-agree δ ρ g f
   bools-agree δ ρ (grow (side e) l g) f = bools-agree δ ρ g f
   bools-agree δ ρ (grow (declared-int w) l g) f = bools-agree δ ρ g f
@@ -158,7 +152,7 @@ module _ {ε : IVal} where
   ints-agree ι (grow (declared w) l g) f c = ints-agree ι g f c
   ints-agree ι (grow (aux cs) l g) f c = ints-agree ι g f c
   ints-agree ι (grow (side e) l g) f c = ints-agree ι g f c
-  ints-agree ι (grow {t} (declared-int w) l g) f c = (f w (next-int t) (rw (eqb-same w) refl), ints-agree ι g (λ v n h. f v n (int-stays ε (declared-int w) t v n l h)) c)
+  ints-agree ι (grow {t} (declared-int w) l g) f c = (f w (next-int t) (rw (eq-eqb w w refl) refl), ints-agree ι g (λ v n h. f v n (int-stays ε (declared-int w) t v n l h)) c)
   ints-agree ι (grow (column x d) l g) f c = (c .0, ints-agree ι g f (c .1))
 
   bools-back : (δ ρ : Val) {s t : Log} → Grows ε s t → AgreesBools δ ρ t → AgreesBools δ ρ s

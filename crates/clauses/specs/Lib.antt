@@ -7,3 +7,4 @@ pub mod Valuation
 pub mod Bounds
 pub mod Grow
 pub mod Means
+pub mod DisjunctionMeaning

@@ -1,12 +1,12 @@
 -- What clauses, or a sum, made from a log say: one form for expressions, disjunctions, rules and tables. It composes over statements.
 -- δ, ε: the declared variables; ρ, ι: the emitted numbers.
-use mathlib.Core.Path.{_≡_, refl, sym, ap, _∙_}
-use mathlib.Core.Bool.{Bool, true, false, _&&_, _||_, false≢true}
+use mathlib.Core.Path.{_≡_, refl, ap, _∙_}
+use mathlib.Core.Bool.{Bool, true, false, _&&_, _||_}
 use mathlib.Core.List.{List, [], _∷_, _++_}
 use Prim.Native.Nat.{ℕ, _≤_}
 use native.Mathlib.Omega.{arith}
 use lib.IntN.{ℤ}
-use Rattle.laws.specs.Bools.{and-l, and-r, and-i}
+use Rattle.laws.specs.Bools.{and-mono, or-mono}
 use Rattle.laws.specs.Lists.{all, any, flat, all-append}
 use Rattle.syntax.specs.Satisfies.{Val, IVal}
 use Rattle.sums.specs.LinearSum.{sum-value}
@@ -17,15 +17,6 @@ use Rattle.clauses.specs.Normalize.{IntOut}
 use Rattle.clauses.specs.Bounds.{clauses-bound, lists-bound, sum-bound, clauses-bound-append, clauses-bound-flat}
 use Rattle.clauses.specs.Valuation.{Agrees, Fits, all-true, any-all-true, all-all-true}
 use Rattle.clauses.specs.Grow.{Grows, same, grows-trans, grows-bool, agrees-back, fits-back}
-
-pub or-mono : (a b c d : Bool) → (a ≡ true → c ≡ true) → (b ≡ true → d ≡ true) → a || b ≡ true → c || d ≡ true
-or-mono a b true d f g h = refl
-or-mono true b false d f g h = absurd (false≢true (f refl))
-or-mono false b false d f g h = g h
-
-pub and-mono : (a b c d : Bool) → (a ≡ true → c ≡ true) → (b ≡ true → d ≡ true) → a && b ≡ true → c && d ≡ true
-and-mono true b c d f g h = and-i c d (f refl) (g h)
-and-mono false b c d f g h = absurd (false≢true h)
 
 module _ (ρ : Val) (ι : IVal) where
   pub flat-true : (css : List (List Clause)) → all-true ρ ι (flat css) ≡ all-all-true ρ ι css

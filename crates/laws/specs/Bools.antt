@@ -144,3 +144,14 @@ pub both-ways : (a b : Bool) → (a ≡ true → b ≡ true) → (b ≡ true →
 both-ways true b f g = sym (f refl)
 both-ways false true f g = g refl
 both-ways false false f g = refl
+
+-- ---- tests that follow from tests
+
+pub or-mono : (a b c d : Bool) → (a ≡ true → c ≡ true) → (b ≡ true → d ≡ true) → a || b ≡ true → c || d ≡ true
+or-mono a b true d f g h = refl
+or-mono true b false d f g h = never (f refl)
+or-mono false b false d f g h = g h
+
+pub and-mono : (a b c d : Bool) → (a ≡ true → c ≡ true) → (b ≡ true → d ≡ true) → a && b ≡ true → c && d ≡ true
+and-mono true b c d f g h = and-i c d (f refl) (g h)
+and-mono false b c d f g h = never h
