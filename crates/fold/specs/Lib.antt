@@ -6,3 +6,4 @@ pub mod Table
 pub mod Forms
 pub mod Size
 pub mod Steps
+pub mod Kept

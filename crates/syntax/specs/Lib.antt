@@ -2,3 +2,4 @@ pub mod Words
 pub mod Syntax
 pub mod Satisfies
 pub mod Written
+pub mod Depth
