@@ -11,7 +11,7 @@ use Rattle.laws.specs.Ints.{is-zero}
 use Rattle.laws.specs.Lists.{any, all, flat}
 use Rattle.syntax.specs.Syntax.{BoolExpr, Const, Var, NVar, And, Or, Not, Xor, Iff, Imp, Cmp, Members, none, more}
 use Rattle.syntax.specs.Satisfies.{Val, IVal, holds, holds-all, holds-any}
-use Rattle.sums.specs.LinearSum.{Term, term, LinearSum, linear-sum, constant, place, insert-coef, add-coef, add-terms, add-sum, mul-terms, mul-sum, sub-sum, sum-terms-value, sum-value}
+use Rattle.sums.specs.LinearSum.{Term, term, LinearSum, linear-sum, constant, place, insert-coef, add-coef, add-terms, add-sum, mul-terms, mul-sum, sum-terms-value, sum-value}
 use Rattle.clauses.specs.Clause.{BoolLit, lit, Clause, clause, lit-true, clause-true}
 use Rattle.clauses.specs.Disjunction.{add-bool-each}
 

@@ -11,7 +11,7 @@ use Rattle.clauses.specs.Clause.{BoolLit, lit, LinearLit, Clause, clause
 use Rattle.clauses.specs.Log.{aux, Log, next-bool}
 use Rattle.clauses.specs.Disjunction.{add-bool, add-bool-each, Sorted, satisfied, pool, pooled, with-longer, sorted, Out, Outs, each-longer, finish-disjunction, finish-sorted, normalize-disjunction}
 use Rattle.clauses.specs.Bounds.{lits-bound, clauses-bound, lists-bound, lits-bound-append, clauses-bound-append, clauses-bound-add}
-use Rattle.clauses.specs.Valuation.{Agrees, Fits, all-true, any-all-true}
+use Rattle.clauses.specs.Valuation.{all-true, any-all-true}
 use Rattle.clauses.specs.Grow.{Grows, same, grow, grows-trans, grows-bool, agrees-back, fits-back}
 use Rattle.clauses.specs.Means.{Means, MeansEach, means-none, means-false}
 

@@ -8,3 +8,4 @@ pub mod Bounds
 pub mod Grow
 pub mod Means
 pub mod DisjunctionMeaning
+pub mod NormalizeMeaning

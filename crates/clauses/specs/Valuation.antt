@@ -2,9 +2,7 @@
 -- `Agrees` is what passing gives (sound claims assume it); `Fits` gives every number the value it was made for (complete claims assume it).
 use mathlib.Core.Path.{_≡_}
 use mathlib.Core.Bool.{Bool, true}
-use mathlib.Core.Option.{some}
 use mathlib.Core.List.{List, [], _∷_}
-use Prim.Native.Nat.{ℕ}
 use Rattle.laws.specs.Lists.{all, any}
 use Rattle.syntax.specs.Syntax.{in-domain}
 use Rattle.syntax.specs.Satisfies.{Val, IVal, holds}
