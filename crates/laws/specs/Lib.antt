@@ -4,3 +4,4 @@ pub mod Lists
 pub mod Slices
 pub mod Writes
 pub mod Order
+pub mod Signed

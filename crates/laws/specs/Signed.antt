@@ -1,0 +1,45 @@
+-- Tests of an i32, read of the integer: a signed local holds bits, so an order test speaks of `toZ w (ofZ w z)` and a test of equality of `ofZ w z`.
+-- Assumes nothing.
+use mathlib.Core.Path.{_≡_, refl, sym, ap, _∙_}
+use mathlib.Core.Bool.{Bool, true, false}
+use Prim.Native.Nat.{ℕ, suc, _≤_, _<_}
+use native.Mathlib.Omega.{arith}
+use lib.IntN.{ℤ, pos, negsuc, natAbs}
+use lib.Signed.{ltZ, nonNeg}
+use lib.Dec.{T, leb}
+use borrow.Author.Tests.{ltb-true, ltb-false, le-leb, lt-leb}
+use mir.Syntax.{Width, w32}
+use mir.Val.{SFits, ofZ, toZ}
+use mir.Facts.{toZ-ofZ}
+
+-- the value from its bits: at a literal the right side computes, `toZ w32 10` to `pos 10` and `toZ w32 4294967295` to `negsuc 0`
+pub value-is : {z : ℤ} {k : ℕ} → SFits w32 z → ofZ w32 z ≡ k → z ≡ toZ w32 k
+value-is f e = sym (toZ-ofZ f) ∙ ap (toZ w32) e
+
+-- an order test
+pub test-of : {w : Width} {z : ℤ} (t : ℤ → Bool) {b : Bool} → SFits w z → t (toZ w (ofZ w z)) ≡ b → t z ≡ b
+test-of t f h = sym (ap t (toZ-ofZ f)) ∙ h
+
+pub tests-of : {w : Width} {y z : ℤ} (t : ℤ → ℤ → Bool) {b : Bool} → SFits w y → SFits w z → t (toZ w (ofZ w y)) (toZ w (ofZ w z)) ≡ b → t y z ≡ b
+tests-of t f g h = sym (rw (toZ-ofZ f, toZ-ofZ g) refl) ∙ h
+
+never : {X : Type 0} → _≡_ {A = Bool} false true → X
+never e = absurd (let z : _≡_ {A = ℕ} 0 1 = cc in omega arith)
+
+pub not-neg : (z : ℤ) → ltZ z (pos 0) ≡ false → T (nonNeg z)
+not-neg (pos n) h = tt
+not-neg (negsuc n) h = never (sym h)
+
+-- a range from -(m + 1) to m + 1, as two tests
+module _ (m : ℕ) where
+  pub below-range : (z : ℤ) → ltZ z (negsuc m) ≡ true → leb (natAbs z) (suc m) ≡ false
+  below-range (pos n) h = never h
+  below-range (negsuc n) h = lt-leb (suc n) (suc m) (let l = ltb-true m n h in omega arith)
+
+  pub above-range : (z : ℤ) → ltZ (pos (suc m)) z ≡ true → leb (natAbs z) (suc m) ≡ false
+  above-range (pos n) h = lt-leb n (suc m) (let l = ltb-true (suc m) n h in omega arith)
+  above-range (negsuc n) h = never h
+
+  pub within-range : (z : ℤ) → ltZ z (negsuc m) ≡ false → ltZ (pos (suc m)) z ≡ false → leb (natAbs z) (suc m) ≡ true
+  within-range (pos n) a b = le-leb n (suc m) (ltb-false (suc m) n b)
+  within-range (negsuc n) a b = le-leb (suc n) (suc m) (let l = ltb-false m n a in omega arith)
