@@ -9,3 +9,4 @@ pub mod Grow
 pub mod Means
 pub mod DisjunctionMeaning
 pub mod NormalizeMeaning
+pub mod SplitMeaning
