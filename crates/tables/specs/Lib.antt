@@ -3,3 +3,5 @@ pub mod Sorted
 pub mod Domains
 pub mod Agree
 pub mod PlainMeaning
+pub mod StarMeaning
+pub mod Emitted

@@ -1,0 +1,56 @@
+-- A starred table is the Or over its rows of the And of their unstarred equalities: its clauses say that some row's cells permit the values.
+use mathlib.Core.Path.{_≡_, refl, sym, ap, _∙_}
+use mathlib.Core.Bool.{Bool, true, false, _&&_, _||_}
+use mathlib.Core.List.{List, [], _∷_, map}
+use Prim.Native.Nat.{ℕ, _≤_, max}
+use native.Mathlib.Omega.{arith}
+use lib.IntN.{ℤ}
+use Rattle.laws.specs.Bools.{eq2}
+use Rattle.laws.specs.Ints.{eqZ}
+use Rattle.laws.specs.Order.{eqZ-sym}
+use Rattle.laws.specs.Lists.{any, all}
+use Rattle.syntax.specs.Syntax.{Cell, star, value}
+use Rattle.syntax.specs.Satisfies.{Val, IVal}
+use Rattle.clauses.specs.Clause.{Clause, clause, clause-true}
+use Rattle.clauses.specs.Log.{Log, next-bool}
+use Rattle.clauses.specs.Bounds.{clauses-bound, lists-bound}
+use Rattle.clauses.specs.Valuation.{any-all-true}
+use Rattle.clauses.specs.Means.{Means}
+use Rattle.clauses.specs.DisjunctionMeaning.{disjunction-means}
+use Rattle.tables.specs.Tables.{linear-eq, star-row, star-table}
+use Rattle.tables.specs.Agree.{row-permits}
+use Rattle.tables.specs.PlainMeaning.{linear-eq-true}
+
+-- the equalities name no Boolean
+star-row-bound : (vs : List ℕ) (cs : List Cell) → clauses-bound (star-row vs cs) ≡ 0
+unfolding star-row
+star-row-bound [] cs = refl
+star-row-bound (v ∷ vs) [] = refl
+star-row-bound (v ∷ vs) (star ∷ cs) = star-row-bound vs cs
+star-row-bound (v ∷ vs) (value x ∷ cs) = rw (star-row-bound vs cs) (omega arith)
+
+star-rows-bound : (vs : List ℕ) (rows : List (List Cell)) → lists-bound (map (star-row vs) rows) ≡ 0
+star-rows-bound vs [] = refl
+star-rows-bound vs (cs ∷ rows) = rw (star-row-bound vs cs, star-rows-bound vs rows) (omega arith)
+
+module _ (ρ : Val) (ι : IVal) where
+  star-row-true : (vs : List ℕ) (cs : List Cell) → all (clause-true ρ ι) (star-row vs cs) ≡ row-permits cs (map ι vs)
+  unfolding star-row row-permits
+  star-row-true [] [] = refl
+  star-row-true [] (c ∷ cs) = refl
+  star-row-true (v ∷ vs) [] = refl
+  star-row-true (v ∷ vs) (star ∷ cs) = star-row-true vs cs
+  star-row-true (v ∷ vs) (value x ∷ cs) = rw (linear-eq-true ι v x, eqZ-sym (ι v) x, star-row-true vs cs) (tidy (eqZ x (ι v)) (row-permits cs (map ι vs)))
+    where
+      tidy : (a b : Bool) → (a || false) && b ≡ a && b
+      tidy = eq2 _ _ refl
+
+  star-rows-true : (vs : List ℕ) (rows : List (List Cell)) → any-all-true ρ ι (map (star-row vs) rows) ≡ any (λ cs. row-permits cs (map ι vs)) rows
+  star-rows-true vs [] = refl
+  star-rows-true vs (cs ∷ rows) = rw (star-row-true vs cs, star-rows-true vs rows)
+
+-- from any log
+pub star-table-means : (δ : Val) (ε : IVal) (ρ : Val) (ι : IVal) (vs : List ℕ) (rows : List (List Cell)) (s : Log)
+    → Means δ ε ρ ι s (star-table vs rows s) (any (λ cs. row-permits cs (map ι vs)) rows)
+unfolding star-table
+star-table-means δ ε ρ ι vs rows s = rw (star-rows-true ρ ι vs rows) at (disjunction-means δ ε ρ ι (map (star-row vs) rows) s (omega (arith, star-rows-bound vs rows)))
