@@ -7,3 +7,4 @@ pub mod Forms
 pub mod Size
 pub mod Steps
 pub mod Kept
+pub mod Ends

@@ -100,6 +100,50 @@ module _ (P Q P' Q' : ℕ → Type 0) (toP : (v : ℕ) → P v → P' v) (toQ : 
   every-stmts-map [] h = tt
   every-stmts-map (s ∷ ss) h = (every-stmt-map s (h .0), every-stmts-map ss (h .1))
 
+-- ---- no property at all
+
+mutual
+  unfolding EveryInt
+
+  any-int : (e : IntExpr) → EveryInt (λ v. Unit {0}) e
+  any-int (IConst c) = tt
+  any-int (IVar v) = tt
+  any-int (Linear ts) = any-terms ts
+
+  any-terms : (ts : Terms) → EveryTerm (λ v. Unit {0}) ts
+  any-terms tnil = tt
+  any-terms (tmore k e ts) = (any-int e, any-terms ts)
+
+any-columns : (es : List IntExpr) → EveryColumn (λ v. Unit {0}) es
+unfolding EveryColumn
+any-columns [] = tt
+any-columns (e ∷ es) = (any-int e, any-columns es)
+
+mutual
+  unfolding Every
+
+  pub any-bool : (e : BoolExpr) → Every (λ v. Unit {0}) (λ v. Unit {0}) e
+  any-bool (Const b) = tt
+  any-bool (Var v) = tt
+  any-bool (NVar n) = tt
+  any-bool (And ms) = any-members ms
+  any-bool (Or ms) = any-members ms
+  any-bool (Not e) = any-bool e
+  any-bool (Xor a b) = (any-bool a, any-bool b)
+  any-bool (Iff a b) = (any-bool a, any-bool b)
+  any-bool (Imp a b) = (any-bool a, any-bool b)
+  any-bool (Cmp o a b) = (any-int a, any-int b)
+
+  pub any-members : (ms : Members) → EveryMember (λ v. Unit {0}) (λ v. Unit {0}) ms
+  any-members none = tt
+  any-members (more e ms) = (any-bool e, any-members ms)
+
+pub any-stmts : (ss : List Stmt) → EveryStmts (λ v. Unit {0}) (λ v. Unit {0}) ss
+unfolding EveryStmts EveryStmt
+any-stmts [] = tt
+any-stmts (Rule e ∷ ss) = (any-bool e, any-stmts ss)
+any-stmts (Table es rows ∷ ss) = (any-columns es, any-stmts ss)
+
 -- ---- every declared integer has a value of its domain
 
 -- the value of an integer is in its domain
