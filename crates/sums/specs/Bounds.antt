@@ -1,0 +1,270 @@
+-- Within refusal 9 every sum, partial sum and coefficient that the Rust computes stays in i32; within refusal 10 there is room for its terms.
+use mathlib.Core.Path.{_≡_, refl, sym, ap, _∙_}
+use mathlib.Core.Bool.{Bool, true, false, _||_, cond}
+use mathlib.Core.List.{List, [], _∷_, _++_, map}
+use Prim.Native.Nat.{ℕ, zero, suc, _+_, _*_, _≤_, _<_, _^_, max, zero-le}
+use native.Mathlib.Nat.{mul-le-mul-left, le-trans}
+use native.Mathlib.Omega.{arith}
+use lib.Dec.{eqb, ltb}
+use lib.IntN.{ℤ, pos, negsuc, natAbs, _+ℤ_, _*ℤ_}
+use lib.ListN.{length, take}
+use borrow.Author.Tests.{eq-eqb, ltb-false}
+use Rattle.laws.specs.Bools.{or-l, or-no-l, or-no-r}
+use Rattle.laws.specs.Ints.{times-low, times-high, natAbs-add, natAbs-mul}
+use Rattle.laws.specs.Lists.{different}
+use Rattle.syntax.specs.Words.{max-weight, max-comparison-vars, max-column-vars}
+use Rattle.syntax.specs.Syntax.{Domain, Range, Enumerative, lower-bound, upper-bound, last-or, domain-of, IntExpr, IConst, IVar, Linear, Terms, tnil, tmore}
+use Rattle.limits.specs.Limits.{largest, domain-weight, weight, terms-weight, heavy, heavy-terms, heavy-comparison, written, written-terms, many-comparison, many-column}
+use Rattle.sums.specs.LinearSum.{Term, term, LinearSum, linear-sum, constant, singleton, add-coef, add-terms, add-sum, mul-sum, sub-sum, lowest, highest}
+use Rattle.sums.specs.Rising.{terms-of, constant-of, Rises, add-coef-rises, Each, each-map, add-coef-each, mul-sum-each, singleton-each, Among, among-left, among-right, few-terms, different-cons, different-map}
+use Rattle.sums.specs.Linear.{linear-of, linear-terms, linear-of-proper, linear-of-among}
+use Rattle.sums.specs.Norm.{norm, load, constant-load, singleton-load, add-coef-norm, add-sum-load, mul-sum-load, take-norm}
+
+-- ---- weights
+
+pub domain-weight-one : (d : Domain) → 1 ≤ domain-weight d
+domain-weight-one (Range low high) = omega arith
+domain-weight-one (Enumerative xs) = omega arith
+
+pub lower-weight : (d : Domain) → natAbs (lower-bound d) ≤ domain-weight d
+lower-weight (Range low high) = omega arith
+lower-weight (Enumerative []) = omega arith
+lower-weight (Enumerative (x ∷ xs)) = omega arith
+
+last-weight : (x : ℤ) (xs : List ℤ) → natAbs (last-or x xs) ≤ max (natAbs x) (largest xs)
+last-weight x [] = omega arith
+last-weight x (y ∷ ys) = omega (arith, last-weight y ys)
+
+pub upper-weight : (d : Domain) → natAbs (upper-bound d) ≤ domain-weight d
+upper-weight (Range low high) = omega arith
+upper-weight (Enumerative []) = omega arith
+upper-weight (Enumerative (x ∷ xs)) = omega (arith, last-weight x xs)
+
+-- no part weighs too much
+pub heavy-weight : (ds : List Domain) (e : IntExpr) → heavy ds e ≡ false → weight ds e ≤ max-weight
+unfolding heavy
+heavy-weight ds (IConst c) h = ltb-false max-weight (weight ds (IConst c)) h
+heavy-weight ds (IVar v) h = ltb-false max-weight (weight ds (IVar v)) h
+heavy-weight ds (Linear ts) h = ltb-false max-weight (weight ds (Linear ts)) (or-no-l (ltb max-weight (weight ds (Linear ts))) (heavy-terms ds ts) h)
+
+-- w: a weight of each emitted number, no more than its declared variable's
+module _ (ds : List Domain) (number : ℕ → ℕ) (w : ℕ → ℕ) where
+  mutual
+    unfolding linear-of weight written
+
+    pub linear-of-load : (e : IntExpr) → ((v : ℕ) → Among (written e) v → w (number v) ≤ domain-weight (domain-of ds v)) → load w (linear-of number e) ≤ weight ds e
+    linear-of-load (IConst c) h = omega (arith, constant-load w c)
+    linear-of-load (IVar v) h = omega (arith, singleton-load w (number v), h v (or-l (eqb v v) _ (eq-eqb v v refl)))
+    linear-of-load (Linear ts) h = omega (arith, linear-terms-load ts (constant (pos 0)) h, constant-load w (pos 0))
+
+    pub linear-terms-load : (ts : Terms) (sum : LinearSum) → ((v : ℕ) → Among (written-terms ts) v → w (number v) ≤ domain-weight (domain-of ds v)) → load w (linear-terms number ts sum) ≤ load w sum + terms-weight ds ts
+    linear-terms-load tnil sum h = omega arith
+    linear-terms-load (tmore k e ts) sum h =
+        let a = linear-of-load e (λ v m. h v (among-left v (written e) (written-terms ts) m)) in
+        let b = linear-terms-load ts (add-sum sum (mul-sum k (linear-of number e))) (λ v m. h v (among-right v (written e) (written-terms ts) m)) in
+        omega (arith, add-sum-load w sum (mul-sum k (linear-of number e)), mul-sum-load w k (linear-of number e), mul-le-mul-left (natAbs k) a)
+
+-- ---- every sum that is computed
+
+-- each coefficient counts once
+abbrev pub size : LinearSum → ℕ
+size = load (λ v. 1)
+
+unfoldable pub Coefficients : ℕ → List Term → Type 0
+Coefficients n [] = Unit {0}
+Coefficients n (term v a ∷ ts) = (natAbs a ≤ n) × Coefficients n ts
+
+norm-coefficients : (n : ℕ) (ts : List Term) → norm (λ v. 1) ts ≤ n → Coefficients n ts
+unfolding norm Coefficients
+norm-coefficients n [] h = tt
+norm-coefficients n (term v a ∷ ts) h = (omega arith, norm-coefficients n ts (omega arith))
+
+-- its constant and its coefficients are numbers of i32, with room
+pub record Fits (l : LinearSum) : Type 0 where
+  pub constant-fits : natAbs (constant-of l) ≤ max-weight
+  pub coefficients-fit : Coefficients max-weight (terms-of l)
+
+pub size-fits : (l : LinearSum) → size l ≤ max-weight → Fits l
+unfolding load
+size-fits (linear-sum c ts) h = record { constant-fits = omega arith; coefficients-fit = norm-coefficients max-weight ts (omega arith) }
+
+unfoldable pub Every : (LinearSum → Type 0) → List LinearSum → Type 0
+Every P [] = Unit {0}
+Every P (l ∷ ls) = P l × Every P ls
+
+every-append : (P : LinearSum → Type 0) (ls ms : List LinearSum) → Every P ls → Every P ms → Every P (ls ++ ms)
+unfolding Every
+every-append P [] ms h k = k
+every-append P (l ∷ ls) ms h k = (h .0, every-append P ls ms (h .1) k)
+
+every-map : (P Q : LinearSum → Type 0) → ((l : LinearSum) → P l → Q l) → (ls : List LinearSum) → Every P ls → Every Q ls
+unfolding Every
+every-map P Q f [] h = tt
+every-map P Q f (l ∷ ls) h = (f l (h .0), every-map P Q f ls (h .1))
+
+-- add_assign: the sum after each add_coef, and at last with the constant
+unfoldable pub add-steps : ℤ → List Term → ℤ → List Term → List LinearSum
+add-steps c ts d [] = linear-sum (c +ℤ d) ts ∷ []
+add-steps c ts d (term v a ∷ us) = linear-sum c (add-coef v a ts) ∷ add-steps c (add-coef v a ts) d us
+
+unfoldable pub sum-steps : LinearSum → LinearSum → List LinearSum
+sum-steps a b = add-steps (constant-of a) (terms-of a) (constant-of b) (terms-of b)
+
+-- normalize_int_expr: every sum on the way
+module _ (number : ℕ → ℕ) where
+  unfoldable mutual
+    pub computed : IntExpr → List LinearSum
+    computed (IConst c) = constant c ∷ []
+    computed (IVar v) = singleton (number v) ∷ []
+    computed (Linear ts) = constant (pos 0) ∷ computed-terms ts (constant (pos 0))
+
+    pub computed-terms : Terms → LinearSum → List LinearSum
+    computed-terms tnil sum = []
+    computed-terms (tmore k e ts) sum =
+        computed e ++ (mul-sum k (linear-of number e) ∷ sum-steps sum (mul-sum k (linear-of number e)) ++ computed-terms ts (add-sum sum (mul-sum k (linear-of number e))))
+
+  -- a comparison: both sides, the right one negated, and the difference term by term
+  unfoldable pub computed-comparison : IntExpr → IntExpr → List LinearSum
+  computed-comparison a b = computed a ++ (computed b ++ (mul-sum (negsuc 0) (linear-of number b) ∷ sum-steps (linear-of number a) (mul-sum (negsuc 0) (linear-of number b))))
+
+abbrev Small : LinearSum → Type 0
+Small l = size l ≤ max-weight
+
+add-steps-small : (c : ℤ) (ts : List Term) (d : ℤ) (us : List Term) → natAbs c + norm (λ v. 1) ts + (natAbs d + norm (λ v. 1) us) ≤ max-weight → Every Small (add-steps c ts d us)
+unfolding add-steps Every load norm
+add-steps-small c ts d [] h = (omega (arith, natAbs-add c d), tt)
+add-steps-small c ts d (term v a ∷ us) h =
+    let n = add-coef-norm (λ v. 1) v a ts in
+    (omega arith, add-steps-small c (add-coef v a ts) d us (omega arith))
+
+sum-steps-small : (a b : LinearSum) → size a + size b ≤ max-weight → Every Small (sum-steps a b)
+unfolding sum-steps load
+sum-steps-small (linear-sum c ts) (linear-sum d us) h = add-steps-small c ts d us h
+
+module _ (ds : List Domain) (number : ℕ → ℕ) where
+  pub linear-of-size : (e : IntExpr) → size (linear-of number e) ≤ weight ds e
+  linear-of-size e = linear-of-load ds number (λ v. 1) e (λ v m. domain-weight-one (domain-of ds v))
+
+  mutual
+    unfolding computed heavy weight Every
+
+    computed-small : (e : IntExpr) → heavy ds e ≡ false → Every Small (computed number e)
+    computed-small (IConst c) h = (omega (arith, constant-load (λ v. 1) c, heavy-weight ds (IConst c) h), tt)
+    computed-small (IVar v) h = (omega (arith, singleton-load (λ v. 1) (number v)), tt)
+    computed-small (Linear ts) h =
+        (omega (arith, constant-load (λ v. 1) (pos 0)), computed-terms-small ts (constant (pos 0)) (or-no-r (ltb max-weight (terms-weight ds ts)) (heavy-terms ds ts) h) (omega (arith, constant-load (λ v. 1) (pos 0), heavy-weight ds (Linear ts) h)))
+
+    computed-terms-small : (ts : Terms) (sum : LinearSum) → heavy-terms ds ts ≡ false → size sum + terms-weight ds ts ≤ max-weight → Every Small (computed-terms number ts sum)
+    computed-terms-small tnil sum h l = tt
+    computed-terms-small (tmore k e ts) sum h l =
+        let m = mul-sum k (linear-of number e) in
+        let s = mul-sum-load (λ v. 1) k (linear-of number e) in
+        let n = mul-le-mul-left (natAbs k) (linear-of-size e) in
+        let a = add-sum-load (λ v. 1) sum m in
+        every-append Small (computed number e) _ (computed-small e (or-no-l (heavy ds e) (heavy-terms ds ts) h))
+        (omega arith, every-append Small (sum-steps sum m) _ (sum-steps-small sum m (omega arith)) (computed-terms-small ts (add-sum sum m) (or-no-r (heavy ds e) (heavy-terms ds ts) h) (omega arith)))
+
+  comparison-small : (a b : IntExpr) → heavy-comparison ds a b ≡ false → Every Small (computed-comparison number a b)
+  unfolding computed-comparison heavy-comparison Every
+  comparison-small a b h =
+      let r = or-no-r (heavy ds a) (heavy ds b || ltb max-weight (weight ds a + weight ds b)) h in
+      let t = ltb-false max-weight (weight ds a + weight ds b) (or-no-r (heavy ds b) (ltb max-weight (weight ds a + weight ds b)) r) in
+      let m = mul-sum (negsuc 0) (linear-of number b) in
+      let s = mul-sum-load (λ v. 1) (negsuc 0) (linear-of number b) in
+      let p = linear-of-size a in
+      let q = linear-of-size b in
+      every-append Small (computed number a) _ (computed-small a (or-no-l (heavy ds a) (heavy ds b || ltb max-weight (weight ds a + weight ds b)) h))
+      (every-append Small (computed number b) _ (computed-small b (or-no-l (heavy ds b) (ltb max-weight (weight ds a + weight ds b)) r))
+      (omega arith, sum-steps-small (linear-of number a) m (omega arith)))
+
+  -- the two theorems: of an expression, and of a comparison
+  pub computed-fits : (e : IntExpr) → heavy ds e ≡ false → Every Fits (computed number e)
+  computed-fits e h = every-map Small Fits size-fits (computed number e) (computed-small e h)
+
+  pub comparison-fits : (a b : IntExpr) → heavy-comparison ds a b ≡ false → Every Fits (computed-comparison number a b)
+  comparison-fits a b h = every-map Small Fits size-fits (computed-comparison number a b) (comparison-small a b h)
+
+-- ---- the bounds of a sum's domain, after each term
+
+-- the larger size of a domain's bounds
+abbrev pub reach : Domain → ℕ
+reach d = max (natAbs (lower-bound d)) (natAbs (upper-bound d))
+
+pub reach-weight : (d : Domain) → reach d ≤ domain-weight d
+reach-weight d = omega (arith, lower-weight d, upper-weight d)
+
+times-low-size : (k a b : ℤ) (n : ℕ) → natAbs a ≤ n → natAbs b ≤ n → natAbs (times-low k a b) ≤ natAbs k * n
+times-low-size (pos k) a b n h g = rw (natAbs-mul (pos k) a) (mul-le-mul-left k h)
+times-low-size (negsuc k) a b n h g = rw (natAbs-mul (negsuc k) b) (mul-le-mul-left (suc k) g)
+
+times-high-size : (k a b : ℤ) (n : ℕ) → natAbs a ≤ n → natAbs b ≤ n → natAbs (times-high k a b) ≤ natAbs k * n
+times-high-size (pos k) a b n h g = rw (natAbs-mul (pos k) b) (mul-le-mul-left k g)
+times-high-size (negsuc k) a b n h g = rw (natAbs-mul (negsuc k) a) (mul-le-mul-left (suc k) h)
+
+module _ (domain : ℕ → Domain) where
+  pub low-size : (k : ℤ) (v : ℕ) → natAbs (times-low k (lower-bound (domain v)) (upper-bound (domain v))) ≤ natAbs k * reach (domain v)
+  low-size k v = times-low-size k (lower-bound (domain v)) (upper-bound (domain v)) (reach (domain v)) (omega arith) (omega arith)
+
+  pub high-size : (k : ℤ) (v : ℕ) → natAbs (times-high k (lower-bound (domain v)) (upper-bound (domain v))) ≤ natAbs k * reach (domain v)
+  high-size k v = times-high-size k (lower-bound (domain v)) (upper-bound (domain v)) (reach (domain v)) (omega arith) (omega arith)
+
+  lowest-size : (c : ℤ) (ts : List Term) → natAbs (lowest domain c ts) ≤ natAbs c + norm (λ v. reach (domain v)) ts
+  unfolding lowest norm
+  lowest-size c [] = omega arith
+  lowest-size c (term v a ∷ ts) =
+      let t = times-low a (lower-bound (domain v)) (upper-bound (domain v)) in
+      omega (arith, lowest-size (c +ℤ t) ts, natAbs-add c t, low-size a v)
+
+  highest-size : (c : ℤ) (ts : List Term) → natAbs (highest domain c ts) ≤ natAbs c + norm (λ v. reach (domain v)) ts
+  unfolding highest norm
+  highest-size c [] = omega arith
+  highest-size c (term v a ∷ ts) =
+      let t = times-high a (lower-bound (domain v)) (upper-bound (domain v)) in
+      omega (arith, highest-size (c +ℤ t) ts, natAbs-add c t, high-size a v)
+
+  bounds-within : (i n : ℕ) (l : LinearSum) → load (λ v. reach (domain v)) l ≤ n → (natAbs (lowest domain (constant-of l) (take i (terms-of l))) ≤ n) × (natAbs (highest domain (constant-of l) (take i (terms-of l))) ≤ n)
+  unfolding load
+  bounds-within i n (linear-sum c ts) h =
+      let t = take-norm (λ v. reach (domain v)) i ts in
+      (omega (arith, lowest-size c (take i ts)), omega (arith, highest-size c (take i ts)))
+
+  -- after i terms
+  pub domain-bounds-fit : (ds : List Domain) (number : ℕ → ℕ) (e : IntExpr) → ((v : ℕ) → Among (written e) v → domain (number v) ≡ domain-of ds v) → heavy ds e ≡ false → (i : ℕ)
+      → (natAbs (lowest domain (constant-of (linear-of number e)) (take i (terms-of (linear-of number e)))) ≤ max-weight)
+      × (natAbs (highest domain (constant-of (linear-of number e)) (take i (terms-of (linear-of number e)))) ≤ max-weight)
+  domain-bounds-fit ds number e h l i =
+      bounds-within i max-weight (linear-of number e) (le-trans (linear-of-load ds number (λ v. reach (domain v)) e (λ v m. rw (h v m) (reach-weight (domain-of ds v)))) (heavy-weight ds e l))
+
+-- ---- room for the terms, of which each step of adding has at most 64
+
+unfoldable pub Room : List Term → List Term → Type 0
+Room ts [] = Unit {0}
+Room ts (term v a ∷ us) = (length (add-coef v a ts) ≤ 64) × Room (add-coef v a ts) us
+
+pub room-among : (ws : List ℕ) → different ws ≤ 64 → (ts us : List Term) → Rises 0 ts → Each (Among ws) ts → Each (Among ws) us → Room ts us
+unfolding Room Each
+room-among ws n ts [] r h k = tt
+room-among ws n ts (term v a ∷ us) r h k =
+    let r' = add-coef-rises v a ts r in
+    let h' = add-coef-each (Among ws) v a ts (k .0) h in
+    (omega (arith, few-terms ws 0 (add-coef v a ts) r' h'), room-among ws n (add-coef v a ts) us r' h' (k .1))
+
+-- both sides of a comparison, and a column with its new variable
+pub comparison-room : (number : ℕ → ℕ) (a b : IntExpr) → many-comparison a b ≡ false → Room (terms-of (linear-of number a)) (terms-of (mul-sum (negsuc 0) (linear-of number b)))
+unfolding many-comparison
+comparison-room number a b h =
+    let ws = written a ++ written b in
+    room-among (map number ws) (le-trans (different-map number ws) (ltb-false max-comparison-vars (different ws) h)) (terms-of (linear-of number a)) (terms-of (mul-sum (negsuc 0) (linear-of number b)))
+    (linear-of-proper number a)
+    (linear-of-among number ws a (λ v m. among-left v (written a) (written b) m))
+    (mul-sum-each (Among (map number ws)) (negsuc 0) (linear-of number b) (linear-of-among number ws b (λ v m. among-right v (written a) (written b) m)))
+
+pub column-room : (number : ℕ → ℕ) (e : IntExpr) (n : ℕ) → many-column e ≡ false → Room (terms-of (linear-of number e)) (terms-of (mul-sum (negsuc 0) (singleton n)))
+unfolding many-column
+column-room number e n h =
+    let ws = n ∷ map number (written e) in
+    let d = different-cons n (map number (written e)) in
+    room-among ws (omega (arith, d, different-map number (written e), ltb-false max-column-vars (different (written e)) h)) (terms-of (linear-of number e)) (terms-of (mul-sum (negsuc 0) (singleton n)))
+    (linear-of-proper number e)
+    (each-map (Among (map number (written e))) (Among ws) (terms-of (linear-of number e)) (λ v m. among-right v (n ∷ []) (map number (written e)) m) (linear-of-among number (written e) e (λ v m. m)))
+    (mul-sum-each (Among ws) (negsuc 0) (singleton n) (singleton-each (Among ws) n (or-l (eqb n n) _ (eq-eqb n n refl))))

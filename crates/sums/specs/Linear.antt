@@ -1,0 +1,84 @@
+-- The linear sum of an integer expression where the numbers of the declared variables are given: its value, its shape, its variables.
+use mathlib.Core.Path.{_≡_, refl, sym, ap, _∙_}
+use mathlib.Core.Bool.{Bool, true, _||_}
+use mathlib.Core.List.{List, [], _∷_, _++_, map}
+use Prim.Native.Nat.{ℕ, suc, _≤_}
+use native.Mathlib.Nat.{le-trans}
+use native.Mathlib.Omega.{arith}
+use lib.Dec.{eqb}
+use lib.IntN.{ℤ, pos, negsuc, _+ℤ_, _*ℤ_, +ℤ-idl, +ℤ-idr, +ℤ-assoc}
+use lib.ListN.{length}
+use borrow.Author.Tests.{eq-eqb}
+use Rattle.laws.specs.Bools.{or-l, or-r}
+use Rattle.laws.specs.Lists.{any, any-append, different}
+use Rattle.syntax.specs.Syntax.{IntExpr, IConst, IVar, Linear, Terms, tnil, tmore}
+use Rattle.syntax.specs.Satisfies.{IVal, int-value, terms-value}
+use Rattle.limits.specs.Limits.{written, written-terms}
+use Rattle.sums.specs.LinearSum.{Term, term, LinearSum, linear-sum, constant, singleton, add-sum, mul-sum, sub-sum, sum-value}
+use Rattle.sums.specs.Value.{constant-value, singleton-value, add-sum-value, mul-sum-value}
+use Rattle.sums.specs.Rising.{terms-of, Proper, constant-proper, singleton-proper, add-sum-proper, mul-sum-proper, sub-sum-proper, Each, constant-each, singleton-each, add-sum-each, mul-sum-each, sub-sum-each, each-map, Among, among-left, among-right, among-map, few-terms, different-map}
+
+-- number: the emitted number of each declared variable
+module _ (number : ℕ → ℕ) where
+  unfoldable mutual
+    pub linear-of : IntExpr → LinearSum
+    linear-of (IConst c) = constant c
+    linear-of (IVar v) = singleton (number v)
+    linear-of (Linear ts) = linear-terms ts (constant (pos 0))
+
+    -- the sum so far and the terms to come
+    pub linear-terms : Terms → LinearSum → LinearSum
+    linear-terms tnil sum = sum
+    linear-terms (tmore k e ts) sum = linear-terms ts (add-sum sum (mul-sum k (linear-of e)))
+
+  -- ---- value
+
+  mutual
+    unfolding linear-of int-value
+
+    pub linear-of-value : (ι : IVal) (e : IntExpr) → sum-value ι (linear-of e) ≡ int-value (λ v. ι (number v)) e
+    linear-of-value ι (IConst c) = constant-value ι c
+    linear-of-value ι (IVar v) = singleton-value ι (number v)
+    linear-of-value ι (Linear ts) = linear-terms-value ι ts (constant (pos 0)) ∙ +ℤ-idl (terms-value (λ v. ι (number v)) ts)
+
+    pub linear-terms-value : (ι : IVal) (ts : Terms) (sum : LinearSum) → sum-value ι (linear-terms ts sum) ≡ sum-value ι sum +ℤ terms-value (λ v. ι (number v)) ts
+    linear-terms-value ι tnil sum = sym (+ℤ-idr (sum-value ι sum))
+    linear-terms-value ι (tmore k e ts) sum =
+        linear-terms-value ι ts (add-sum sum (mul-sum k (linear-of e)))
+        ∙ ap (λ (x : ℤ). x +ℤ terms-value (λ v. ι (number v)) ts) (add-sum-value ι sum (mul-sum k (linear-of e)) ∙ ap (λ (x : ℤ). sum-value ι sum +ℤ x) (mul-sum-value ι k (linear-of e) ∙ ap (λ (x : ℤ). k *ℤ x) (linear-of-value ι e)))
+        ∙ +ℤ-assoc (sum-value ι sum) (k *ℤ int-value (λ v. ι (number v)) e) (terms-value (λ v. ι (number v)) ts)
+
+  -- ---- shape
+
+  mutual
+    unfolding linear-of
+
+    pub linear-of-proper : (e : IntExpr) → Proper (linear-of e)
+    linear-of-proper (IConst c) = constant-proper c
+    linear-of-proper (IVar v) = singleton-proper (number v)
+    linear-of-proper (Linear ts) = linear-terms-proper ts (constant (pos 0)) (constant-proper (pos 0))
+
+    pub linear-terms-proper : (ts : Terms) (sum : LinearSum) → Proper sum → Proper (linear-terms ts sum)
+    linear-terms-proper tnil sum h = h
+    linear-terms-proper (tmore k e ts) sum h = linear-terms-proper ts (add-sum sum (mul-sum k (linear-of e))) (add-sum-proper sum (mul-sum k (linear-of e)) h)
+
+  -- ---- variables
+
+  module _ (P : ℕ → Type 0) where
+    mutual
+      unfolding linear-of written
+
+      pub linear-of-each : (e : IntExpr) → ((v : ℕ) → Among (written e) v → P (number v)) → Each P (terms-of (linear-of e))
+      linear-of-each (IConst c) f = constant-each P c
+      linear-of-each (IVar v) f = singleton-each P (number v) (f v (or-l (eqb v v) _ (eq-eqb v v refl)))
+      linear-of-each (Linear ts) f = linear-terms-each ts (constant (pos 0)) (constant-each P (pos 0)) f
+
+      pub linear-terms-each : (ts : Terms) (sum : LinearSum) → Each P (terms-of sum) → ((v : ℕ) → Among (written-terms ts) v → P (number v)) → Each P (terms-of (linear-terms ts sum))
+      linear-terms-each tnil sum h f = h
+      linear-terms-each (tmore k e ts) sum h f =
+          linear-terms-each ts (add-sum sum (mul-sum k (linear-of e)))
+          (add-sum-each P sum (mul-sum k (linear-of e)) h (mul-sum-each P k (linear-of e) (linear-of-each e (λ v m. f v (among-left v (written e) (written-terms ts) m)))))
+          (λ v m. f v (among-right v (written e) (written-terms ts) m))
+
+  pub linear-of-among : (us : List ℕ) (e : IntExpr) → ((v : ℕ) → Among (written e) v → Among us v) → Each (Among (map number us)) (terms-of (linear-of e))
+  linear-of-among us e f = linear-of-each (Among (map number us)) e (λ v m. among-map number v us (f v m))
