@@ -59,27 +59,6 @@ module _ (ρ : Val) (ι : IVal) where
 
 -- ---- the members sorted
 
-sorted-bound-of : Sorted → ℕ
-sorted-bound-of satisfied = 0
-sorted-bound-of (pool ls ks longer) = max (lits-bound ls) (lists-bound longer)
-
-pooled-bound : (c : Clause) (x : Sorted) → sorted-bound-of (pooled c x) ≤ max (clauses-bound (c ∷ [])) (sorted-bound-of x)
-unfolding sorted-bound-of
-pooled-bound c satisfied = omega arith
-pooled-bound (clause ls ks) (pool ms js longer) = rw (lits-bound-append ls ms) (omega arith)
-
-longer-bound : (cs : List Clause) (x : Sorted) → sorted-bound-of (with-longer cs x) ≤ max (clauses-bound cs) (sorted-bound-of x)
-unfolding sorted-bound-of
-longer-bound cs satisfied = omega arith
-longer-bound cs (pool ls ks longer) = omega arith
-
-sorted-bound : (css : List (List Clause)) → sorted-bound-of (sorted css) ≤ lists-bound css
-unfolding sorted sorted-bound-of
-sorted-bound [] = omega arith
-sorted-bound ([] ∷ css) = omega arith
-sorted-bound ((c ∷ []) ∷ css) = omega (arith, pooled-bound c (sorted css), sorted-bound css)
-sorted-bound ((c ∷ d ∷ cs) ∷ css) = omega (arith, longer-bound (c ∷ d ∷ cs) (sorted css), sorted-bound css)
-
 module _ (ρ : Val) (ι : IVal) where
   -- a literal or a comparison of the pool is true, or a longer member's clauses are
   abbrev pool-true : List BoolLit → List LinearLit → List (List Clause) → Bool
@@ -106,6 +85,27 @@ module _ (ρ : Val) (ι : IVal) where
   sorted-true ([] ∷ css) = refl
   sorted-true ((c ∷ []) ∷ css) = pooled-true c (sorted css) ∙ ap (λ (x : Bool). (clause-true ρ ι c && true) || x) (sorted-true css)
   sorted-true ((c ∷ d ∷ cs) ∷ css) = longer-true (c ∷ d ∷ cs) (sorted css) ∙ ap (λ (x : Bool). all-true ρ ι (c ∷ d ∷ cs) || x) (sorted-true css)
+
+sorted-bound-of : Sorted → ℕ
+sorted-bound-of satisfied = 0
+sorted-bound-of (pool ls ks longer) = max (lits-bound ls) (lists-bound longer)
+
+pooled-bound : (c : Clause) (x : Sorted) → sorted-bound-of (pooled c x) ≤ max (clauses-bound (c ∷ [])) (sorted-bound-of x)
+unfolding sorted-bound-of
+pooled-bound c satisfied = omega arith
+pooled-bound (clause ls ks) (pool ms js longer) = rw (lits-bound-append ls ms) (omega arith)
+
+longer-bound : (cs : List Clause) (x : Sorted) → sorted-bound-of (with-longer cs x) ≤ max (clauses-bound cs) (sorted-bound-of x)
+unfolding sorted-bound-of
+longer-bound cs satisfied = omega arith
+longer-bound cs (pool ls ks longer) = omega arith
+
+sorted-bound : (css : List (List Clause)) → sorted-bound-of (sorted css) ≤ lists-bound css
+unfolding sorted sorted-bound-of
+sorted-bound [] = omega arith
+sorted-bound ([] ∷ css) = omega arith
+sorted-bound ((c ∷ []) ∷ css) = omega (arith, pooled-bound c (sorted css), sorted-bound css)
+sorted-bound ((c ∷ d ∷ cs) ∷ css) = omega (arith, longer-bound (c ∷ d ∷ cs) (sorted css), sorted-bound css)
 
 module _ (δ : Val) (ε : IVal) (ρ : Val) (ι : IVal) where
   abbrev M : Log → Out → Bool → Type 0

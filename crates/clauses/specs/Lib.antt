@@ -10,3 +10,5 @@ pub mod Means
 pub mod DisjunctionMeaning
 pub mod NormalizeMeaning
 pub mod SplitMeaning
+pub mod RuleMeaning
+pub mod Exist

@@ -33,24 +33,21 @@ module _ (δ : Val) (ε : IVal) (ρ : Val) (ι : IVal) where
   abbrev H : BoolExpr → Bool
   H = holds δ ε ρ
 
-  abbrev pub all-hold : List BoolExpr → Bool
-  all-hold = all (holds δ ε ρ)
-
   -- from the log s the split rule c, of the value x
   pub record SplitMeans (s : Log) (c : Split) (x : Bool) : Type 0 where
     pub grows : Grows ε s (c .log)
     pub rule-bounded : expr-bound (c .rule) ≤ next-bool (c .log)
     pub extra-bounded : exprs-bound (c .extra) ≤ next-bool (c .log)
-    pub sound : all-hold (c .extra) ≡ true → holds δ ε ρ (c .rule) ≡ x
-    pub complete : Fits δ ε ρ ι (c .log) → all-hold (c .extra) ≡ true
+    pub sound : all H (c .extra) ≡ true → holds δ ε ρ (c .rule) ≡ x
+    pub complete : Fits δ ε ρ ι (c .log) → all H (c .extra) ≡ true
 
   -- the members: x if all hold, y if any does
   record SplitsMean (s : Log) (c : Splits) (x y : Bool) : Type 0 where
     grows : Grows ε s (c .log)
     rules-bounded : members-bound (c .rules) ≤ next-bool (c .log)
     extra-bounded : exprs-bound (c .extra) ≤ next-bool (c .log)
-    sound : all-hold (c .extra) ≡ true → (holds-all δ ε ρ (c .rules) ≡ x) × (holds-any δ ε ρ (c .rules) ≡ y)
-    complete : Fits δ ε ρ ι (c .log) → all-hold (c .extra) ≡ true
+    sound : all H (c .extra) ≡ true → (holds-all δ ε ρ (c .rules) ≡ x) × (holds-any δ ε ρ (c .rules) ≡ y)
+    complete : Fits δ ε ρ ι (c .log) → all H (c .extra) ≡ true
 
   connective-holds : {f : BoolExpr → BoolExpr → BoolExpr} {m : Bool → Bool → Bool} → Connective f m → (a b : BoolExpr) → holds δ ε ρ (f a b) ≡ m (holds δ ε ρ a) (holds δ ε ρ b)
   unfolding holds
@@ -91,10 +88,10 @@ module _ (δ : Val) (ε : IVal) (ρ : Val) (ι : IVal) where
         extra-bounded = exprs-bound-le (next-bool (b .log)) (a .extra) (b .extra) (omega (arith, p .extra-bounded, grows-bool (q .grows))) (q .extra-bounded);
         sound = λ h.
             let k = rw both at h in
-            let e : H (a .rule) ≡ x = p .sound (and-l (all-hold (a .extra)) (all-hold (b .extra)) k) in
-            let m = q .sound (and-r (all-hold (a .extra)) (all-hold (b .extra)) k) in
+            let e : H (a .rule) ≡ x = p .sound (and-l (all H (a .extra)) (all H (b .extra)) k) in
+            let m = q .sound (and-r (all H (a .extra)) (all H (b .extra)) k) in
             (rw (e, m .0) refl, rw (e, m .1) refl);
-        complete = λ f. rw both (and-i (all-hold (a .extra)) (all-hold (b .extra)) (p .complete (fits-back δ ρ ι (q .grows) f)) (q .complete f));
+        complete = λ f. rw both (and-i (all H (a .extra)) (all H (b .extra)) (p .complete (fits-back δ ρ ι (q .grows) f)) (q .complete f));
       }
 
   two-mean : {f : BoolExpr → BoolExpr → BoolExpr} {m : Bool → Bool → Bool} → Connective f m → (s : Log) (a b : Split) (x y : Bool) → SplitMeans s a x → SplitMeans (a .log) b y
@@ -107,8 +104,8 @@ module _ (δ : Val) (ε : IVal) (ρ : Val) (ι : IVal) where
         extra-bounded = exprs-bound-le (next-bool (b .log)) (a .extra) (b .extra) (omega (arith, p .extra-bounded, grows-bool (q .grows))) (q .extra-bounded);
         sound = λ h.
             let k = rw both at h in
-            rw (connective-holds t (a .rule) (b .rule), p .sound (and-l (all-hold (a .extra)) (all-hold (b .extra)) k), q .sound (and-r (all-hold (a .extra)) (all-hold (b .extra)) k)) refl;
-        complete = λ f. rw both (and-i (all-hold (a .extra)) (all-hold (b .extra)) (p .complete (fits-back δ ρ ι (q .grows) f)) (q .complete f));
+            rw (connective-holds t (a .rule) (b .rule), p .sound (and-l (all H (a .extra)) (all H (b .extra)) k), q .sound (and-r (all H (a .extra)) (all H (b .extra)) k)) refl;
+        complete = λ f. rw both (and-i (all H (a .extra)) (all H (b .extra)) (p .complete (fits-back δ ρ ι (q .grows) f)) (q .complete f));
       }
 
   -- ---- two new variables
@@ -117,14 +114,14 @@ module _ (δ : Val) (ε : IVal) (ρ : Val) (ι : IVal) where
   abbrev tied : Split → ℕ → List BoolExpr
   tied c n = c .extra ++ (Iff (c .rule) (NVar n) ∷ [])
 
-  tied-sound : (c : Split) (n : ℕ) (x : Bool) → all-hold (tied c n) ≡ true → (all-hold (c .extra) ≡ true → H (c .rule) ≡ x) → ρ n ≡ x
+  tied-sound : (c : Split) (n : ℕ) (x : Bool) → all H (tied c n) ≡ true → (all H (c .extra) ≡ true → H (c .rule) ≡ x) → ρ n ≡ x
   unfolding holds
   tied-sound c n x h p =
       let k = rw (all-append H (c .extra) (Iff (c .rule) (NVar n) ∷ [])) at h in
-      let e : H (c .rule) ≡ ρ n = beq-eq _ _ (and-l (Bool·beq (H (c .rule)) (ρ n)) true (and-r (all-hold (c .extra)) _ k)) in
-      sym e ∙ p (and-l (all-hold (c .extra)) _ k)
+      let e : H (c .rule) ≡ ρ n = beq-eq _ _ (and-l (Bool·beq (H (c .rule)) (ρ n)) true (and-r (all H (c .extra)) _ k)) in
+      sym e ∙ p (and-l (all H (c .extra)) _ k)
 
-  tied-complete : (c : Split) (n : ℕ) (x : Bool) → ρ n ≡ x → all-hold (c .extra) ≡ true → (all-hold (c .extra) ≡ true → H (c .rule) ≡ x) → all-hold (tied c n) ≡ true
+  tied-complete : (c : Split) (n : ℕ) (x : Bool) → ρ n ≡ x → all H (c .extra) ≡ true → (all H (c .extra) ≡ true → H (c .rule) ≡ x) → all H (tied c n) ≡ true
   unfolding holds
   tied-complete c n x e h p = rw (all-append H (c .extra) (Iff (c .rule) (NVar n) ∷ []), p h, e, h, beq-same x) refl
 
@@ -150,11 +147,11 @@ module _ (δ : Val) (ε : IVal) (ρ : Val) (ι : IVal) where
             (tied-bounded b (suc v) n (q .extra-bounded) (q .rule-bounded) (omega (arith, gp, gq)));
         sound = λ h.
             let k = rw both at h in
-            rw (connective-holds t (NVar v) (NVar (suc v)), tied-sound a v (H x) (and-l (all-hold (tied a v)) (all-hold (tied b (suc v))) k) (p .sound), tied-sound b (suc v) (H y) (and-r (all-hold (tied a v)) (all-hold (tied b (suc v))) k) (q .sound)) refl;
+            rw (connective-holds t (NVar v) (NVar (suc v)), tied-sound a v (H x) (and-l (all H (tied a v)) (all H (tied b (suc v))) k) (p .sound), tied-sound b (suc v) (H y) (and-r (all H (tied a v)) (all H (tied b (suc v))) k) (q .sound)) refl;
         complete = λ f.
             let fa : Fits δ ε ρ ι (a .log) = fits-back δ ρ ι (q .grows) f in
             let fs : Fits δ ε ρ ι (side y ∷ side x ∷ s) = fits-back δ ρ ι (p .grows) fa in
-            rw both (and-i (all-hold (tied a v)) (all-hold (tied b (suc v))) (tied-complete a v (H x) (fs .1 .0) (p .complete fa) (p .sound)) (tied-complete b (suc v) (H y) (fs .0) (q .complete f) (q .sound)));
+            rw both (and-i (all H (tied a v)) (all H (tied b (suc v))) (tied-complete a v (H x) (fs .1 .0) (p .complete fa) (p .sound)) (tied-complete b (suc v) (H y) (fs .0) (q .complete f) (q .sound)));
       }
 
   -- ---- from every log that has the first n numbers
