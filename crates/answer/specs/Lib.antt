@@ -1,4 +1,4 @@
 pub mod Answer
 pub mod Passes
 pub mod ReadBack
-pub mod Once
+pub mod Declared

@@ -58,7 +58,7 @@ module _ (ds : List Domain) where
   new-column-domain l d s = rw (emitted-column l d s) (getD-at (emitted-domains ds s) d [] _ (next-int s) (length-emitted s))
 
   -- the older ones
-  domain-step : (m : Made) (s : Log) (n : ℕ) → n < next-int s → domain-at (m ∷ s) n ≡ domain-at s n
+  pub domain-step : (m : Made) (s : Log) (n : ℕ) → n < next-int s → domain-at (m ∷ s) n ≡ domain-at s n
   domain-step (declared v) s n l = unfold emitted-domains newest in refl
   domain-step (aux cs) s n l = unfold emitted-domains newest in refl
   domain-step (side e) s n l = unfold emitted-domains newest in refl
