@@ -8,12 +8,12 @@ use native.Mathlib.Omega.{arith}
 use lib.IntN.{ℤ, pos, negsuc}
 use lib.Signed.{leZ}
 use lib.Dec.{eqb, eqb→eq, ltb}
-use borrow.Author.Tests.{ltb-true, ltb-false, eqb-true}
+use borrow.Author.Tests.{ltb-true, ltb-false, eqb-true, eq-eqb}
 use lib.ListN.{length, getD, length-map}
-use Rattle.laws.specs.Bools.{and-l, and-r, and-i, beq-eq, imp2}
+use Rattle.laws.specs.Bools.{and-l, and-r, and-i, beq-eq, or-l, or-r, or-pick}
 use Rattle.laws.specs.Ints.{eqZ}
 use Rattle.laws.specs.Order.{eqZ-is, is-eqZ}
-use Rattle.laws.specs.Lists.{any, all, from, below, all-below}
+use Rattle.laws.specs.Lists.{any, all, from, below, all-below, below-all}
 use Rattle.syntax.specs.Syntax.{Domain, Range, lower-bound, upper-bound, in-domain, domain-of, Problem}
 use Rattle.syntax.specs.Satisfies.{Val, IVal}
 use Rattle.fold.specs.Fold.{Fixed}
@@ -21,19 +21,13 @@ use Rattle.clauses.specs.Clause.{clause-true}
 use Rattle.clauses.specs.Log.{Made, declared, aux, side, declared-int, column, Log, next-bool, next-int, get-bool-var, get-int-var}
 use Rattle.clauses.specs.Disjunction.{Out}
 use Rattle.clauses.specs.Valuation.{AgreesInts, Agrees}
-use Rattle.clauses.specs.Grow.{Grows, same, grow, grows-get-int, get-int-below, agrees-bool, agrees-int, InColumns, bools-agree, ints-agree, eqb-same}
+use Rattle.clauses.specs.Grow.{Grows, same, grow, grows-get-int, get-int-below, agrees-bool, agrees-int, InColumns, bools-agree, ints-agree}
 use Rattle.tables.specs.Tables.{newest, emitted-domains}
-use Rattle.tables.specs.Emitted.{emitted-length, declared-old, column-old, column-new}
+use Rattle.tables.specs.Emitted.{length-emitted, domain-step, new-column-domain}
 use Rattle.answer.specs.Answer.{Answer, answer-of, fixed-word, map-word}
 use Rattle.answer.specs.Passes.{Decoded, word-of, fixed-agrees, carries-bool, carries-int, is-declared, between, bounds-at, passes-decoded}
 use Rattle.answer.specs.ReadBack.{hull, view-of}
 use Rattle.answer.specs.Declared.{Declared}
-
-or-i : (a b : Bool) → b ≡ true → a || b ≡ true
-or-i = imp2 _ _ refl
-
-or-l : (a b : Bool) → a ≡ true → a || b ≡ true
-or-l = imp2 _ _ refl
 
 -- ---- lists over the numbers below a count
 
@@ -45,18 +39,7 @@ getD-from f h i (suc n) (suc v) e k = getD-from f h (suc i) n v e (omega arith) 
 getD-below : {A C : Type 0} (f : A → C) (h : ℕ → A) (n v : ℕ) (e : C) → v < n → getD (map f (map h (below n))) v e ≡ f (h v)
 getD-below f h n v e k = getD-from f h 0 n v e k ∙ ap (λ m. f (h m)) (omega arith)
 
-from-all : (f : ℕ → Bool) (i n : ℕ) → ((v : ℕ) → v < i + n → f v ≡ true) → all f (from i n) ≡ true
-from-all f i zero h = refl
-from-all f i (suc n) h = and-i (f i) (all f (from (suc i) n)) (h i (omega arith)) (from-all f (suc i) n (λ v k. h v (omega arith)))
-
-below-all : (f : ℕ → Bool) (n : ℕ) → ((v : ℕ) → v < n → f v ≡ true) → all f (below n) ≡ true
-below-all f n h = from-all f 0 n (λ v k. h v (omega arith))
-
 -- some number below the count
-or-pick : {X : Type 0} (a b : Bool) → a || b ≡ true → (a ≡ true → X) → (b ≡ true → X) → X
-or-pick true b h f g = f refl
-or-pick false b h f g = g h
-
 from-any : {X : Type 0} (f : ℤ → Bool) (g : Option ℕ → ℤ) (h : ℕ → Option ℕ) (i n : ℕ) → any f (map g (map h (from i n))) ≡ true → ((v : ℕ) → f (g (h v)) ≡ true → X) → X
 from-any f g h i zero e go = absurd (false≢true e)
 from-any f g h i (suc n) e go = or-pick (f (g (h i))) (any f (map g (map h (from (suc i) n)))) e (go i) (λ r. from-any f g h (suc i) n r go)
@@ -69,7 +52,7 @@ any-from : (f : ℤ → Bool) (g : Option ℕ → ℤ) (h : ℕ → Option ℕ) 
 any-from f g h i zero v l k e = absurd (omega arith)
 any-from f g h i (suc n) v l k e =
     least i v (ltb i v) refl l
-    (λ m. or-i (f (g (h i))) (any f (map g (map h (from (suc i) n)))) (any-from f g h (suc i) n v (omega arith) (omega arith) e))
+    (λ m. or-r (f (g (h i))) (any f (map g (map h (from (suc i) n)))) (any-from f g h (suc i) n v (omega arith) (omega arith) e))
     (λ z. or-l (f (g (h i))) (any f (map g (map h (from (suc i) n)))) (rw z e))
 
 -- ---- one variable
@@ -130,14 +113,14 @@ module _ (ds : List Domain) (b i : ℕ) (ε ι : IVal) where
   in-columns (declared v ∷ s) d h = in-columns s (d .1) h
   in-columns (aux cs ∷ s) d h = in-columns s d h
   in-columns (side e ∷ s) d h = in-columns s d h
-  in-columns (declared-int w ∷ s) d h = in-columns s (d .1) (λ j k n. rw (declared-old ds w s j k) at (h j (omega arith) (λ v q. again v j k n (eqb v w) q)))
+  in-columns (declared-int w ∷ s) d h = in-columns s (d .1) (λ j k n. rw (domain-step ds (declared-int w) s j k) at (h j (omega arith) (λ v q. again v j k n (eqb v w) q)))
     where
       again : (v j : ℕ) → j < next-int s → ((v : ℕ) → get-int-var v s ≡ some j → ⊥) → (t : Bool) → cond t (some (next-int s)) (get-int-var v s) ≡ some j → ⊥
       again v j k n true q = let z : next-int s ≡ j = cc in omega arith
       again v j k n false q = n v q
   in-columns (column l e ∷ s) d h = (
-    sym (range-between e (ι (next-int s)) (d .0)) ∙ (rw (column-new ds l e s) at (h (next-int s) (omega arith) (λ v q. let z : next-int s < next-int s = get-int-below s v (next-int s) q in omega arith))),
-    in-columns s (d .1) (λ j k n. rw (column-old ds l e s j k) at (h j (omega arith) n)),
+    sym (range-between e (ι (next-int s)) (d .0)) ∙ (rw (new-column-domain ds l e s) at (h (next-int s) (omega arith) (λ v q. let z : next-int s < next-int s = get-int-below s v (next-int s) q in omega arith))),
+    in-columns s (d .1) (λ j k n. rw (domain-step ds (column l e) s j k) at (h j (omega arith) n)),
   )
 
   -- declared, or within its bounds
@@ -150,12 +133,12 @@ module _ (ds : List Domain) (b i : ℕ) (ε ι : IVal) where
   covered (grow (side e) l h) d c j k f g = covered h d c j k f g
   covered (grow {t} (declared-int w) l h) d c j k f g =
       least j (next-int t) (ltb j (next-int t)) refl (omega arith)
-      (λ m. let one : Grows ε t (declared-int w ∷ t) = grow (declared-int w) l same in covered h (d .1) c j m (λ v n q. f v n (grows-get-int one v j q)) (λ q. g (rw (declared-old ds w t j m) q)))
-      (λ z. f w (d .0) (rw (eqb-same w, z) refl))
+      (λ m. let one : Grows ε t (declared-int w ∷ t) = grow (declared-int w) l same in covered h (d .1) c j m (λ v n q. f v n (grows-get-int one v j q)) (λ q. g (rw (domain-step ds (declared-int w) t j m) q)))
+      (λ z. f w (d .0) (rw (eq-eqb w w refl, z) refl))
   covered (grow {t} (column x e) l h) d c j k f g =
       least j (next-int t) (ltb j (next-int t)) refl (omega arith)
-      (λ m. covered h (d .1) (c .1) j m f (λ q. g (rw (column-old ds x e t j m) q)))
-      (λ z. g (rw (z, column-new ds x e t) (range-between e (ι (next-int t)) (d .0) ∙ c .0)))
+      (λ m. covered h (d .1) (c .1) j m f (λ q. g (rw (domain-step ds (column x e) t j m) q)))
+      (λ z. g (rw (z, new-column-domain ds x e t) (range-between e (ι (next-int t)) (d .0) ∙ c .0)))
 
 -- ---- the answer
 
@@ -236,8 +219,8 @@ module _ (p : Problem) (f : Fixed) (out : Out) (δ : Val) (ε : IVal) (ρ : Val)
   module _ (grown : Grows ε [] s) (known : Declared b i s) where
     bounded : all bounds-test (below (length bounds)) ≡ true → Bounded (p .domains) b i ε ι s
     bounded h j k none =
-        let e : length bounds ≡ next-int s = length-map (emitted-domains (p .domains) s) hull ∙ emitted-length (p .domains) s in
-        let l : j < length (emitted-domains (p .domains) s) = omega (arith, emitted-length (p .domains) s) in
+        let e : length bounds ≡ next-int s = length-map (emitted-domains (p .domains) s) hull ∙ length-emitted (p .domains) s in
+        let l : j < length (emitted-domains (p .domains) s) = omega (arith, length-emitted (p .domains) s) in
         or-pick (is-declared int-words j) _ (all-below bounds-test (length bounds) j h (omega arith))
         (λ t. absurd (from-any (λ w. eqZ w (pos (suc j))) map-word (λ v. get-int-var v s) 0 i t (λ v q. none v (word-some (get-int-var v s) j q))))
         (λ t. rw (hull-at (emitted-domains (p .domains) s) j l) at t)
@@ -260,11 +243,11 @@ module _ (p : Problem) (f : Fixed) (out : Out) (δ : Val) (ε : IVal) (ρ : Val)
     pub carries : Carried b f out δ ε ρ ι → passes-decoded b i (view-of (answer-of p f out)) δ ε ρ ι ≡ true
     unfolding passes-decoded answer-of
     carries c =
-        let e : length bounds ≡ next-int s = length-map (emitted-domains (p .domains) s) hull ∙ emitted-length (p .domains) s in
+        let e : length bounds ≡ next-int s = length-map (emitted-domains (p .domains) s) hull ∙ length-emitted (p .domains) s in
         let t1 : all fixed-test (below b) ≡ true = below-all fixed-test b (λ v k. rw (getD-below fixed-word f b v (pos 0) k) (is-fixed (f v) (δ v) (λ x q. c .fixed v x k q))) in
         let t2 : all bool-test (below b) ≡ true = below-all bool-test b (λ v k. rw (getD-below map-word (λ v. get-bool-var v s) b v (pos 0) k) (is-carried (get-bool-var v s) (δ v) ρ (λ n q. agrees-bool δ ρ s (c .agrees .bools) v n q))) in
         let t3 : all int-test (below i) ≡ true = below-all int-test i (λ v k. rw (getD-below map-word (λ v. get-int-var v s) i v (pos 0) k) (is-carried-int (get-int-var v s) (ε v) ι (λ n q. agrees-int ε ι s (c .agrees .ints) v n q))) in
-        let t4 : all bounds-test (below (length bounds)) ≡ true = below-all bounds-test (length bounds) (λ j k. let l : j < length (emitted-domains (p .domains) s) = omega (arith, emitted-length (p .domains) s) in covered (p .domains) b i ε ι grown known (agrees-columns ε ι s (c .agrees .ints)) j (omega arith)
+        let t4 : all bounds-test (below (length bounds)) ≡ true = below-all bounds-test (length bounds) (λ j k. let l : j < length (emitted-domains (p .domains) s) = omega (arith, length-emitted (p .domains) s) in covered (p .domains) b i ε ι grown known (agrees-columns ε ι s (c .agrees .ints)) j (omega arith)
         (λ v n q. or-l (is-declared int-words j) _ (any-from (λ w. eqZ w (pos (suc j))) map-word (λ v. get-int-var v s) 0 i v (omega arith) (omega arith) (rw q (is-eqZ (pos (suc j)) (pos (suc j)) refl))))
-        (λ q. or-i (is-declared int-words j) _ (rw (hull-at (emitted-domains (p .domains) s) j l) q))) in
+        (λ q. or-r (is-declared int-words j) _ (rw (hull-at (emitted-domains (p .domains) s) j l) q))) in
         and-i _ _ t1 (and-i _ _ t2 (and-i _ _ t3 (and-i _ _ t4 (c .clauses))))

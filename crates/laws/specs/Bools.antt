@@ -155,3 +155,8 @@ or-mono false b false d f g h = g h
 pub and-mono : (a b c d : Bool) → (a ≡ true → c ≡ true) → (b ≡ true → d ≡ true) → a && b ≡ true → c && d ≡ true
 and-mono true b c d f g h = and-i c d (f refl) (g h)
 and-mono false b c d f g h = never h
+
+-- whichever side holds
+pub or-pick : {X : Type 0} (a b : Bool) → a || b ≡ true → (a ≡ true → X) → (b ≡ true → X) → X
+or-pick true b h f g = f refl
+or-pick false b h f g = g h

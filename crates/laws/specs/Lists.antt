@@ -126,3 +126,10 @@ all-from f i (suc n) v h a b = go (eqb i v) refl (λ c. all-from f (suc i) n v (
 
 pub all-below : (f : ℕ → Bool) (n v : ℕ) → all f (below n) ≡ true → v < n → f v ≡ true
 all-below f n v h b = all-from f 0 n v h (omega arith) (omega arith)
+
+from-all : (f : ℕ → Bool) (i n : ℕ) → ((v : ℕ) → v < i + n → f v ≡ true) → all f (from i n) ≡ true
+from-all f i zero h = refl
+from-all f i (suc n) h = and-i (f i) (all f (from (suc i) n)) (h i (omega arith)) (from-all f (suc i) n (λ v k. h v (omega arith)))
+
+pub below-all : (f : ℕ → Bool) (n : ℕ) → ((v : ℕ) → v < n → f v ≡ true) → all f (below n) ≡ true
+below-all f n h = from-all f 0 n (λ v k. h v (omega arith))
