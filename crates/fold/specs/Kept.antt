@@ -23,7 +23,7 @@ module _ (Q : ℕ → Type 0) (ds : List Domain) where
   int-var-every nothing v h = h
   int-var-every (some c) v h = tt
 
-  sum-every : (ts : Terms) → EveryTerm Q ts → EveryInt Q (fold-sum ts)
+  pub sum-every : (ts : Terms) → EveryTerm Q ts → EveryInt Q (fold-sum ts)
   unfolding EveryInt
   sum-every tnil h = tt
   sum-every (tmore k e tnil) h = go (eqZ k (pos 1))
@@ -63,7 +63,7 @@ module _ (P Q : ℕ → Type 0) where
   act-every keep op-iff a b h g = (h, g)
   act-every keep op-imp a b h g = (h, g)
 
-  binary-every : (o : Op) (a b : BoolExpr) → Every P Q a → Every P Q b → Every P Q (fold-binary o a b)
+  pub binary-every : (o : Op) (a b : BoolExpr) → Every P Q a → Every P Q b → Every P Q (fold-binary o a b)
   unfolding fold-binary
   binary-every o a b h g = act-every (action o (is-const a) (is-const b)) o a b h g
 
@@ -89,7 +89,7 @@ module _ (P Q : ℕ → Type 0) where
   join-or-every (more e none) h = h .0
   join-or-every (more e (more e' ms)) h = h
 
-  and-every : (ms : Members) → EveryMember P Q ms → Every P Q (fold-and ms)
+  pub and-every : (ms : Members) → EveryMember P Q ms → Every P Q (fold-and ms)
   unfolding fold-and Every
   and-every ms h = go (has-const false ms)
     where
@@ -97,7 +97,7 @@ module _ (P Q : ℕ → Type 0) where
       go true = tt
       go false = join-and-every (kept ms) (kept-every ms h)
 
-  or-every : (ms : Members) → EveryMember P Q ms → Every P Q (fold-or ms)
+  pub or-every : (ms : Members) → EveryMember P Q ms → Every P Q (fold-or ms)
   unfolding fold-or Every
   or-every ms h = go (has-const true ms)
     where
@@ -105,7 +105,7 @@ module _ (P Q : ℕ → Type 0) where
       go true = tt
       go false = join-or-every (kept ms) (kept-every ms h)
 
-  not-every : (k : Option Bool) (e : BoolExpr) → Every P Q e → Every P Q (not-of k e)
+  pub not-every : (k : Option Bool) (e : BoolExpr) → Every P Q e → Every P Q (not-of k e)
   unfolding Every
   not-every nothing e h = h
   not-every (some b) e h = tt

@@ -8,3 +8,4 @@ pub mod Size
 pub mod Steps
 pub mod Kept
 pub mod Ends
+pub mod Shape

@@ -1,0 +1,286 @@
+-- The shape of a folded rule: a constant stands only at its root, And and Or have two members at least.
+-- Where the passes settle, a root constant is true, and a comparison's sides and a table's columns are folded.
+use mathlib.Core.Path.{_≡_, refl, sym, ap, _∙_}
+use mathlib.Core.Bool.{Bool, true, false, not, cond}
+use mathlib.Core.Option.{Option, none as nothing, some}
+use mathlib.Core.List.{List, [], _∷_, map}
+use Prim.Native.Nat.{ℕ, _≤_, _<_}
+use lib.IntN.{ℤ}
+use native.Mathlib.Omega.{arith}
+use Rattle.laws.specs.Bools.{never}
+use Rattle.syntax.specs.Syntax.{Domain, as-constant, domain-of, IntExpr, IConst, IVar, Linear, Terms, tnil, tmore, BoolExpr, Const, Var, NVar, And, Or, Not, Xor, Iff, Imp, Cmp, Members, none, more, count-members, Stmt, Rule, Table, Problem}
+use Rattle.syntax.specs.Written.{EveryInt, EveryTerm, EveryColumn, Every, EveryMember, EveryStmt, EveryStmts}
+use Rattle.fold.specs.Fold.{Fixed, is-const, Op, op-xor, op-iff, op-imp, Action, be-false, be-true, left, not-left, right, not-right, keep, action, act, fold-binary, has-const, keep-member, kept, join-and, join-or, fold-and, fold-or, not-of, fold-not, fold-var, fold-int-var, constant-folding-int as fold-int, constant-folding-terms as fold-terms, constant-folding-bool as fold, constant-folding-members as fold-members, constant-folding-stmt as fold-stmt}
+use Rattle.fold.specs.Optimize.{Status, unsatisfiable, updated, worst, and-then, constant-prop-bool as prop, constant-prop-stmts as prop-stmts, settled, optimize}
+use Rattle.fold.specs.Refold.{const-or, refold-int, refold-columns}
+use Rattle.fold.specs.Kept.{sum-every, binary-every, and-every, or-every, not-every, fold-stmts-every}
+use Rattle.fold.specs.Ends.{Rests, optimize-rests}
+
+module _ (ds : List Domain) where
+  -- no constant anywhere, two members at least, integers folded
+  unfoldable mutual
+    pub Solid : BoolExpr → Type 0
+    Solid (Const b) = ⊥
+    Solid (Var v) = Unit {0}
+    Solid (NVar n) = Unit {0}
+    Solid (And ms) = (2 ≤ count-members ms) × SolidMembers ms
+    Solid (Or ms) = (2 ≤ count-members ms) × SolidMembers ms
+    Solid (Not e) = Solid e
+    Solid (Xor a b) = Solid a × Solid b
+    Solid (Iff a b) = Solid a × Solid b
+    Solid (Imp a b) = Solid a × Solid b
+    Solid (Cmp o a b) = (fold-int ds a ≡ a) × (fold-int ds b ≡ b)
+
+    pub SolidMembers : Members → Type 0
+    SolidMembers none = Unit {0}
+    SolidMembers (more e ms) = Solid e × SolidMembers ms
+
+  -- a constant, or solid
+  abbrev Root : Option Bool → BoolExpr → Type 0
+  Root (some b) e = Unit {0}
+  Root nothing e = Solid e
+
+  abbrev pub Folded : BoolExpr → Type 0
+  Folded e = Root (is-const e) e
+
+  unfoldable pub FoldedMembers : Members → Type 0
+  FoldedMembers none = Unit {0}
+  FoldedMembers (more e ms) = Folded e × FoldedMembers ms
+
+  solid : (e : BoolExpr) → Folded e → is-const e ≡ nothing → Solid e
+  solid e h q = rw q at h
+
+  solid-folded : (e : BoolExpr) → Solid e → Folded e
+  solid-folded e h = const-or e (λ b q. rw q tt) (λ q. rw q h)
+
+  -- ---- the steps of folding
+
+  known-folded : (o : Op) (c d : Bool) → Folded (fold-binary o (Const c) (Const d))
+  unfolding fold-binary
+  known-folded op-xor false false = tt
+  known-folded op-xor false true = tt
+  known-folded op-xor true false = tt
+  known-folded op-xor true true = tt
+  known-folded op-iff false false = tt
+  known-folded op-iff false true = tt
+  known-folded op-iff true false = tt
+  known-folded op-iff true true = tt
+  known-folded op-imp false false = tt
+  known-folded op-imp false true = tt
+  known-folded op-imp true false = tt
+  known-folded op-imp true true = tt
+
+  left-folded : (o : Op) (c : Bool) (e : BoolExpr) → Solid e → Folded (act (action o (some c) nothing) o (Const c) e)
+  unfolding Solid
+  left-folded op-xor false e h = solid-folded e h
+  left-folded op-xor true e h = h
+  left-folded op-iff false e h = h
+  left-folded op-iff true e h = solid-folded e h
+  left-folded op-imp false e h = tt
+  left-folded op-imp true e h = solid-folded e h
+
+  right-folded : (o : Op) (c : Bool) (e : BoolExpr) → Solid e → Folded (act (action o nothing (some c)) o e (Const c))
+  unfolding Solid
+  right-folded op-xor false e h = solid-folded e h
+  right-folded op-xor true e h = h
+  right-folded op-iff false e h = h
+  right-folded op-iff true e h = solid-folded e h
+  right-folded op-imp false e h = h
+  right-folded op-imp true e h = tt
+
+  unknown-folded : (o : Op) (a b : BoolExpr) → Solid a → Solid b → Folded (act (action o nothing nothing) o a b)
+  unfolding Solid
+  unknown-folded op-xor a b h g = (h, g)
+  unknown-folded op-iff a b h g = (h, g)
+  unknown-folded op-imp a b h g = (h, g)
+
+  binary-folded : (o : Op) (a b : BoolExpr) → Folded a → Folded b → Folded (fold-binary o a b)
+  unfolding fold-binary
+  binary-folded o a b h g =
+      const-or a
+      (λ c p. const-or b (λ d q. rw (p, q) (known-folded o c d)) (λ q. let s = solid b g q in rw (p, q) (left-folded o c b s)))
+      (λ p. let r = solid a h p in const-or b (λ d q. rw (q, p) (right-folded o d a r)) (λ q. let s = solid b g q in rw (p, q) (unknown-folded o a b r s)))
+
+  not-folded : (e : BoolExpr) → Folded e → Folded (fold-not e)
+  unfolding fold-not Solid
+  not-folded e h = const-or e (λ b q. rw q tt) (λ q. let s = solid e h q in rw q s)
+
+  kept-solid : (ms : Members) → FoldedMembers ms → SolidMembers (kept ms)
+  unfolding kept FoldedMembers Solid
+  kept-solid none h = tt
+  kept-solid (more e ms) h =
+      let rest = kept-solid ms (h .1) in
+      const-or e (λ b q. rw q rest) (λ q. let s = solid e (h .0) q in rw q (s, rest))
+
+  join-and-folded : (ms : Members) → SolidMembers ms → Folded (join-and ms)
+  unfolding Solid
+  join-and-folded none h = tt
+  join-and-folded (more e none) h = solid-folded e (h .0)
+  join-and-folded (more e (more e' ms)) h = (omega arith, h)
+
+  join-or-folded : (ms : Members) → SolidMembers ms → Folded (join-or ms)
+  unfolding Solid
+  join-or-folded none h = tt
+  join-or-folded (more e none) h = solid-folded e (h .0)
+  join-or-folded (more e (more e' ms)) h = (omega arith, h)
+
+  and-folded : (ms : Members) → FoldedMembers ms → Folded (fold-and ms)
+  unfolding fold-and
+  and-folded ms h = go (has-const false ms)
+    where
+      go : (t : Bool) → Folded (cond t (Const false) (join-and (kept ms)))
+      go true = tt
+      go false = join-and-folded (kept ms) (kept-solid ms h)
+
+  or-folded : (ms : Members) → FoldedMembers ms → Folded (fold-or ms)
+  unfolding fold-or
+  or-folded ms h = go (has-const true ms)
+    where
+      go : (t : Bool) → Folded (cond t (Const true) (join-or (kept ms)))
+      go true = tt
+      go false = join-or-folded (kept ms) (kept-solid ms h)
+
+  var-folded : (k : Option Bool) (v : ℕ) → Folded (fold-var k v)
+  unfolding Solid
+  var-folded nothing v = tt
+  var-folded (some b) v = tt
+
+  module _ (f : Fixed) where
+    mutual
+      unfolding fold Solid FoldedMembers
+
+      pub fold-folded : (e : BoolExpr) → Folded (fold ds f e)
+      fold-folded (Const b) = tt
+      fold-folded (Var v) = var-folded (f v) v
+      fold-folded (NVar n) = tt
+      fold-folded (And ms) = and-folded (fold-members ds f ms) (fold-members-folded ms)
+      fold-folded (Or ms) = or-folded (fold-members ds f ms) (fold-members-folded ms)
+      fold-folded (Not e) = not-folded (fold ds f e) (fold-folded e)
+      fold-folded (Xor a b) = binary-folded op-xor (fold ds f a) (fold ds f b) (fold-folded a) (fold-folded b)
+      fold-folded (Iff a b) = binary-folded op-iff (fold ds f a) (fold ds f b) (fold-folded a) (fold-folded b)
+      fold-folded (Imp a b) = binary-folded op-imp (fold ds f a) (fold ds f b) (fold-folded a) (fold-folded b)
+      fold-folded (Cmp o a b) = (refold-int ds a, refold-int ds b)
+
+      fold-members-folded : (ms : Members) → FoldedMembers (fold-members ds f ms)
+      fold-members-folded none = tt
+      fold-members-folded (more e ms) = (fold-folded e, fold-members-folded ms)
+
+  -- ---- where the passes settle
+
+  -- the constant true, or solid
+  abbrev SettledRoot : Option Bool → BoolExpr → Type 0
+  SettledRoot (some b) e = b ≡ true
+  SettledRoot nothing e = Solid e
+
+  unfoldable pub SettledStmts : List Stmt → Type 0
+  SettledStmts [] = Unit {0}
+  SettledStmts (Rule e ∷ ss) = SettledRoot (is-const e) e × SettledStmts ss
+  SettledStmts (Table es rows ∷ ss) = (map (fold-int ds) es ≡ es) × SettledStmts ss
+
+  -- requiring met no contradiction
+  abbrev Fine : Status → Type 0
+  Fine unsatisfiable = ⊥
+  Fine (updated c g) = Unit {0}
+
+  then-fine : {X : Type 0} (s : Status) (next : Fixed → Status) → Fine (and-then s next) → ((g : Fixed) → Fine s → Fine (next g) → X) → X
+  then-fine unsatisfiable next h k = absurd h
+  then-fine (updated c g) next h k = k g tt (go (next g) h)
+    where
+      go : (t : Status) → Fine (worst c t) → Fine t
+      go unsatisfiable q = q
+      go (updated d g') q = tt
+
+  root-true : (b : Bool) (f : Fixed) → Fine (prop (Const b) true f) → b ≡ true
+  unfolding prop
+  root-true true f h = refl
+  root-true false f h = absurd h
+
+  root-settled : (e : BoolExpr) (f : Fixed) → Folded e → Fine (prop e true f) → SettledRoot (is-const e) e
+  root-settled e f h fine = const-or e (λ b q. let r = root-true b f (rw q at fine) in rw q r) (λ q. let s = solid e h q in rw q s)
+
+  settled-stmts : (ss : List Stmt) (f g : Fixed) → Fine (prop-stmts (map (fold-stmt ds f) ss) g) → SettledStmts (map (fold-stmt ds f) ss)
+  unfolding prop-stmts fold-stmt SettledStmts
+  settled-stmts [] f g fine = tt
+  settled-stmts (Rule e ∷ ss) f g fine = then-fine (prop (fold ds f e) true g) (prop-stmts (map (fold-stmt ds f) ss)) fine (λ g' a b. (root-settled (fold ds f e) g (fold-folded f e) a, settled-stmts ss f g' b))
+  settled-stmts (Table es rows ∷ ss) f g fine = (refold-columns ds es, settled-stmts ss f g fine)
+
+  pub settled-shape : (ss : List Stmt) (f : Fixed) (folded : List Stmt) → Rests ds ss f folded → SettledStmts folded
+  settled-shape ss f folded r =
+      let h : prop-stmts (map (fold-stmt ds f) ss) f ≡ updated false f = rw (r .origin) at (r .still) in
+      rw (r .origin) (settled-stmts ss f f (rw h tt))
+
+-- ---- no fixed variable and no one-value integer is written any more
+
+-- not fixed
+abbrev pub Open : Fixed → ℕ → Type 0
+Open f v = f v ≡ nothing
+
+module _ (ds : List Domain) where
+  -- more than one value, or none
+  abbrev pub Several : ℕ → Type 0
+  Several v = as-constant (domain-of ds v) ≡ nothing
+
+  int-var-several : (k : Option ℤ) (v : ℕ) → as-constant (domain-of ds v) ≡ k → EveryInt Several (fold-int-var k v)
+  unfolding EveryInt
+  int-var-several nothing v h = h
+  int-var-several (some c) v h = tt
+
+  mutual
+    unfolding fold-int EveryInt
+
+    pub fold-int-several : (e : IntExpr) → EveryInt Several (fold-int ds e)
+    fold-int-several (IConst c) = tt
+    fold-int-several (IVar v) = int-var-several (as-constant (domain-of ds v)) v refl
+    fold-int-several (Linear ts) = sum-every Several ds (fold-terms ds ts) (fold-terms-several ts)
+
+    fold-terms-several : (ts : Terms) → EveryTerm Several (fold-terms ds ts)
+    fold-terms-several tnil = tt
+    fold-terms-several (tmore k e ts) = (fold-int-several e, fold-terms-several ts)
+
+  fold-columns-several : (es : List IntExpr) → EveryColumn Several (map (fold-int ds) es)
+  unfolding EveryColumn
+  fold-columns-several [] = tt
+  fold-columns-several (e ∷ es) = (fold-int-several e, fold-columns-several es)
+
+  module _ (f : Fixed) where
+    var-open : (k : Option Bool) (v : ℕ) → f v ≡ k → Every (Open f) Several (fold-var k v)
+    unfolding Every
+    var-open nothing v h = h
+    var-open (some b) v h = tt
+
+    mutual
+      unfolding fold Every fold-not
+
+      pub fold-open : (e : BoolExpr) → Every (Open f) Several (fold ds f e)
+      fold-open (Const b) = tt
+      fold-open (Var v) = var-open (f v) v refl
+      fold-open (NVar n) = tt
+      fold-open (And ms) = and-every (Open f) Several (fold-members ds f ms) (fold-members-open ms)
+      fold-open (Or ms) = or-every (Open f) Several (fold-members ds f ms) (fold-members-open ms)
+      fold-open (Not e) = not-every (Open f) Several (is-const (fold ds f e)) (fold ds f e) (fold-open e)
+      fold-open (Xor a b) = binary-every (Open f) Several op-xor (fold ds f a) (fold ds f b) (fold-open a) (fold-open b)
+      fold-open (Iff a b) = binary-every (Open f) Several op-iff (fold ds f a) (fold ds f b) (fold-open a) (fold-open b)
+      fold-open (Imp a b) = binary-every (Open f) Several op-imp (fold ds f a) (fold ds f b) (fold-open a) (fold-open b)
+      fold-open (Cmp o a b) = (fold-int-several a, fold-int-several b)
+
+      fold-members-open : (ms : Members) → EveryMember (Open f) Several (fold-members ds f ms)
+      fold-members-open none = tt
+      fold-members-open (more e ms) = (fold-open e, fold-members-open ms)
+
+    pub fold-stmts-open : (ss : List Stmt) → EveryStmts (Open f) Several (map (fold-stmt ds f) ss)
+    unfolding EveryStmts EveryStmt fold-stmt
+    fold-stmts-open [] = tt
+    fold-stmts-open (Rule e ∷ ss) = (fold-open e, fold-stmts-open ss)
+    fold-stmts-open (Table es rows ∷ ss) = (fold-columns-several es, fold-stmts-open ss)
+
+-- ---- the whole
+
+module _ (p : Problem) (Q : ℕ → Type 0) (declared : EveryStmts (λ v. v < p .bools) Q (p .stmts)) (f : Fixed) (ss : List Stmt) (end : optimize p ≡ settled f ss) where
+  pub optimize-shape : SettledStmts (p .domains) ss
+  optimize-shape = settled-shape (p .domains) (p .stmts) f ss (optimize-rests p Q declared f ss end)
+
+  pub optimize-open : EveryStmts (Open f) (Several (p .domains)) ss
+  optimize-open = rw (optimize-rests p Q declared f ss end .origin) (fold-stmts-open (p .domains) f (p .stmts))
+
+  pub optimize-declared : EveryStmts (λ v. v < p .bools) Q ss
+  optimize-declared = rw (optimize-rests p Q declared f ss end .origin) (fold-stmts-every (λ v. v < p .bools) Q (p .domains) f (p .stmts) declared)
