@@ -5,3 +5,5 @@ pub mod Agree
 pub mod PlainMeaning
 pub mod StarMeaning
 pub mod Emitted
+pub mod ColumnMeaning
+pub mod TableMeaning

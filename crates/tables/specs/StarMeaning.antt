@@ -21,18 +21,6 @@ use Rattle.tables.specs.Tables.{linear-eq, star-row, star-table}
 use Rattle.tables.specs.Agree.{row-permits}
 use Rattle.tables.specs.PlainMeaning.{linear-eq-true}
 
--- the equalities name no Boolean
-star-row-bound : (vs : List ℕ) (cs : List Cell) → clauses-bound (star-row vs cs) ≡ 0
-unfolding star-row
-star-row-bound [] cs = refl
-star-row-bound (v ∷ vs) [] = refl
-star-row-bound (v ∷ vs) (star ∷ cs) = star-row-bound vs cs
-star-row-bound (v ∷ vs) (value x ∷ cs) = rw (star-row-bound vs cs) (omega arith)
-
-star-rows-bound : (vs : List ℕ) (rows : List (List Cell)) → lists-bound (map (star-row vs) rows) ≡ 0
-star-rows-bound vs [] = refl
-star-rows-bound vs (cs ∷ rows) = rw (star-row-bound vs cs, star-rows-bound vs rows) (omega arith)
-
 module _ (ρ : Val) (ι : IVal) where
   star-row-true : (vs : List ℕ) (cs : List Cell) → all (clause-true ρ ι) (star-row vs cs) ≡ row-permits cs (map ι vs)
   unfolding star-row row-permits
@@ -48,6 +36,18 @@ module _ (ρ : Val) (ι : IVal) where
   star-rows-true : (vs : List ℕ) (rows : List (List Cell)) → any-all-true ρ ι (map (star-row vs) rows) ≡ any (λ cs. row-permits cs (map ι vs)) rows
   star-rows-true vs [] = refl
   star-rows-true vs (cs ∷ rows) = rw (star-row-true vs cs, star-rows-true vs rows)
+
+-- the equalities name no Boolean
+star-row-bound : (vs : List ℕ) (cs : List Cell) → clauses-bound (star-row vs cs) ≡ 0
+unfolding star-row
+star-row-bound [] cs = refl
+star-row-bound (v ∷ vs) [] = refl
+star-row-bound (v ∷ vs) (star ∷ cs) = star-row-bound vs cs
+star-row-bound (v ∷ vs) (value x ∷ cs) = rw (star-row-bound vs cs) (omega arith)
+
+star-rows-bound : (vs : List ℕ) (rows : List (List Cell)) → lists-bound (map (star-row vs) rows) ≡ 0
+star-rows-bound vs [] = refl
+star-rows-bound vs (cs ∷ rows) = rw (star-row-bound vs cs, star-rows-bound vs rows) (omega arith)
 
 -- from any log
 pub star-table-means : (δ : Val) (ε : IVal) (ρ : Val) (ι : IVal) (vs : List ℕ) (rows : List (List Cell)) (s : Log)

@@ -1,0 +1,130 @@
+-- The clauses of a table statement mean the statement, in the form in which a rule's do (Means), from any log.
+use mathlib.Core.Path.{_≡_, refl, sym, ap, _∙_}
+use mathlib.Core.Bool.{Bool, true, false, not, _&&_, _||_, cond}
+use mathlib.Core.List.{List, [], _∷_, _++_, map}
+use Prim.Native.Nat.{ℕ, zero, suc, _≤_, max}
+use native.Mathlib.Omega.{arith}
+use lib.IntN.{ℤ}
+use lib.ListN.{length, length-map}
+use Rattle.laws.specs.Bools.{and-l, and-r, and-i}
+use Rattle.laws.specs.Lists.{any, all, keep-if, filter, flat, any-cong, all-append}
+use Rattle.syntax.specs.Syntax.{Domain, in-domain, domain-of, enumerate, IntExpr, Cell, Table}
+use Rattle.syntax.specs.Satisfies.{Val, IVal, int-value, row-holds, stmt-holds}
+use Rattle.syntax.specs.Written.{EveryColumn}
+use Rattle.clauses.specs.Clause.{Clause, clause-true}
+use Rattle.clauses.specs.Log.{Log, next-bool}
+use Rattle.clauses.specs.Bounds.{clauses-bound, clauses-bound-append}
+use Rattle.clauses.specs.Valuation.{Agrees, Fits, fits-agrees, all-true}
+use Rattle.clauses.specs.Grow.{Grows, same, grows-trans, agrees-back, fits-back}
+use Rattle.clauses.specs.Disjunction.{Out}
+use Rattle.clauses.specs.Means.{Means}
+use Rattle.tables.specs.Tables.{is-star, Row, cell-value, sort-rows, within, groups, takes, column-clause, column-clauses, prefixes, plain-clauses, plain-table, star-table, emitted-domains, Columns, equivalent-int-vars, normalize-extension-supports, normalize-table}
+use Rattle.tables.specs.Agree.{wide, row-permits, row-holds-permits}
+use Rattle.tables.specs.PlainMeaning.{plain-table-means}
+use Rattle.tables.specs.StarMeaning.{star-table-means}
+use Rattle.tables.specs.ColumnMeaning.{Standing, ColumnsMean, columns-mean}
+
+-- ---- the clauses of rows name no Boolean
+
+module _ (vs : List ℕ) (ds : List Domain) where
+  columns-bound : (p i m : ℕ) (g : Row × List Row) → clauses-bound (column-clauses vs ds p i m g) ≡ 0
+  unfolding column-clauses column-clause
+  columns-bound p i zero g = refl
+  columns-bound p i (suc m) g = go (not (all (takes i (g .1)) (enumerate (domain-of ds i)))) (columns-bound p (suc i) m g)
+    where
+      go : (t : Bool) → clauses-bound (column-clauses vs ds p (suc i) m g) ≡ 0 → clauses-bound (keep-if t (column-clause vs ds p i g) (column-clauses vs ds p (suc i) m g)) ≡ 0
+      go true h = omega arith
+      go false h = h
+
+  groups-bound : (p m : ℕ) (gs : List (Row × List Row)) → clauses-bound (flat (map (column-clauses vs ds p p m) gs)) ≡ 0
+  groups-bound p m [] = refl
+  groups-bound p m (g ∷ gs) = omega (arith, clauses-bound-append (column-clauses vs ds p p m g) (flat (map (column-clauses vs ds p p m) gs)), columns-bound p p m g, groups-bound p m gs)
+
+  prefixes-bound : (p m : ℕ) (rows : List Row) → clauses-bound (prefixes vs ds p m rows) ≡ 0
+  unfolding prefixes
+  prefixes-bound p zero rows = refl
+  prefixes-bound p (suc m) rows = omega (arith, clauses-bound-append (flat (map (column-clauses vs ds p p (suc m)) (groups p zero rows))) (prefixes vs ds (suc p) m rows), groups-bound p (suc m) (groups p zero rows), prefixes-bound (suc p) m rows)
+
+  plain-bound : (rows : List Row) → clauses-bound (plain-clauses vs ds rows) ≡ 0
+  unfolding plain-clauses
+  plain-bound [] = omega arith
+  plain-bound (r ∷ rows) = prefixes-bound 0 (length vs) (r ∷ rows)
+
+  table-bound : (rows : List (List Cell)) → clauses-bound (plain-table vs ds rows) ≡ 0
+  unfolding plain-table
+  table-bound rows = plain-bound (filter (within ds) (sort-rows (map (map cell-value) rows)))
+
+within-map : (f : ℕ → Domain) (ι : IVal) (vs : List ℕ) → all (λ v. in-domain (ι v) (f v)) vs ≡ true → within (map f vs) (map ι vs) ≡ true
+unfolding within
+within-map f ι [] h = refl
+within-map f ι (v ∷ vs) h = and-i (in-domain (ι v) (f v)) _ (and-l (in-domain (ι v) (f v)) _ h) (within-map f ι vs (and-r (in-domain (ι v) (f v)) _ h))
+
+module _ (δ : Val) (ε : IVal) (ρ : Val) (ι : IVal) (ds : List Domain) where
+  -- ---- the rows, over variables that have values of their domains
+
+  abbrev permitted : List ℕ → List (List Cell) → Bool
+  permitted vs rows = any (λ cs. row-permits cs (map ι vs)) rows
+
+  Inside : List ℕ → Log → Type 0
+  Inside vs s = Agrees δ ε ρ ι s → all (λ v. in-domain (ι v) (domain-of (emitted-domains ds s) v)) vs ≡ true
+
+  plain-means : (vs : List ℕ) (rows : List (List Cell)) (s : Log) → all (wide (length vs)) rows ≡ true → any (any is-star) rows ≡ false → Inside vs s
+      → Means δ ε ρ ι s (plain-table vs (map (domain-of (emitted-domains ds s)) vs) rows, s) (permitted vs rows)
+  plain-means vs rows s w h inside =
+      let f : ℕ → Domain = domain-of (emitted-domains ds s) in
+      let e : Agrees δ ε ρ ι s → all-true ρ ι (plain-table vs (map f vs) rows) ≡ permitted vs rows = λ a.
+      plain-table-means vs (map f vs) ρ ι rows (length-map vs f) (within-map f ι vs (unfold Inside in inside a)) w h in
+      record {
+        grows = same;
+        bounded = omega (arith, table-bound vs (map f vs) rows);
+        sound = λ a k. sym (e a) ∙ k;
+        complete = λ g k. e (fits-agrees δ ε ρ ι s g) ∙ k;
+      }
+
+  supports-mean : (vs : List ℕ) (rows : List (List Cell)) (s : Log) → all (wide (length vs)) rows ≡ true → Inside vs s
+      → Means δ ε ρ ι s (normalize-extension-supports ds vs rows s) (permitted vs rows)
+  unfolding normalize-extension-supports
+  supports-mean vs rows s w inside = go (any (any is-star) rows) refl
+    where
+      go : (t : Bool) → any (any is-star) rows ≡ t → Means δ ε ρ ι s (cond t (star-table vs rows s) (plain-table vs (map (domain-of (emitted-domains ds s)) vs) rows, s)) (permitted vs rows)
+      go true e = star-table-means δ ε ρ ι vs rows s
+      go false e = plain-means vs rows s w e inside
+
+  -- ---- the statement
+
+  abbrev held : List IntExpr → List (List Cell) → Bool
+  held es rows = any (row-holds ε es) rows
+
+  held-permitted : (es : List IntExpr) (vs : List ℕ) (rows : List (List Cell)) → map ι vs ≡ map (int-value ε) es → held es rows ≡ permitted vs rows
+  held-permitted es vs rows e = any-cong (row-holds ε es) (λ cs. row-permits cs (map ι vs)) rows (λ cs. row-holds-permits ε es cs ∙ ap (row-permits cs) (sym e))
+
+  -- a table's rows have as many cells as it has columns (reading); its columns write variables whose domains are ordered and hold their values
+  pub table-means : (es : List IntExpr) (rows : List (List Cell)) (s : Log) → all (wide (length es)) rows ≡ true → EveryColumn (Standing ds ε) es
+      → Means δ ε ρ ι s (normalize-table ds es rows s) (stmt-holds δ ε ρ (Table es rows))
+  unfolding normalize-table stmt-holds
+  table-means es rows s w h = record {
+    grows = grows-trans (m .grows) (r .grows);
+    bounded = omega (arith, clauses-bound-append (c .clauses) (o .0), m .no-literal, r .bounded);
+    sound = λ a k.
+        let parts = sym (all-append (clause-true ρ ι) (c .clauses) (o .0)) ∙ k in
+        held-permitted es (c .vars) rows (m .sound (agrees-back (r .grows) a) (and-l (all-true ρ ι (c .clauses)) _ parts)) ∙ r .sound a (and-r (all-true ρ ι (c .clauses)) _ parts);
+    complete = λ f k.
+        let g = fits-back δ ρ ι (r .grows) f in
+        let values = m .sound (fits-agrees δ ε ρ ι (c .log) g) (m .complete g) in
+        all-append (clause-true ρ ι) (c .clauses) (o .0) ∙ and-i _ _ (m .complete g) (r .complete f (sym (held-permitted es (c .vars) rows values) ∙ k));
+  }
+    where
+      c : Columns
+      c = equivalent-int-vars ds es s
+
+      m : ColumnsMean ds ε δ ρ ι s c (map (int-value ε) es)
+      m = columns-mean ds ε δ ρ ι es h s
+
+      o : Out
+      o = normalize-extension-supports ds (c .vars) rows (c .log)
+
+      wides : all (wide (length (c .vars))) rows ≡ true
+      wides = let e : length (c .vars) ≡ length es = m .as-many ∙ length-map es (int-value ε) in rw e w
+
+      r : Means δ ε ρ ι (c .log) o (permitted (c .vars) rows)
+      r = supports-mean (c .vars) rows (c .log) wides (unfold Inside in m .inside)
