@@ -2,3 +2,4 @@ pub mod Call
 pub mod Claim
 pub mod Compute
 pub mod Cases
+pub mod Consequences
