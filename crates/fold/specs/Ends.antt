@@ -7,10 +7,11 @@ use mathlib.Core.List.{List, [], _∷_, map}
 use Prim.Native.Nat.{ℕ, zero, suc, _+_, _≤_, _<_}
 use native.Mathlib.Omega.{arith}
 use lib.Dec.{eqb}
+use lib.ListN.{length}
 use borrow.Author.Tests.{eqb-true, eqb-false}
 use Rattle.laws.specs.Bools.{or-no-l, or-no-r, never}
 use Rattle.syntax.specs.Syntax.{Domain, BoolExpr, Const, Var, NVar, And, Or, Not, Xor, Iff, Imp, Cmp, Members, none, more, Stmt, Rule, Table, Problem}
-use Rattle.syntax.specs.Written.{Every, EveryMember, EveryStmt, EveryStmts, any-stmts}
+use Rattle.syntax.specs.Written.{Every, EveryMember, EveryStmt, EveryStmts, AllDeclared, any-stmts}
 use Rattle.fold.specs.Fold.{Fixed, constant-folding-stmt as fold-stmt}
 use Rattle.fold.specs.Optimize.{Status, unsatisfiable, updated, fix, set-infeasible, worst, and-then, constant-prop-bool as prop, constant-prop-members as prop-members, constant-prop-stmts as prop-stmts, Outcome, inconsistent, settled, next-pass, passes, optimize}
 use Rattle.fold.specs.Refold.{Extends, refold-stmts}
@@ -226,13 +227,13 @@ passes-original ds n f g ss e = rw (refold-stmts ds g f e ss) refl
 
 -- ---- the whole
 
-module _ (p : Problem) (Q : ℕ → Type 0) (declared : EveryStmts (λ v. v < p .bools) Q (p .stmts)) where
+module _ (p : Problem) (declared : AllDeclared p) where
   pub optimize-rests : (f : Fixed) (ss : List Stmt) → optimize p ≡ settled f ss → Rests (p .domains) (p .stmts) f ss
   unfolding optimize
   optimize-rests f ss h =
-      let r = passes-end (p .bools) Q (p .domains) (p .stmts) (suc (p .bools)) (λ v. nothing) (p .stmts) declared (λ g e. refl) (omega (arith, opens-most (p .bools) (λ v. nothing))) in
+      let r = passes-end (p .bools) (λ v. v < length (p .domains)) (p .domains) (p .stmts) (suc (p .bools)) (λ v. nothing) (p .stmts) declared (λ g e. refl) (omega (arith, opens-most (p .bools) (λ v. nothing))) in
       rw h at r
 
   pub optimize-more : (n : ℕ) → p .bools < n → passes (p .domains) n (λ v. nothing) (p .stmts) ≡ optimize p
   unfolding optimize
-  optimize-more n l = passes-more (p .bools) Q (p .domains) n (suc (p .bools)) (λ v. nothing) (p .stmts) declared (omega (arith, opens-most (p .bools) (λ v. nothing))) l
+  optimize-more n l = passes-more (p .bools) (λ v. v < length (p .domains)) (p .domains) n (suc (p .bools)) (λ v. nothing) (p .stmts) declared (omega (arith, opens-most (p .bools) (λ v. nothing))) l

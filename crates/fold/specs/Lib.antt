@@ -9,3 +9,4 @@ pub mod Steps
 pub mod Kept
 pub mod Ends
 pub mod Shape
+pub mod Meaning

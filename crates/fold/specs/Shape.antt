@@ -6,10 +6,11 @@ use mathlib.Core.Option.{Option, none as nothing, some}
 use mathlib.Core.List.{List, [], _∷_, map}
 use Prim.Native.Nat.{ℕ, _≤_, _<_}
 use lib.IntN.{ℤ}
+use lib.ListN.{length}
 use native.Mathlib.Omega.{arith}
 use Rattle.laws.specs.Bools.{never}
 use Rattle.syntax.specs.Syntax.{Domain, as-constant, domain-of, IntExpr, IConst, IVar, Linear, Terms, tnil, tmore, BoolExpr, Const, Var, NVar, And, Or, Not, Xor, Iff, Imp, Cmp, Members, none, more, count-members, Stmt, Rule, Table, Problem}
-use Rattle.syntax.specs.Written.{EveryInt, EveryTerm, EveryColumn, Every, EveryMember, EveryStmt, EveryStmts}
+use Rattle.syntax.specs.Written.{EveryInt, EveryTerm, EveryColumn, Every, EveryMember, EveryStmt, EveryStmts, AllDeclared}
 use Rattle.fold.specs.Fold.{Fixed, is-const, Op, op-xor, op-iff, op-imp, Action, be-false, be-true, left, not-left, right, not-right, keep, action, act, fold-binary, has-const, keep-member, kept, join-and, join-or, fold-and, fold-or, not-of, fold-not, fold-var, fold-int-var, constant-folding-int as fold-int, constant-folding-terms as fold-terms, constant-folding-bool as fold, constant-folding-members as fold-members, constant-folding-stmt as fold-stmt}
 use Rattle.fold.specs.Optimize.{Status, unsatisfiable, updated, worst, and-then, constant-prop-bool as prop, constant-prop-stmts as prop-stmts, settled, optimize}
 use Rattle.fold.specs.Refold.{const-or, refold-int, refold-columns}
@@ -275,12 +276,12 @@ module _ (ds : List Domain) where
 
 -- ---- the whole
 
-module _ (p : Problem) (Q : ℕ → Type 0) (declared : EveryStmts (λ v. v < p .bools) Q (p .stmts)) (f : Fixed) (ss : List Stmt) (end : optimize p ≡ settled f ss) where
+module _ (p : Problem) (declared : AllDeclared p) (f : Fixed) (ss : List Stmt) (end : optimize p ≡ settled f ss) where
   pub optimize-shape : SettledStmts (p .domains) ss
-  optimize-shape = settled-shape (p .domains) (p .stmts) f ss (optimize-rests p Q declared f ss end)
+  optimize-shape = settled-shape (p .domains) (p .stmts) f ss (optimize-rests p declared f ss end)
 
   pub optimize-open : EveryStmts (Open f) (Several (p .domains)) ss
-  optimize-open = rw (optimize-rests p Q declared f ss end .origin) (fold-stmts-open (p .domains) f (p .stmts))
+  optimize-open = rw (optimize-rests p declared f ss end .origin) (fold-stmts-open (p .domains) f (p .stmts))
 
-  pub optimize-declared : EveryStmts (λ v. v < p .bools) Q ss
-  optimize-declared = rw (optimize-rests p Q declared f ss end .origin) (fold-stmts-every (λ v. v < p .bools) Q (p .domains) f (p .stmts) declared)
+  pub optimize-declared : EveryStmts (λ v. v < p .bools) (λ v. v < length (p .domains)) ss
+  optimize-declared = rw (optimize-rests p declared f ss end .origin) (fold-stmts-every (λ v. v < p .bools) (λ v. v < length (p .domains)) (p .domains) f (p .stmts) declared)

@@ -50,6 +50,10 @@ module _ (P Q : ℕ → Type 0) where
   EveryStmts [] = Unit {0}
   EveryStmts (s ∷ ss) = EveryStmt s × EveryStmts ss
 
+-- every variable that a set's statements write is declared
+abbrev pub AllDeclared : Problem → Type 0
+AllDeclared p = EveryStmts (λ v. v < p .bools) (λ v. v < length (p .domains)) (p .stmts)
+
 -- ---- a weaker property
 
 module _ (Q Q' : ℕ → Type 0) (to : (v : ℕ) → Q v → Q' v) where
@@ -153,3 +157,6 @@ Within ds ε v = in-domain (ε v) (domain-of ds v) ≡ true
 pub in-domains-within : (p : Problem) (ε : IVal) → in-domains p ε ≡ true → (v : ℕ) → v < length (p .domains) → Within (p .domains) ε v
 unfolding in-domains
 in-domains-within p ε h v b = all-below (λ v. in-domain (ε v) (domain-of (p .domains) v)) (length (p .domains)) v h b
+
+pub in-domains-every : (p : Problem) (ε : IVal) → in-domains p ε ≡ true → AllDeclared p → EveryStmts (λ v. v < p .bools) (Within (p .domains) ε) (p .stmts)
+in-domains-every p ε h d = every-stmts-map (λ v. v < p .bools) (λ v. v < length (p .domains)) (λ v. v < p .bools) (Within (p .domains) ε) (λ v k. k) (in-domains-within p ε h) (p .stmts) d
