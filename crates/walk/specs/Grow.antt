@@ -1,0 +1,108 @@
+-- Logs grow, and a work slice whose maps agree with a later log agrees with an earlier one.
+use mathlib.Core.Path.{_≡_, refl, sym, ap, _∙_}
+use mathlib.Core.Bool.{Bool, true, false, cond}
+use mathlib.Core.Option.{Option, none as nothing, some}
+use mathlib.Core.List.{List, [], _∷_, _++_}
+use Prim.Native.Nat.{ℕ, zero, suc, _+_, _≤_, _<_}
+use native.Mathlib.Omega.{arith}
+use lib.IntN.{ℤ, pos, negsuc, negℤ}
+use lib.Dec.{eqb, eqb→eq, leb}
+use borrow.Author.Tests.{le-leb, eq-eqb}
+use Rattle.syntax.specs.Syntax.{BoolExpr}
+use Rattle.clauses.specs.Clause.{Clause, BoolLit, lit}
+use Rattle.clauses.specs.Log.{Made, declared, aux, side, declared-int, column, Log, next-bool, next-int, get-bool-var, get-int-var}
+use Rattle.answer.specs.Answer.{lit-words}
+use Rattle.walk.specs.Item.{limit, bool-entry, int-entry, word-of}
+
+pub record Grows (s t : Log) : Type 0 where
+  pub bools : next-bool s ≤ next-bool t
+  pub ints : next-int s ≤ next-int t
+  pub keep : (v n : ℕ) → get-bool-var v s ≡ some n → get-bool-var v t ≡ some n
+  pub keep-int : (v n : ℕ) → get-int-var v s ≡ some n → get-int-var v t ≡ some n
+
+pub same : {s : Log} → Grows s s
+same = record { bools = omega arith; ints = omega arith; keep = λ v n h. h; keep-int = λ v n h. h }
+
+pub then : {s t u : Log} → Grows s t → Grows t u → Grows s u
+then a b = record {
+  bools = omega (arith, a .bools, b .bools);
+  ints = omega (arith, a .ints, b .ints);
+  keep = λ v n h. b .keep v n (a .keep v n h);
+  keep-int = λ v n h. b .keep-int v n (a .keep-int v n h);
+}
+
+pub grow-aux : (cs : List Clause) (s : Log) → Grows s (aux cs ∷ s)
+unfolding get-bool-var get-int-var
+grow-aux cs s = record { bools = omega arith; ints = omega arith; keep = λ v n h. h; keep-int = λ v n h. h }
+
+-- a variable that is not there yet
+kept : (v w k n : ℕ) (o p : Option ℕ) → p ≡ nothing → o ≡ some n → (v ≡ w → o ≡ p) → (b : Bool) → eqb v w ≡ b → cond b (some k) o ≡ some n
+kept v w k n o p l h q false e = h
+kept v w k n o p l h q true e = let r : v ≡ w = eqb→eq v w (rw e tt) in let x : o ≡ p = q r in cc
+
+pub grow-declared : (w : ℕ) (s : Log) → get-bool-var w s ≡ nothing → Grows s (declared w ∷ s)
+unfolding get-bool-var get-int-var
+grow-declared w s h = record {
+  bools = omega arith;
+  ints = omega arith;
+  keep = λ v n q. kept v w (next-bool s) n (get-bool-var v s) (get-bool-var w s) h q (λ r. ap (λ x. get-bool-var x s) r) (eqb v w) refl;
+  keep-int = λ v n q. q;
+}
+
+pub grow-declared-int : (w : ℕ) (s : Log) → get-int-var w s ≡ nothing → Grows s (declared-int w ∷ s)
+unfolding get-bool-var get-int-var
+grow-declared-int w s h = record {
+  bools = omega arith;
+  ints = omega arith;
+  keep = λ v n q. q;
+  keep-int = λ v n q. kept v w (next-int s) n (get-int-var v s) (get-int-var w s) h q (λ r. ap (λ x. get-int-var x s) r) (eqb v w) refl;
+}
+
+-- ---- numbers lie below the counters
+
+low-at : (k n : ℕ) (o : Option ℕ) (b : Bool) → (o ≡ some n → n < k) → cond b (some k) o ≡ some n → n < suc k
+low-at k n o true f h = let q : k ≡ n = cc in omega arith
+low-at k n o false f h = let q : n < k = f h in omega arith
+
+pub bool-below : (s : Log) (v n : ℕ) → get-bool-var v s ≡ some n → n < next-bool s
+unfolding get-bool-var
+bool-below [] v n h = let z : _≡_ {A = ℕ} 0 1 = cc in omega arith
+bool-below (declared w ∷ s) v n h = low-at (next-bool s) n (get-bool-var v s) (eqb v w) (bool-below s v n) h
+bool-below (aux cs ∷ s) v n h = omega (arith, bool-below s v n h)
+bool-below (side e ∷ s) v n h = omega (arith, bool-below s v n h)
+bool-below (declared-int w ∷ s) v n h = bool-below s v n h
+bool-below (column l d ∷ s) v n h = bool-below s v n h
+
+pub bool-here : (v : ℕ) (s : Log) → get-bool-var v (declared v ∷ s) ≡ some (next-bool s)
+unfolding get-bool-var
+bool-here v s = rw (eq-eqb v v refl)
+
+pub int-here : (v : ℕ) (s : Log) → get-int-var v (declared-int v ∷ s) ≡ some (next-int s)
+unfolding get-int-var
+int-here v s = rw (eq-eqb v v refl)
+
+-- ---- the maps of a log
+
+-- the maps have the log's numbers, and the counters are below the limit
+pub record Fit (w : List ℤ) (s : Log) : Type 0 where
+  pub agree : (v n : ℕ) → get-bool-var v s ≡ some n → bool-entry w v ≡ suc n
+  pub agree-int : (v n : ℕ) → get-int-var v s ≡ some n → int-entry w v ≡ suc n
+  pub small : next-bool s ≤ limit
+
+pub back : {w : List ℤ} {s t : Log} → Grows s t → Fit w t → Fit w s
+back g f = record {
+  agree = λ v n h. f .agree v n (g .keep v n h);
+  agree-int = λ v n h. f .agree-int v n (g .keep-int v n h);
+  small = omega (arith, g .bools, f .small);
+}
+
+-- ---- the word of a literal
+
+abbrev pub lit-word : BoolLit → ℤ
+lit-word (lit n false) = pos (suc n)
+lit-word (lit n true) = negsuc n
+
+pub word-lit : (n : ℕ) (g : Bool) → n < limit → word-of (suc n) g ≡ lit-word (lit n g)
+unfolding word-of
+word-lit n false h = rw (le-leb (suc n) limit (omega arith))
+word-lit n true h = rw (le-leb (suc n) limit (omega arith))

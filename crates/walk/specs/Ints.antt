@@ -1,0 +1,81 @@
+-- Integers met in a comparison: the sum of an expression is that of the final map, and Booleans keep their numbers.
+use mathlib.Core.Path.{_≡_, refl, sym, ap, _∙_}
+use mathlib.Core.Option.{Option, none as nothing, some}
+use mathlib.Core.List.{List, [], _∷_}
+use Prim.Native.Nat.{ℕ, suc, _+_, _-_, _≤_, _<_}
+use native.Mathlib.Omega.{arith}
+use lib.IntN.{ℤ, pos}
+use Rattle.syntax.specs.Syntax.{IntExpr, IConst, IVar, Linear, Terms, tnil, tmore}
+use Rattle.sums.specs.LinearSum.{LinearSum, constant, singleton, add-sum, mul-sum}
+use Rattle.sums.specs.Linear.{linear-of, linear-terms}
+use Rattle.clauses.specs.Log.{Log, declared-int, next-bool, next-int, get-bool-var, get-int-var, int-var-at, convert-int-var}
+use Rattle.clauses.specs.Normalize.{normalize-int-var, normalize-term, normalize-int-expr, normalize-terms}
+use Rattle.walk.specs.Item.{int-entry, int-number}
+use Rattle.walk.specs.Grow.{Grows, same, then, grow-declared-int, int-here, Fit, back}
+
+var-grows : (v : ℕ) (s : Log) → Grows s (convert-int-var v s .1)
+unfolding convert-int-var
+var-grows v s = go (get-int-var v s) refl
+  where
+    go : (o : Option ℕ) → get-int-var v s ≡ o → Grows s (int-var-at o v s .1)
+    go (some n) e = same
+    go nothing e = grow-declared-int v s e
+
+var-bools : (v : ℕ) (s : Log) → next-bool (convert-int-var v s .1) ≡ next-bool s
+unfolding convert-int-var
+var-bools v s = go (get-int-var v s)
+  where
+    go : (o : Option ℕ) → next-bool (int-var-at o v s .1) ≡ next-bool s
+    go (some n) = refl
+    go nothing = refl
+
+-- its number is found in the log behind it
+pub var-found : (v : ℕ) (s : Log) → get-int-var v (convert-int-var v s .1) ≡ some (convert-int-var v s .0)
+unfolding convert-int-var
+var-found v s = go (get-int-var v s) refl
+  where
+    go : (o : Option ℕ) → get-int-var v s ≡ o → get-int-var v (int-var-at o v s .1) ≡ some (int-var-at o v s .0)
+    go (some n) e = e
+    go nothing e = int-here v s
+
+mutual
+  unfolding normalize-int-expr normalize-int-var normalize-term
+
+  pub int-grows : (e : IntExpr) (s : Log) → Grows s (normalize-int-expr e s .1)
+  int-grows (IConst c) s = same
+  int-grows (IVar v) s = var-grows v s
+  int-grows (Linear ts) s = terms-grow ts (constant (pos 0)) s
+
+  terms-grow : (ts : Terms) (sum : LinearSum) (s : Log) → Grows s (normalize-terms ts sum s .1)
+  terms-grow tnil sum s = same
+  terms-grow (tmore k e ts) sum s = then (int-grows e s) (terms-grow ts _ (normalize-int-expr e s .1))
+
+mutual
+  unfolding normalize-int-expr normalize-int-var normalize-term
+
+  pub int-bools : (e : IntExpr) (s : Log) → next-bool (normalize-int-expr e s .1) ≡ next-bool s
+  int-bools (IConst c) s = refl
+  int-bools (IVar v) s = var-bools v s
+  int-bools (Linear ts) s = terms-bools ts (constant (pos 0)) s
+
+  terms-bools : (ts : Terms) (sum : LinearSum) (s : Log) → next-bool (normalize-terms ts sum s .1) ≡ next-bool s
+  terms-bools tnil sum s = refl
+  terms-bools (tmore k e ts) sum s = terms-bools ts _ (normalize-int-expr e s .1) ∙ int-bools e s
+
+module _ (w : List ℤ) where
+  var-number : (v n : ℕ) (s : Log) → get-int-var v s ≡ some n → Fit w s → n ≡ int-number w v
+  var-number v n s h f = omega (arith, f .agree-int v n h)
+
+  mutual
+    unfolding normalize-int-expr normalize-int-var normalize-term linear-of
+
+    pub int-linear : (e : IntExpr) (s : Log) → Fit w (normalize-int-expr e s .1) → normalize-int-expr e s .0 ≡ linear-of (int-number w) e
+    int-linear (IConst c) s f = refl
+    int-linear (IVar v) s f = ap singleton (var-number v (convert-int-var v s .0) (convert-int-var v s .1) (var-found v s) f)
+    int-linear (Linear ts) s f = terms-linear ts (constant (pos 0)) s f
+
+    terms-linear : (ts : Terms) (sum : LinearSum) (s : Log) → Fit w (normalize-terms ts sum s .1) → normalize-terms ts sum s .0 ≡ linear-terms (int-number w) ts sum
+    terms-linear tnil sum s f = refl
+    terms-linear (tmore k e ts) sum s f =
+        let a = normalize-int-expr e s in
+        terms-linear ts _ (a .1) f ∙ ap (λ (x : LinearSum). linear-terms (int-number w) ts (add-sum sum (mul-sum k x))) (int-linear e s (back (terms-grow ts _ (a .1)) f))
