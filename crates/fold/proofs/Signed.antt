@@ -9,6 +9,9 @@ use lib.Dec.{T}
 use mir.Syntax.{w32, w64}
 use mir.Val.{Fits, SFits, ofZ, toZ}
 use mir.Facts.{toZ-ofZ, fits-natAbs}
+use mathlib.Core.Bool.{true, false}
+use borrow.Author.Tests.{ne-eqb}
+use Rattle.laws.specs.Ints.{eqZ}
 use Rattle.fold.specs.Steps.{state-of}
 use Rattle.fold.specs.Table.{state-num}
 
@@ -29,3 +32,14 @@ state-else (pos zero) a b = absurd (a refl)
 state-else (pos (suc zero)) a b = absurd (b refl)
 state-else (pos (suc (suc n))) a b = refl
 state-else (negsuc n) a b = refl
+
+-- two words with the same bits are the same
+pub same-value : {y z : ℤ} → SFits w32 y → SFits w32 z → ofZ w32 y ≡ ofZ w32 z → y ≡ z
+same-value f g e = sym (toZ-ofZ f) ∙ ap (toZ w32) e ∙ toZ-ofZ g
+
+pub one-is : (z : ℤ) → SFits w32 z → ofZ w32 z ≡ 1 → eqZ z (pos 1) ≡ true
+one-is z f e = ap (λ y. eqZ y (pos 1)) (value-is f e)
+
+pub one-not : (z : ℤ) → (ofZ w32 z ≡ 1 → ⊥) → eqZ z (pos 1) ≡ false
+one-not (pos n) h = ne-eqb n 1 h
+one-not (negsuc n) h = refl

@@ -9,10 +9,12 @@ ghost use lib.IntN.{ℤ, pos};
 ghost use lib.Dec.{eqb};
 ghost use lib.ListN.{length, getD, set};
 ghost use lib.Seq.{slice};
-ghost use Rattle.laws.specs.Slices.{Stored};
+ghost use Rattle.laws.specs.Lists.{flat};
+ghost use Rattle.laws.specs.Slices.{Has, Stored};
+ghost use Rattle.syntax.specs.Syntax.{Domain, encode-domain};
 ghost use Rattle.fold.specs.Fold.{Op, action as action-of};
 ghost use Rattle.fold.specs.Table.{op-num, action-num, bit, state-num};
-ghost use Rattle.fold.specs.Steps.{Plain, state-of, var-step, not-step, not-state, list-step, list-state, binary-step, binary-state};
+ghost use Rattle.fold.specs.Steps.{Plain, state-of, var-step, not-step, not-state, list-step, list-state, binary-step, binary-state, single-of, Domain-at, Domain-below, Domain-post, One-value, Int-var-post, Ready-int, Ready-terms, Int-post, Terms-post};
 
 pub struct Span {
     pub next: usize,
@@ -204,4 +206,147 @@ pub fn close_binary(work: &mut [i32], o: usize, m: usize, e: usize, op: usize, k
     }
     put(work, o, 15 + op);
     Closed { end: e, state: 2 }
+}
+
+// ---- domains
+
+pub fn copy_word(words: &[i32], at: usize, work: &mut [i32], o: usize)
+    requires { ⌜ (at < length (now words)) × (o < length (now work)) ⌝ }
+    ensures { λ _. ⌜ now (work .exit) ≡ set (now (work .entry)) o (getD (now (words .entry)) at (pos 0)) ⌝ }
+{
+    let w = words[at];
+    work[o] = w;
+}
+
+pub fn domain_end(words: &[i32], at: usize) -> usize
+    requires { ⌜ Domain-at (now words) at ⌝ }
+    ensures { λ r. ⌜ ((dm : Domain) → Has (now (words .entry)) at (encode-domain dm) → r ≡ at + length (encode-domain dm)) ⌝ }
+{
+    let kind = number(words, at);
+    if kind == 0 {
+        return at + 3;
+    }
+    let n = number(words, at + 1);
+    at + 2 + n
+}
+
+// The place of variable v's domain.
+pub fn domain_of(words: &[i32], d: usize, v: usize) -> usize
+    requires { ⌜ Domain-below (now words) d v ⌝ }
+    ensures { λ r. ⌜ Domain-post (now (words .entry)) d v r ⌝ }
+{
+    let mut at = d;
+    let mut left = v;
+    while left != 0 {
+        at = domain_end(words, at);
+        left = left - 1;
+    }
+    at
+}
+
+// The place of the one value of the domain at `at`, or 0 (as_constant).
+pub fn as_constant(words: &[i32], at: usize) -> usize
+    requires { ⌜ Domain-at (now words) at ⌝ }
+    ensures { λ r. ⌜ ((dm : Domain) → Has (now (words .entry)) at (encode-domain dm) → One-value (now (words .entry)) dm r) ⌝ }
+{
+    let kind = number(words, at);
+    if kind == 0 {
+        let low = words[at + 1];
+        let high = words[at + 2];
+        if low == high {
+            return at + 1;
+        }
+        return 0;
+    }
+    let n = number(words, at + 1);
+    if n == 1 {
+        return at + 2;
+    }
+    0
+}
+
+// ---- integer expressions
+
+// A sum of one term, with coefficient 1.
+pub fn is_single(words: &[i32], at: usize, n: usize) -> bool
+    requires { ⌜ (n ≡ 1 → at < length (now words)) ⌝ }
+    ensures { λ r. ⌜ r ≡ single-of n (getD (now (words .entry)) at (pos 0)) ⌝ }
+{
+    if n == 1 {
+        let w = words[at];
+        if w == 1 {
+            return true;
+        }
+        return false;
+    }
+    false
+}
+
+pub fn put_int_var(words: &[i32], d: usize, work: &mut [i32], o: usize, v: usize) -> usize
+    requires { ⌜ Domain-below (now words) d v ⌝ }
+    requires { ⌜ (o + 2 ≤ length (now work)) × (v < 2147483648) ⌝ }
+    ensures { λ r. ⌜ Int-var-post (now (words .entry)) d (now (work .entry)) o v (now (work .exit)) r ⌝ }
+{
+    let at = domain_of(words, d, v);
+    let p = as_constant(words, at);
+    if p == 0 {
+        return put_two(work, o, 21, v);
+    }
+    put(work, o, 20);
+    copy_word(words, p, work, o + 1);
+    o + 2
+}
+
+// As many terms as `count` says.
+pub fn constant_folding_terms(
+    words: &[i32],
+    d: usize,
+    at: usize,
+    count: usize,
+    work: &mut [i32],
+    o: usize,
+) -> Span
+    requires { ⌜ Ready-terms (now words) d at count (now work) o ⌝ }
+    ensures { λ r. ⌜ Terms-post (now (words .entry)) d at count (now (work .entry)) o (now (work .exit)) (r .next) (r .end) ⌝ }
+{
+    let mut next = at;
+    let mut end = o;
+    let mut rest = count;
+    while rest != 0 {
+        copy_word(words, next, work, end);
+        let a = constant_folding_int(words, d, next + 1, work, end + 1);
+        next = a.next;
+        end = a.end;
+        rest = rest - 1;
+    }
+    Span { next, end }
+}
+
+pub fn constant_folding_int(words: &[i32], d: usize, at: usize, work: &mut [i32], o: usize) -> Span
+    requires { ⌜ Ready-int (now words) d at (now work) o ⌝ }
+    ensures { λ r. ⌜ Int-post (now (words .entry)) d at (now (work .entry)) o (now (work .exit)) (r .next) (r .end) ⌝ }
+{
+    let w = number(words, at);
+    if w == 20 {
+        put(work, o, 20);
+        copy_word(words, at + 1, work, o + 1);
+        return Span {
+            next: at + 2,
+            end: o + 2,
+        };
+    }
+    let v = number(words, at + 1);
+    if w == 21 {
+        let end = put_int_var(words, d, work, o, v);
+        return Span { next: at + 2, end };
+    }
+    if v == 0 {
+        let end = put_two(work, o, 20, 0);
+        return Span { next: at + 2, end };
+    }
+    if is_single(words, at + 2, v) {
+        return constant_folding_int(words, d, at + 3, work, o);
+    }
+    let m = put_two(work, o, 22, v);
+    constant_folding_terms(words, d, at + 2, v, work, m)
 }
