@@ -5,3 +5,4 @@ pub mod Linear
 pub mod Norm
 pub mod Domain
 pub mod Bounds
+pub mod Struct
