@@ -3,3 +3,4 @@ pub mod Syntax
 pub mod Satisfies
 pub mod Written
 pub mod Depth
+pub mod Unique
