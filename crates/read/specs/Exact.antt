@@ -181,8 +181,8 @@ row-exact n =
 -- ---- statements
 
 module _ (nb ni : ℕ) where
-  columns-exact : (n : ℕ) → Exact (λ es. flat (map encode-int es)) (λ es. (length es ≡ n) × Each (WellInt ni max-depth) es) (times n (read-int nb ni max-depth))
-  columns-exact = times-exact encode-int (WellInt ni max-depth) (read-int nb ni max-depth) (int-exact nb ni max-depth)
+  columns-exact : (n : ℕ) → Exact (λ es. flat (map encode-int es)) (λ es. (length es ≡ n) × Each (WellInt ni max-depth) es) (times n (read-int ni max-depth))
+  columns-exact = times-exact encode-int (WellInt ni max-depth) (read-int ni max-depth) (int-exact ni max-depth)
 
   rows-exact : (n k : ℕ) → Exact (λ rs. flat (map (map encode-cell) rs)) (λ rs. (length rs ≡ k) × Each (WellRow n) rs) (times k (times n read-cell))
   rows-exact n = times-exact (map encode-cell) (WellRow n) (times n read-cell) (row-exact n)
@@ -192,7 +192,7 @@ module _ (nb ni : ℕ) where
   table-sound xs c r h =
       bind-ok (count xs) _ c r h λ n s hn h1.
       bind-ok (count s) _ c r h1 λ k t hk h2.
-      bind-ok (times n (read-int nb ni max-depth) t) _ c r h2 λ es u he h3.
+      bind-ok (times n (read-int ni max-depth) t) _ c r h2 λ es u he h3.
       bind-ok (times k (times n read-cell) u) _ c r h3 λ rs v hr h4.
       let m : Table es rs ≡ c = cc in
       let q : v ≡ r = cc in

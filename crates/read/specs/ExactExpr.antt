@@ -90,50 +90,49 @@ module _ (ni left : ℕ) (p : Parser IntExpr) (x : Exact encode-int (WellInt ni 
     complete = λ ts r h. rw (← h .0) (terms-complete ts r (h .1));
   }
 
-  module _ (nb : ℕ) where
-    step-int-sound : (k : IntKind) (xs : List ℤ) (e : IntExpr) (r : List ℤ) → step-int nb ni p k xs ≡ ok e r → (code-int k ∷ xs ≡ encode-int e ++ r) × WellInt ni (suc left) e
-    unfolding step-int encode-int WellInt
-    step-int-sound i-const xs e r h =
-        bind-ok (number xs) _ e r h λ c s hc h1.
-        let m : IConst c ≡ e = cc in
-        let q : s ≡ r = cc in
-        let i = number-exact .sound xs c s hc in
-        rw (← m, ← q) (ap (λ v. pos 20 ∷ v) (i .0), (omega arith, i .1))
-    step-int-sound i-var xs e r h =
-        bind-ok (index ni xs) _ e r h λ v s hv h1.
-        let m : IVar v ≡ e = cc in
-        let q : s ≡ r = cc in
-        let i = index-exact ni .sound xs v s hv in
-        rw (← m, ← q) (ap (λ v. pos 21 ∷ v) (i .0), (omega arith, i .1))
-    step-int-sound i-sum xs e r h =
-        bind-ok (count xs) _ e r h λ n s hn h1.
-        bind-ok (read-terms p n s) _ e r h1 λ ts t ht h2.
-        let m : Linear ts ≡ e = cc in
-        let q : t ≡ r = cc in
-        let i = count-exact .sound xs n s hn in
-        let j = terms-sound n s ts t ht in
-        rw (← m, ← q, sub-one, j .1 .0) (ap (λ v. pos 22 ∷ v) (i .0 ∙ ap (λ v. pos n ∷ v) (j .0)), (omega arith, i .1, j .1 .1))
-    step-int-sound i-unknown xs e r h = refuse-ok 5 e r h
+  step-int-sound : (k : IntKind) (xs : List ℤ) (e : IntExpr) (r : List ℤ) → step-int ni p k xs ≡ ok e r → (code-int k ∷ xs ≡ encode-int e ++ r) × WellInt ni (suc left) e
+  unfolding step-int encode-int WellInt
+  step-int-sound i-const xs e r h =
+      bind-ok (number xs) _ e r h λ c s hc h1.
+      let m : IConst c ≡ e = cc in
+      let q : s ≡ r = cc in
+      let i = number-exact .sound xs c s hc in
+      rw (← m, ← q) (ap (λ v. pos 20 ∷ v) (i .0), (omega arith, i .1))
+  step-int-sound i-var xs e r h =
+      bind-ok (index ni xs) _ e r h λ v s hv h1.
+      let m : IVar v ≡ e = cc in
+      let q : s ≡ r = cc in
+      let i = index-exact ni .sound xs v s hv in
+      rw (← m, ← q) (ap (λ v. pos 21 ∷ v) (i .0), (omega arith, i .1))
+  step-int-sound i-sum xs e r h =
+      bind-ok (count xs) _ e r h λ n s hn h1.
+      bind-ok (read-terms p n s) _ e r h1 λ ts t ht h2.
+      let m : Linear ts ≡ e = cc in
+      let q : t ≡ r = cc in
+      let i = count-exact .sound xs n s hn in
+      let j = terms-sound n s ts t ht in
+      rw (← m, ← q, sub-one, j .1 .0) (ap (λ v. pos 22 ∷ v) (i .0 ∙ ap (λ v. pos n ∷ v) (j .0)), (omega arith, i .1, j .1 .1))
+  step-int-sound i-unknown xs e r h = refuse-ok 5 e r h
 
-    step-int-complete : (e : IntExpr) (r : List ℤ) → WellInt ni (suc left) e → bind (word (encode-int e ++ r)) (λ w s. step-int nb ni p (kind-int w) s) ≡ ok e r
-    unfolding step-int kind-int encode-int WellInt
-    step-int-complete (IConst c) r h = rw (number-exact .complete c r (h .1)) refl
-    step-int-complete (IVar v) r h = rw (index-exact ni .complete v r (h .1)) refl
-    step-int-complete (Linear ts) r h = rw (count-exact .complete (count-terms ts) (encode-terms ts ++ r) (h .1), terms-complete ts r (rw sub-one at (h .2))) refl
+  step-int-complete : (e : IntExpr) (r : List ℤ) → WellInt ni (suc left) e → bind (word (encode-int e ++ r)) (λ w s. step-int ni p (kind-int w) s) ≡ ok e r
+  unfolding step-int kind-int encode-int WellInt
+  step-int-complete (IConst c) r h = rw (number-exact .complete c r (h .1)) refl
+  step-int-complete (IVar v) r h = rw (index-exact ni .complete v r (h .1)) refl
+  step-int-complete (Linear ts) r h = rw (count-exact .complete (count-terms ts) (encode-terms ts ++ r) (h .1), terms-complete ts r (rw sub-one at (h .2))) refl
 
-    -- an unknown word is not accepted
-    int-accepted : (w : ℤ) (xs : List ℤ) (e : IntExpr) (r : List ℤ) → step-int nb ni p (kind-int w) xs ≡ ok e r → w ≡ code-int (kind-int w)
-    unfolding step-int
-    int-accepted w xs e r h = ⊎-elim (λ u. refuse-ok 5 e r (rw u at h)) (λ c. c) (int-coded w)
+  -- an unknown word is not accepted
+  int-accepted : (w : ℤ) (xs : List ℤ) (e : IntExpr) (r : List ℤ) → step-int ni p (kind-int w) xs ≡ ok e r → w ≡ code-int (kind-int w)
+  unfolding step-int
+  int-accepted w xs e r h = ⊎-elim (λ u. refuse-ok 5 e r (rw u at h)) (λ c. c) (int-coded w)
 
-    step-int-exact : Exact encode-int (WellInt ni (suc left)) (λ xs. bind (word xs) (λ w s. step-int nb ni p (kind-int w) s))
-    step-int-exact = record {
-      sound = λ xs e r h.
-          bind-ok (word xs) _ e r h λ w s hw hs.
-          let m = step-int-sound (kind-int w) s e r hs in
-          (word-ok xs w s hw ∙ ap (λ v. v ∷ s) (int-accepted w s e r hs) ∙ m .0, m .1);
-      complete = step-int-complete;
-    }
+  step-int-exact : Exact encode-int (WellInt ni (suc left)) (λ xs. bind (word xs) (λ w s. step-int ni p (kind-int w) s))
+  step-int-exact = record {
+    sound = λ xs e r h.
+        bind-ok (word xs) _ e r h λ w s hw hs.
+        let m = step-int-sound (kind-int w) s e r hs in
+        (word-ok xs w s hw ∙ ap (λ v. v ∷ s) (int-accepted w s e r hs) ∙ m .0, m .1);
+    complete = step-int-complete;
+  }
 
 int-no-level : (ni : ℕ) (e : IntExpr) → WellInt ni 0 e → ⊥
 unfolding WellInt
@@ -141,13 +140,13 @@ int-no-level ni (IConst c) h = omega (arith, h .0)
 int-no-level ni (IVar v) h = omega (arith, h .0)
 int-no-level ni (Linear ts) h = omega (arith, h .0)
 
-pub int-exact : (nb ni left : ℕ) → Exact encode-int (WellInt ni left) (read-int nb ni left)
+pub int-exact : (ni left : ℕ) → Exact encode-int (WellInt ni left) (read-int ni left)
 unfolding read-int
-int-exact nb ni zero = record {
+int-exact ni zero = record {
   sound = λ xs e r h. bind-ok (word xs) _ e r h λ w s hw h1. refuse-ok _ e r h1;
   complete = λ e r h. absurd (int-no-level ni e h);
 }
-int-exact nb ni (suc left) = step-int-exact ni left (read-int nb ni left) (int-exact nb ni left) nb
+int-exact ni (suc left) = step-int-exact ni left (read-int ni left) (int-exact ni left)
 
 -- ---- bits and operators
 
@@ -331,4 +330,4 @@ bool-exact nb ni zero = record {
   sound = λ xs e r h. bind-ok (word xs) _ e r h λ w s hw h1. refuse-ok _ e r h1;
   complete = λ e r h. absurd (bool-no-level nb ni e h);
 }
-bool-exact nb ni (suc left) = step-bool-exact nb ni left (read-bool nb ni left) (bool-exact nb ni left) (read-int nb ni left) (int-exact nb ni left)
+bool-exact nb ni (suc left) = step-bool-exact nb ni left (read-bool nb ni left) (bool-exact nb ni left) (read-int ni left) (int-exact ni left)

@@ -97,8 +97,8 @@ bit-at (suc n) = true
 unfoldable pub read-cell : Parser Cell
 read-cell xs = bind (word xs) (λ w r. cond (eqZ w star-word) (ok star r) (cond (in-value-range w) (ok (value w) r) (refuse 4)))
 
--- nb and ni: how many variables are declared
-module _ (nb ni : ℕ) where
+-- nb and ni: how many Boolean and integer variables are declared
+module _ (ni : ℕ) where
   -- what follows an integer code; p reads a part one level down
   unfoldable pub step-int : Parser IntExpr → IntKind → Parser IntExpr
   step-int p i-const xs = map-parser IConst number xs
@@ -111,6 +111,7 @@ module _ (nb ni : ℕ) where
   read-int zero xs = bind (word xs) (λ w r. refuse (too-deep-int (kind-int w)))
   read-int (suc left) xs = bind (word xs) (λ w r. step-int (read-int left) (kind-int w) r)
 
+module _ (nb ni : ℕ) where
   -- what follows a Boolean code; p and q read a part one level down
   unfoldable pub step-bool : Parser BoolExpr → Parser IntExpr → BoolKind → Parser BoolExpr
   step-bool p q k-const xs = map-parser (λ b. Const (bit-at b)) (up-to 1 4) xs
@@ -126,12 +127,12 @@ module _ (nb ni : ℕ) where
 
   unfoldable pub read-bool : ℕ → Parser BoolExpr
   read-bool zero xs = bind (word xs) (λ w r. refuse (too-deep-bool (kind-bool w)))
-  read-bool (suc left) xs = bind (word xs) (λ w r. step-bool (read-bool left) (read-int left) (kind-bool w) r)
+  read-bool (suc left) xs = bind (word xs) (λ w r. step-bool (read-bool left) (read-int ni left) (kind-bool w) r)
 
   -- ---- statements
 
   unfoldable pub read-table : Parser Stmt
-  read-table xs = bind (count xs) (λ n r. bind (count r) (λ k s. seq-parser Table (times n (read-int max-depth)) (λ es. times k (times n read-cell)) s))
+  read-table xs = bind (count xs) (λ n r. bind (count r) (λ k s. seq-parser Table (times n (read-int ni max-depth)) (λ es. times k (times n read-cell)) s))
 
   unfoldable pub read-stmt : Parser Stmt
   read-stmt xs = bind (word xs) (λ w r. cond (eqZ w (pos 1)) (map-parser Rule (read-bool max-depth) r) (cond (eqZ w (pos 2)) (read-table r) (refuse 5)))
