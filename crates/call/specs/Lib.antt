@@ -3,3 +3,4 @@ pub mod Claim
 pub mod Compute
 pub mod Cases
 pub mod Consequences
+pub mod Ready
