@@ -4,3 +4,5 @@ pub mod Compute
 pub mod Cases
 pub mod Consequences
 pub mod Ready
+pub mod Known
+pub mod Demand

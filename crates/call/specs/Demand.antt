@@ -1,0 +1,218 @@
+-- Demand 3: for every set that is not refused, an assignment within the domains satisfies every statement exactly when it passes the answer.
+use mathlib.Core.Path.{_≡_, refl, sym, ap, _∙_}
+use mathlib.Core.Logic.{_↔_}
+use mathlib.Core.Bool.{Bool, true, false, _&&_, _||_, cond, false≢true}
+use mathlib.Core.Option.{Option, some}
+use mathlib.Core.List.{List, [], _∷_, _++_, map}
+use Prim.Native.Nat.{ℕ, zero, suc, _≤_, _<_}
+use native.Mathlib.Omega.{arith}
+use lib.IntN.{ℤ}
+use lib.Signed.{ltZ}
+use lib.Dec.{ltb}
+use lib.ListN.{length, length-map, getD}
+use Rattle.laws.specs.Bools.{and-i}
+use Rattle.laws.specs.Lists.{all, from, below}
+use Rattle.syntax.specs.Words.{min-work-words, max-set-words, max-answer-words}
+use Rattle.syntax.specs.Syntax.{Domain, Range, Enumerative, domain-of, IntExpr, Cell, Stmt, Rule, Table, Problem}
+use Rattle.syntax.specs.Satisfies.{Val, IVal, stmt-holds, in-domains, satisfies}
+use Rattle.syntax.specs.Written.{EveryStmt, EveryStmts, every-stmts-map, Within, in-domains-within}
+use Rattle.words.specs.Parse.{Parsed, ok, refuse}
+use Rattle.words.specs.Exact.{Each}
+use Rattle.read.specs.Read.{read-set}
+use Rattle.read.specs.WellFormed.{RisingFrom, WellDomain, WellFormed}
+use Rattle.read.specs.Exact.{set-sound}
+use Rattle.limits.specs.Limits.{check}
+use Rattle.fold.specs.Fold.{Fixed, constant-folding-stmt as fold-stmt}
+use Rattle.fold.specs.FoldMeaning.{Agrees as AgreesFixed}
+use Rattle.fold.specs.Optimize.{Outcome, inconsistent, settled, optimize}
+use Rattle.fold.specs.Kept.{fold-stmts-every}
+use Rattle.fold.specs.Ends.{optimize-rests}
+use Rattle.fold.specs.Meaning.{optimize-satisfies, optimize-inconsistent}
+use Rattle.sums.specs.Domain.{rising-from, ordered}
+use Rattle.clauses.specs.Clause.{clause-true}
+use Rattle.clauses.specs.Log.{Log}
+use Rattle.clauses.specs.Disjunction.{Out}
+use Rattle.clauses.specs.Valuation.{Fits, fits-agrees, all-true}
+use Rattle.clauses.specs.Grow.{Grows}
+use Rattle.clauses.specs.Means.{Means, means-none, means-append}
+use Rattle.clauses.specs.RuleMeaning.{read-rule-means}
+use Rattle.clauses.specs.Exist.{ints-of, bools-of, fitting-exists}
+use Rattle.tables.specs.ColumnMeaning.{Standing}
+use Rattle.tables.specs.TableMeaning.{table-means}
+use Rattle.answer.specs.Answer.{Answer, layout, answer-of, normalize, normalize-stmt, normalize-stmts}
+use Rattle.answer.specs.Passes.{Decoded, decode, passes-decoded, passes-with, Passes}
+use Rattle.answer.specs.ReadBack.{view-of, answer-back}
+use Rattle.answer.specs.Declared.{stmts-declared}
+use Rattle.answer.specs.Carried.{Carried, carried, carries}
+use Rattle.call.specs.Call.{Result, compiled, contradiction, refused, measured, answered, checked, when-read, call}
+use Rattle.call.specs.Claim.{within, satisfied, Passed, NotRefused, Exact, Consequences}
+use Rattle.call.specs.Ready.{well-declared, Plain, folded-plain}
+use Rattle.call.specs.Known.{optimize-known}
+use Rattle.call.specs.Consequences.{consequences}
+
+-- ---- the clauses of all statements mean the statements
+
+module _ (δ : Val) (ε : IVal) (ρ : Val) (ι : IVal) (ds : List Domain) where
+  abbrev truth : Stmt → Bool
+  truth = stmt-holds δ ε (λ n. false)
+
+  stmt-means : (t : Stmt) (s : Log) → Plain t → EveryStmt (λ v. Unit {0}) (Standing ds ε) t → Means δ ε ρ ι s (normalize-stmt ds t s) (truth t)
+  unfolding normalize-stmt EveryStmt
+  stmt-means (Rule e) s h k = read-rule-means δ ε ρ ι e s (λ n. false) h
+  stmt-means (Table es rows) s h k = unfold stmt-holds in table-means δ ε ρ ι ds es rows s h k
+
+  stmts-mean : (ts : List Stmt) (s : Log) → Each Plain ts → EveryStmts (λ v. Unit {0}) (Standing ds ε) ts → Means δ ε ρ ι s (normalize-stmts ds ts s) (all truth ts)
+  unfolding normalize-stmts EveryStmts
+  stmts-mean [] s h k = means-none δ ε ρ ι s
+  stmts-mean (t ∷ ts) s h k =
+      let a : Out = normalize-stmt ds t s in
+      means-append δ ε ρ ι s a (normalize-stmts ds ts (a .1)) (truth t) (all truth ts) (stmt-means t s (h .0) (k .0)) (stmts-mean ts (a .1) (h .1) (k .1))
+
+-- ---- the domains of a set that was read
+
+rising-is : (x : ℤ) (xs : List ℤ) → RisingFrom x xs → rising-from x xs ≡ true
+rising-is x [] h = refl
+rising-is x (y ∷ ys) h = and-i (ltZ x y) (rising-from y ys) (h .0) (rising-is y ys (h .1))
+
+domain-ordered : (d : Domain) → WellDomain d → ordered d ≡ true
+domain-ordered (Range low high) h = h .2
+domain-ordered (Enumerative []) h = absurd (omega (arith, h .0))
+domain-ordered (Enumerative (x ∷ xs)) h = rising-is x xs (h .3)
+
+domains-ordered : (ds : List Domain) → Each WellDomain ds → (v : ℕ) → v < length ds → ordered (domain-of ds v) ≡ true
+domains-ordered [] h v k = absurd (omega arith)
+domains-ordered (d ∷ ds) h zero k = domain-ordered d (h .0)
+domains-ordered (d ∷ ds) h (suc v) k = domains-ordered ds (h .1) v (omega arith)
+
+length-from : (k n : ℕ) → length (from k n) ≡ n
+length-from k zero = refl
+length-from k (suc n) = ap suc (length-from (suc k) n)
+
+-- ---- a set that settles: satisfying is passing its answer
+
+module _ (p : Problem) (well : WellFormed p) (f : Fixed) (ss : List Stmt) (end : optimize p ≡ settled f ss) (δ : Val) (ε : IVal) (inside : in-domains p ε ≡ true) where
+  abbrev b : ℕ
+  b = p .bools
+
+  abbrev i : ℕ
+  i = length (p .domains)
+
+  abbrev out : Out
+  out = normalize-stmts (p .domains) ss []
+
+  declared : EveryStmts (λ v. v < b) (λ v. v < i) (p .stmts)
+  declared = well-declared p well
+
+  folded : ss ≡ map (fold-stmt (p .domains) f) (p .stmts)
+  folded = optimize-rests p declared f ss end .origin
+
+  ss-declared : EveryStmts (λ v. v < b) (λ v. v < i) ss
+  ss-declared = rw folded (fold-stmts-every (λ v. v < b) (λ v. v < i) (p .domains) f (p .stmts) declared)
+
+  ss-standing : EveryStmts (λ v. Unit {0}) (Standing (p .domains) ε) ss
+  ss-standing = every-stmts-map (λ v. v < b) (λ v. v < i) (λ v. Unit {0}) (Standing (p .domains) ε) (λ v h. tt) (λ v h. (domains-ordered (p .domains) (well .domains-well) v h, in-domains-within p ε inside v h)) ss ss-declared
+
+  ss-plain : Each Plain ss
+  ss-plain = rw folded (folded-plain (p .domains) f b i (p .stmts) (well .stmts-well))
+
+  means : (ρ : Val) (ι : IVal) → Means δ ε ρ ι [] out (all (truth δ ε ρ ι (p .domains)) ss)
+  means ρ ι = stmts-mean δ ε ρ ι (p .domains) ss [] ss-plain ss-standing
+
+  grown : Grows ε [] (out .1)
+  grown = means (λ n. false) ε .grows
+
+  -- ---- the answer's words, read back
+
+  decoded : decode b i (layout (answer-of p f out)) ≡ view-of (answer-of p f out)
+  unfolding answer-of
+  decoded =
+      let a : Answer = answer-of p f out in
+      let e : length (a .fixed) ≡ b = length-map (below b) f ∙ length-from 0 b in
+      let m : length (a .bool-map) ≡ b = length-map (below b) _ ∙ length-from 0 b in
+      let n : length (a .int-map) ≡ i = length-map (below i) _ ∙ length-from 0 i in
+      rw (e, n) at (answer-back a (m ∙ sym e))
+
+  words : List ℤ
+  words = layout (answer-of p f out)
+
+  passes-is : (ρ : Val) (ι : IVal) → passes-with b i words δ ε ρ ι ≡ passes-decoded b i (view-of (answer-of p f out)) δ ε ρ ι
+  unfolding passes-with words
+  passes-is ρ ι = ap (λ (d : Decoded). passes-decoded b i d δ ε ρ ι) decoded
+
+  -- ---- both directions
+
+  passing-satisfies : Passes b i words δ ε → satisfies p δ ε ≡ true
+  passing-satisfies h =
+      let c = carried p f out δ ε (h .bools) (h .ints) grown (stmts-declared b i (p .domains) ss ss-declared [] tt) (sym (passes-is (h .bools) (h .ints)) ∙ h .passing) in
+      optimize-satisfies p declared δ ε inside f ss end .1 (
+        λ v x e. c .fixed v x (optimize-known p (λ v. v < i) declared f ss end v x e) e,
+        means (h .bools) (h .ints) .sound (c .agrees) (c .clauses),
+      )
+
+  satisfying-passes : satisfies p δ ε ≡ true → Passes b i words δ ε
+  satisfying-passes h =
+      let s : Log = out .1 in
+      let ι : IVal = ints-of ε s in
+      let ρ : Val = bools-of δ ε ι s in
+      let fits : Fits δ ε ρ ι s = fitting-exists δ ε grown in
+      let m = optimize-satisfies p declared δ ε inside f ss end .0 h in
+      let c : Carried b f out δ ε ρ ι = record { fixed = λ v x k e. m .0 v x e; agrees = fits-agrees δ ε ρ ι s fits; clauses = means ρ ι .complete fits (m .1) } in
+      record { bools = ρ; ints = ι; passing = passes-is ρ ι ∙ carries p f out δ ε ρ ι grown (stmts-declared b i (p .domains) ss ss-declared [] tt) c }
+
+-- ---- the call
+
+-- what has to be shown of a result
+abbrev Told : List ℤ → Result → Val → IVal → Type 0
+Told set r δ ε = (satisfied set δ ε ≡ true) ↔ Passed set r δ ε
+
+module _ (set : List ℤ) (p : Problem) (r : List ℤ) (read : read-set set ≡ ok p r) (δ : Val) (ε : IVal) (inside : in-domains p ε ≡ true) where
+  well : WellFormed p
+  well = set-sound set p r read .1
+
+  satisfied-is : satisfied set δ ε ≡ satisfies p δ ε
+  unfolding satisfied
+  satisfied-is = rw read refl
+
+  settled-told : (f : Fixed) (ss : List Stmt) → optimize p ≡ settled f ss → Told set (compiled (layout (normalize p f ss))) δ ε
+  unfolding Passed normalize words
+  settled-told f ss end = rw read (
+    λ h. satisfying-passes p well f ss end δ ε inside (sym satisfied-is ∙ h),
+    λ h. satisfied-is ∙ passing-satisfies p well f ss end δ ε inside h,
+  )
+
+  measured-told : (t : Bool) (ws : List ℤ) → NotRefused (cond t (refused 12) (compiled ws)) → Told set (compiled ws) δ ε → Told set (cond t (refused 12) (compiled ws)) δ ε
+  measured-told true ws n h = absurd (n 12 refl)
+  measured-told false ws n h = h
+
+  answered-told : (o : ℕ) (x : Outcome) → optimize p ≡ x → NotRefused (answered o p x) → Told set (answered o p x) δ ε
+  unfolding answered measured Passed
+  answered-told o inconsistent e n = (λ h. false≢true (sym (optimize-inconsistent p (well-declared p well) δ ε inside e) ∙ sym satisfied-is ∙ h), λ h. absurd h)
+  answered-told o (settled f ss) e n = measured-told (ltb o (length (layout (normalize p f ss))) || ltb max-answer-words (length (layout (normalize p f ss)))) (layout (normalize p f ss)) n (settled-told f ss e)
+
+  checked-told : (o k : ℕ) → NotRefused (checked o p k) → Told set (checked o p k) δ ε
+  unfolding checked
+  checked-told o zero n = answered-told o (optimize p) refl n
+  checked-told o (suc k) n = absurd (n (suc k) refl)
+
+read-told : (set : List ℤ) (o : ℕ) (q : Parsed Problem) → read-set set ≡ q → NotRefused (when-read o q) → (δ : Val) (ε : IVal) → within set ε ≡ true → Told set (when-read o q) δ ε
+unfolding when-read within
+read-told set o (ok p r) e n δ ε h = checked-told set p r e δ ε (rw e at h) o (check p) n
+read-told set o (refuse k) e n δ ε h = absurd (n k refl)
+
+-- a refusal that was not given
+passed-by : (t : Bool) (k : ℕ) (x : Result) → NotRefused (cond t (refused k) x) → (NotRefused x × (cond t (refused k) x ≡ x))
+passed-by true k x n = absurd (n k refl)
+passed-by false k x n = (n, refl)
+
+pub demand-3 : Exact
+unfolding call
+demand-3 set o w n δ ε h =
+    let y : Result = when-read o (read-set set) in
+    let x : Result = cond (ltb max-set-words (length set)) (refused 2) y in
+    let a = passed-by (ltb w min-work-words) 1 x n in
+    let c = passed-by (ltb max-set-words (length set)) 2 y (a .0) in
+    rw (a .1 ∙ c .1) (read-told set o (read-set set) refl (c .0) δ ε h)
+
+-- joined lists pass exactly when both do; Not of a rule, exactly when the rule fails; Or of rules, exactly when one passes
+pub demand-3-consequences : Consequences
+demand-3-consequences = consequences demand-3
