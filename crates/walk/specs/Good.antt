@@ -12,6 +12,7 @@ use lib.Dec.{eqb}
 use borrow.Author.Tests.{eq-eqb, ne-eqb}
 use Rattle.laws.specs.Lists.{flat}
 use Rattle.syntax.specs.Syntax.{CmpOp, IntExpr}
+use Rattle.syntax.specs.Written.{EveryInt}
 use Rattle.sums.specs.LinearSum.{sub-sum}
 use Rattle.clauses.specs.Clause.{BoolLit, lit, LinearLit, linear, Clause, clause}
 use Rattle.clauses.specs.Log.{Log, declared, next-bool, next-int, get-bool-var, get-int-var, bool-var-at, convert-bool-var}
@@ -27,12 +28,12 @@ use Rattle.walk.specs.Texts.{words, linears, layout, words-more, linears
 tally-eq : (a a' b b' c c' d d' : ℕ) → a ≡ a' → b ≡ b' → c ≡ c' → d ≡ d' → tally a b c d ≡ tally a' b' c' d'
 tally-eq a a' b b' c c' d d' p q r s = cc
 
--- conjunctions have two members or more, and numbers are below the limit
+-- conjunctions have two members or more, variables are declared, and numbers are below the limit
 unfoldable mutual
   pub Proper : Tree → Type 0
   Proper (var v g) = v < 512
   Proper (num n g) = n < limit
-  Proper (cmp p o a b g) = Unit {0}
+  Proper (cmp p o a b g) = EveryInt (λ v. v < 256) a × EveryInt (λ v. v < 256) b
   Proper (conj ts) = (2 ≤ size ts) × Propers ts
   Proper (disj ts) = Propers ts
   Proper (cross ts us) = Propers ts × Propers us
@@ -186,7 +187,7 @@ module _ (w : List ℤ) where
         shape = disj-shape is (h .ls) (h .ks) (h .cx) z (h .tal) (h .pl) (h .pk) (h .all-long) l;
       })
 
-  shape-some : (i : Item) (cs : List Clause) → Shape i cs → 1 ≤ length cs
+  pub shape-some : (i : Item) (cs : List Clause) → Shape i cs → 1 ≤ length cs
   shape-some i cs (single ls ks e u p q) = rw e (omega arith)
   shape-some i cs (many h u p q) = omega arith
 
@@ -239,7 +240,7 @@ module _ (w : List ℤ) where
 
   -- ---- a side and its literal
 
-  beside : (cs : List Clause) (l : BoolLit) (s : Log) → 1 ≤ length cs → normalize-disjunction (cs ∷ (clause (l ∷ []) [] ∷ []) ∷ []) s ≡ (add-bool-each l cs, s)
+  pub beside : (cs : List Clause) (l : BoolLit) (s : Log) → 1 ≤ length cs → normalize-disjunction (cs ∷ (clause (l ∷ []) [] ∷ []) ∷ []) s ≡ (add-bool-each l cs, s)
   unfolding normalize-disjunction finish-sorted sorted finish-disjunction each-longer
   beside [] l s h = absurd (omega arith)
   beside (clause ls ks ∷ []) l s h = rw (append-nil ks)

@@ -46,7 +46,7 @@ mutual
   int-grows (IVar v) s = var-grows v s
   int-grows (Linear ts) s = terms-grow ts (constant (pos 0)) s
 
-  terms-grow : (ts : Terms) (sum : LinearSum) (s : Log) → Grows s (normalize-terms ts sum s .1)
+  pub terms-grow : (ts : Terms) (sum : LinearSum) (s : Log) → Grows s (normalize-terms ts sum s .1)
   terms-grow tnil sum s = same
   terms-grow (tmore k e ts) sum s = then (int-grows e s) (terms-grow ts _ (normalize-int-expr e s .1))
 

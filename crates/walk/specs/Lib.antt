@@ -5,3 +5,8 @@ pub mod Grow
 pub mod Texts
 pub mod Ints
 pub mod Good
+pub mod Num
+pub mod Two
+pub mod Decode
+pub mod Legal
+pub mod Rule

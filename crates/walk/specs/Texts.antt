@@ -226,39 +226,43 @@ disjunction-finish (cs ∷ ds ∷ css) s = refl
 
 -- ---- the new numbers of a disjunction are no variables'
 
+-- t has only such numbers on top of s
+pub data Auxed : Log → Log → Type 0 where
+  here : {s : Log} → Auxed s s
+  above : {s t : Log} {a : List Clause} → Auxed (aux a ∷ s) t → Auxed s t
+
+each-auxed : (cx : List (List Clause)) (ls : List BoolLit) (ks : List LinearLit) (s : Log) → Auxed s (each-longer cx ls ks s .1)
+unfolding each-longer
+each-auxed [] ls ks s = here
+each-auxed (a ∷ cx) ls ks s = above (each-auxed cx (ls ++ (lit (next-bool s) false ∷ [])) ks (aux a ∷ s))
+
+finish-auxed : (cx : List (List Clause)) (ls : List BoolLit) (ks : List LinearLit) (s : Log) → Auxed s (finish-disjunction cx ls ks s .1)
+unfolding finish-disjunction each-longer
+finish-auxed [] ls ks s = here
+finish-auxed (a ∷ []) [] [] s = here
+finish-auxed (a ∷ []) (l ∷ []) [] s = here
+finish-auxed (a ∷ []) (l ∷ m ∷ ls) [] s = above here
+finish-auxed (a ∷ []) ls (k ∷ ks) s = above here
+finish-auxed (a ∷ b ∷ []) [] [] s = above here
+finish-auxed (a ∷ b ∷ []) [] (k ∷ ks) s = each-auxed (a ∷ b ∷ []) [] (k ∷ ks) s
+finish-auxed (a ∷ b ∷ []) (l ∷ ls) ks s = each-auxed (a ∷ b ∷ []) (l ∷ ls) ks s
+finish-auxed (a ∷ b ∷ c ∷ cx) ls ks s = each-auxed (a ∷ b ∷ c ∷ cx) ls ks s
+
+pub disjunction-auxed : (css : List (List Clause)) (s : Log) → Auxed s (normalize-disjunction css s .1)
+unfolding finish-sorted
+disjunction-auxed css s = rw (disjunction-finish css s) (go (sorted css))
+  where
+    go : (x : Sorted) → Auxed s (finish-sorted x s .1)
+    go satisfied = here
+    go (pool ls ks cx) = finish-auxed cx ls ks s
+
+-- variables keep their numbers, and no integer is new
 pub record Untouched (s t : Log) : Type 0 where
   pub ints : next-int t ≡ next-int s
   pub keep : (v : ℕ) → get-bool-var v t ≡ get-bool-var v s
   pub keep-int : (v : ℕ) → get-int-var v t ≡ get-int-var v s
 
-untouched : (s : Log) → Untouched s s
-untouched s = record { ints = refl; keep = λ v. refl; keep-int = λ v. refl }
-
-untouched-aux : (a : List Clause) (s t : Log) → Untouched (aux a ∷ s) t → Untouched s t
+pub auxed-untouched : {s t : Log} → Auxed s t → Untouched s t
 unfolding get-bool-var get-int-var
-untouched-aux a s t h = record { ints = h .ints; keep = λ v. h .keep v; keep-int = λ v. h .keep-int v }
-
-each-untouched : (cx : List (List Clause)) (ls : List BoolLit) (ks : List LinearLit) (s : Log) → Untouched s (each-longer cx ls ks s .1)
-unfolding each-longer
-each-untouched [] ls ks s = untouched s
-each-untouched (a ∷ cx) ls ks s = untouched-aux a s _ (each-untouched cx (ls ++ (lit (next-bool s) false ∷ [])) ks (aux a ∷ s))
-
-finish-untouched : (cx : List (List Clause)) (ls : List BoolLit) (ks : List LinearLit) (s : Log) → Untouched s (finish-disjunction cx ls ks s .1)
-unfolding finish-disjunction each-longer
-finish-untouched [] ls ks s = untouched s
-finish-untouched (a ∷ []) [] [] s = untouched s
-finish-untouched (a ∷ []) (l ∷ []) [] s = untouched s
-finish-untouched (a ∷ []) (l ∷ m ∷ ls) [] s = untouched-aux a s _ (untouched _)
-finish-untouched (a ∷ []) ls (k ∷ ks) s = untouched-aux a s _ (untouched _)
-finish-untouched (a ∷ b ∷ []) [] [] s = untouched-aux a s _ (untouched _)
-finish-untouched (a ∷ b ∷ []) [] (k ∷ ks) s = each-untouched (a ∷ b ∷ []) [] (k ∷ ks) s
-finish-untouched (a ∷ b ∷ []) (l ∷ ls) ks s = each-untouched (a ∷ b ∷ []) (l ∷ ls) ks s
-finish-untouched (a ∷ b ∷ c ∷ cx) ls ks s = each-untouched (a ∷ b ∷ c ∷ cx) ls ks s
-
-pub disjunction-untouched : (css : List (List Clause)) (s : Log) → Untouched s (normalize-disjunction css s .1)
-unfolding finish-sorted
-disjunction-untouched css s = rw (disjunction-finish css s) (go (sorted css))
-  where
-    go : (x : Sorted) → Untouched s (finish-sorted x s .1)
-    go satisfied = untouched s
-    go (pool ls ks cx) = finish-untouched cx ls ks s
+auxed-untouched here = record { ints = refl; keep = λ v. refl; keep-int = λ v. refl }
+auxed-untouched (above {s} {t} {a} h) = let u = auxed-untouched h in record { ints = u .ints; keep = λ v. u .keep v; keep-int = λ v. u .keep-int v }

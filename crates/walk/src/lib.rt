@@ -7,3 +7,25 @@ pub enum Mode {
     Two,
     Each,
 }
+
+// What the code word at a position asks. A variable, and what follows. A comparison: where its second side stands, what follows.
+// Not: what follows. Join: a disjunction?, the count, the first member negated?, the others negated?, the first member's place.
+// Cross: the second side negated in the first list?, the first side's place.
+pub enum Node {
+    Var(usize, usize),
+    Cmp(usize, usize),
+    Not(usize),
+    Join(bool, usize, bool, bool, usize),
+    Cross(bool, usize),
+}
+
+// What a survey finds of an expression, or of so many members: its end, the splitting's next number, the counter behind it, its tally.
+pub struct Surveyed {
+    pub at: usize,
+    pub base: usize,
+    pub n: usize,
+    pub longs: usize,
+    pub lits: usize,
+    pub cmps: usize,
+    pub lines: usize,
+}

@@ -1,0 +1,173 @@
+-- The first pass: the maps and counters behind a tree are those of the log, and the records of the emitted integers stand in order.
+-- Column says what is known of the record of a column; a rule makes none.
+use mathlib.Core.Path.{_≡_, refl, sym, ap, _∙_}
+use mathlib.Core.Bool.{Bool, true, false, not, cond, false≢true}
+use mathlib.Core.Option.{Option, none as nothing, some}
+use mathlib.Core.List.{List, [], _∷_, _++_}
+use mathlib.Core.Logic.{_≢_}
+use Prim.Native.Nat.{ℕ, zero, suc, _+_, _≤_, _<_, min, max}
+use native.Mathlib.Omega.{arith}
+use lib.IntN.{ℤ, pos}
+use lib.ListN.{length, getD, set, length-set}
+use lib.Seq.{getD-set-same, getD-set-other}
+use lib.Dec.{eqb, eqb→eq}
+use borrow.Author.Tests.{eq-eqb, ne-eqb}
+use Rattle.syntax.specs.Syntax.{Domain, IntExpr, IConst, IVar, Linear, Terms, tnil, tmore}
+use Rattle.syntax.specs.Written.{EveryInt, EveryTerm}
+use Rattle.sums.specs.LinearSum.{LinearSum, constant, add-sum, mul-sum}
+use Rattle.clauses.specs.Log.{Made, declared, aux, side, declared-int, column, Log, next-bool, next-int, get-bool-var, get-int-var, bool-var-at, int-var-at, convert-bool-var, convert-int-var}
+use Rattle.clauses.specs.Normalize.{normalize-int-var, normalize-term, normalize-int-expr, normalize-terms}
+use Rattle.walk.specs.Item.{limit, bump, is-none, bool-map, int-map, emitted-ints, nat, bool-entry, int-entry, State, new-bool, meet-bool, new-int, meet-int-var, meet-int, meet-terms, pass-bools}
+use Rattle.walk.specs.Grow.{Grows, Fit}
+use Rattle.walk.specs.Ints.{terms-grow}
+
+-- how many records there is room for
+abbrev pub max-emitted : ℕ
+max-emitted = 2560
+
+abbrev pub code : Option ℕ → ℕ
+code nothing = 0
+code (some n) = suc n
+
+module _ (Column : Log → ℤ → LinearSum → Domain → Type 0) where
+  unfoldable pub Recorded : List ℤ → Log → Type 0
+  Recorded w [] = Unit {0}
+  Recorded w (declared v ∷ s) = Recorded w s
+  Recorded w (aux cs ∷ s) = Recorded w s
+  Recorded w (side e ∷ s) = Recorded w s
+  Recorded w (declared-int v ∷ s) = (getD w (emitted-ints + next-int s) (pos 0) ≡ pos v) × Recorded w s
+  Recorded w (column l d ∷ s) = Column s (getD w (emitted-ints + next-int s) (pos 0)) l d × Recorded w s
+
+  -- the state of a log
+  pub record Numbered (st : State) (s : Log) : Type 0 where
+    pub map : (v : ℕ) → v < 512 → bool-entry (st .work) v ≡ code (get-bool-var v s)
+    pub map-int : (v : ℕ) → v < 256 → int-entry (st .work) v ≡ code (get-int-var v s)
+    pub bools : st .bools ≡ next-bool s
+    pub ints : st .ints ≡ next-int s
+    pub low : (v n : ℕ) → get-bool-var v s ≡ some n → v < 512
+    pub low-int : (v n : ℕ) → get-int-var v s ≡ some n → v < 256
+    pub size : 16384 ≤ length (st .work)
+    pub records : Recorded (st .work) s
+
+  pub numbered-fit : (st : State) (s : Log) → Numbered st s → next-bool s ≤ limit → Fit (st .work) s
+  numbered-fit st s h l = record {
+    agree = λ v n e. h .map v (h .low v n e) ∙ rw e;
+    agree-int = λ v n e. h .map-int v (h .low-int v n e) ∙ rw e;
+    small = l;
+  }
+
+  -- ---- stores
+
+  none-not : (n : ℕ) → (n ≡ 0 → ⊥) → is-none n ≡ false
+  none-not zero h = absurd (h refl)
+  none-not (suc n) h = refl
+
+  -- a store elsewhere keeps the records
+  recorded-set : (w : List ℤ) (p : ℕ) (x : ℤ) (s : Log) → ((k : ℕ) → k < next-int s → emitted-ints + k ≡ p → ⊥) → Recorded w s → Recorded (set w p x) s
+  unfolding Recorded
+  recorded-set w p x [] f h = tt
+  recorded-set w p x (declared v ∷ s) f h = recorded-set w p x s f h
+  recorded-set w p x (aux cs ∷ s) f h = recorded-set w p x s f h
+  recorded-set w p x (side e ∷ s) f h = recorded-set w p x s f h
+  recorded-set w p x (declared-int v ∷ s) f h =
+      (getD-set-other w p (emitted-ints + next-int s) x (pos 0) (f (next-int s) (omega arith)) ∙ h .0, recorded-set w p x s (λ k l. f k (omega arith)) (h .1))
+  recorded-set w p x (column l d ∷ s) f h =
+      (rw (getD-set-other w p (emitted-ints + next-int s) x (pos 0) (f (next-int s) (omega arith))) (h .0), recorded-set w p x s (λ k l. f k (omega arith)) (h .1))
+
+  bool-other : (w : List ℤ) (p : ℕ) (x : ℤ) (u : ℕ) → (bool-map + u ≡ p → ⊥) → bool-entry (set w p x) u ≡ bool-entry w u
+  unfolding bool-entry
+  bool-other w p x u h = ap nat (getD-set-other w p (bool-map + u) x (pos 0) h)
+
+  int-other : (w : List ℤ) (p : ℕ) (x : ℤ) (u : ℕ) → (int-map + u ≡ p → ⊥) → int-entry (set w p x) u ≡ int-entry w u
+  unfolding int-entry
+  int-other w p x u h = ap nat (getD-set-other w p (int-map + u) x (pos 0) h)
+
+  bool-same : (w : List ℤ) (v n : ℕ) → bool-map + v < length w → bool-entry (set w (bool-map + v) (pos n)) v ≡ n
+  unfolding bool-entry nat
+  bool-same w v n h = ap nat (getD-set-same w (bool-map + v) (pos n) (pos 0) h)
+
+  int-same : (w : List ℤ) (v n : ℕ) → int-map + v < length w → int-entry (set w (int-map + v) (pos n)) v ≡ n
+  unfolding int-entry nat
+  int-same w v n h = ap nat (getD-set-same w (int-map + v) (pos n) (pos 0) h)
+
+  -- ---- a declared variable
+
+  pub bool-num : (v : ℕ) (st : State) (s : Log) (o : Option ℕ) → get-bool-var v s ≡ o → v < 512 → Numbered st s → next-bool (bool-var-at o v s .1) ≤ limit → Numbered (meet-bool v st) (bool-var-at o v s .1)
+  unfolding meet-bool get-bool-var get-int-var Recorded
+  bool-num v st s (some n) e hv h l =
+      rw (none-not (bool-entry (st .work) v) (λ q. let z : _≡_ {A = ℕ} 0 (suc n) = sym q ∙ h .map v hv ∙ ap code e in omega arith)) h
+  bool-num v st s nothing e hv h l =
+      let b : bump (st .bools) 1 ≡ suc (next-bool s) = omega (arith, h .bools) in
+      let z : bool-entry (st .work) v ≡ 0 = h .map v hv ∙ ap code e in
+      rw (z, b) (record {
+        map = λ u hu. mp u hu (eqb u v) refl;
+        map-int = λ u hu. int-other (st .work) (bool-map + v) _ u (λ q. omega arith) ∙ h .map-int u hu;
+        bools = refl;
+        ints = h .ints;
+        low = λ u n q. lw u n (eqb u v) refl q;
+        low-int = λ u n q. h .low-int u n q;
+        size = rw length-set (h .size);
+        records = recorded-set (st .work) (bool-map + v) _ s (λ k l q. omega arith) (h .records);
+      })
+    where
+      mp : (u : ℕ) → u < 512 → (c : Bool) → eqb u v ≡ c → bool-entry (set (st .work) (bool-map + v) (pos (suc (next-bool s)))) u ≡ code (get-bool-var u (declared v ∷ s))
+      mp u hu true q = let p : u ≡ v = eqb→eq u v (rw q tt) in rw q (rw p (bool-same (st .work) v (suc (next-bool s)) (omega (arith, h .size))))
+      mp u hu false q =
+          let ne : u ≢ v = λ (p : u ≡ v). false≢true (sym q ∙ eq-eqb u v p) in
+          rw q (bool-other (st .work) (bool-map + v) (pos (suc (next-bool s))) u (λ x. ne (omega arith)) ∙ h .map u hu)
+
+      lw : (u n : ℕ) (c : Bool) → eqb u v ≡ c → get-bool-var u (declared v ∷ s) ≡ some n → u < 512
+      lw u n true q f = let p : u ≡ v = eqb→eq u v (rw q tt) in omega arith
+      lw u n false q f = h .low u n (rw q at f)
+
+  pub int-num : (v : ℕ) (st : State) (s : Log) (o : Option ℕ) → get-int-var v s ≡ o → v < 256 → Numbered st s → next-int (int-var-at o v s .1) ≤ max-emitted → Numbered (meet-int-var v st) (int-var-at o v s .1)
+  unfolding meet-int-var get-bool-var get-int-var Recorded
+  int-num v st s (some n) e hv h l =
+      rw (none-not (int-entry (st .work) v) (λ q. let z : _≡_ {A = ℕ} 0 (suc n) = sym q ∙ h .map-int v hv ∙ ap code e in omega arith)) h
+  int-num v st s nothing e hv h l =
+      let b : bump (st .ints) 1 ≡ suc (next-int s) = omega (arith, h .ints) in
+      let z : int-entry (st .work) v ≡ 0 = h .map-int v hv ∙ ap code e in
+      let k : st .ints ≡ next-int s = h .ints in
+      rw (z, b, k) (record {
+        map = λ u hu. bool-other mid (emitted-ints + next-int s) (pos v) u (λ q. omega arith) ∙ bool-other (st .work) (int-map + v) _ u (λ q. omega arith) ∙ h .map u hu;
+        map-int = λ u hu. int-other mid (emitted-ints + next-int s) (pos v) u (λ q. omega arith) ∙ mp u hu (eqb u v) refl;
+        bools = h .bools;
+        ints = refl;
+        low = λ u n q. h .low u n q;
+        low-int = λ u n q. lw u n (eqb u v) refl q;
+        size = rw (length-set, length-set) (h .size);
+        records = (
+          getD-set-same mid (emitted-ints + next-int s) (pos v) (pos 0) (omega (arith, h .size, length-set (st .work) (int-map + v) (pos (suc (next-int s))))),
+          recorded-set mid (emitted-ints + next-int s) (pos v) s (λ k l q. omega arith) (recorded-set (st .work) (int-map + v) _ s (λ k l q. omega arith) (h .records)),
+        );
+      })
+    where
+      mid : List ℤ
+      mid = set (st .work) (int-map + v) (pos (suc (next-int s)))
+
+      mp : (u : ℕ) → u < 256 → (c : Bool) → eqb u v ≡ c → int-entry mid u ≡ code (get-int-var u (declared-int v ∷ s))
+      mp u hu true q = let p : u ≡ v = eqb→eq u v (rw q tt) in rw q (rw p (int-same (st .work) v (suc (next-int s)) (omega (arith, h .size))))
+      mp u hu false q =
+          let ne : u ≢ v = λ (p : u ≡ v). false≢true (sym q ∙ eq-eqb u v p) in
+          rw q (int-other (st .work) (int-map + v) (pos (suc (next-int s))) u (λ x. ne (omega arith)) ∙ h .map-int u hu)
+
+      lw : (u n : ℕ) (c : Bool) → eqb u v ≡ c → get-int-var u (declared-int v ∷ s) ≡ some n → u < 256
+      lw u n true q f = let p : u ≡ v = eqb→eq u v (rw q tt) in omega arith
+      lw u n false q f = h .low-int u n (rw q at f)
+
+  -- ---- the integers of an expression
+
+  mutual
+    unfolding normalize-int-expr normalize-int-var normalize-term convert-int-var meet-int EveryInt
+
+    pub expr-num : (e : IntExpr) → EveryInt (λ v. v < 256) e → (st : State) (s : Log) → Numbered st s → next-int (normalize-int-expr e s .1) ≤ max-emitted → Numbered (meet-int e st) (normalize-int-expr e s .1)
+    expr-num (IConst c) p st s h l = h
+    expr-num (IVar v) p st s h l = int-num v st s (get-int-var v s) refl p h l
+    expr-num (Linear ts) p st s h l = terms-num ts p st (constant (pos 0)) s h l
+
+    terms-num : (ts : Terms) → EveryTerm (λ v. v < 256) ts → (st : State) (sum : LinearSum) (s : Log) → Numbered st s → next-int (normalize-terms ts sum s .1) ≤ max-emitted → Numbered (meet-terms ts st) (normalize-terms ts sum s .1)
+    terms-num tnil p st sum s h l = h
+    terms-num (tmore k e ts) p st sum s h l =
+        let a = normalize-int-expr e s in
+        let x = add-sum sum (mul-sum k (a .0)) in
+        terms-num ts (p .1) (meet-int e st) x (a .1) (expr-num e (p .0) st s h (omega (arith, terms-grow ts x (a .1) .ints))) l
