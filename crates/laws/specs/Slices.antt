@@ -200,3 +200,13 @@ pub slice-join : (f m e : ℕ) (l : List ℤ) → f ≤ m → m ≤ e → e ≤ 
 slice-join f m e l h k j =
     let s : take e l ≡ take m l ++ slice m e l = sym (take-append-drop m (take e l)) ∙ ap (λ x. x ++ slice m e l) (take-take m e l k) in
     sym (ap (drop f) s ∙ drop-append-le f (take m l) (slice m e l) (omega (arith, length-take-le m l (omega arith))))
+
+-- the word at a distance
+pub has-nth : (ws : List ℤ) (at : ℕ) (us : List ℤ) (i : ℕ) (d : ℤ) → Has ws at us → i < length us → getD ws (at + i) d ≡ getD us i d
+has-nth ws at us i d h l = sym (getD-drop at ws i d) ∙ sym (getD-take (length us) (drop at ws) i d l) ∙ ap (λ v. getD v i d) h
+
+-- words stored with room stand
+pub has-sets : (out : List ℤ) (o : ℕ) (us : List ℤ) → o + length us ≤ length out → Has (sets out o us) o us
+has-sets out o us h =
+    let e : drop o (sets out o us) ≡ us ++ drop (o + length us) out = ap (drop o) (sets-eq us out o h ∙ append-assoc (take o out) us (drop (o + length us) out)) ∙ drop-at (take o out) (us ++ drop (o + length us) out) o (length-take-le o out (omega arith)) in
+    ap (take (length us)) e ∙ take-append-seam us (drop (o + length us) out)
