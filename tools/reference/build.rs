@@ -29,24 +29,16 @@ fn source_root() -> PathBuf {
 
 fn declaration(name: &str, file: &Path) -> String {
     let lints = "dead_code, unused_imports, clippy::all";
-    format!(
-        "#[allow({lints})]\n#[path = {:?}]\nmod {name};\n",
-        file.display().to_string()
-    )
+    format!("#[allow({lints})]\n#[path = {:?}]\nmod {name};\n", file.display().to_string())
 }
 
 fn main() {
     println!("cargo:rerun-if-env-changed=NOKYREVA_RUST_SRC");
     let root = source_root();
     let folder = root.join("cspuz_core/src");
-    let folder = folder
-        .canonicalize()
-        .unwrap_or_else(|e| panic!("{}: {e}", folder.display()));
+    let folder = folder.canonicalize().unwrap_or_else(|e| panic!("{}: {e}", folder.display()));
     println!("cargo:rerun-if-changed={}", folder.display());
-    let text: String = MODULES
-        .iter()
-        .map(|(name, file)| declaration(name, &folder.join(file)))
-        .collect();
+    let text: String = MODULES.iter().map(|(name, file)| declaration(name, &folder.join(file))).collect();
     let out = PathBuf::from(env::var_os("OUT_DIR").unwrap_or_default());
     fs::write(out.join("sources.rs"), text).expect("OUT_DIR can be written");
 }

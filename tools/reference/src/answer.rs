@@ -41,14 +41,7 @@ pub fn decode(bools: usize, ints: usize, words: &[i32]) -> Option<Answer> {
     if w.word().is_some() {
         return None;
     }
-    Some(Answer {
-        fixed,
-        bool_map,
-        int_map,
-        bools: emitted_bools,
-        domains,
-        clauses,
-    })
+    Some(Answer { fixed, bool_map, int_map, bools: emitted_bools, domains, clauses })
 }
 
 impl Words<'_> {
@@ -71,20 +64,13 @@ impl Words<'_> {
     fn clause(&mut self) -> Option<Clause> {
         let literals = self.counted(Words::word)?;
         let comparisons = self.counted(Words::comparison)?;
-        Some(Clause {
-            literals,
-            comparisons,
-        })
+        Some(Clause { literals, comparisons })
     }
 
     fn comparison(&mut self) -> Option<Comparison> {
         let op = self.word()?;
         let constant = self.word()?;
         let terms = self.counted(|w| Some((w.word()?, w.word()?)))?;
-        Some(Comparison {
-            op,
-            constant,
-            terms,
-        })
+        Some(Comparison { op, constant, terms })
     }
 }

@@ -45,3 +45,10 @@ fn run(set: &Set, out_len: usize) -> Outcome {
     }
     Outcome::Compiled(answer)
 }
+
+/// The answer's length as `size` counts it; nothing for a set refused by 1 to 11 or found contradictory.
+pub fn counted(set: &[i32]) -> Option<u64> {
+    let set = accept(set, usize::MAX).ok()?;
+    let csp = rust::optimized(&set)?;
+    Some(size::words(&set, &csp))
+}

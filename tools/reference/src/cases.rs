@@ -35,21 +35,13 @@ fn difference(known: &Known) -> Option<String> {
     if got == known.expected {
         return None;
     }
-    Some(format!(
-        "{}: expected\n{}got\n{got}",
-        known.name, known.expected
-    ))
+    Some(format!("{}: expected\n{}got\n{got}", known.name, known.expected))
 }
 
 const P6: [i32; 3] = [0, 0, 0];
 
 fn case(name: &'static str, set: &[i32], expected: &str) -> Known {
-    Known {
-        name,
-        set: set.to_vec(),
-        out_len: SLICE,
-        expected: expected.to_string(),
-    }
+    Known { name, set: set.to_vec(), out_len: SLICE, expected: expected.to_string() }
 }
 
 pub fn known() -> Vec<Known> {
@@ -62,11 +54,7 @@ pub fn known() -> Vec<Known> {
 fn rules() -> Vec<Known> {
     let two_ands = [12, 2, 11, 0, 11, 1, 12, 2, 11, 2, 11, 3];
     let p2: Vec<i32> = [4, 0, 1, 1, 13, 2].into_iter().chain(two_ands).collect();
-    let p3: Vec<i32> = [6, 0, 1, 1, 13, 3]
-        .into_iter()
-        .chain(two_ands)
-        .chain([12, 2, 11, 4, 11, 5])
-        .collect();
+    let p3: Vec<i32> = [6, 0, 1, 1, 13, 3].into_iter().chain(two_ands).chain([12, 2, 11, 4, 11, 5]).collect();
     vec![
         case(
             "P1",
@@ -108,16 +96,8 @@ fn tables() -> Vec<Known> {
             &[0, 1, 0, 0, 2, 1, 2, 1, 2, 21, 0, 0, 2],
             &format!("{one}clause=;0:0:0,1;0:-2:0,1\nclauses=1\ntotal=0\n"),
         ),
-        case(
-            "P10",
-            &[0, 1, 0, 0, 2, 1, 2, 1, 3, 21, 0, 0, 1, 2],
-            &format!("{one}clauses=0\ntotal=0\n"),
-        ),
-        case(
-            "P11",
-            &[0, 1, 0, 0, 2, 1, 2, 1, 1, 21, 0, 5],
-            &format!("{one}clause=\nclauses=1\ntotal=0\n"),
-        ),
+        case("P10", &[0, 1, 0, 0, 2, 1, 2, 1, 3, 21, 0, 0, 1, 2], &format!("{one}clauses=0\ntotal=0\n")),
+        case("P11", &[0, 1, 0, 0, 2, 1, 2, 1, 1, 21, 0, 5], &format!("{one}clause=\nclauses=1\ntotal=0\n")),
         case(
             "P12",
             &[0, 2, 0, 0, 1, 0, 0, 1, 1, 2, 2, 2, 21, 0, 21, 1, 0, 0, 1, 1],
@@ -135,45 +115,19 @@ fn tables() -> Vec<Known> {
 fn limits() -> Vec<Known> {
     let largest = 1073741823;
     vec![
-        case(
-            "1 = 2",
-            &[0, 0, 1, 1, 18, 0, 20, 1, 20, 2],
-            &format!("{EMPTY}clause=;0:-1:\nclauses=1\ntotal=0\n"),
-        ),
+        case("1 = 2", &[0, 0, 1, 1, 18, 0, 20, 1, 20, 2], &format!("{EMPTY}clause=;0:-1:\nclauses=1\ntotal=0\n")),
         case(
             "1073741823 against 0",
             &[0, 0, 1, 1, 18, 0, 20, largest, 20, 0],
             &format!("{EMPTY}clause=;0:1073741823:\nclauses=1\ntotal=0\n"),
         ),
-        case(
-            "1073741823 against 1",
-            &[0, 0, 1, 1, 18, 0, 20, largest, 20, 1],
-            "answer=refused,9\n",
-        ),
-        case(
-            "depth 64",
-            &nots(63),
-            "answer=compiled\nfixed=0\nbools=0\nints=\nemitted=0,0\nclauses=0\ntotal=0\n",
-        ),
+        case("1073741823 against 1", &[0, 0, 1, 1, 18, 0, 20, largest, 20, 1], "answer=refused,9\n"),
+        case("depth 64", &nots(63), "answer=compiled\nfixed=0\nbools=0\nints=\nemitted=0,0\nclauses=0\ntotal=0\n"),
         case("depth 65", &nots(64), "answer=refused,8\n"),
         case("4096 words", &wide_or(), &wide_or_listing()),
-        case(
-            "4097 words",
-            &[wide_or(), vec![0]].concat(),
-            "answer=refused,2\n",
-        ),
-        Known {
-            out_len: 3,
-            ..case(
-                "P6 into 3 words",
-                &P6,
-                &format!("{EMPTY}clauses=0\ntotal=0\n"),
-            )
-        },
-        Known {
-            out_len: 2,
-            ..case("P6 into 2 words", &P6, "answer=refused,12\n")
-        },
+        case("4097 words", &[wide_or(), vec![0]].concat(), "answer=refused,2\n"),
+        Known { out_len: 3, ..case("P6 into 3 words", &P6, &format!("{EMPTY}clauses=0\ntotal=0\n")) },
+        Known { out_len: 2, ..case("P6 into 2 words", &P6, "answer=refused,12\n") },
     ]
 }
 

@@ -64,9 +64,7 @@ fn number(text: &[u8]) -> Option<i32> {
     if !plain || (digits[0] == b'0' && (negative || digits.len() > 1)) {
         return None;
     }
-    let value = digits
-        .iter()
-        .fold(0i64, |value, digit| value * 10 + (digit - b'0') as i64);
+    let value = digits.iter().fold(0i64, |value, digit| value * 10 + (digit - b'0') as i64);
     i32::try_from(if negative { -value } else { value }).ok()
 }
 
@@ -96,11 +94,7 @@ fn compiled(set: &[i32], words: &[i32]) -> String {
     for clause in &answer.clauses {
         let _ = writeln!(text, "{}", clause_line(clause));
     }
-    let total: usize = answer
-        .clauses
-        .iter()
-        .map(|clause| clause.literals.len())
-        .sum();
+    let total: usize = answer.clauses.iter().map(|clause| clause.literals.len()).sum();
     let _ = writeln!(text, "clauses={}\ntotal={total}", answer.clauses.len());
     text
 }
@@ -111,18 +105,10 @@ fn clause_line(clause: &Clause) -> String {
 }
 
 fn comparison(c: &Comparison) -> String {
-    let pairs: Vec<i32> = c
-        .terms
-        .iter()
-        .flat_map(|(variable, coefficient)| [*variable, *coefficient])
-        .collect();
+    let pairs: Vec<i32> = c.terms.iter().flat_map(|(variable, coefficient)| [*variable, *coefficient]).collect();
     format!(";{}:{}:{}", c.op, c.constant, commas(&pairs))
 }
 
 fn commas(words: &[i32]) -> String {
-    words
-        .iter()
-        .map(|word| word.to_string())
-        .collect::<Vec<_>>()
-        .join(",")
+    words.iter().map(|word| word.to_string()).collect::<Vec<_>>().join(",")
 }

@@ -1,23 +1,149 @@
-//! Commands over the reference.
-use std::io::Read;
+//! Commands over the reference; README.md lists them.
+use reference::call::counted;
+use reference::generate::{case, limits, FAMILIES};
+use reference::meaning::{check, Verdict};
+use reference::record::{commas, inputs, record, result};
+use reference::{call, cases, listing::listing, Outcome};
+use std::collections::BTreeMap;
+use std::io::{Read, Write};
+use std::process::ExitCode;
 
 const P1: &str = "bools=3\nints=0\nstatements=1\nstatement=1,16,11,0,12,2,11,1,11,2\n";
+const SLICE: usize = 16384;
 
-fn main() {
+fn main() -> ExitCode {
     let arguments: Vec<String> = std::env::args().skip(1).collect();
-    match arguments.first().map(String::as_str) {
-        Some("p1") => print!("{}", reference::listing::listing(P1.as_bytes())),
-        Some("cases") => {
-            let d = reference::cases::differences();
-            for x in &d {
-                println!("{x}");
-            }
-            println!("{} differences", d.len());
-        }
-        _ => {
-            let mut text = vec![];
-            let _ = std::io::stdin().read_to_end(&mut text);
-            print!("{}", reference::listing::listing(&text));
-        }
+    let arguments: Vec<&str> = arguments.iter().map(String::as_str).collect();
+    let done = match arguments[..] {
+        ["p1"] => show(&listing(P1.as_bytes())),
+        ["listing"] => show(&listing(&input())),
+        ["words"] => words(SLICE),
+        ["words", length] => length.parse().is_ok_and(words),
+        ["cases"] => report(&cases::differences()),
+        ["generate", seed, family, count] => each(seed, family, count, generated),
+        ["record", seed, family, count] => each(seed, family, count, record),
+        ["meaning", seed, family, count] => meaning(seed, family, count),
+        ["sizes", seed, family, count] => sizes(seed, family, count),
+        ["refusals", seed, count] => refusals(seed, count),
+        _ => usage(),
+    };
+    if done {
+        ExitCode::SUCCESS
+    } else {
+        ExitCode::FAILURE
     }
+}
+
+fn usage() -> bool {
+    eprintln!("p1 | listing | words [OUT] | cases | generate SEED FAMILY COUNT | record SEED FAMILY COUNT");
+    eprintln!("meaning SEED FAMILY COUNT | sizes SEED FAMILY COUNT | refusals SEED COUNT");
+    eprintln!("families: {}, text (generate and record only); meaning and sizes also take all", FAMILIES.join(", "));
+    false
+}
+
+/// Prints, and says whether that went well.
+fn show(text: &str) -> bool {
+    std::io::stdout().write_all(text.as_bytes()).is_ok()
+}
+
+fn input() -> Vec<u8> {
+    let mut text = vec![];
+    let _ = std::io::stdin().read_to_end(&mut text);
+    text
+}
+
+fn words(out_len: usize) -> bool {
+    let text = String::from_utf8_lossy(&input()).replace(',', " ");
+    let Ok(set) = text.split_whitespace().map(str::parse).collect::<Result<Vec<i32>, _>>() else {
+        eprintln!("words are numbers parted by blanks or commas");
+        return false;
+    };
+    show(&format!("{}\n", result(&call(&set, out_len, SLICE))))
+}
+
+fn report(differences: &[String]) -> bool {
+    differences.iter().for_each(|difference| println!("{difference}"));
+    println!("{} differences", differences.len());
+    differences.is_empty()
+}
+
+fn generated(family: &str, seed: u64, index: u64) -> Option<String> {
+    if family == "text" {
+        return Some(reference::generate::text(seed, index).escape_ascii().to_string());
+    }
+    case(family, seed, index).map(|case| inputs(&case))
+}
+
+type Line = fn(&str, u64, u64) -> Option<String>;
+
+/// One line for each index of a family.
+fn each(seed: &str, family: &str, count: &str, line: Line) -> bool {
+    let (Ok(seed), Ok(count)) = (seed.parse(), count.parse()) else {
+        return usage();
+    };
+    (0..count).all(|index| match line(family, seed, index) {
+        Some(line) => show(&format!("{line}\n")),
+        None => usage(),
+    })
+}
+
+/// Tallies what a test says of each case; a text that begins with "differs" ends the family.
+fn tally(seed: &str, family: &str, count: &str, test: fn(&[i32]) -> String) -> bool {
+    let (Ok(seed), Ok(count)) = (seed.parse::<u64>(), count.parse::<u64>()) else {
+        return usage();
+    };
+    let families = if family == "all" { FAMILIES[..8].to_vec() } else { vec![family] };
+    families.iter().all(|family| {
+        let mut tallies: BTreeMap<String, u64> = BTreeMap::new();
+        for index in 0..count {
+            let Some(case) = case(family, seed, index) else {
+                return usage();
+            };
+            let said = test(&case.set);
+            if said.starts_with("differs") {
+                println!("{family} seed {seed} index {index}: {said}\nset {}", commas(&case.set));
+                return false;
+            }
+            *tallies.entry(said).or_insert(0) += 1;
+        }
+        println!("{family} seed {seed}: {count} sets {tallies:?}");
+        true
+    })
+}
+
+fn meaning(seed: &str, family: &str, count: &str) -> bool {
+    tally(seed, family, count, |set| match check(set) {
+        Verdict::Agrees(0, _) => "agrees, none pass".to_string(),
+        Verdict::Agrees(passing, all) if passing == all => "agrees, all pass".to_string(),
+        Verdict::Agrees(_, _) => "agrees, some pass".to_string(),
+        Verdict::Contradiction(_) => "contradiction".to_string(),
+        Verdict::Refused(number) => format!("refused {number}"),
+        Verdict::TooLarge => "too large".to_string(),
+        Verdict::Differs(how) => format!("differs: {how}"),
+    })
+}
+
+/// Whether the counted length is the answer's.
+fn sizes(seed: &str, family: &str, count: &str) -> bool {
+    tally(seed, family, count, |set| match (call(set, usize::MAX, SLICE), counted(set)) {
+        (Outcome::Compiled(answer), Some(count)) if answer.len() as u64 == count => "equal".to_string(),
+        (Outcome::Compiled(answer), count) => {
+            format!("differs: {} words, counted {count:?}", answer.len())
+        }
+        (Outcome::Panicked, _) => "differs: the Rust panicked".to_string(),
+        _ => "no answer".to_string(),
+    })
+}
+
+/// The limits against their expectations, and the outcomes of damaged sets.
+fn refusals(seed: &str, count: &str) -> bool {
+    let limits = limits::all();
+    let differences: Vec<String> = limits.iter().filter_map(|limit| limit.difference()).collect();
+    println!("{} limits", limits.len());
+    report(&differences)
+        && tally(seed, "damaged", count, |set| match call(set, SLICE, SLICE) {
+            Outcome::Compiled(_) => "compiled".to_string(),
+            Outcome::Panicked => "differs: the Rust panicked".to_string(),
+            outcome => result(&outcome),
+        })
 }

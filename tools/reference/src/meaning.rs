@@ -6,7 +6,12 @@ use crate::refuse::accept;
 use crate::set::{Bool, Int, Set, Statement, Table};
 
 /// Sets with more assignments than this are not enumerated.
-pub const ASSIGNMENTS: u64 = 4096;
+const ASSIGNMENTS: u64 = 4096;
+/// Nor are sets whose assignments times the answer's words are more than this.
+const EFFORT: u64 = 1 << 20;
+
+/// No set of 4096 words has more emitted Booleans than this.
+const EMITTED: i32 = 4096;
 
 #[derive(Clone, Debug)]
 pub struct Assignment {
@@ -21,7 +26,8 @@ pub enum Verdict {
     /// No assignment satisfies, as the call says.
     Contradiction(u64),
     Refused(u8),
-    TooMany,
+    /// Too many assignments, too long an answer, or a search given up.
+    TooLarge,
     Differs(String),
 }
 
@@ -32,7 +38,7 @@ pub fn check(words: &[i32]) -> Verdict {
         Err(refusal) => return Verdict::Refused(refusal),
     };
     let Some(count) = assignments(&set) else {
-        return Verdict::TooMany;
+        return Verdict::TooLarge;
     };
     match compile(&set, ANSWER as usize) {
         Outcome::Compiled(answer) => compare(&set, count, &answer),
@@ -42,15 +48,22 @@ pub fn check(words: &[i32]) -> Verdict {
     }
 }
 
+/// Judges an answer from elsewhere to a set that refusals 1 to 11 let through.
+pub fn judge(words: &[i32], answer: &[i32]) -> Verdict {
+    match accept(words, usize::MAX) {
+        Err(refusal) => Verdict::Refused(refusal),
+        Ok(set) => match assignments(&set) {
+            Some(count) => compare(&set, count, answer),
+            None => Verdict::TooLarge,
+        },
+    }
+}
+
 /// The number of assignments; nothing where it is over the limit.
 fn assignments(set: &Set) -> Option<u64> {
     let bools = (0..set.bools).map(|_| 2);
     let counts = bools.chain(set.domains.iter().map(|domain| domain.count()));
-    counts.fold(Some(1), |total: Option<u64>, count| {
-        total?
-            .checked_mul(count)
-            .filter(|total| *total <= ASSIGNMENTS)
-    })
+    counts.into_iter().try_fold(1u64, |total, count| total.checked_mul(count).filter(|total| *total <= ASSIGNMENTS))
 }
 
 /// The assignment with this number: Booleans first, the lowest values first.
@@ -62,18 +75,12 @@ fn assignment(set: &Set, number: u64) -> Assignment {
         digit
     };
     let bools = (0..set.bools).map(|_| digit(2) == 1).collect();
-    let ints = set
-        .domains
-        .iter()
-        .map(|domain| domain.nth(digit(domain.count())))
-        .collect();
+    let ints = set.domains.iter().map(|domain| domain.nth(digit(domain.count()))).collect();
     Assignment { bools, ints }
 }
 
 fn contradiction(set: &Set, count: u64) -> Verdict {
-    let satisfied = (0..count)
-        .map(|number| assignment(set, number))
-        .find(|a| satisfies(set, a));
+    let satisfied = (0..count).map(|number| assignment(set, number)).find(|a| satisfies(set, a));
     match satisfied {
         Some(a) => Verdict::Differs(format!("contradiction, but satisfied by {a:?}")),
         None => Verdict::Contradiction(count),
@@ -81,6 +88,9 @@ fn contradiction(set: &Set, count: u64) -> Verdict {
 }
 
 fn compare(set: &Set, count: u64, words: &[i32]) -> Verdict {
+    if count * words.len() as u64 > EFFORT {
+        return Verdict::TooLarge;
+    }
     let Some(answer) = decode(set.bools, set.domains.len(), words) else {
         return Verdict::Differs("the answer's words do not fit the layout".to_string());
     };
@@ -90,11 +100,12 @@ fn compare(set: &Set, count: u64, words: &[i32]) -> Verdict {
     let mut passing = 0;
     for number in 0..count {
         let a = assignment(set, number);
-        let (satisfied, passed) = (satisfies(set, &a), passes(&answer, &a));
+        let satisfied = satisfies(set, &a);
+        let Some(passed) = passes(&answer, &a) else {
+            return Verdict::TooLarge;
+        };
         if satisfied != passed {
-            return Verdict::Differs(format!(
-                "satisfies: {satisfied}, passes: {passed}, for {a:?}"
-            ));
+            return Verdict::Differs(format!("satisfies: {satisfied}, passes: {passed}, for {a:?}"));
         }
         passing += passed as u64;
     }
@@ -105,15 +116,13 @@ fn compare(set: &Set, count: u64, words: &[i32]) -> Verdict {
 fn fault(set: &Set, answer: &Answer) -> Option<&'static str> {
     let emitted_bools = answer.bools;
     let emitted_ints = answer.domains.len() as i32;
+    if !(0..=EMITTED).contains(&emitted_bools) {
+        return Some("the count of emitted Booleans is out of range");
+    }
     if answer.fixed.iter().any(|word| !(0..=2).contains(word)) {
         return Some("a fixed word is not 0, 1 or 2");
     }
-    if answer
-        .fixed
-        .iter()
-        .zip(&answer.bool_map)
-        .any(|(fixed, map)| *fixed < 2 && *map != 0)
-    {
+    if answer.fixed.iter().zip(&answer.bool_map).any(|(fixed, map)| *fixed < 2 && *map != 0) {
         return Some("a fixed variable is emitted");
     }
     if !numbers(&answer.bool_map, emitted_bools) || !numbers(&answer.int_map, emitted_ints) {
@@ -122,11 +131,7 @@ fn fault(set: &Set, answer: &Answer) -> Option<&'static str> {
     if !records(set, answer) {
         return Some("an emitted integer's record is not its domain");
     }
-    if !answer
-        .clauses
-        .iter()
-        .all(|clause| clause_fits(clause, emitted_bools, emitted_ints))
-    {
+    if !answer.clauses.iter().all(|clause| clause_fits(clause, emitted_bools, emitted_ints)) {
         return Some("a clause names what is not emitted, or in the wrong order");
     }
     None
@@ -141,15 +146,9 @@ fn numbers(map: &[i32], emitted: i32) -> bool {
 }
 
 fn records(set: &Set, answer: &Answer) -> bool {
-    let whole = |[low, high, count]: &[i32; 3]| {
-        *count >= 1 && *high as i64 - *low as i64 + 1 == *count as i64
-    };
+    let whole = |[low, high, count]: &[i32; 3]| *count >= 1 && *high as i64 - *low as i64 + 1 == *count as i64;
     answer.domains.iter().enumerate().all(|(number, record)| {
-        match answer
-            .int_map
-            .iter()
-            .position(|word| *word == number as i32 + 1)
-        {
+        match answer.int_map.iter().position(|word| *word == number as i32 + 1) {
             Some(declared) => {
                 let domain = &set.domains[declared];
                 *record == [domain.lowest(), domain.highest(), domain.count() as i32]
@@ -160,13 +159,10 @@ fn records(set: &Set, answer: &Answer) -> bool {
 }
 
 fn clause_fits(clause: &Clause, bools: i32, ints: i32) -> bool {
-    let literal = |l: &i32| *l != 0 && l.unsigned_abs() as i32 <= bools;
+    let literal = |l: &i32| *l != 0 && l.unsigned_abs() as i64 <= bools as i64;
     let comparison = |c: &Comparison| {
         let rising = c.terms.windows(2).all(|pair| pair[0].0 < pair[1].0);
-        let terms = c
-            .terms
-            .iter()
-            .all(|(v, coefficient)| (0..ints).contains(v) && *coefficient != 0);
+        let terms = c.terms.iter().all(|(v, coefficient)| (0..ints).contains(v) && *coefficient != 0);
         (0..=5).contains(&c.op) && rising && terms
     };
     clause.literals.iter().all(literal) && clause.comparisons.iter().all(comparison)
@@ -209,24 +205,12 @@ fn value(e: &Int, a: &Assignment) -> i128 {
     match e {
         Int::Const(c) => *c as i128,
         Int::Var(v) => a.ints[*v] as i128,
-        Int::Sum(terms) => terms
-            .iter()
-            .map(|(coefficient, term)| *coefficient as i128 * value(term, a))
-            .sum(),
+        Int::Sum(terms) => terms.iter().map(|(coefficient, term)| *coefficient as i128 * value(term, a)).sum(),
     }
 }
 
 fn permits(table: &Table, a: &Assignment) -> bool {
-    let values: Vec<i128> = table
-        .columns
-        .iter()
-        .map(|column| value(column, a))
-        .collect();
-    let permitted =
-        |cell: &Option<i32>, value: &i128| cell.is_none_or(|cell| cell as i128 == *value);
-    table.rows.iter().any(|row| {
-        row.iter()
-            .zip(&values)
-            .all(|(cell, value)| permitted(cell, value))
-    })
+    let values: Vec<i128> = table.columns.iter().map(|column| value(column, a)).collect();
+    let permitted = |cell: &Option<i32>, value: &i128| cell.is_none_or(|cell| cell as i128 == *value);
+    table.rows.iter().any(|row| row.iter().zip(&values).all(|(cell, value)| permitted(cell, value)))
 }

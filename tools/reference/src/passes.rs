@@ -1,115 +1,169 @@
 //! Passing, from the answer's words alone: a search for values of the new variables.
 use crate::answer::{Answer, Clause, Comparison};
 use crate::meaning::{compares, Assignment};
+use std::collections::{BTreeMap, BTreeSet};
 
-/// Whether some values of the new variables make every clause true.
-pub fn passes(answer: &Answer, a: &Assignment) -> bool {
+/// Branches after which a search is given up.
+const BRANCHES: u64 = 100_000;
+
+/// Whether some values of the new variables make every clause true; nothing where the search was given up.
+pub fn passes(answer: &Answer, a: &Assignment) -> Option<bool> {
     let agrees = |(fixed, value): (&i32, &bool)| *fixed == 2 || (*fixed == 1) == *value;
     if !answer.fixed.iter().zip(&a.bools).all(agrees) {
-        return false;
+        return Some(false);
     }
-    let mut bools = vec![None; answer.bools as usize];
-    let mut ints = vec![None; answer.domains.len()];
-    for (number, value) in answer
-        .bool_map
-        .iter()
-        .zip(&a.bools)
-        .filter(|(number, _)| **number > 0)
-    {
-        bools[*number as usize - 1] = Some(*value);
+    let mut search = Search {
+        answer,
+        bools: vec![None; answer.bools as usize],
+        ints: vec![None; answer.domains.len()],
+        trail: vec![],
+        branches: 0,
+    };
+    for (number, value) in answer.bool_map.iter().zip(&a.bools).filter(|(number, _)| **number > 0) {
+        search.bools[*number as usize - 1] = Some(*value);
     }
-    for (number, value) in answer
-        .int_map
-        .iter()
-        .zip(&a.ints)
-        .filter(|(number, _)| **number > 0)
-    {
-        ints[*number as usize - 1] = Some(*value as i128);
+    for (number, value) in answer.int_map.iter().zip(&a.ints).filter(|(number, _)| **number > 0) {
+        search.ints[*number as usize - 1] = Some(*value as i128);
     }
-    search(answer, Values { bools, ints })
+    let found = search.all(answer.clauses.iter().collect());
+    if search.branches > BRANCHES {
+        return None;
+    }
+    Some(found)
 }
 
-#[derive(Clone)]
-struct Values {
-    bools: Vec<Option<bool>>,
-    ints: Vec<Option<i128>>,
+/// A new variable without a value.
+#[derive(Clone, Copy, PartialEq, Eq, PartialOrd, Ord)]
+enum Unknown {
+    Bool(usize),
+    Int(usize),
 }
 
-/// A literal, or an emitted integer that a comparison leaves open.
-#[derive(Clone, Copy)]
+/// A member of a clause whose truth is not known.
 enum Open<'a> {
     Literal(i32),
     Comparison(&'a Comparison),
 }
 
-fn search(answer: &Answer, mut values: Values) -> bool {
-    loop {
-        match propagate(answer, &mut values) {
-            None => return false,
-            Some(true) => (),
-            Some(false) => break,
-        }
-    }
-    let open = answer
-        .clauses
-        .iter()
-        .find_map(|clause| values.open(clause)?.first().copied());
-    match open {
-        None => true,
-        Some(Open::Literal(l)) => [true, false].iter().any(|truth| {
-            let mut next = values.clone();
-            next.set_literal(l, *truth);
-            search(answer, next)
-        }),
-        Some(Open::Comparison(c)) => branch(answer, &values, c),
-    }
+struct Search<'a> {
+    answer: &'a Answer,
+    bools: Vec<Option<bool>>,
+    ints: Vec<Option<i128>>,
+    /// What was set, in order, to be taken back.
+    trail: Vec<Unknown>,
+    branches: u64,
 }
 
-/// Tries every value of the comparison's first unknown.
-fn branch(answer: &Answer, values: &Values, c: &Comparison) -> bool {
-    let Some(v) = values.unknown(c).first().copied() else {
-        return false;
-    };
-    let [low, high, _] = answer.domains[v];
-    (low..=high).any(|value| {
-        let mut next = values.clone();
-        next.ints[v] = Some(value as i128);
-        search(answer, next)
-    })
-}
-
-/// Sets what single open members force. Nothing where a clause is false; else whether anything was set.
-fn propagate(answer: &Answer, values: &mut Values) -> Option<bool> {
-    let mut changed = false;
-    for clause in &answer.clauses {
-        let Some(open) = values.open(clause) else {
-            continue;
-        };
-        match open[..] {
-            [] => return None,
-            [Open::Literal(l)] => {
-                values.set_literal(l, true);
-                changed = true;
+impl<'a> Search<'a> {
+    /// Whether the clauses can all be true. On failure the values may be left set: the caller takes them back.
+    fn all(&mut self, mut clauses: Vec<&'a Clause>) -> bool {
+        loop {
+            let before = self.trail.len();
+            if !self.propagate(&clauses) {
+                return false;
             }
-            [Open::Comparison(c)] => changed |= values.solve(answer, c)?,
-            _ => (),
+            if self.trail.len() == before {
+                break;
+            }
+        }
+        clauses.retain(|clause| self.open(clause).is_some());
+        let parts = self.parts(clauses);
+        parts.into_iter().all(|(unknown, part)| self.branch(unknown, part))
+    }
+
+    /// Tries every value of one unknown of the clauses.
+    fn branch(&mut self, unknown: Unknown, part: Vec<&'a Clause>) -> bool {
+        let (low, high) = match unknown {
+            Unknown::Bool(_) => (0, 1),
+            Unknown::Int(v) => (self.answer.domains[v][0] as i128, self.answer.domains[v][1] as i128),
+        };
+        let mark = self.trail.len();
+        for value in low..=high {
+            self.branches += 1;
+            if self.branches > BRANCHES {
+                return false;
+            }
+            self.set(unknown, value);
+            if self.all(part.clone()) {
+                return true;
+            }
+            self.take_back(mark);
+        }
+        false
+    }
+
+    fn set(&mut self, unknown: Unknown, value: i128) {
+        match unknown {
+            Unknown::Bool(v) => self.bools[v] = Some(value == 1),
+            Unknown::Int(v) => self.ints[v] = Some(value),
+        }
+        self.trail.push(unknown);
+    }
+
+    fn take_back(&mut self, mark: usize) {
+        for unknown in self.trail.drain(mark..) {
+            match unknown {
+                Unknown::Bool(v) => self.bools[v] = None,
+                Unknown::Int(v) => self.ints[v] = None,
+            }
         }
     }
-    Some(changed)
-}
 
-impl Values {
-    fn literal(&self, l: i32) -> Option<bool> {
-        self.bools[l.unsigned_abs() as usize - 1].map(|value| value == (l > 0))
+    /// Sets what single open members force; whether no clause is false.
+    fn propagate(&mut self, clauses: &[&'a Clause]) -> bool {
+        clauses.iter().all(|clause| match self.open(clause).as_deref() {
+            None => true,
+            Some([]) => false,
+            Some([Open::Literal(l)]) => {
+                self.set(Unknown::Bool(l.unsigned_abs() as usize - 1), (*l > 0) as i128);
+                true
+            }
+            Some([Open::Comparison(c)]) => self.solve(c),
+            Some(_) => true,
+        })
     }
 
-    fn set_literal(&mut self, l: i32, truth: bool) {
-        self.bools[l.unsigned_abs() as usize - 1] = Some(truth == (l > 0));
+    /// An equation in one unknown gives its value; whether there is one.
+    fn solve(&mut self, c: &Comparison) -> bool {
+        let unknown = self.unknown_of(c);
+        if c.op != 0 || unknown.len() != 1 {
+            return true;
+        }
+        let (v, coefficient) = unknown[0];
+        let rest = -self.known(c);
+        let value = rest / coefficient;
+        let [low, high, _] = self.answer.domains[v].map(i128::from);
+        if value * coefficient != rest || value < low || high < value {
+            return false;
+        }
+        self.set(Unknown::Int(v), value);
+        true
     }
 
-    fn unknown(&self, c: &Comparison) -> Vec<usize> {
-        let numbers = c.terms.iter().map(|(v, _)| *v as usize);
-        numbers.filter(|v| self.ints[*v].is_none()).collect()
+    /// The members still open; nothing where the clause is true.
+    fn open(&self, clause: &'a Clause) -> Option<Vec<Open<'a>>> {
+        let mut open = vec![];
+        for l in &clause.literals {
+            match self.bools[l.unsigned_abs() as usize - 1].map(|value| value == (*l > 0)) {
+                Some(true) => return None,
+                Some(false) => (),
+                None => open.push(Open::Literal(*l)),
+            }
+        }
+        for c in &clause.comparisons {
+            if !self.unknown_of(c).is_empty() {
+                open.push(Open::Comparison(c));
+            } else if compares(c.op, self.known(c), 0) {
+                return None;
+            }
+        }
+        Some(open)
+    }
+
+    /// The unknown variables of a comparison with their coefficients.
+    fn unknown_of(&self, c: &Comparison) -> Vec<(usize, i128)> {
+        let terms = c.terms.iter().map(|(v, a)| (*v as usize, *a as i128));
+        terms.filter(|(v, _)| self.ints[*v].is_none()).collect()
     }
 
     /// The sum of what is known.
@@ -118,53 +172,35 @@ impl Values {
         c.constant as i128 + c.terms.iter().map(term).sum::<i128>()
     }
 
-    fn comparison(&self, c: &Comparison) -> Option<bool> {
-        if self.unknown(c).is_empty() {
-            Some(compares(c.op, self.known(c), 0))
-        } else {
-            None
-        }
-    }
-
-    /// The members still open; nothing where the clause is true.
-    fn open<'a>(&self, clause: &'a Clause) -> Option<Vec<Open<'a>>> {
-        let mut open = vec![];
-        for l in &clause.literals {
-            match self.literal(*l) {
-                Some(true) => return None,
-                Some(false) => (),
-                None => open.push(Open::Literal(*l)),
+    fn unknowns(&self, clause: &'a Clause) -> BTreeSet<Unknown> {
+        let mut unknowns = BTreeSet::new();
+        for member in self.open(clause).unwrap_or_default() {
+            match member {
+                Open::Literal(l) => {
+                    unknowns.insert(Unknown::Bool(l.unsigned_abs() as usize - 1));
+                }
+                Open::Comparison(c) => unknowns.extend(self.unknown_of(c).iter().map(|(v, _)| Unknown::Int(*v))),
             }
         }
-        for c in &clause.comparisons {
-            match self.comparison(c) {
-                Some(true) => return None,
-                Some(false) => (),
-                None => open.push(Open::Comparison(c)),
-            }
-        }
-        Some(open)
+        unknowns
     }
 
-    /// An equation in one unknown gives its value. Nothing where it has no value; else whether one was set.
-    fn solve(&mut self, answer: &Answer, c: &Comparison) -> Option<bool> {
-        let unknown = self.unknown(c);
-        if c.op != 0 || unknown.len() != 1 {
-            return Some(false);
+    /// The clauses parted into groups that share no unknown, each with one of its unknowns.
+    fn parts(&self, clauses: Vec<&'a Clause>) -> Vec<(Unknown, Vec<&'a Clause>)> {
+        let mut groups: BTreeMap<usize, (BTreeSet<Unknown>, Vec<&'a Clause>)> = BTreeMap::new();
+        let mut group_of: BTreeMap<Unknown, usize> = BTreeMap::new();
+        for (number, clause) in clauses.into_iter().enumerate() {
+            let mut unknowns = self.unknowns(clause);
+            let mut members = vec![clause];
+            let touched: BTreeSet<usize> = unknowns.iter().filter_map(|u| group_of.get(u).copied()).collect();
+            for (more, others) in touched.iter().filter_map(|group| groups.remove(group)) {
+                unknowns.extend(more);
+                members.extend(others);
+            }
+            group_of.extend(unknowns.iter().map(|unknown| (*unknown, number)));
+            groups.insert(number, (unknowns, members));
         }
-        let v = unknown[0];
-        let coefficient = c
-            .terms
-            .iter()
-            .find(|(w, _)| *w as usize == v)
-            .map(|(_, a)| *a as i128)?;
-        let rest = -self.known(c);
-        let value = rest / coefficient;
-        let [low, high, _] = answer.domains[v].map(i128::from);
-        if value * coefficient != rest || value < low || high < value {
-            return None;
-        }
-        self.ints[v] = Some(value);
-        Some(true)
+        let first = |(unknowns, part): (BTreeSet<Unknown>, _)| Some((unknowns.first().copied()?, part));
+        groups.into_values().filter_map(first).collect()
     }
 }

@@ -19,12 +19,7 @@ struct Reader<'a> {
 
 /// The set that the words say, or the refusal (3 to 8).
 pub fn read(words: &[i32]) -> Read<Set> {
-    let mut reader = Reader {
-        words,
-        at: 0,
-        bools: 0,
-        ints: 0,
-    };
+    let mut reader = Reader { words, at: 0, bools: 0, ints: 0 };
     let set = reader.set()?;
     if reader.at < words.len() {
         return Err(3);
@@ -76,11 +71,7 @@ impl Reader<'_> {
         for _ in 0..self.count(COUNT)? {
             statements.push(self.statement()?);
         }
-        Ok(Set {
-            bools: self.bools,
-            domains,
-            statements,
-        })
+        Ok(Set { bools: self.bools, domains, statements })
     }
 
     fn domain(&mut self) -> Read<Domain> {
@@ -177,11 +168,7 @@ impl Reader<'_> {
             17 => Ok(Bool::Imp(self.side(level)?, self.side(level)?)),
             _ => {
                 let op = self.within(0, 5)? as u8;
-                Ok(Bool::Compare(
-                    op,
-                    self.int(level + 1)?,
-                    self.int(level + 1)?,
-                ))
+                Ok(Bool::Compare(op, self.int(level + 1)?, self.int(level + 1)?))
             }
         }
     }

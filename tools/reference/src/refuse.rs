@@ -19,9 +19,7 @@ pub fn accept(words: &[i32], work_len: usize) -> Result<Set, Refusal> {
     }
     let set = read(words)?;
     let parts = parts(&set);
-    parts
-        .iter()
-        .try_for_each(|part| weights(&set.domains, part))?;
+    parts.iter().try_for_each(|part| weights(&set.domains, part))?;
     parts.iter().try_for_each(variables)?;
     parts.iter().try_for_each(|part| span(&set.domains, part))?;
     Ok(set)
@@ -47,9 +45,7 @@ fn parts(set: &Set) -> Vec<Part<'_>> {
 fn comparisons<'a>(e: &'a Bool, parts: &mut Vec<Part<'a>>) {
     match e {
         Bool::Const(_) | Bool::Var(_) => (),
-        Bool::And(members) | Bool::Or(members) => {
-            members.iter().for_each(|member| comparisons(member, parts))
-        }
+        Bool::And(members) | Bool::Or(members) => members.iter().for_each(|member| comparisons(member, parts)),
         Bool::Not(e) => comparisons(e, parts),
         Bool::Xor(l, r) | Bool::Iff(l, r) | Bool::Imp(l, r) => {
             comparisons(l, parts);
@@ -71,10 +67,7 @@ fn weight(domains: &[Domain], e: &Int) -> Result<u128, Refusal> {
     match e {
         Int::Const(c) => light(c.unsigned_abs() as u128),
         Int::Var(v) => {
-            let largest = domains[*v]
-                .lowest()
-                .unsigned_abs()
-                .max(domains[*v].highest().unsigned_abs());
+            let largest = domains[*v].lowest().unsigned_abs().max(domains[*v].highest().unsigned_abs());
             light(largest.max(1) as u128)
         }
         Int::Sum(terms) => {
@@ -140,12 +133,10 @@ fn interval(domains: &[Domain], e: &Int) -> (i128, i128) {
     match e {
         Int::Const(c) => (*c as i128, *c as i128),
         Int::Var(v) => (domains[*v].lowest() as i128, domains[*v].highest() as i128),
-        Int::Sum(terms) => terms
-            .iter()
-            .fold((0, 0), |(low, high), (coefficient, term)| {
-                let (l, h) = interval(domains, term);
-                let (a, b) = (l * *coefficient as i128, h * *coefficient as i128);
-                (low + a.min(b), high + a.max(b))
-            }),
+        Int::Sum(terms) => terms.iter().fold((0, 0), |(low, high), (coefficient, term)| {
+            let (l, h) = interval(domains, term);
+            let (a, b) = (l * *coefficient as i128, h * *coefficient as i128);
+            (low + a.min(b), high + a.max(b))
+        }),
     }
 }

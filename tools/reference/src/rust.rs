@@ -6,14 +6,7 @@ use crate::norm_csp::{Constraint, IntVarRepresentation, LinearLit, NormCSP};
 use crate::normalizer::{normalize, ConvertedBoolVar, NormalizeMap};
 use crate::set::{Bool, Domain, Int, Set, Statement};
 
-pub const OPERATORS: [CmpOp; 6] = [
-    CmpOp::Eq,
-    CmpOp::Ne,
-    CmpOp::Le,
-    CmpOp::Lt,
-    CmpOp::Ge,
-    CmpOp::Gt,
-];
+pub const OPERATORS: [CmpOp; 6] = [CmpOp::Eq, CmpOp::Ne, CmpOp::Le, CmpOp::Lt, CmpOp::Ge, CmpOp::Gt];
 
 /// The problem after folding and propagation; nothing where the Rust finds it inconsistent.
 pub fn optimized(set: &Set) -> Option<CSP> {
@@ -57,10 +50,9 @@ fn domain(declared: &Domain) -> crate::domain::Domain {
 fn statement(declared: &Statement) -> Stmt {
     match declared {
         Statement::Rule(rule) => Stmt::Expr(bool_expr(rule)),
-        Statement::Table(table) => Stmt::ExtensionSupports(
-            table.columns.iter().map(int_expr).collect(),
-            table.rows.clone(),
-        ),
+        Statement::Table(table) => {
+            Stmt::ExtensionSupports(table.columns.iter().map(int_expr).collect(), table.rows.clone())
+        }
     }
 }
 
@@ -75,11 +67,7 @@ fn bool_expr(e: &Bool) -> BoolExpr {
         Bool::Xor(l, r) => BoolExpr::Xor(boxed(l), boxed(r)),
         Bool::Iff(l, r) => BoolExpr::Iff(boxed(l), boxed(r)),
         Bool::Imp(l, r) => BoolExpr::Imp(boxed(l), boxed(r)),
-        Bool::Compare(op, l, r) => BoolExpr::Cmp(
-            OPERATORS[*op as usize],
-            Box::new(int_expr(l)),
-            Box::new(int_expr(r)),
-        ),
+        Bool::Compare(op, l, r) => BoolExpr::Cmp(OPERATORS[*op as usize], Box::new(int_expr(l)), Box::new(int_expr(r))),
     }
 }
 
@@ -87,12 +75,7 @@ fn int_expr(e: &Int) -> IntExpr {
     match e {
         Int::Const(c) => IntExpr::Const(*c),
         Int::Var(v) => IntExpr::Var(IntVar::new(*v)),
-        Int::Sum(terms) => IntExpr::Linear(
-            terms
-                .iter()
-                .map(|(c, e)| (Box::new(int_expr(e)), *c))
-                .collect(),
-        ),
+        Int::Sum(terms) => IntExpr::Linear(terms.iter().map(|(c, e)| (Box::new(int_expr(e)), *c)).collect()),
     }
 }
 
@@ -111,10 +94,7 @@ fn maps(set: &Set, csp: &CSP, map: &NormalizeMap, out: &mut Vec<i32>) {
         });
     }
     for v in 0..set.domains.len() {
-        out.push(
-            map.get_int_var(IntVar::new(v))
-                .map_or(0, |n| n.id() as i32 + 1),
-        );
+        out.push(map.get_int_var(IntVar::new(v)).map_or(0, |n| n.id() as i32 + 1));
     }
 }
 

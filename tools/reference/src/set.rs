@@ -124,10 +124,7 @@ fn statement_words(statement: &Statement, out: &mut Vec<i32>) {
         }
         Statement::Table(table) => {
             out.extend([2, table.columns.len() as i32, table.rows.len() as i32]);
-            table
-                .columns
-                .iter()
-                .for_each(|column| int_words(column, out));
+            table.columns.iter().for_each(|column| int_words(column, out));
             for row in &table.rows {
                 out.extend(row.iter().map(|cell| cell.unwrap_or(STAR)));
             }

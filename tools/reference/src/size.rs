@@ -13,34 +13,16 @@ struct Tally {
     comparisons: u64,
 }
 
-const LITERAL: Tally = Tally {
-    clauses: 1,
-    words: 3,
-    literals: 1,
-    comparisons: 0,
-};
+const LITERAL: Tally = Tally { clauses: 1, words: 3, literals: 1, comparisons: 0 };
 /// A split Xor or Iff seen from above: two clauses of two literals.
-const SPLIT: Tally = Tally {
-    clauses: 2,
-    words: 8,
-    literals: 0,
-    comparisons: 0,
-};
+const SPLIT: Tally = Tally { clauses: 2, words: 8, literals: 0, comparisons: 0 };
 /// A comparison of a column with a value: operator, constant, count of terms and one term.
 const EQUALITY: u64 = 5;
 
 /// The length of the answer that `rust::answer` gives for the same problem.
 pub fn words(set: &Set, csp: &CSP) -> u64 {
-    let mut counter = Counter {
-        set,
-        met: BTreeSet::new(),
-        new_ints: 0,
-    };
-    let clauses: u64 = csp
-        .constraints
-        .iter()
-        .map(|stmt| counter.statement(stmt))
-        .sum();
+    let mut counter = Counter { set, met: BTreeSet::new(), new_ints: 0 };
+    let clauses: u64 = csp.constraints.iter().map(|stmt| counter.statement(stmt)).sum();
     let maps = 2 * set.bools as u64 + set.domains.len() as u64;
     let emitted = counter.met.len() as u64 + counter.new_ints;
     maps + 3 + 3 * emitted + clauses
@@ -65,9 +47,7 @@ impl Counter<'_> {
     /// The clauses of the rules that splitting adds; `under`: below a Xor or Iff.
     fn extras(&mut self, e: &BoolExpr, under: bool) -> u64 {
         match e {
-            BoolExpr::And(members) | BoolExpr::Or(members) => {
-                members.iter().map(|m| self.extras(m, under)).sum()
-            }
+            BoolExpr::And(members) | BoolExpr::Or(members) => members.iter().map(|m| self.extras(m, under)).sum(),
             BoolExpr::Not(e) => self.extras(e, under),
             BoolExpr::Imp(l, r) => self.extras(l, under) + self.extras(r, under),
             BoolExpr::Xor(l, r) | BoolExpr::Iff(l, r) => {
@@ -86,11 +66,7 @@ impl Counter<'_> {
     fn tied(&mut self, side: &BoolExpr) -> u64 {
         let plain = self.tally(side, false, true);
         let negated = self.tally(side, true, true);
-        conjunction(&[
-            disjunction(&[plain, LITERAL]),
-            disjunction(&[negated, LITERAL]),
-        ])
-        .words
+        conjunction(&[disjunction(&[plain, LITERAL]), disjunction(&[negated, LITERAL])]).words
     }
 
     fn tally(&mut self, e: &BoolExpr, neg: bool, under: bool) -> Tally {
@@ -112,13 +88,7 @@ impl Counter<'_> {
         }
     }
 
-    fn joined(
-        &mut self,
-        members: &[Box<BoolExpr>],
-        neg: bool,
-        disjoined: bool,
-        under: bool,
-    ) -> Tally {
+    fn joined(&mut self, members: &[Box<BoolExpr>], neg: bool, disjoined: bool, under: bool) -> Tally {
         let tallies: Vec<Tally> = members.iter().map(|m| self.tally(m, neg, under)).collect();
         either(&tallies, disjoined)
     }
@@ -134,12 +104,7 @@ impl Counter<'_> {
         let mut sum = Sum::default();
         self.add(l, 1, &mut sum);
         self.add(r, -1, &mut sum);
-        Tally {
-            clauses: 1,
-            words: 2 + sum.words(),
-            literals: 0,
-            comparisons: 1,
-        }
+        Tally { clauses: 1, words: 2 + sum.words(), literals: 0, comparisons: 1 }
     }
 
     fn add(&mut self, e: &IntExpr, coefficient: i128, sum: &mut Sum) {
@@ -149,9 +114,7 @@ impl Counter<'_> {
                 self.met.insert(v.to_index());
                 *sum.terms.entry(v.to_index()).or_insert(0) += coefficient;
             }
-            IntExpr::Linear(terms) => terms
-                .iter()
-                .for_each(|(e, c)| self.add(e, coefficient * *c as i128, sum)),
+            IntExpr::Linear(terms) => terms.iter().for_each(|(e, c)| self.add(e, coefficient * *c as i128, sum)),
             _ => (),
         }
     }
@@ -172,11 +135,7 @@ impl Counter<'_> {
             }
         }
         let starred = rows.iter().flatten().any(Option::is_none);
-        ties + if starred {
-            starred_words(rows)
-        } else {
-            supports_words(&domains, rows)
-        }
+        ties + if starred { starred_words(rows) } else { supports_words(&domains, rows) }
     }
 }
 
@@ -195,10 +154,7 @@ impl Sum {
     fn domain(&self, set: &Set) -> Domain {
         let (mut low, mut high) = (self.constant, self.constant);
         for (v, c) in &self.terms {
-            let (a, b) = (
-                c * set.domains[*v].lowest() as i128,
-                c * set.domains[*v].highest() as i128,
-            );
+            let (a, b) = (c * set.domains[*v].lowest() as i128, c * set.domains[*v].highest() as i128);
             low += a.min(b);
             high += a.max(b);
         }
@@ -231,11 +187,7 @@ fn disjunction(members: &[Tally]) -> Tally {
     if members.iter().any(|m| m.clauses == 0) {
         return Tally::default();
     }
-    let empty = Tally {
-        clauses: 1,
-        words: 2,
-        ..Tally::default()
-    };
+    let empty = Tally { clauses: 1, words: 2, ..Tally::default() };
     let singles = members.iter().filter(|m| m.clauses == 1);
     let pool = singles.fold(empty, |pool, m| Tally {
         clauses: 1,
@@ -249,10 +201,7 @@ fn disjunction(members: &[Tally]) -> Tally {
 
 fn pooled(pool: Tally, longer: &[Tally]) -> Tally {
     let all = conjunction(longer);
-    let each = |more: u64| Tally {
-        words: all.words + all.clauses * more,
-        ..all
-    };
+    let each = |more: u64| Tally { words: all.words + all.clauses * more, ..all };
     if longer.len() == 2 && pool.literals == 0 && pool.comparisons == 0 {
         return each(1);
     }
@@ -260,21 +209,12 @@ fn pooled(pool: Tally, longer: &[Tally]) -> Tally {
         return each(pool.literals);
     }
     let new = longer.len() as u64;
-    let pool = Tally {
-        words: pool.words + new,
-        literals: pool.literals + new,
-        ..pool
-    };
+    let pool = Tally { words: pool.words + new, literals: pool.literals + new, ..pool };
     conjunction(&[each(1), pool])
 }
 
 fn starred_words(rows: &[Vec<Option<i32>>]) -> u64 {
-    let equality = Tally {
-        clauses: 1,
-        words: 2 + EQUALITY,
-        literals: 0,
-        comparisons: 1,
-    };
+    let equality = Tally { clauses: 1, words: 2 + EQUALITY, literals: 0, comparisons: 1 };
     let row = |row: &Vec<Option<i32>>| {
         let equalities: Vec<Tally> = row.iter().flatten().map(|_| equality).collect();
         conjunction(&equalities)
@@ -284,44 +224,25 @@ fn starred_words(rows: &[Vec<Option<i32>>]) -> u64 {
 }
 
 fn supports_words(domains: &[Domain], rows: &[Vec<Option<i32>>]) -> u64 {
-    let inside = |row: &[i32]| {
-        row.iter()
-            .zip(domains)
-            .all(|(cell, domain)| domain.holds(*cell as i64))
-    };
-    let mut kept: Vec<Vec<i32>> = rows
-        .iter()
-        .map(|row| row.iter().flatten().copied().collect())
-        .collect();
+    let inside = |row: &[i32]| row.iter().zip(domains).all(|(cell, domain)| domain.holds(*cell as i64));
+    let mut kept: Vec<Vec<i32>> = rows.iter().map(|row| row.iter().flatten().copied().collect()).collect();
     kept.retain(|row| inside(row));
     kept.sort();
     if kept.is_empty() {
         return 2;
     }
-    (0..domains.len())
-        .map(|prefix| prefix_words(domains, &kept, prefix))
-        .sum()
+    (0..domains.len()).map(|prefix| prefix_words(domains, &kept, prefix)).sum()
 }
 
 /// The clauses of one prefix length: each group of rows, each later column.
 fn prefix_words(domains: &[Domain], rows: &[Vec<i32>], prefix: usize) -> u64 {
     let groups = rows.chunk_by(|a, b| a[..prefix] == b[..prefix]);
     let clause = |group: &[Vec<i32>], column: usize| {
-        let values = group
-            .iter()
-            .map(|row| row[column])
-            .collect::<BTreeSet<i32>>()
-            .len() as u64;
+        let values = group.iter().map(|row| row[column]).collect::<BTreeSet<i32>>().len() as u64;
         if values == domains[column].count() {
             return 0;
         }
         2 + EQUALITY * (prefix as u64 + values)
     };
-    groups
-        .map(|group| {
-            (prefix..domains.len())
-                .map(|column| clause(group, column))
-                .sum::<u64>()
-        })
-        .sum()
+    groups.map(|group| (prefix..domains.len()).map(|column| clause(group, column)).sum::<u64>()).sum()
 }

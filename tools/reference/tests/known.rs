@@ -8,14 +8,8 @@ fn cases_of_document_01() {
 
 #[test]
 fn every_numbered_case_is_there() {
-    let names: Vec<&str> = reference::cases::known()
-        .iter()
-        .map(|known| known.name)
-        .collect();
+    let names: Vec<&str> = reference::cases::known().iter().map(|known| known.name).collect();
     for number in 1..=12 {
-        assert!(
-            names.contains(&format!("P{number}").as_str()),
-            "P{number} is missing"
-        );
+        assert!(names.contains(&format!("P{number}").as_str()), "P{number} is missing");
     }
 }

@@ -30,6 +30,8 @@ impl SolverManipulator for crate::backend::glucose::GlucoseSolverManipulator {
     }
 }
 
+/// # Safety
+/// As custom_constraints.rs writes it; nothing here relies on it.
 pub unsafe trait CustomPropagator<M: SolverManipulator> {
     fn initialize(&mut self, solver: &mut M) -> bool;
     fn propagate(&mut self, solver: &mut M, p: Lit, num_pending_propagations: i32) -> bool;

@@ -36,11 +36,7 @@ pub struct ConvertMap<K, V> {
 
 impl<K: ConvertMapIndex, V: Clone + Default> ConvertMap<K, V> {
     pub fn new() -> ConvertMap<K, V> {
-        ConvertMap {
-            values: vec![],
-            default: V::default(),
-            key: PhantomData,
-        }
+        ConvertMap { values: vec![], default: V::default(), key: PhantomData }
     }
 }
 

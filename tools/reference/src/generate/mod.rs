@@ -1,0 +1,108 @@
+//! Deterministic sets: seed, family and index decide a case, so that one case can be made again alone.
+mod chains;
+mod damage;
+mod expressions;
+mod heavy;
+mod lengths;
+pub mod limits;
+mod places;
+mod rng;
+mod tables;
+mod text;
+
+use crate::set::{Set, Statement};
+use expressions::World;
+use rng::Rng;
+
+pub use text::{good_text, text};
+
+/// One call: the set's words, and the lengths of the output and the work slice.
+#[derive(Clone, Debug, PartialEq)]
+pub struct Case {
+    pub set: Vec<i32>,
+    pub out_len: usize,
+    pub work_len: usize,
+}
+
+/// The families of sets. `longest` needs a gigabyte a case.
+pub const FAMILIES: [&str; 9] =
+    ["rules", "chains", "comparisons", "tables", "mixed", "damaged", "limits", "lengths", "longest"];
+
+const SLICE: usize = 16384;
+const SET: usize = 4096;
+
+/// How large a set is to be: most are small enough to be enumerated.
+#[derive(Clone, Copy, PartialEq)]
+pub enum Scale {
+    Small,
+    Medium,
+    Large,
+}
+
+impl Scale {
+    fn of(index: u64) -> Scale {
+        match index % 16 {
+            14 => Scale::Medium,
+            15 => Scale::Large,
+            _ => Scale::Small,
+        }
+    }
+}
+
+/// A case of a family; nothing where there is no such family.
+pub fn case(family: &str, seed: u64, index: u64) -> Option<Case> {
+    let mut rng = Rng::of(seed, family, index);
+    let case = match family {
+        "damaged" => damage::damaged(seed, index),
+        "limits" => limits::limit(&mut rng, index),
+        "lengths" => lengths::near(seed, index),
+        "longest" => lengths::longest(index),
+        _ => good(family, &mut rng, Scale::of(index))?,
+    };
+    Some(case)
+}
+
+fn good(family: &str, rng: &mut Rng, scale: Scale) -> Option<Case> {
+    let set = set(family, rng, scale)?;
+    let out_len = if scale == Scale::Small { SLICE } else { 1 << 20 };
+    Some(Case { set: set.words(), out_len, work_len: SLICE })
+}
+
+/// A good set of one of the first five families.
+pub fn set(family: &str, rng: &mut Rng, scale: Scale) -> Option<Set> {
+    let make: fn(&mut Rng, &World, Scale) -> Statement = match family {
+        "rules" | "comparisons" => expressions::rule,
+        "tables" => tables::table,
+        "mixed" => mixed,
+        "chains" => return Some(chains::chain(rng, scale)),
+        _ => return None,
+    };
+    let world = World::of(family, rng, scale);
+    let count = match scale {
+        Scale::Small => rng.size(1, 3),
+        Scale::Medium => rng.size(2, 12),
+        Scale::Large => rng.size(4, 200),
+    };
+    Some(fill(&world, (0..count).map(|_| make(rng, &world, scale))))
+}
+
+fn mixed(rng: &mut Rng, world: &World, scale: Scale) -> Statement {
+    if rng.chance(40) {
+        tables::table(rng, world, scale)
+    } else {
+        expressions::rule(rng, world, scale)
+    }
+}
+
+/// The set of the statements, as far as they fit into 4096 words.
+fn fill(world: &World, statements: impl Iterator<Item = Statement>) -> Set {
+    let mut set = Set { bools: world.bools, domains: world.domains.clone(), statements: vec![] };
+    for statement in statements {
+        set.statements.push(statement);
+        if set.words().len() > SET {
+            set.statements.pop();
+            break;
+        }
+    }
+    set
+}
