@@ -1,0 +1,14 @@
+-- Numbers read from words: counts, and the emitted numbers of an integer map (number plus 1, or 0). Assumes nothing.
+use Prim.Native.Nat.{ℕ, _-_}
+use mathlib.Core.List.{List}
+use lib.IntN.{ℤ, pos, negsuc}
+use lib.ListN.{getD}
+
+-- a word as a count: 0 where it is negative
+abbrev pub count-of : ℤ → ℕ
+count-of (pos n) = n
+count-of (negsuc n) = 0
+
+-- the emitted number of the declared variable v, where `numbers` is the map
+unfoldable pub number-at : List ℤ → ℕ → ℕ
+number-at numbers v = count-of (getD numbers v (pos 0)) - 1
