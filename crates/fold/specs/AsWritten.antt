@@ -1,0 +1,15 @@
+-- What folding leaves as it is: a comparison stays a comparison, whatever its sides; a sum of two or more terms stays
+-- a sum of as many, its constants not added up. Assumes nothing.
+use mathlib.Core.Path.{_≡_, refl}
+use mathlib.Core.List.{List}
+use lib.IntN.{ℤ}
+use Rattle.syntax.specs.Syntax.{Domain, CmpOp, IntExpr, Linear, Terms, tmore, BoolExpr, Cmp}
+use Rattle.fold.specs.Fold.{Fixed, constant-folding-int as fold-int, constant-folding-terms as fold-terms, constant-folding-bool as fold}
+
+pub comparison-stays : (ds : List Domain) (f : Fixed) (o : CmpOp) (a b : IntExpr) → fold ds f (Cmp o a b) ≡ Cmp o (fold-int ds a) (fold-int ds b)
+unfolding fold
+comparison-stays ds f o a b = refl
+
+pub sum-stays : (ds : List Domain) (k l : ℤ) (d e : IntExpr) (ts : Terms) → fold-int ds (Linear (tmore k d (tmore l e ts))) ≡ Linear (fold-terms ds (tmore k d (tmore l e ts)))
+unfolding fold-int
+sum-stays ds k l d e ts = refl
