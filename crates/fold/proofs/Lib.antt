@@ -1,3 +1,4 @@
 pub mod Signed
 pub mod DomainLaws
 pub mod IntLaws
+pub mod BoolLaws

@@ -14,7 +14,7 @@ ghost use Rattle.laws.specs.Slices.{Has, Stored};
 ghost use Rattle.syntax.specs.Syntax.{Domain, encode-domain};
 ghost use Rattle.fold.specs.Fold.{Op, action as action-of};
 ghost use Rattle.fold.specs.Table.{op-num, action-num, bit, state-num};
-ghost use Rattle.fold.specs.Steps.{Plain, state-of, var-step, not-step, not-state, list-step, list-state, binary-step, binary-state, single-of, Domain-at, Domain-below, Domain-post, One-value, Int-var-post, Ready-int, Ready-terms, Int-post, Terms-post};
+ghost use Rattle.fold.specs.Steps.{Plain, state-of, var-step, not-step, not-state, list-step, list-state, binary-step, binary-state, single-of, Domain-at, Domain-below, Domain-post, One-value, Int-var-post, Ready-int, Ready-terms, Int-post, Terms-post, Ready, Ready-members, Fold-post, Members-post};
 
 pub struct Span {
     pub next: usize,
@@ -32,11 +32,6 @@ pub struct Listed {
     pub end: usize,
     pub hit: bool,
     pub kept: usize,
-}
-
-pub struct Closed {
-    pub end: usize,
-    pub state: usize,
 }
 
 // ---- the leaves that know of signs
@@ -146,66 +141,130 @@ pub fn put_var(work: &mut [i32], o: usize, s: usize, v: usize) -> usize
     put_two(work, o, 10, s)
 }
 
-pub fn close_not(work: &mut [i32], o: usize, e: usize, s: usize) -> Closed
+pub fn close_not(work: &mut [i32], o: usize, next: usize, e: usize, s: usize) -> Folded
     requires { ⌜ (o + 2 ≤ e) × (e ≤ length (now work)) × (s < 3) ⌝ }
-    ensures { λ r. ⌜ (r .state ≡ not-state s) × Stored (now (work .entry)) o (not-step s (slice (o + 1) e (now (work .entry)))) (now (work .exit)) (r .end) ⌝ }
+    ensures { λ r. ⌜ (r .next ≡ next) × (r .state ≡ not-state s) × Stored (now (work .entry)) o (not-step s (slice (o + 1) e (now (work .entry)))) (now (work .exit)) (r .end) ⌝ }
 {
     if s == 2 {
         put(work, o, 14);
-        return Closed { end: e, state: 2 };
+        return Folded {
+            next,
+            end: e,
+            state: 2,
+        };
     }
     let end = put_two(work, o, 10, 1 - s);
-    Closed { end, state: 1 - s }
+    Folded {
+        next,
+        end,
+        state: 1 - s,
+    }
 }
 
-pub fn close_list(work: &mut [i32], o: usize, e: usize, b: usize, hit: bool, kept: usize) -> Closed
+pub fn close_list(
+    work: &mut [i32],
+    o: usize,
+    next: usize,
+    e: usize,
+    b: usize,
+    hit: bool,
+    kept: usize,
+) -> Folded
     requires { ⌜ (o + 2 ≤ e) × (e ≤ length (now work)) × (b < 2) × (kept < 2147483648) ⌝ }
-    ensures { λ r. ⌜ (r .state ≡ list-state b hit kept) × Stored (now (work .entry)) o (list-step b hit kept (slice (o + 2) e (now (work .entry)))) (now (work .exit)) (r .end) ⌝ }
+    ensures { λ r. ⌜ (r .next ≡ next) × (r .state ≡ list-state b hit kept) × Stored (now (work .entry)) o (list-step b hit kept (slice (o + 2) e (now (work .entry)))) (now (work .exit)) (r .end) ⌝ }
 {
     if hit {
         let end = put_two(work, o, 10, b);
-        return Closed { end, state: b };
+        return Folded {
+            next,
+            end,
+            state: b,
+        };
     }
     if kept == 0 {
         let end = put_two(work, o, 10, 1 - b);
-        return Closed { end, state: 1 - b };
+        return Folded {
+            next,
+            end,
+            state: 1 - b,
+        };
     }
     if kept == 1 {
         let end = shift(work, o + 2, e, o);
-        return Closed { end, state: 2 };
+        return Folded {
+            next,
+            end,
+            state: 2,
+        };
     }
     put(work, o, 12 + b);
     put(work, o + 1, kept);
-    Closed { end: e, state: 2 }
+    Folded {
+        next,
+        end: e,
+        state: 2,
+    }
 }
 
-pub fn close_binary(work: &mut [i32], o: usize, m: usize, e: usize, op: usize, k: usize) -> Closed
+pub fn close_binary(
+    work: &mut [i32],
+    o: usize,
+    next: usize,
+    m: usize,
+    e: usize,
+    op: usize,
+    k: usize,
+) -> Folded
     requires { ⌜ (o + 2 ≤ m) × (m ≤ e) × (e ≤ length (now work)) × (op < 3) ⌝ }
-    ensures { λ r. ⌜ (r .state ≡ binary-state k) × Stored (now (work .entry)) o (binary-step k op (slice (o + 1) m (now (work .entry))) (slice m e (now (work .entry)))) (now (work .exit)) (r .end) ⌝ }
+    ensures { λ r. ⌜ (r .next ≡ next) × (r .state ≡ binary-state k) × Stored (now (work .entry)) o (binary-step k op (slice (o + 1) m (now (work .entry))) (slice m e (now (work .entry)))) (now (work .exit)) (r .end) ⌝ }
 {
     if k < 2 {
         let end = put_two(work, o, 10, k);
-        return Closed { end, state: k };
+        return Folded {
+            next,
+            end,
+            state: k,
+        };
     }
     if k == 2 {
         let end = shift(work, o + 1, m, o);
-        return Closed { end, state: 2 };
+        return Folded {
+            next,
+            end,
+            state: 2,
+        };
     }
     if k == 3 {
         put(work, o, 14);
-        return Closed { end: m, state: 2 };
+        return Folded {
+            next,
+            end: m,
+            state: 2,
+        };
     }
     if k == 4 {
         let end = shift(work, m, e, o);
-        return Closed { end, state: 2 };
+        return Folded {
+            next,
+            end,
+            state: 2,
+        };
     }
     if k == 5 {
         put(work, o, 14);
         let end = shift(work, m, e, o + 1);
-        return Closed { end, state: 2 };
+        return Folded {
+            next,
+            end,
+            state: 2,
+        };
     }
     put(work, o, 15 + op);
-    Closed { end: e, state: 2 }
+    Folded {
+        next,
+        end: e,
+        state: 2,
+    }
 }
 
 // ---- domains
@@ -349,4 +408,134 @@ pub fn constant_folding_int(words: &[i32], d: usize, at: usize, work: &mut [i32]
     }
     let m = put_two(work, o, 22, v);
     constant_folding_terms(words, d, at + 2, v, work, m)
+}
+
+// ---- a member that is no constant is kept
+
+pub fn kept_end(state: usize, o: usize, end: usize) -> usize
+    ensures { λ r. ⌜ r ≡ cond (eqb state 2) end o ⌝ }
+{
+    if state == 2 { end } else { o }
+}
+
+pub fn kept_count(state: usize, n: usize) -> usize
+    requires { ⌜ n < 4611686018427387904 ⌝ }
+    ensures { λ r. ⌜ r ≡ cond (eqb state 2) (n + 1) n ⌝ }
+{
+    if state == 2 { n + 1 } else { n }
+}
+
+pub fn hits(state: usize, b: usize, hit: bool) -> bool
+    ensures { λ r. ⌜ r ≡ (eqb state b || hit) ⌝ }
+{
+    if state == b { true } else { hit }
+}
+
+// ---- Boolean expressions
+
+// A constant or a variable, whose code is w.
+pub fn fold_leaf(words: &[i32], d: usize, at: usize, work: &mut [i32], o: usize, w: usize) -> Folded
+    requires { ⌜ Ready (now words) d at (now work) o ⌝ }
+    requires { ⌜ (getD (now words) at (pos 0) ≡ pos w) × (w < 12) ⌝ }
+    ensures { λ r. ⌜ Fold-post (now (words .entry)) d at (now (work .entry)) o (now (work .exit)) (r .next) (r .end) (r .state) ⌝ }
+{
+    let v = number(words, at + 1);
+    if w == 10 {
+        let end = put_two(work, o, 10, v);
+        return Folded {
+            next: at + 2,
+            end,
+            state: v,
+        };
+    }
+    let s = state_at(work, v);
+    let end = put_var(work, o, s, v);
+    Folded {
+        next: at + 2,
+        end,
+        state: s,
+    }
+}
+
+// A comparison is never folded; its sides are.
+pub fn fold_comparison(words: &[i32], d: usize, at: usize, work: &mut [i32], o: usize) -> Folded
+    requires { ⌜ Ready (now words) d at (now work) o ⌝ }
+    requires { ⌜ getD (now words) at (pos 0) ≡ pos 18 ⌝ }
+    ensures { λ r. ⌜ Fold-post (now (words .entry)) d at (now (work .entry)) o (now (work .exit)) (r .next) (r .end) (r .state) ⌝ }
+{
+    let v = number(words, at + 1);
+    let m = put_two(work, o, 18, v);
+    let a = constant_folding_int(words, d, at + 2, work, m);
+    let b = constant_folding_int(words, d, a.next, work, a.end);
+    Folded {
+        next: b.next,
+        end: b.end,
+        state: 2,
+    }
+}
+
+// As many members as `count` says, of which those that are no constant are written; b is the state that settles the list.
+pub fn constant_folding_members(
+    words: &[i32],
+    d: usize,
+    at: usize,
+    count: usize,
+    work: &mut [i32],
+    o: usize,
+    b: usize,
+) -> Listed
+    requires { ⌜ Ready-members (now words) d at count (now work) o ⌝ }
+    ensures { λ r. ⌜ Members-post (now (words .entry)) d at count (now (work .entry)) o b (now (work .exit)) (r .next) (r .end) (r .hit) (r .kept) ⌝ }
+{
+    let mut next = at;
+    let mut end = o;
+    let mut rest = count;
+    let mut hit = false;
+    let mut kept = 0;
+    while rest != 0 {
+        let f = constant_folding_bool(words, d, next, work, end);
+        next = f.next;
+        end = kept_end(f.state, end, f.end);
+        hit = hits(f.state, b, hit);
+        kept = kept_count(f.state, kept);
+        rest = rest - 1;
+    }
+    Listed {
+        next,
+        end,
+        hit,
+        kept,
+    }
+}
+
+pub fn constant_folding_bool(
+    words: &[i32],
+    d: usize,
+    at: usize,
+    work: &mut [i32],
+    o: usize,
+) -> Folded
+    requires { ⌜ Ready (now words) d at (now work) o ⌝ }
+    ensures { λ r. ⌜ Fold-post (now (words .entry)) d at (now (work .entry)) o (now (work .exit)) (r .next) (r .end) (r .state) ⌝ }
+{
+    let w = number(words, at);
+    if w < 12 {
+        return fold_leaf(words, d, at, work, o, w);
+    }
+    if w == 18 {
+        return fold_comparison(words, d, at, work, o);
+    }
+    if w == 14 {
+        let a = constant_folding_bool(words, d, at + 1, work, o + 1);
+        return close_not(work, o, a.next, a.end, a.state);
+    }
+    if w < 14 {
+        let n = number(words, at + 1);
+        let m = constant_folding_members(words, d, at + 2, n, work, o + 2, w - 12);
+        return close_list(work, o, m.next, m.end, w - 12, m.hit, m.kept);
+    }
+    let a = constant_folding_bool(words, d, at + 1, work, o + 1);
+    let b = constant_folding_bool(words, d, a.next, work, a.end);
+    let k = action(w - 15, a.state, b.state);
+    close_binary(work, o, b.next, a.end, b.end, w - 15, k)
 }

@@ -22,7 +22,7 @@ same-length c = search needs
 
 returns : tie.Need-returns
 unfolding binary-step binary-state
-returns c = rw (lt-ltb _ _ (c .before .before .before .if1 .taken)) (refl, c .before .put-two .ensures)
+returns c = rw (lt-ltb _ _ (c .before .before .before .if1 .taken)) (refl, refl, c .before .put-two .ensures)
 
 add-shift : tie.Need-add-shift
 add-shift c = search needs
@@ -35,7 +35,7 @@ same-length-2 c = search needs
 
 returns-2 : tie.Need-returns-2
 unfolding binary-step binary-state
-returns-2 c = rw (le-ltb _ _ (c .before .before .before .before .if1 .left), eq-eqb _ _ (c .before .before .before .if2 .taken)) (refl, c .before .shift .ensures)
+returns-2 c = rw (le-ltb _ _ (c .before .before .before .before .if1 .left), eq-eqb _ _ (c .before .before .before .if2 .taken)) (refl, refl, c .before .shift .ensures)
 
 put-requires : tie.Need-put-requires
 put-requires c κs = search needs
@@ -45,7 +45,7 @@ same-length-3 c = search needs
 
 returns-3 : tie.Need-returns-3
 unfolding binary-step binary-state
-returns-3 c = rw (le-ltb _ _ (c .before .before .before .before .before .if1 .left), ne-eqb _ 2 (c .before .before .before .before .if2 .left), eq-eqb _ _ (c .before .before .before .if3 .taken), c .before .put .ensures) (refl, heads-one _ _ _ _ (omega arith) (omega arith))
+returns-3 c = rw (le-ltb _ _ (c .before .before .before .before .before .if1 .left), ne-eqb _ 2 (c .before .before .before .before .if2 .left), eq-eqb _ _ (c .before .before .before .if3 .taken), c .before .put .ensures) (refl, refl, heads-one _ _ _ _ (omega arith) (omega arith))
 
 shift-requires-2 : tie.Need-shift-requires-2
 shift-requires-2 c κs = search needs
@@ -55,7 +55,7 @@ same-length-4 c = search needs
 
 returns-4 : tie.Need-returns-4
 unfolding binary-step binary-state
-returns-4 c = rw (le-ltb _ _ (c .before .before .before .before .before .before .if1 .left), ne-eqb _ 2 (c .before .before .before .before .before .if2 .left), ne-eqb _ 3 (c .before .before .before .before .if3 .left), eq-eqb _ _ (c .before .before .before .if4 .taken)) (refl, c .before .shift2 .ensures)
+returns-4 c = rw (le-ltb _ _ (c .before .before .before .before .before .before .if1 .left), ne-eqb _ 2 (c .before .before .before .before .before .if2 .left), ne-eqb _ 3 (c .before .before .before .before .if3 .left), eq-eqb _ _ (c .before .before .before .if4 .taken)) (refl, refl, c .before .shift2 .ensures)
 
 put-requires-2 : tie.Need-put-requires-2
 put-requires-2 c κs = search needs
@@ -71,7 +71,7 @@ same-length-5 c = search needs
 
 returns-5 : tie.Need-returns-5
 unfolding binary-step binary-state
-returns-5 c = rw (le-ltb _ _ (c .before .before .before .before .before .before .before .before .before .before .if1 .left), ne-eqb _ 2 (c .before .before .before .before .before .before .before .before .before .if2 .left), ne-eqb _ 3 (c .before .before .before .before .before .before .before .before .if3 .left), ne-eqb _ 4 (c .before .before .before .before .before .before .before .if4 .left), eq-eqb _ _ (c .before .before .before .before .before .before .if5 .taken)) (refl, moved-behind (c .before .before .before .before .before .before .before .before .before .before .before .args .work .now) (c .before .before .before .before .before .before .before .before .before .before .before .args .o) (pos 14) (c .before .before .before .before .before .before .before .before .before .before .before .args .m) (c .before .before .before .before .before .before .before .before .before .before .before .args .e) _ _ (omega arith) (omega arith) (rw (c .before .before .before .before .put2 .ensures) at (c .before .shift3 .ensures)))
+returns-5 c = rw (le-ltb _ _ (c .before .before .before .before .before .before .before .before .before .before .if1 .left), ne-eqb _ 2 (c .before .before .before .before .before .before .before .before .before .if2 .left), ne-eqb _ 3 (c .before .before .before .before .before .before .before .before .if3 .left), ne-eqb _ 4 (c .before .before .before .before .before .before .before .if4 .left), eq-eqb _ _ (c .before .before .before .before .before .before .if5 .taken)) (refl, refl, moved-behind (c .before .before .before .before .before .before .before .before .before .before .before .args .work .now) (c .before .before .before .before .before .before .before .before .before .before .before .args .o) (pos 14) (c .before .before .before .before .before .before .before .before .before .before .before .args .m) (c .before .before .before .before .before .before .before .before .before .before .before .args .e) _ _ (omega arith) (omega arith) (rw (c .before .before .before .before .put2 .ensures) at (c .before .shift3 .ensures)))
 
 add-put : tie.Need-add-put
 add-put c = search needs
@@ -84,7 +84,7 @@ same-length-6 c = search needs
 
 returns-6 : tie.Need-returns-6
 unfolding binary-step binary-state
-returns-6 c = rw (le-ltb _ _ (c .before .before .before .before .before .before .before .if1 .left), ne-eqb _ 2 (c .before .before .before .before .before .before .if2 .left), ne-eqb _ 3 (c .before .before .before .before .before .if3 .left), ne-eqb _ 4 (c .before .before .before .before .if4 .left), ne-eqb _ 5 (c .before .before .before .if5 .left), c .before .put3 .ensures, slice-join (c .before .before .before .before .before .before .before .before .args .o + 1) (c .before .before .before .before .before .before .before .before .args .m) (c .before .before .before .before .before .before .before .before .args .e) (c .before .before .before .before .before .before .before .before .args .work .now) (omega arith) (omega arith) (omega arith)) (refl, heads-one _ _ _ _ (omega arith) (omega arith))
+returns-6 c = rw (le-ltb _ _ (c .before .before .before .before .before .before .before .if1 .left), ne-eqb _ 2 (c .before .before .before .before .before .before .if2 .left), ne-eqb _ 3 (c .before .before .before .before .before .if3 .left), ne-eqb _ 4 (c .before .before .before .before .if4 .left), ne-eqb _ 5 (c .before .before .before .if5 .left), c .before .put3 .ensures, slice-join (c .before .before .before .before .before .before .before .before .args .o + 1) (c .before .before .before .before .before .before .before .before .args .m) (c .before .before .before .before .before .before .before .before .args .e) (c .before .before .before .before .before .before .before .before .args .work .now) (omega arith) (omega arith) (omega arith)) (refl, refl, heads-one _ _ _ _ (omega arith) (omega arith))
 
 pub close-binary-spec : {M : Type 1} → statement M
 close-binary-spec =

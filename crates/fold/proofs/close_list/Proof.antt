@@ -20,7 +20,7 @@ same-length c = search needs
 
 returns : tie.Need-returns
 unfolding list-step list-state
-returns c = rw (c .before .before .before .if1 .taken) (refl, c .before .put-two .ensures)
+returns c = rw (c .before .before .before .if1 .taken) (refl, refl, c .before .put-two .ensures)
 
 sub-put-two : tie.Need-sub-put-two
 sub-put-two c = search needs
@@ -28,15 +28,15 @@ sub-put-two c = search needs
 put-two-requires-2 : tie.Need-put-two-requires-2
 put-two-requires-2 c κs = search needs
 
-sub-t15 : tie.Need-sub-t15
-sub-t15 c = search needs
+sub-t16 : tie.Need-sub-t16
+sub-t16 c = search needs
 
 same-length-2 : tie.Need-same-length-2
 same-length-2 c = search needs
 
 returns-2 : tie.Need-returns-2
 unfolding list-step list-state
-returns-2 c = rw (c .before .before .before .before .if1 .left, eq-eqb _ _ (c .before .before .before .if2 .taken)) (refl, c .before .put-two2 .ensures)
+returns-2 c = rw (c .before .before .before .before .if1 .left, eq-eqb _ _ (c .before .before .before .if2 .taken)) (refl, refl, c .before .put-two2 .ensures)
 
 add-shift : tie.Need-add-shift
 add-shift c = search needs
@@ -49,7 +49,7 @@ same-length-3 c = search needs
 
 returns-3 : tie.Need-returns-3
 unfolding list-step list-state
-returns-3 c = rw (c .before .before .before .before .before .if1 .left, ne-eqb _ 0 (c .before .before .before .before .if2 .left), eq-eqb _ _ (c .before .before .before .if3 .taken)) (refl, c .before .shift .ensures)
+returns-3 c = rw (c .before .before .before .before .before .if1 .left, ne-eqb _ 0 (c .before .before .before .before .if2 .left), eq-eqb _ _ (c .before .before .before .if3 .taken)) (refl, refl, c .before .shift .ensures)
 
 add-put : tie.Need-add-put
 add-put c = search needs
@@ -68,7 +68,7 @@ same-length-4 c = search needs
 
 returns-4 : tie.Need-returns-4
 unfolding list-step list-state
-returns-4 c = rw (c .before .before .before .before .before .before .before .before .if1 .left, ne-eqb _ 0 (c .before .before .before .before .before .before .before .if2 .left), ne-eqb _ 1 (c .before .before .before .before .before .before .if3 .left), c .before .put2 .ensures, c .before .before .before .before .put .ensures) (refl, heads-two _ _ _ _ _ (c .before .before .before .before .before .before .before .before .before .pre .0) (c .before .before .before .before .before .before .before .before .before .pre .1))
+returns-4 c = rw (c .before .before .before .before .before .before .before .before .if1 .left, ne-eqb _ 0 (c .before .before .before .before .before .before .before .if2 .left), ne-eqb _ 1 (c .before .before .before .before .before .before .if3 .left), c .before .put2 .ensures, c .before .before .before .before .put .ensures) (refl, refl, heads-two _ _ _ _ _ (c .before .before .before .before .before .before .before .before .before .pre .0) (c .before .before .before .before .before .before .before .before .before .pre .1))
 
 pub close-list-spec : {M : Type 1} → statement M
 close-list-spec =
@@ -79,7 +79,7 @@ close-list-spec =
     returns
     sub-put-two
     put-two-requires-2
-    sub-t15
+    sub-t16
     same-length-2
     returns-2
     add-shift

@@ -19,7 +19,7 @@ same-length c = search needs
 
 returns : tie.Need-returns
 unfolding not-step not-state
-returns c = rw (eq-eqb _ _ (c .before .before .before .if1 .taken), c .before .put .ensures) (refl, heads-one _ _ _ _ (omega arith) (omega arith))
+returns c = rw (eq-eqb _ _ (c .before .before .before .if1 .taken), c .before .put .ensures) (refl, refl, heads-one _ _ _ _ (omega arith) (omega arith))
 
 sub-put-two : tie.Need-sub-put-two
 sub-put-two c = search needs
@@ -27,15 +27,15 @@ sub-put-two c = search needs
 put-two-requires : tie.Need-put-two-requires
 put-two-requires c κs = search needs
 
-sub-t12 : tie.Need-sub-t12
-sub-t12 c = search needs
+sub-t13 : tie.Need-sub-t13
+sub-t13 c = search needs
 
 same-length-2 : tie.Need-same-length-2
 same-length-2 c = search needs
 
 returns-2 : tie.Need-returns-2
 unfolding not-step not-state
-returns-2 c = rw (ne-eqb _ _ (c .before .before .before .if1 .left)) (refl, c .before .put-two .ensures)
+returns-2 c = rw (ne-eqb _ _ (c .before .before .before .if1 .left)) (refl, refl, c .before .put-two .ensures)
 
 pub close-not-spec : {M : Type 1} → statement M
 close-not-spec =
@@ -46,6 +46,6 @@ close-not-spec =
     returns
     sub-put-two
     put-two-requires
-    sub-t12
+    sub-t13
     same-length-2
     returns-2)
