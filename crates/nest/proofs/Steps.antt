@@ -45,7 +45,7 @@ pub plain-word : (z : ℤ) → SFits w32 z → T (nonNeg z) → natAbs z < 21474
 plain-word (pos n) f h = omega (arith, f .sfits)
 plain-word (negsuc n) f h = absurd h
 
-getD-past : (l : List ℤ) (i : ℕ) → length l ≤ i → getD l i (pos 0) ≡ pos 0
+pub getD-past : (l : List ℤ) (i : ℕ) → length l ≤ i → getD l i (pos 0) ≡ pos 0
 getD-past [] zero h = refl
 getD-past [] (suc i) h = refl
 getD-past (x ∷ l) zero h = absurd (omega arith)

@@ -1,15 +1,18 @@
-// Nested sums become one linear sum, by recursion over an integer expression's words.
+// Nested sums become one linear sum, by recursion over an integer expression's words; and the bounds of a sum.
 use sums::LinearSum;
 ghost use mathlib.Core.Path.{_≡_};
 ghost use Prim.Native.Nat.{_+_, _*_, _<_, _≤_, _^_};
 ghost use lib.IntN.{pos, natAbs};
 ghost use lib.ListN.{getD};
-ghost use Rattle.sums.specs.LinearSum.{add-sum, mul-sum};
+ghost use Rattle.laws.specs.Ints.{times-low};
+ghost use Rattle.syntax.specs.Syntax.{Range, lower-bound, upper-bound};
+ghost use Rattle.sums.specs.LinearSum.{add-sum, mul-sum, lowest, get-domain-linear-sum};
 ghost use Rattle.sums.specs.Rising.{terms-of};
-ghost use Rattle.sums.specs.Bounds.{size, Room};
+ghost use Rattle.sums.specs.Bounds.{size, Room, reach};
 ghost use Rattle.sums.specs.Struct.{terms, sum-of, Stands};
 ghost use Rattle.nest.specs.Numbers.{count-of, number-at};
-ghost use Rattle.nest.specs.Nest.{Ready, Linear};
+ghost use Rattle.nest.specs.Nest.{Ready, Word, Linear};
+ghost use Rattle.nest.specs.Ranges.{domain-at, Bounded};
 
 pub struct Nested {
     pub sum: LinearSum,
@@ -92,4 +95,70 @@ pub fn linear_of(ws: &[i32], at: usize, numbers: &[i32]) -> Nested
         rest -= 1;
     }
     Nested { sum: sum, next: p }
+}
+
+pub struct Interval {
+    pub low: i32,
+    pub high: i32,
+}
+
+fn word_at(words: &[i32], i: usize) -> i32
+    ensures { λ r. ⌜ r ≡ getD (now (words .entry)) i (pos 0) ⌝ }
+{
+    let n = words.len();
+    if n <= i {
+        return 0;
+    }
+    words[i]
+}
+
+// A coefficient times an interval: its lowest value. With the bounds exchanged, its highest.
+fn times_low(k: i32, low: i32, high: i32) -> i32
+    requires { ⌜ (natAbs k * natAbs low < 2 ^ 31) × (natAbs k * natAbs high < 2 ^ 31) ⌝ }
+    ensures { λ r. ⌜ r ≡ times-low k low high ⌝ }
+{
+    if k < 0 {
+        return k * high;
+    }
+    k * low
+}
+
+// Of the emitted integer v, whose bounds stand at 2 v + a and 2 v + b.
+fn term_low(bounds: &[i32], v: usize, k: i32, a: usize, b: usize) -> i32
+    requires { ⌜ Word v × (a ≤ 1) × (b ≤ 1) × (natAbs k * reach (domain-at a b (now bounds) v) < 2 ^ 31) ⌝ }
+    ensures { λ r. ⌜ r ≡ times-low k (lower-bound (domain-at a b (now (bounds .entry)) v)) (upper-bound (domain-at a b (now (bounds .entry)) v)) ⌝ }
+{
+    let low = word_at(bounds, 2 * v + a);
+    let high = word_at(bounds, 2 * v + b);
+    times_low(k, low, high)
+}
+
+fn lowest(s: LinearSum, bounds: &[i32], a: usize, b: usize) -> i32
+    requires { ⌜ Bounded a b (now bounds) s ⌝ }
+    ensures { λ r. ⌜ r ≡ lowest (domain-at a b (now (bounds .entry))) (s .constant) (terms s) ⌝ }
+{
+    let n = s.count;
+    let mut sum = s.constant;
+    let mut i: usize = 0;
+    while i < n {
+        let v = s.vars[i];
+        let k = s.coefs[i];
+        let t = term_low(bounds, v, k, a, b);
+        sum = sum + t;
+        i += 1;
+    }
+    sum
+}
+
+// `bounds` has the lowest and the highest value of each emitted integer.
+pub fn get_domain_linear_sum(s: LinearSum, bounds: &[i32]) -> Interval
+    requires { ⌜ Bounded 0 1 (now bounds) s ⌝ }
+    ensures { λ r. ⌜ Range (r .low) (r .high) ≡ get-domain-linear-sum (domain-at 0 1 (now (bounds .entry))) (sum-of s) ⌝ }
+{
+    let low = lowest(s, bounds, 0, 1);
+    let high = lowest(s, bounds, 1, 0);
+    Interval {
+        low: low,
+        high: high,
+    }
 }
