@@ -10,3 +10,4 @@ pub mod Two
 pub mod Decode
 pub mod Legal
 pub mod Rule
+pub mod Standing

@@ -26,7 +26,7 @@ use Rattle.walk.specs.Legal.{Legal, proper, proper-ties, propers-append}
 
 -- a rule that the passes leave: true, or legal
 pub data LegalRule : BoolExpr → ℕ → Type 0 where
-  true-rule : {l : ℕ} → LegalRule (Const true) l
+  true-rule : {l : ℕ} → 0 < l → LegalRule (Const true) l
   legal-rule : {e : BoolExpr} {l : ℕ} → Legal e l → LegalRule e l
 
 rule-propers : (e : BoolExpr) (l at n : ℕ) → Legal e l → n + splits e false ≤ limit → Propers (rule-trees e at n)
@@ -96,7 +96,7 @@ module _ (Column : Log → ℤ → LinearSum → Domain → Type 0) where
   pub rule-passes : (e : BoolExpr) (l at : ℕ) (s : Log) (st : State) → LegalRule e l → Numbered Column st s → Low (normalize-and-register-expr e s .1)
       → Passes (rule-trees e at (st .bools)) (splits e false) st (normalize-and-register-expr e s)
   unfolding normalize-conjunction
-  rule-passes e l at s st true-rule h k = true-passes at (st .bools) st s h k
+  rule-passes e l at s st (true-rule x) h k = true-passes at (st .bools) st s h k
   rule-passes e l at s st (legal-rule x) h k =
       let ts = rule-trees e at (next-bool s) in
       let z = split e false s .log in
