@@ -9,7 +9,7 @@ use lib.Dec.{eqb}
 use Rattle.syntax.specs.Syntax.{op-at, IntExpr, IConst, IVar, Linear, Terms, tnil, tmore}
 use Rattle.clauses.specs.Clause.{negate-if}
 use Rattle.walk.specs.Tree.{Tree, var, num, cmp, conj, disj, cross, tied, Trees, nil, cons, append, joined, crossed, both-tied}
-use Rattle.walk.specs.Item.{limit, bump, nat, Tally, tally, Item, item, items, tallies, counts, all-lines}
+use Rattle.walk.specs.Item.{limit, bump, nat, Tally, tally, Item, item, items, tallies, counts, all-lines, lines-of}
 use Rattle.walk.specs.declared.Node.{Node}
 use Rattle.walk.specs.declared.Node.the-variants.{Var, Cmp, Not, Join, Cross}
 use Rattle.walk.specs.declared.Surveyed.{Surveyed}
@@ -150,13 +150,26 @@ abbrev pub items-at : List ℤ → ℕ → Bool → ℕ → Bool → Bool → �
 items-at ws l t k g h at n = items (many (decode ws l t) k g h at n .trees)
 
 -- the counts of a survey, within the words that it read
-pub record Counted (ws : List ℤ) (t : Tally) (at stop next total : ℕ) (r : Surveyed) : Type 0 where
+pub record Counted (ws : List ℤ) (t : Tally) (at stop next total whole : ℕ) (r : Surveyed) : Type 0 where
   pub end : r .at ≡ stop
   pub splits : r .base ≡ next
   pub count : r .n ≡ total
   pub unit : tally (r .longs) (r .lits) (r .cmps) (r .lines) ≡ t
+  pub all : r .all ≡ whole
   pub room : r .longs + r .lits + r .cmps + at ≤ r .at
   pub inside : r .at ≤ length ws
   pub low : r .n ≤ limit
   pub low-base : r .base ≤ limit
   pub low-lines : r .lines ≤ limit
+  pub low-all : r .all ≤ limit
+
+-- of the expression at a place, and of so many members. w: the work slice
+abbrev pub Surveys : List ℤ → ℕ → Bool → Bool → ℕ → ℕ → ℕ → Surveyed → Type 0
+Surveys w l t g at base n r =
+    let d = decode (read-part w) l t g at base in
+    Counted (read-part w) (item (d .tree) .unit) at (d .end) (d .next) (item (d .tree) .count w n) (lines-of (item (d .tree) .unit)) r
+
+abbrev pub SurveysAll : List ℤ → ℕ → Bool → ℕ → Bool → Bool → ℕ → ℕ → ℕ → Surveyed → Type 0
+SurveysAll w l t k g h at base n r =
+    let d = many (decode (read-part w) l t) k g h at base in
+    Counted (read-part w) (tallies (items (d .trees))) at (d .end) (d .next) (counts (items (d .trees)) w n) (all-lines (items (d .trees))) r

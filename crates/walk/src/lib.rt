@@ -19,7 +19,8 @@ pub enum Node {
     Cross(bool, usize),
 }
 
-// What a survey finds of an expression, or of so many members: its end, the splitting's next number, the counter behind it, its tally.
+// What a survey finds of an expression, or of so many members: the end, the splitting's next number, the counter behind it, the tally,
+// and how many clauses there are in all.
 pub struct Surveyed {
     pub at: usize,
     pub base: usize,
@@ -28,4 +29,5 @@ pub struct Surveyed {
     pub lits: usize,
     pub cmps: usize,
     pub lines: usize,
+    pub all: usize,
 }
