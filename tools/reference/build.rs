@@ -36,7 +36,10 @@ fn main() {
     println!("cargo:rerun-if-env-changed=NOKYREVA_RUST_SRC");
     let root = source_root();
     let folder = root.join("cspuz_core/src");
-    let folder = folder.canonicalize().unwrap_or_else(|e| panic!("{}: {e}", folder.display()));
+    let folder = folder.canonicalize().unwrap_or_else(|error| {
+        eprintln!("{}: {error}", folder.display());
+        std::process::exit(1)
+    });
     println!("cargo:rerun-if-changed={}", folder.display());
     let text: String = MODULES.iter().map(|(name, file)| declaration(name, &folder.join(file))).collect();
     let out = PathBuf::from(env::var_os("OUT_DIR").unwrap_or_default());
