@@ -1,8 +1,10 @@
 -- Numbers read from words: counts, and the emitted numbers of an integer map (number plus 1, or 0). Assumes nothing.
-use Prim.Native.Nat.{ℕ, _-_}
+use mathlib.Core.Path.{_≡_, ap}
+use Prim.Native.Nat.{ℕ, _+_, _-_}
 use mathlib.Core.List.{List}
 use lib.IntN.{ℤ, pos, negsuc}
-use lib.ListN.{getD}
+use lib.ListN.{getD, drop}
+use lib.Seq.{getD-drop}
 
 -- a word as a count: 0 where it is negative
 abbrev pub count-of : ℤ → ℕ
@@ -12,3 +14,8 @@ count-of (negsuc n) = 0
 -- the emitted number of the declared variable v, where `numbers` is the map
 unfoldable pub number-at : List ℤ → ℕ → ℕ
 number-at numbers v = count-of (getD numbers v (pos 0)) - 1
+
+-- where the map stands in a list from b on
+pub number-behind : (words : List ℤ) (b v : ℕ) → number-at (drop b words) v ≡ count-of (getD words (b + v) (pos 0)) - 1
+unfolding number-at
+number-behind words b v = ap (λ (z : ℤ). count-of z - 1) (getD-drop b words v (pos 0))

@@ -2,16 +2,16 @@
 use sums::LinearSum;
 ghost use mathlib.Core.Path.{_≡_};
 ghost use Prim.Native.Nat.{_+_, _*_, _<_, _≤_, _^_};
-ghost use lib.IntN.{pos, natAbs};
+ghost use lib.IntN.{pos, negsuc, natAbs};
 ghost use lib.ListN.{getD};
 ghost use Rattle.laws.specs.Ints.{times-low};
 ghost use Rattle.syntax.specs.Syntax.{Range, lower-bound, upper-bound};
-ghost use Rattle.sums.specs.LinearSum.{add-sum, mul-sum, lowest, get-domain-linear-sum};
+ghost use Rattle.sums.specs.LinearSum.{singleton, add-sum, mul-sum, sub-sum, lowest, get-domain-linear-sum};
 ghost use Rattle.sums.specs.Rising.{terms-of};
 ghost use Rattle.sums.specs.Bounds.{size, Room, reach};
 ghost use Rattle.sums.specs.Struct.{terms, sum-of, Stands};
 ghost use Rattle.nest.specs.Numbers.{count-of, number-at};
-ghost use Rattle.nest.specs.Nest.{Ready, Word, Linear};
+ghost use Rattle.nest.specs.Nest.{Ready, Word, Linear, Ready-comparison, Difference};
 ghost use Rattle.nest.specs.Ranges.{domain-at, Bounded};
 
 pub struct Nested {
@@ -95,6 +95,29 @@ pub fn linear_of(ws: &[i32], at: usize, numbers: &[i32]) -> Nested
         rest -= 1;
     }
     Nested { sum: sum, next: p }
+}
+
+// The two sides of a comparison: left minus right.
+pub fn difference_of(ws: &[i32], at: usize, numbers: &[i32]) -> Nested
+    requires { ⌜ Ready-comparison (now ws) at ⌝ }
+    ensures { λ r. ⌜ Difference (now (ws .entry)) (now (numbers .entry)) at (r .next) (r .sum) ⌝ }
+{
+    let left = linear_of(ws, at, numbers);
+    let p = left.next;
+    let right = linear_of(ws, p, numbers);
+    let s = left.sum;
+    let t = right.sum;
+    let q = right.next;
+    let d = sums::sub_sum(s, t);
+    Nested { sum: d, next: q }
+}
+
+// A column's sum minus its new variable.
+pub fn less_variable(s: LinearSum, n: usize) -> LinearSum
+    requires { ⌜ (s .count ≤ 64) × Room (terms s) (terms-of (mul-sum (negsuc 0) (singleton n))) × (size (sum-of s) + 1 < 2 ^ 31) ⌝ }
+    ensures { λ r. ⌜ Stands r (sub-sum (sum-of s) (singleton n)) ⌝ }
+{
+    sums::sub_sum(s, sums::singleton(n))
 }
 
 pub struct Interval {

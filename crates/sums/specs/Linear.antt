@@ -82,3 +82,20 @@ module _ (number : ℕ → ℕ) where
 
   pub linear-of-among : (us : List ℕ) (e : IntExpr) → ((v : ℕ) → Among (written e) v → Among us v) → Each (Among (map number us)) (terms-of (linear-of e))
   linear-of-among us e f = linear-of-each (Among (map number us)) e (λ v m. among-map number v us (f v m))
+
+-- ---- only the numbers of the written variables count
+
+module _ (f g : ℕ → ℕ) where
+  mutual
+    unfolding linear-of written
+
+    pub linear-of-same : (e : IntExpr) → ((v : ℕ) → Among (written e) v → f v ≡ g v) → linear-of f e ≡ linear-of g e
+    linear-of-same (IConst c) h = refl
+    linear-of-same (IVar v) h = ap singleton (h v (or-l (eqb v v) _ (eq-eqb v v refl)))
+    linear-of-same (Linear ts) h = linear-terms-same ts (constant (pos 0)) h
+
+    pub linear-terms-same : (ts : Terms) (sum : LinearSum) → ((v : ℕ) → Among (written-terms ts) v → f v ≡ g v) → linear-terms f ts sum ≡ linear-terms g ts sum
+    linear-terms-same tnil sum h = refl
+    linear-terms-same (tmore k e ts) sum h =
+        linear-terms-same ts (add-sum sum (mul-sum k (linear-of f e))) (λ v m. h v (among-right v (written e) (written-terms ts) m))
+        ∙ ap (λ (l : LinearSum). linear-terms g ts (add-sum sum (mul-sum k l))) (linear-of-same e (λ v m. h v (among-left v (written e) (written-terms ts) m)))
