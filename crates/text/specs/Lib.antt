@@ -1,0 +1,5 @@
+pub mod Bytes
+pub mod Decimal
+pub mod ReadText
+pub mod Listing
+pub mod Cases
