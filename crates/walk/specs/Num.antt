@@ -63,7 +63,7 @@ module _ (Column : Log → ℤ → LinearSum → Domain → Type 0) where
   none-not (suc n) h = refl
 
   -- a store elsewhere keeps the records
-  recorded-set : (w : List ℤ) (p : ℕ) (x : ℤ) (s : Log) → ((k : ℕ) → k < next-int s → emitted-ints + k ≡ p → ⊥) → Recorded w s → Recorded (set w p x) s
+  pub recorded-set : (w : List ℤ) (p : ℕ) (x : ℤ) (s : Log) → ((k : ℕ) → k < next-int s → emitted-ints + k ≡ p → ⊥) → Recorded w s → Recorded (set w p x) s
   unfolding Recorded
   recorded-set w p x [] f h = tt
   recorded-set w p x (declared v ∷ s) f h = recorded-set w p x s f h
@@ -74,11 +74,11 @@ module _ (Column : Log → ℤ → LinearSum → Domain → Type 0) where
   recorded-set w p x (column l d ∷ s) f h =
       (rw (getD-set-other w p (emitted-ints + next-int s) x (pos 0) (f (next-int s) (omega arith))) (h .0), recorded-set w p x s (λ k l. f k (omega arith)) (h .1))
 
-  bool-other : (w : List ℤ) (p : ℕ) (x : ℤ) (u : ℕ) → (bool-map + u ≡ p → ⊥) → bool-entry (set w p x) u ≡ bool-entry w u
+  pub bool-other : (w : List ℤ) (p : ℕ) (x : ℤ) (u : ℕ) → (bool-map + u ≡ p → ⊥) → bool-entry (set w p x) u ≡ bool-entry w u
   unfolding bool-entry
   bool-other w p x u h = ap nat (getD-set-other w p (bool-map + u) x (pos 0) h)
 
-  int-other : (w : List ℤ) (p : ℕ) (x : ℤ) (u : ℕ) → (int-map + u ≡ p → ⊥) → int-entry (set w p x) u ≡ int-entry w u
+  pub int-other : (w : List ℤ) (p : ℕ) (x : ℤ) (u : ℕ) → (int-map + u ≡ p → ⊥) → int-entry (set w p x) u ≡ int-entry w u
   unfolding int-entry
   int-other w p x u h = ap nat (getD-set-other w p (int-map + u) x (pos 0) h)
 

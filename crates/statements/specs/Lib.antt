@@ -1,0 +1,3 @@
+pub mod Kept
+pub mod Columns
+pub mod Star
