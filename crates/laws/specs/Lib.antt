@@ -5,3 +5,4 @@ pub mod Slices
 pub mod Writes
 pub mod Order
 pub mod Signed
+pub mod Gaps

@@ -1,1 +1,4 @@
 pub mod Limits
+pub mod Total
+pub mod Count
+pub mod Walk
