@@ -1,3 +1,4 @@
 pub mod Kept
 pub mod Columns
 pub mod Star
+pub mod Table

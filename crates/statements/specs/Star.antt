@@ -15,10 +15,10 @@ use Rattle.clauses.specs.Disjunction.{Out, Outs, satisfied, sorted, pooled, wit
 use Rattle.clauses.specs.Normalize.{Run, Runs, no-run, run-then, normalize-conjunction, disjunction-of}
 use Rattle.tables.specs.Tables.{linear-eq, is-star, star-row, star-table}
 use Rattle.answer.specs.Answer.{clause-words, linear-words}
-use Rattle.walk.specs.Item.{tally, clause-text, Item, conj-item, disj-item}
-use Rattle.walk.specs.Grow.{Grows, same, Fit}
+use Rattle.walk.specs.Item.{tally, fresh, tallies, clause-text, Item, conj-item, disj-item}
+use Rattle.walk.specs.Grow.{Grows, same, Fit, back}
 use Rattle.walk.specs.Texts.{layout}
-use Rattle.walk.specs.Good.{Shape, single, GoodAt, Good, Goods, none, more, conj-good, disj-good}
+use Rattle.walk.specs.Good.{Shape, single, GoodAt, Good, Goods, none, more, goods-sorts, disj-grows, disj-at, conj-good, disj-good}
 
 -- ---- one cell: the variable has the value
 
@@ -178,3 +178,15 @@ unfolding star-table normalize-disjunction finish-sorted
 free-table vs [] s h = absurd (false≢true h)
 free-table vs (cs ∷ []) s h = rw (no-clause vs cs (or-false (no-equality vs cs) h)) refl
 free-table vs (cs ∷ ds ∷ rows) s h = rw (sorted-free vs (cs ∷ ds ∷ rows) h) refl
+
+-- ---- its new numbers
+
+pub star-count : (w : List ℤ) (vs : List ℕ) (rows : List (List Cell)) (z : Log) → any-free vs rows ≡ false → Fit w (star-table vs rows z .1) → next-bool (star-table vs rows z .1) ≡ next-bool z + fresh (tallies (map (row-item vs) rows))
+unfolding star-table
+star-count w vs rows z h f =
+    let o : Outs = table-runs vs rows z in
+    let e : o ≡ (map (star-row vs) rows, z) = table-runs-are vs rows z in
+    let i : normalize-disjunction (o .0) (o .1) ≡ normalize-disjunction (map (star-row vs) rows) z = ap (λ (x : Outs). normalize-disjunction (x .0) (x .1)) e in
+    let g : Fit w (normalize-disjunction (o .0) (o .1) .1) = subst (λ (x : Out). Fit w (x .1)) (sym i) f in
+    let d = disj-at w (map (row-item vs) rows) z o (goods-sorts w (rows-good w vs rows h) z (back (disj-grows w (o .0) (o .1)) g)) (o .1) g in
+    sym (ap (λ (x : Out). next-bool (x .1)) i) ∙ d .count ∙ ap (λ (x : Outs). next-bool (x .1) + fresh (tallies (map (row-item vs) rows))) e
