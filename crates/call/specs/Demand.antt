@@ -53,15 +53,15 @@ use Rattle.call.specs.Consequences.{consequences}
 -- ---- the clauses of all statements mean the statements
 
 module _ (δ : Val) (ε : IVal) (ρ : Val) (ι : IVal) (ds : List Domain) where
-  abbrev truth : Stmt → Bool
+  abbrev pub truth : Stmt → Bool
   truth = stmt-holds δ ε (λ n. false)
 
-  stmt-means : (t : Stmt) (s : Log) → Plain t → EveryStmt (λ v. Unit {0}) (Standing ds ε) t → Means δ ε ρ ι s (normalize-stmt ds t s) (truth t)
+  pub stmt-means : (t : Stmt) (s : Log) → Plain t → EveryStmt (λ v. Unit {0}) (Standing ds ε) t → Means δ ε ρ ι s (normalize-stmt ds t s) (truth t)
   unfolding normalize-stmt EveryStmt
   stmt-means (Rule e) s h k = read-rule-means δ ε ρ ι e s (λ n. false) h
   stmt-means (Table es rows) s h k = unfold stmt-holds in table-means δ ε ρ ι ds es rows s h k
 
-  stmts-mean : (ts : List Stmt) (s : Log) → Each Plain ts → EveryStmts (λ v. Unit {0}) (Standing ds ε) ts → Means δ ε ρ ι s (normalize-stmts ds ts s) (all truth ts)
+  pub stmts-mean : (ts : List Stmt) (s : Log) → Each Plain ts → EveryStmts (λ v. Unit {0}) (Standing ds ε) ts → Means δ ε ρ ι s (normalize-stmts ds ts s) (all truth ts)
   unfolding normalize-stmts EveryStmts
   stmts-mean [] s h k = means-none δ ε ρ ι s
   stmts-mean (t ∷ ts) s h k =

@@ -169,7 +169,7 @@ module _ (F : List ℤ) (ds : List Domain) where
   one-keeps w w' p (IVar v) s l g h = tt
   one-keeps w w' p (Linear ts) s l g h = g .columns (column-map + p) (omega arith) (omega arith) ∙ h
 
-  grown-less : (p q : ℕ) {w w' : List ℤ} → p ≤ q → Grown q w w' → Grown p w w'
+  pub grown-less : (p q : ℕ) {w w' : List ℤ} → p ≤ q → Grown q w w' → Grown p w w'
   grown-less p q l g = record { below = g .below; columns = λ k h m. g .columns k h (omega arith); size = g .size }
 
   int-words : (e : IntExpr) → 2 ≤ length (encode-int e)

@@ -2,3 +2,4 @@ pub mod Kept
 pub mod Columns
 pub mod Star
 pub mod Table
+pub mod Statements

@@ -265,6 +265,7 @@ module _ (F : List ℤ) (ds : List Domain) where
     pub numbered : Numbered CR (meet-table p es rows st) (normalize-table ds es rows s .1)
     pub placed : Placed F ds (meet-table p es rows st .work) p es s
     pub grown : Grown p (st .work) (meet-table p es rows st .work)
+    pub count : bump (st .bools) (table-fresh (length es) rows) ≡ next-bool (normalize-table ds es rows s .1)
     pub text : (w : List ℤ) (dom : ℕ → Domain) → Fit w (normalize-table ds es rows s .1) → Placed F ds w p es s
         → ((v : ℕ) → v < next-int (equivalent-int-vars ds es s .log) → dom v ≡ domain-of (emitted-domains ds (equivalent-int-vars ds es s .log)) v)
         → table-text w dom p es rows (st .bools) ≡ flat (map clause-words (normalize-table ds es rows s .0))
@@ -297,6 +298,9 @@ module _ (F : List ℤ) (ds : List Domain) where
         numbered = rw (columns-count es s) at n;
         placed = m .placed;
         grown = m .grown;
+        count =
+            let b : st .bools ≡ meet-columns p es st .bools = h .bools ∙ sym (columns-bools es s) ∙ sym (m .numbered .bools) in
+            ap (λ (k : ℕ). bump k (table-fresh (length es) rows)) b ∙ (rw (columns-count es s) at (n .bools));
         text = λ w dom fit placed d.
             let x = columns-are F ds w p es s placed (back g fit) in
             let e = rows-words w dom (c .vars) rows (c .log) (domains-agree dom (c .log) (c .vars) (columns-below es s) d) fit in

@@ -29,7 +29,7 @@ pub data LegalRule : BoolExpr → ℕ → Type 0 where
   true-rule : {l : ℕ} → 0 < l → LegalRule (Const true) l
   legal-rule : {e : BoolExpr} {l : ℕ} → Legal e l → LegalRule e l
 
-rule-propers : (e : BoolExpr) (l at n : ℕ) → Legal e l → n + splits e false ≤ limit → Propers (rule-trees e at n)
+pub rule-propers : (e : BoolExpr) (l at n : ℕ) → Legal e l → n + splits e false ≤ limit → Propers (rule-trees e at n)
 unfolding Proper
 rule-propers e l at n h k = propers-append (ties e false at n) (cons (resolve e false at n false) nil) (proper-ties e l false at n h k) (proper e l false at n false h k, tt)
 
@@ -57,7 +57,7 @@ module _ (Column : Log → ℤ → LinearSum → Domain → Type 0) where
     split-recorded-each none t w s h = h
     split-recorded-each (more e ms) t w s h = split-recorded-each ms t w (split e t s .log) (split-recorded e t w s h)
 
-  split-num : (e : BoolExpr) (t : Bool) (st : State) (s : Log) → Numbered Column st s → next-bool (split e t s .log) ≤ limit → Numbered Column (pass-bools (splits e t) st) (split e t s .log)
+  pub split-num : (e : BoolExpr) (t : Bool) (st : State) (s : Log) → Numbered Column st s → next-bool (split e t s .log) ≤ limit → Numbered Column (pass-bools (splits e t) st) (split e t s .log)
   split-num e t st s h l =
       let x = split-sided e t s in
       pass-num Column st s (split e t s .log) (splits e t) h (record { ints = x .ints; keep = x .keep; keep-int = x .keep-int }) (split-recorded e t (st .work) s (h .records)) (x .bools) l

@@ -1,0 +1,237 @@
+-- The two passes over a list of folded statements: numbering gives the state of the log, and writing with its maps the words of the clauses.
+-- F: the folded words in the work slice, in which the statements stand from a place on.
+use mathlib.Core.Path.{_≡_, refl, sym, ap, _∙_, subst}
+use mathlib.Core.Bool.{Bool, true, false, cond}
+use mathlib.Core.List.{List, [], _∷_, _++_, map, append-assoc}
+use Prim.Native.Nat.{ℕ, zero, suc, _+_, _-_, _≤_, _<_, min}
+use native.Mathlib.Omega.{arith}
+use lib.IntN.{ℤ, pos, negsuc}
+use lib.ListN.{length, getD, length-append}
+use Rattle.laws.specs.Lists.{flat}
+use Rattle.laws.specs.Slices.{Has, has-front, has-back, has-rest}
+use Rattle.syntax.specs.Syntax.{Domain, domain-of, IntExpr, encode-int, BoolExpr, encode-bool, Cell, encode-cell, Stmt, Rule, Table, encode-stmt}
+use Rattle.syntax.specs.Satisfies.{Val, IVal}
+use Rattle.syntax.specs.Written.{EveryColumn, EveryStmts}
+use Rattle.words.specs.Exact.{Each}
+use Rattle.sums.specs.LinearSum.{LinearSum}
+use Rattle.clauses.specs.Clause.{Clause}
+use Rattle.clauses.specs.Log.{Log, aux, next-bool, next-int}
+use Rattle.clauses.specs.Disjunction.{Out}
+use Rattle.clauses.specs.Normalize.{normalize-conjunction}
+use Rattle.clauses.specs.Split.{normalize-and-register-expr, tseitin-transformation-bool as split}
+use Rattle.clauses.specs.Grow.{Grows as GrowsFrom, grows-int}
+use Rattle.tables.specs.Tables.{newest, emitted-domains, equivalent-int-vars, star-row, star-table, plain-table, normalize-extension-supports, normalize-table}
+use Rattle.tables.specs.Emitted.{domain-stays}
+use Rattle.tables.specs.ColumnMeaning.{Standing}
+use Rattle.answer.specs.Answer.{clause-words, normalize-stmt, normalize-stmts}
+use Rattle.call.specs.Ready.{Plain}
+use Rattle.call.specs.Demand.{stmts-mean}
+use Rattle.walk.specs.Tree.{Trees, splits, ties, resolve, runs}
+use Rattle.walk.specs.Resolve.{rule-trees, rule-runs, split-sided}
+use Rattle.walk.specs.Item.{limit, bump, bool-map, State, pass-bools, mets, texts, counts, item, items, conj-item}
+use Rattle.walk.specs.Grow.{Grows, same, then, Fit, back}
+use Rattle.walk.specs.Texts.{Auxed, here, above, disjunction-auxed}
+use Rattle.walk.specs.Num.{max-emitted, Numbered}
+use Rattle.walk.specs.Two.{Low, low-back, runs-grow}
+use Rattle.walk.specs.Rule.{LegalRule, true-rule, legal-rule, rule-propers, split-num, Passes, rule-passes}
+use Rattle.statements.specs.Kept.{Kept, kept-same, trees-kept}
+use Rattle.statements.specs.Columns.{ColumnRecord, Grown, grown-same, kept-grown, grown-then, grown-less, Placed, placed-keeps}
+use Rattle.statements.specs.Table.{starred, table-fresh, meet-table, table-text, TablePasses, table-passes, table-grows, words-append, columns-bools}
+
+-- ---- one statement at a place: its numbering, its words, the counter behind it
+
+unfoldable pub meet-stmt : ℕ → Stmt → State → State
+meet-stmt at (Rule e) st = mets (items (rule-trees e (at + 1) (st .bools))) (pass-bools (splits e false) st)
+meet-stmt at (Table es rows) st = meet-table (at + 3) es rows st
+
+unfoldable pub stmt-text : List ℤ → (ℕ → Domain) → ℕ → Stmt → ℕ → List ℤ
+stmt-text w dom at (Rule e) n = texts (items (rule-trees e (at + 1) n)) w (bump n (splits e false)) []
+stmt-text w dom at (Table es rows) n = table-text w dom (at + 3) es rows n
+
+unfoldable pub stmt-count : List ℤ → ℕ → Stmt → ℕ → ℕ
+stmt-count w at (Rule e) n = counts (items (rule-trees e (at + 1) n)) w (bump n (splits e false))
+stmt-count w at (Table es rows) n = bump n (table-fresh (length es) rows)
+
+unfoldable pub meet-stmts : ℕ → List Stmt → State → State
+meet-stmts at [] st = st
+meet-stmts at (t ∷ ts) st = meet-stmts (at + length (encode-stmt t)) ts (meet-stmt at t st)
+
+unfoldable pub stmts-text : List ℤ → (ℕ → Domain) → ℕ → List Stmt → ℕ → List ℤ
+stmts-text w dom at [] n = []
+stmts-text w dom at (t ∷ ts) n = stmt-text w dom at t n ++ stmts-text w dom (at + length (encode-stmt t)) ts (stmt-count w at t n)
+
+-- ---- what a statement has to be
+
+abbrev pub LegalStmt : Stmt → Type 0
+LegalStmt (Rule e) = LegalRule e 64
+LegalStmt (Table es rows) = EveryColumn (λ v. v < 256) es
+
+-- the words of the statement lie in the region of the folded words
+abbrev Inside : ℕ → Stmt → Type 0
+Inside at t = (512 ≤ at) × (at + length (encode-stmt t) ≤ bool-map)
+
+-- domains of emitted numbers that are those of the log
+abbrev pub Stable : List Domain → (ℕ → Domain) → Log → Type 0
+Stable ds dom s = (v : ℕ) → v < next-int s → dom v ≡ domain-of (emitted-domains ds s) v
+
+auxed-domains : (ds : List Domain) {s t : Log} → Auxed s t → (emitted-domains ds t ≡ emitted-domains ds s) × (next-int t ≡ next-int s)
+unfolding emitted-domains newest
+auxed-domains ds here = (refl, refl)
+auxed-domains ds (above a) = auxed-domains ds a
+
+supports-stable : (ds : List Domain) (dom : ℕ → Domain) (vs : List ℕ) (rows : List (List Cell)) (z : Log) → Stable ds dom (normalize-extension-supports ds vs rows z .1) → Stable ds dom z
+unfolding normalize-extension-supports
+supports-stable ds dom vs rows z = go (starred rows)
+  where
+    go : (t : Bool) → Stable ds dom (cond t (star-table vs rows z) (plain-table vs (map (domain-of (emitted-domains ds z)) vs) rows, z) .1) → Stable ds dom z
+    go true d v h =
+        let o : Log = star-table vs rows z .1 in
+        let a : Auxed z o = unfold star-table in disjunction-auxed (map (star-row vs) rows) z in
+        let e = auxed-domains ds a in
+        d v (omega (arith, e .1)) ∙ ap (λ (l : List Domain). domain-of l v) (e .0)
+    go false d v h = d v h
+
+module _ (F : List ℤ) (ds : List Domain) where
+  abbrev CR : Log → ℤ → LinearSum → Domain → Type 0
+  CR = ColumnRecord F ds
+
+  -- the numbers of a table's columns stand at their places
+  abbrev pub InPlace : List ℤ → ℕ → Stmt → Log → Type 0
+  InPlace w at (Rule e) s = Unit {0}
+  InPlace w at (Table es rows) s = Placed F ds w (at + 3) es s
+
+  pub record StmtPasses (at : ℕ) (t : Stmt) (st : State) (s : Log) : Type 0 where
+    pub numbered : Numbered CR (meet-stmt at t st) (normalize-stmt ds t s .1)
+    pub placed : InPlace (meet-stmt at t st .work) at t s
+    pub grown : Grown at (st .work) (meet-stmt at t st .work)
+    pub text : (w : List ℤ) (dom : ℕ → Domain) → Fit w (normalize-stmt ds t s .1) → InPlace w at t s → Stable ds dom (normalize-stmt ds t s .1)
+        → stmt-text w dom at t (st .bools) ≡ flat (map clause-words (normalize-stmt ds t s .0))
+    pub count : (w : List ℤ) → Fit w (normalize-stmt ds t s .1) → stmt-count w at t (st .bools) ≡ next-bool (normalize-stmt ds t s .1)
+
+  -- ---- a rule
+
+  rule-grows : (e : BoolExpr) (s : Log) → Grows s (normalize-and-register-expr e s .1)
+  unfolding normalize-conjunction
+  rule-grows e s =
+      let ts : Trees = rule-trees e 0 (next-bool s) in
+      let z : Log = split e false s .log in
+      let x = split-sided e false s in
+      let g : Grows s z = record { bools = omega (arith, x .bools); ints = omega (arith, x .ints); keep = λ v n h. x .keep v ∙ h; keep-int = λ v n h. x .keep-int v ∙ h } in
+      rw (rule-runs e 0 s) (then g (runs-grow ts z))
+
+  rule-kept : (e : BoolExpr) (at : ℕ) (s : Log) (st : State) → LegalRule e 64 → Numbered CR st s → Low (normalize-and-register-expr e s .1) → next-int (normalize-and-register-expr e s .1) < max-emitted
+      → Kept (st .work) (mets (items (rule-trees e at (st .bools))) (pass-bools (splits e false) st) .work)
+  unfolding mets item items conj-item pass-bools ties resolve normalize-conjunction
+  rule-kept e at s st (true-rule x) h l r = kept-same (st .work)
+  rule-kept e at s st (legal-rule x) h l r =
+      let ts : Trees = rule-trees e at (next-bool s) in
+      let z : Log = split e false s .log in
+      let i : normalize-and-register-expr e s ≡ normalize-conjunction (runs ts) z = rule-runs e at s in
+      let k : Low (runs ts z .1) = rw i at l in
+      let m : next-int (runs ts z .1) < max-emitted = rw i at r in
+      let j : next-bool z ≤ limit = omega (arith, runs-grow ts z .bools, k .bools) in
+      let n : next-bool s + splits e false ≤ limit = omega (arith, split-sided e false s .bools) in
+      subst (λ (n : ℕ). Kept (st .work) (mets (items (rule-trees e at n)) (pass-bools (splits e false) st) .work)) (sym (h .bools)) (trees-kept CR ts (rule-propers e 64 at (next-bool s) x n) z (pass-bools (splits e false) st) (split-num CR e false st s h j) k m)
+
+  rule-stmt : (at : ℕ) (e : BoolExpr) (st : State) (s : Log) → LegalRule e 64 → Numbered CR st s → Low (normalize-and-register-expr e s .1) → next-int (normalize-and-register-expr e s .1) < max-emitted → StmtPasses at (Rule e) st s
+  unfolding meet-stmt stmt-text stmt-count normalize-stmt
+  rule-stmt at e st s x h l r =
+      let p = rule-passes CR e 64 (at + 1) s st x h l in
+      record {
+        numbered = p .numbered;
+        placed = tt;
+        grown = kept-grown at (rule-kept e (at + 1) s st x h l r);
+        text = λ w dom f i d. p .text w f;
+        count = λ w f. p .count w f;
+      }
+
+  -- ---- a table
+
+  table-words : (at : ℕ) (es : List IntExpr) (rows : List (List Cell)) → Has F at (encode-stmt (Table es rows)) → Has F (at + 3) (flat (map encode-int es))
+  unfolding encode-stmt
+  table-words at es rows h = has-front F (at + 3) (flat (map encode-int es)) (flat (map (map encode-cell) rows)) (has-back F at (pos 2 ∷ pos (length es) ∷ pos (length rows) ∷ []) _ h)
+
+  table-length : (es : List IntExpr) (rows : List (List Cell)) → 3 + length (flat (map encode-int es)) ≤ length (encode-stmt (Table es rows))
+  unfolding encode-stmt
+  table-length es rows = omega (arith, length-append (flat (map encode-int es)) (flat (map (map encode-cell) rows)))
+
+  table-stmt : (at : ℕ) (es : List IntExpr) (rows : List (List Cell)) (st : State) (s : Log) → Inside at (Table es rows) → Has F at (encode-stmt (Table es rows)) → EveryColumn (λ v. v < 256) es → Numbered CR st s → Low (normalize-table ds es rows s .1) → next-int (normalize-table ds es rows s .1) < max-emitted → StmtPasses at (Table es rows) st s
+  unfolding meet-stmt stmt-text stmt-count normalize-stmt
+  table-stmt at es rows st s i f v h l r =
+      let t = table-passes F ds (at + 3) es rows st s (omega arith) (omega (arith, table-length es rows)) (table-words at es rows f) v h l r in
+      record {
+        numbered = t .numbered;
+        placed = t .placed;
+        grown = grown-less F ds at (at + 3) (omega arith) (t .grown);
+        text = λ w dom f p d. t .text w dom f p (unfold normalize-table in supports-stable ds dom (equivalent-int-vars ds es s .vars) rows (equivalent-int-vars ds es s .log) d);
+        count = λ w f. t .count;
+      }
+
+  -- ---- all statements
+
+  abbrev LegalStmts : List Stmt → Type 0
+  LegalStmts [] = Unit {0}
+  LegalStmts (t ∷ ts) = LegalStmt t × LegalStmts ts
+
+  unfoldable pub AllInPlace : List ℤ → ℕ → List Stmt → Log → Type 0
+  AllInPlace w at [] s = Unit {0}
+  AllInPlace w at (t ∷ ts) s = InPlace w at t s × AllInPlace w (at + length (encode-stmt t)) ts (normalize-stmt ds t s .1)
+
+  pub stmt-passes : (at : ℕ) (t : Stmt) (st : State) (s : Log) → Inside at t → Has F at (encode-stmt t) → LegalStmt t → Numbered CR st s → Low (normalize-stmt ds t s .1) → next-int (normalize-stmt ds t s .1) < max-emitted → StmtPasses at t st s
+  stmt-passes at (Rule e) st s i f x h l r = rule-stmt at e st s x h (unfold normalize-stmt in l) (unfold normalize-stmt in r)
+  stmt-passes at (Table es rows) st s i f x h l r = table-stmt at es rows st s i f x h (unfold normalize-stmt in l) (unfold normalize-stmt in r)
+
+  stmt-grows : (t : Stmt) (s : Log) → LegalStmt t → Grows s (normalize-stmt ds t s .1)
+  unfolding normalize-stmt
+  stmt-grows (Rule e) s x = rule-grows e s
+  stmt-grows (Table es rows) s x = table-grows F ds es rows s
+
+  stmts-grow : (ts : List Stmt) (s : Log) → LegalStmts ts → Grows s (normalize-stmts ds ts s .1)
+  unfolding normalize-stmts
+  stmts-grow [] s x = same
+  stmts-grow (t ∷ ts) s x = then (stmt-grows t s (x .0)) (stmts-grow ts (normalize-stmt ds t s .1) (x .1))
+
+  in-place-keeps : (w w' : List ℤ) (at : ℕ) (t : Stmt) (s : Log) → 512 ≤ at → Grown (at + length (encode-stmt t)) w w' → InPlace w at t s → InPlace w' at t s
+  in-place-keeps w w' at (Rule e) s l g h = tt
+  in-place-keeps w w' at (Table es rows) s l g h = placed-keeps F ds w w' (at + 3) es s (omega arith) (grown-less F ds _ (at + length (encode-stmt (Table es rows))) (omega (arith, table-length es rows)) g) h
+
+  -- what is stable behind the later statements is stable in front of them
+  stable-back : (dom : ℕ → Domain) (ε : IVal) (ts : List Stmt) (s : Log) → Each Plain ts → EveryStmts (λ v. Unit {0}) (Standing ds ε) ts → Stable ds dom (normalize-stmts ds ts s .1) → Stable ds dom s
+  stable-back dom ε ts s p q d v h =
+      let g : GrowsFrom ε s (normalize-stmts ds ts s .1) = stmts-mean (λ n. false) ε (λ n. false) ε ds ts s p q .grows in
+      let l : next-int s ≤ next-int (normalize-stmts ds ts s .1) = grows-int g in
+      d v (omega arith) ∙ domain-stays ds g v h
+
+  pub record StmtsPasses (at : ℕ) (ts : List Stmt) (st : State) (s : Log) : Type 0 where
+    pub numbered : Numbered CR (meet-stmts at ts st) (normalize-stmts ds ts s .1)
+    pub placed : AllInPlace (meet-stmts at ts st .work) at ts s
+    pub grown : Grown at (st .work) (meet-stmts at ts st .work)
+    pub text : (w : List ℤ) (dom : ℕ → Domain) → Fit w (normalize-stmts ds ts s .1) → AllInPlace w at ts s → Stable ds dom (normalize-stmts ds ts s .1)
+        → stmts-text w dom at ts (st .bools) ≡ flat (map clause-words (normalize-stmts ds ts s .0))
+
+  abbrev words-of : List Stmt → List ℤ
+  words-of ts = flat (map encode-stmt ts)
+
+  module _ (ε : IVal) where
+    pub stmts-passes : (at : ℕ) (ts : List Stmt) (st : State) (s : Log) → 512 ≤ at → at + length (words-of ts) ≤ bool-map → Has F at (words-of ts) → LegalStmts ts → Each Plain ts → EveryStmts (λ v. Unit {0}) (Standing ds ε) ts
+        → Numbered CR st s → Low (normalize-stmts ds ts s .1) → next-int (normalize-stmts ds ts s .1) < max-emitted → StmtsPasses at ts st s
+    unfolding meet-stmts stmts-text normalize-stmts AllInPlace EveryStmts
+    stmts-passes at [] st s i k f x p q h l r = record { numbered = h; placed = tt; grown = grown-same at (st .work); text = λ w dom f a d. refl }
+    stmts-passes at (t ∷ ts) st s i k f x p q h l r =
+        let a : Out = normalize-stmt ds t s in
+        let at' : ℕ = at + length (encode-stmt t) in
+        let n : length (words-of (t ∷ ts)) ≡ length (encode-stmt t) + length (words-of ts) = length-append (encode-stmt t) (words-of ts) in
+        let g : Grows (a .1) (normalize-stmts ds ts (a .1) .1) = stmts-grow ts (a .1) (x .1) in
+        let y = stmt-passes at t st s (i, omega arith) (has-front F at (encode-stmt t) (words-of ts) f) (x .0) h (low-back g l) (omega (arith, g .ints)) in
+        let z = stmts-passes at' ts (meet-stmt at t st) (a .1) (omega arith) (omega arith) (has-back F at (encode-stmt t) (words-of ts) f) (x .1) (p .1) (q .1) (y .numbered) l r in
+        record {
+          numbered = z .numbered;
+          placed = (in-place-keeps _ _ at t s i (z .grown) (y .placed), z .placed);
+          grown = grown-then at at' _ _ _ (omega arith) (y .grown) (z .grown);
+          text = λ w dom fit ip d.
+              let f₁ = back g fit in
+              let e₁ = y .text w dom f₁ (ip .0) (stable-back dom ε ts (a .1) (p .1) (q .1) d) in
+              let c : stmt-count w at t (st .bools) ≡ meet-stmt at t st .bools = y .count w f₁ ∙ sym (y .numbered .bools) in
+              let e₂ = z .text w dom fit (ip .1) d in
+              rw (e₁, c, e₂) (sym (words-append F ds (a .0) (normalize-stmts ds ts (a .1) .0)));
+        }
