@@ -1,2 +1,4 @@
 pub mod SkipLaws
 pub mod PropLaws
+pub mod StmtLaws
+pub mod PropStmtLaws

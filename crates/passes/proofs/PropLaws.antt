@@ -69,7 +69,7 @@ module _ (out mid out' : List ℤ) (st st' : ℕ) (next : Fixed → Status) wher
   pub then-props : (s : Status) (p : Propagates s out mid st) (n : ℕ) → Propagates (next (p .after)) mid out' st' → n ≡ worst-num st st' → Propagates (and-then s next) out out' n
   then-props s p n q h = rw h (then-at s p q)
 
-as-status : (s t : Status) (out out' : List ℤ) (n : ℕ) → s ≡ t → Propagates t out out' n → Propagates s out out' n
+pub as-status : (s t : Status) (out out' : List ℤ) (n : ℕ) → s ≡ t → Propagates t out out' n → Propagates s out out' n
 as-status s t out out' n e p = subst (λ x. Propagates x out out' n) (sym e) p
 
 -- ---- what stands above stays
@@ -344,18 +344,24 @@ worst-max a b = go (ltb a b) refl
     go true h = let l : a < b = ltb-true a b h in omega arith
     go false h = let l : b ≤ a = ltb-false a b h in omega arith
 
-worst-assoc : (a b c : ℕ) → worst-num a (worst-num b c) ≡ worst-num (worst-num a b) c
+pub worst-assoc : (a b c : ℕ) → worst-num a (worst-num b c) ≡ worst-num (worst-num a b) c
 worst-assoc a b c = rw (worst-max b c, worst-max a (max b c), worst-max a b, worst-max (max a b) c) (omega arith)
+
+pub worst-zero : (s : ℕ) → worst-num 0 s ≡ s
+worst-zero s = worst-max 0 s ∙ omega arith
+
+pub worst-none : (t : ℕ) → worst-num t 0 ≡ t
+worst-none t = worst-max t 0 ∙ omega arith
 
 module _ (out : List ℤ) (at n want : ℕ) (out' : List ℤ) (next : ℕ) where
   pub status-start : (s : ℕ) → Members-post out at n want out' next s → Members-post out at n want out' next (worst-num 0 s)
-  status-start s p = subst (Members-post out at n want out' next) (let e : s ≡ max 0 s = omega arith in e ∙ sym (worst-max 0 s)) p
+  status-start s p = subst (Members-post out at n want out' next) (sym (worst-zero s)) p
 
   pub status-next : (t a s t' : ℕ) → t' ≡ worst-num t a → Members-post out at n want out' next (worst-num t (worst-num a s)) → Members-post out at n want out' next (worst-num t' s)
   status-next t a s t' e p = subst (Members-post out at n want out' next) (worst-assoc t a s ∙ ap (λ x. worst-num x s) (sym e)) p
 
   pub status-end : (t : ℕ) → Members-post out at n want out' next (worst-num t 0) → Members-post out at n want out' next t
-  status-end t p = subst (Members-post out at n want out' next) (worst-max t 0 ∙ omega arith) p
+  status-end t p = subst (Members-post out at n want out' next) (worst-none t) p
 
 pub stands-first : (out : List ℤ) (at : ℕ) → Stands out at → Plain out at
 stands-first out at s = record { inside = omega (arith, inside (s .ints) out at (s .it) (s .reads), reads-long _ out at (s .it) (s .reads)); value = tag (s .it); is = first-word max-bools _ out at (s .it) (s .reads .vars) (s .reads .words) }

@@ -1,2 +1,3 @@
 pub mod Want
 pub mod Contracts
+pub mod Statements

@@ -5,11 +5,18 @@ ghost use mathlib.Core.Bool.{Bool};
 ghost use mathlib.Core.List.{List};
 ghost use Prim.Native.Nat.{ℕ, _+_, _*_, _-_, _≤_, _<_};
 ghost use lib.IntN.{ℤ, pos};
-ghost use lib.ListN.{length, getD};
+ghost use lib.ListN.{length, take, drop, getD};
+ghost use Rattle.laws.specs.Slices.{Stored};
 ghost use Rattle.fold.specs.Table.{state-num};
 ghost use Rattle.fold.specs.Steps.{state-of};
 ghost use Rattle.passes.specs.Want.{worst-num, clash-num, set-status, set-words, flip-num, pass-num, left-num, right-num};
 ghost use Rattle.passes.specs.Contracts.{Some-int, Some-terms, Count-post, Skip-post, Skip-terms-post, Stands, Stand-members, Comparison-post, Prop-post, Members-post};
+ghost use Rattle.passes.specs.Statements.{Ready-columns, Columns-post, Ready-stmt, Stmt-post, Ready-stmts, Stmts-post, Stands-stmt, Prop-stmt-post, Stand-stmts, Prop-stmts-post, Some-columns, Skip-columns-post, Skip-table-post};
+
+pub struct Span {
+    pub next: usize,
+    pub end: usize,
+}
 
 pub struct Required {
     pub next: usize,
@@ -202,4 +209,156 @@ pub fn constant_prop_bool(work: &mut [i32], at: usize, want: usize) -> Required
         next: b.next,
         status,
     }
+}
+
+// ---- folding statements
+
+// The n words from `at` on, written from `o` on.
+pub fn copy_words(words: &[i32], at: usize, n: usize, work: &mut [i32], o: usize) -> usize
+    requires { ⌜ (at + n ≤ length (now words)) × (o + n ≤ length (now work)) ⌝ }
+    ensures { λ r. ⌜ Stored (now (work .entry)) o (take n (drop at (now (words .entry)))) (now (work .exit)) r ⌝ }
+{
+    let mut i = 0;
+    while i < n {
+        fold::copy_word(words, at + i, work, o + i);
+        i += 1;
+    }
+    o + n
+}
+
+pub fn fold_columns(
+    words: &[i32],
+    d: usize,
+    at: usize,
+    n: usize,
+    work: &mut [i32],
+    o: usize,
+) -> Span
+    requires { ⌜ Ready-columns (now words) d at n (now work) o ⌝ }
+    ensures { λ r. ⌜ Columns-post (now (words .entry)) d at n (now (work .entry)) o (now (work .exit)) (r .next) (r .end) ⌝ }
+{
+    let mut next = at;
+    let mut end = o;
+    let mut rest = n;
+    while rest != 0 {
+        let a = fold::constant_folding_int(words, d, next, work, end);
+        next = a.next;
+        end = a.end;
+        rest = rest - 1;
+    }
+    Span { next, end }
+}
+
+// A table: its header and rows as they are, its columns folded.
+pub fn fold_table(words: &[i32], d: usize, at: usize, work: &mut [i32], o: usize) -> Span
+    requires { ⌜ Ready-stmt (now words) d at (now work) o ⌝ }
+    requires { ⌜ (getD (now words) at (pos 0) ≡ pos 1 → ⊥) ⌝ }
+    ensures { λ r. ⌜ Stmt-post (now (words .entry)) d at (now (work .entry)) o (now (work .exit)) (r .next) (r .end) ⌝ }
+{
+    let n = fold::number(words, at + 1);
+    let k = fold::number(words, at + 2);
+    fold::put(work, o, 2);
+    let m = fold::put_two(work, o + 1, n, k);
+    let a = fold_columns(words, d, at + 3, n, work, m);
+    let cells = n * k;
+    let end = copy_words(words, a.next, cells, work, a.end);
+    Span {
+        next: a.next + cells,
+        end,
+    }
+}
+
+pub fn fold_stmt(words: &[i32], d: usize, at: usize, work: &mut [i32], o: usize) -> Span
+    requires { ⌜ Ready-stmt (now words) d at (now work) o ⌝ }
+    ensures { λ r. ⌜ Stmt-post (now (words .entry)) d at (now (work .entry)) o (now (work .exit)) (r .next) (r .end) ⌝ }
+{
+    let w = fold::number(words, at);
+    if w == 1 {
+        fold::put(work, o, 1);
+        let f = fold::constant_folding_bool(words, d, at + 1, work, o + 1);
+        return Span {
+            next: f.next,
+            end: f.end,
+        };
+    }
+    fold_table(words, d, at, work, o)
+}
+
+// As many statements as `count` says.
+pub fn fold_stmts(
+    words: &[i32],
+    d: usize,
+    at: usize,
+    count: usize,
+    work: &mut [i32],
+    o: usize,
+) -> Span
+    requires { ⌜ Ready-stmts (now words) d at count (now work) o ⌝ }
+    ensures { λ r. ⌜ Stmts-post (now (words .entry)) d at count (now (work .entry)) o (now (work .exit)) (r .next) (r .end) ⌝ }
+{
+    let mut next = at;
+    let mut end = o;
+    let mut rest = count;
+    while rest != 0 {
+        let a = fold_stmt(words, d, next, work, end);
+        next = a.next;
+        end = a.end;
+        rest = rest - 1;
+    }
+    Span { next, end }
+}
+
+// ---- requiring each rule
+
+pub fn skip_columns(words: &[i32], at: usize, n: usize) -> usize
+    requires { ⌜ Some-columns (now words) at n ⌝ }
+    ensures { λ r. ⌜ Skip-columns-post (now (words .entry)) at n r ⌝ }
+{
+    let mut next = at;
+    let mut rest = n;
+    while rest != 0 {
+        next = skip_int(words, next);
+        rest = rest - 1;
+    }
+    next
+}
+
+pub fn skip_table(words: &[i32], at: usize) -> usize
+    requires { ⌜ Stands-stmt (now words) at ⌝ }
+    requires { ⌜ (getD (now words) at (pos 0) ≡ pos 1 → ⊥) ⌝ }
+    ensures { λ r. ⌜ Skip-table-post (now (words .entry)) at r ⌝ }
+{
+    let n = fold::number(words, at + 1);
+    let k = fold::number(words, at + 2);
+    let m = skip_columns(words, at + 3, n);
+    m + n * k
+}
+
+pub fn prop_stmt(work: &mut [i32], at: usize) -> Required
+    requires { ⌜ Stands-stmt (now work) at ⌝ }
+    ensures { λ r. ⌜ Prop-stmt-post (now (work .entry)) at (now (work .exit)) (r .next) (r .status) ⌝ }
+{
+    let w = fold::number(work, at);
+    if w == 1 {
+        return constant_prop_bool(work, at + 1, 1);
+    }
+    let next = skip_table(work, at);
+    Required { next, status: 0 }
+}
+
+// As many statements as `count` says; the worst status counts.
+pub fn constant_prop_stmts(work: &mut [i32], at: usize, count: usize) -> usize
+    requires { ⌜ Stand-stmts (now work) at count ⌝ }
+    ensures { λ r. ⌜ Prop-stmts-post (now (work .entry)) at count (now (work .exit)) r ⌝ }
+{
+    let mut next = at;
+    let mut rest = count;
+    let mut status = 0;
+    while rest != 0 {
+        let a = prop_stmt(work, next);
+        next = a.next;
+        status = worst(status, a.status);
+        rest = rest - 1;
+    }
+    status
 }

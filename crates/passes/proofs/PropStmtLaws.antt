@@ -1,0 +1,147 @@
+-- What requiring statements asks and gives at each step, over variables. Assumes nothing.
+use Prim.Native.Nat.{ℕ, zero, suc, _+_, _-_, _*_, _≤_, _<_}
+use mathlib.Core.Path.{_≡_, refl, sym, ap, _∙_, subst}
+use mathlib.Core.Bool.{Bool, true, false}
+use mathlib.Core.Option.{some}
+use mathlib.Core.List.{List, [], _∷_, _++_, map}
+use native.Mathlib.Omega.{arith}
+use lib.IntN.{ℤ, pos}
+use lib.ListN.{length, drop, getD, length-append}
+use Rattle.laws.specs.Lists.{flat}
+use Rattle.laws.specs.Slices.{Has}
+use Rattle.syntax.specs.Words.{max-bools}
+use Rattle.syntax.specs.Syntax.{IntExpr, BoolExpr, Cell, Stmt, Rule, Table, encode-int, encode-bool, encode-cell, encode-stmt}
+use Rattle.fold.specs.Fold.{Fixed}
+use Rattle.fold.specs.Optimize.{Status, updated, and-then, constant-prop-bool, constant-prop-stmts}
+use Rattle.fold.specs.Steps.{Plain, Reads, Reads-int}
+use Rattle.passes.specs.Want.{status-num, worst-num, Values, Propagates}
+use Rattle.passes.specs.Contracts.{Int-at, Some-int, Skip-post, Stands, Requires, Prop-post}
+use Rattle.passes.specs.Statements.{Reads-columns, Reads-stmt, Reads-stmts, prop-stmt, prop-stmts-more, Stands-stmt, Stand-stmts, Requires-stmt, Prop-stmt-post, Prop-stmts-post, Some-columns, Skip-columns-post, Skip-table-post}
+use Rattle.passes.proofs.StmtLaws.{columns-inv, stmt-inside, stmt-length, stmt-plain, rule-inv, table-inv, stmts-inv}
+use Rattle.passes.proofs.PropLaws.{still, then-props, as-status, worst-assoc, worst-none, worst-zero, has-up}
+
+pos-eq : (z : ℤ) (m n : ℕ) → z ≡ pos m → z ≡ pos n → m ≡ n
+pos-eq z m n p q = cc
+
+-- ---- `skip_columns`
+
+pub columns-end : (ws : List ℤ) (at n : ℕ) → n ≡ 0 → Skip-columns-post ws at n at
+columns-end ws at n h ni [] r = omega arith
+columns-end ws at n h ni (e ∷ es) r = absurd (let s : n ≡ suc (length es) = r .size in omega arith)
+
+module _ (ws : List ℤ) (at n : ℕ) (z : n ≡ 0 → ⊥) where
+  pub column-stands : Some-columns ws at n → Some-int ws at
+  column-stands s = columns-inv ws 0 at n ws 0 z _ (s .them) (s .reads) λ e fs q re rs. record { it = e; stands = record { words = re .words } }
+
+  module _ (m : ℕ) (p : Skip-post ws at m) where
+    pub columns-stand : Some-columns ws at n → Some-columns ws m (n - 1)
+    columns-stand s =
+        columns-inv ws 0 at n ws 0 z _ (s .them) (s .reads) λ e fs q re rs.
+        let x : m ≡ at + length (encode-int e) = p e (record { words = re .words }) in
+        record { ints = s .ints; them = fs; reads = rw x rs }
+
+    pub columns-skip : (r : ℕ) → Skip-columns-post ws m (n - 1) r → Skip-columns-post ws at n r
+    columns-skip r p' ni es rd =
+        columns-inv ws 0 at n ws 0 z ni es rd λ e fs q re rs.
+        let x : m ≡ at + length (encode-int e) = p e (record { words = re .words }) in
+        let y : r ≡ m + length (flat (map encode-int fs)) = p' ni fs (rw x rs) in
+        rw q (omega (arith, length-append (encode-int e) (flat (map encode-int fs))))
+
+-- ---- `skip_table`
+
+module _ (out : List ℤ) (at : ℕ) where
+  pub stmt-fits : Stands-stmt out at → at + 3 ≤ length out
+  stmt-fits s = omega (arith, stmt-inside _ out at (s .it) (s .reads), stmt-length _ out at (s .it) (s .reads))
+
+  module _ (n1 : getD out at (pos 0) ≡ pos 1 → ⊥) where
+    pub columns-word : Stands-stmt out at → Plain out (at + 1)
+    columns-word s = table-inv _ out at (s .it) (s .reads) n1 λ es rows q hn hk rc rr ln. record { inside = omega (arith, stmt-fits s); value = length es; is = hn }
+
+    pub rows-word : Stands-stmt out at → Plain out (at + 2)
+    rows-word s = table-inv _ out at (s .it) (s .reads) n1 λ es rows q hn hk rc rr ln. record { inside = omega (arith, stmt-fits s); value = length rows; is = hk }
+
+    module _ (n k : ℕ) (hn : getD out (at + 1) (pos 0) ≡ pos n) (hk : getD out (at + 2) (pos 0) ≡ pos k) where
+      pub table-columns : Stands-stmt out at → Some-columns out (at + 3) n
+      table-columns s =
+          table-inv _ out at (s .it) (s .reads) n1 λ es rows q hn' hk' rc rr ln.
+          record { ints = s .ints; them = es; reads = record { words = rc .words; vars = rc .vars; size = pos-eq _ _ _ hn hn' } }
+
+      module _ (m : ℕ) (p : Skip-columns-post out (at + 3) n m) where
+        skips : (ni : ℕ) (s : Stmt) → Reads-stmt ni out at s → m + n * k ≡ at + length (encode-stmt s)
+        unfolding encode-stmt
+        skips ni s r =
+            table-inv ni out at s r n1 λ es rows q hn' hk' rc rr ln.
+            let en : n ≡ length es = pos-eq _ _ _ hn hn' in
+            let ek : k ≡ length rows = pos-eq _ _ _ hk hk' in
+            let x : m ≡ at + 3 + length (flat (map encode-int es)) = p ni es (record { words = rc .words; vars = rc .vars; size = en }) in
+            let y : length (flat (map (map encode-cell) rows)) ≡ n * k = rw (en, ek) ln in
+            rw q (omega (arith, length-append (flat (map encode-int es)) (flat (map (map encode-cell) rows))))
+
+        pub table-skips : Skip-table-post out at (m + n * k)
+        table-skips ni s r = skips ni s r
+
+        pub table-fits : Stands-stmt out at → m + n * k ≤ length out
+        table-fits s = omega (arith, stmt-inside _ out at (s .it) (s .reads), skips _ (s .it) (s .reads))
+
+  -- ---- `prop_stmt`
+
+  module _ (w : ℕ) (hw : getD out at (pos 0) ≡ pos w) where
+    pub rule-stands : Stands-stmt out at → w ≡ 1 → Stands out (at + 1)
+    rule-stands s h = rule-inv _ out at (s .it) (s .reads) w hw h λ e q re. record { fixed = s .fixed; values = s .values; ints = s .ints; it = e; reads = re; low = omega (arith, s .low) }
+
+    pub rule-props : (out' : List ℤ) (next st : ℕ) → w ≡ 1 → Prop-post out (at + 1) 1 out' next st → Prop-stmt-post out at out' next st
+    unfolding encode-stmt
+    rule-props out' next st h p ni f s vs r lo =
+        rule-inv ni out at s r w hw h λ e q re.
+        let g = p ni f e (some true) vs re (omega arith) refl in
+        rw q (record { nexts = g .nexts ∙ omega arith; props = g .props })
+
+  pub table-props : (next : ℕ) → (getD out at (pos 0) ≡ pos 1 → ⊥) → Skip-table-post out at next → Prop-stmt-post out at out next 0
+  table-props next n1 p ni f s vs r lo =
+      let n : next ≡ at + length (encode-stmt s) = p ni s r in
+      table-inv ni out at s r n1 λ es rows q hn hk rc rr ln.
+      record { nexts = n; props = rw q (still out f vs) }
+
+  pub stands-plain : Stands-stmt out at → Plain out at
+  stands-plain s = stmt-plain _ out at (s .it) (s .reads)
+
+-- ---- `constant_prop_stmts`
+
+pub stmts-none : (out : List ℤ) (at n : ℕ) → n ≡ 0 → Prop-stmts-post out at n out 0
+unfolding constant-prop-stmts
+stmts-none out at n h ni f [] vs r lo = still out f vs
+stmts-none out at n h ni f (s ∷ ss) vs r lo = absurd (let z : n ≡ suc (length ss) = r .size in omega arith)
+
+stmts-up : (ni : ℕ) (out out' : List ℤ) (at n : ℕ) (ss : List Stmt) → drop max-bools out' ≡ drop max-bools out → max-bools ≤ at → Reads-stmts ni out at n ss → Reads-stmts ni out' at n ss
+stmts-up ni out out' at n ss d h r = record { words = has-up out out' at (flat (map encode-stmt ss)) d h (r .words); vars = r .vars; size = r .size }
+
+module _ (out : List ℤ) (at n : ℕ) (z : n ≡ 0 → ⊥) where
+  pub stmt-stands : Stand-stmts out at n → Stands-stmt out at
+  stmt-stands s = stmts-inv out at n _ z (s .them) (s .reads) λ x ts q rx rt. record { fixed = s .fixed; values = s .values; ints = s .ints; it = x; reads = rx; low = s .low }
+
+  module _ (mid : List ℤ) (next st : ℕ) (p : Prop-stmt-post out at mid next st) where
+    pub stmts-stand : Stand-stmts out at n → Stand-stmts mid next (n - 1)
+    stmts-stand s =
+        stmts-inv out at n _ z (s .them) (s .reads) λ x ts q rx rt.
+        let g = p (s .ints) (s .fixed) x (s .values) rx (s .low) in
+        let nx : next ≡ at + length (encode-stmt x) = g .nexts in
+        record { fixed = g .props .after; values = g .props .values; ints = s .ints; them = ts; reads = rw nx (stmts-up _ out mid (at + length (encode-stmt x)) (n - 1) ts (g .props .high) (omega (arith, s .low)) rt); low = omega (arith, s .low) }
+
+    pub stmts-more : (out' : List ℤ) (st' : ℕ) → Prop-stmts-post mid next (n - 1) out' st' → Prop-stmts-post out at n out' (worst-num st st')
+    stmts-more out' st' p' ni f ss vs r lo =
+        stmts-inv out at n ni z ss r λ x ts q rx rt.
+        let g = p ni f x vs rx lo in
+        let nx : next ≡ at + length (encode-stmt x) = g .nexts in
+        let g' = p' ni (g .props .after) ts (g .props .values) (rw nx (stmts-up ni out mid (at + length (encode-stmt x)) (n - 1) ts (g .props .high) (omega arith) rt)) (omega arith) in
+        rw q (as-status _ _ out out' (worst-num st st') (prop-stmts-more x ts f) (then-props out mid out' st st' (constant-prop-stmts ts) (prop-stmt x f) (g .props) (worst-num st st') g' refl))
+
+-- what the loop adds up, and what is left
+module _ (out : List ℤ) (at n : ℕ) (out' : List ℤ) where
+  pub status-start : (s : ℕ) → Prop-stmts-post out at n out' s → Prop-stmts-post out at n out' (worst-num 0 s)
+  status-start s p = subst (Prop-stmts-post out at n out') (sym (worst-zero s)) p
+
+  pub status-next : (t a s t' : ℕ) → t' ≡ worst-num t a → Prop-stmts-post out at n out' (worst-num t (worst-num a s)) → Prop-stmts-post out at n out' (worst-num t' s)
+  status-next t a s t' e p = subst (Prop-stmts-post out at n out') (worst-assoc t a s ∙ ap (λ x. worst-num x s) (sym e)) p
+
+  pub status-end : (t : ℕ) → Prop-stmts-post out at n out' (worst-num t 0) → Prop-stmts-post out at n out' t
+  status-end t p = subst (Prop-stmts-post out at n out') (worst-none t) p
