@@ -17,7 +17,7 @@ use Rattle.syntax.specs.Words.{star-word, max-bools, max-ints, max-count, max-v
 use Rattle.syntax.specs.Syntax.{encode-domain, encode-int, encode-bool, encode-cell, encode-stmt, encode, Domain, Range, Enumerative, IntExpr, Cell, star, value, Stmt, Rule, Table, Problem}
 use Rattle.words.specs.Parse.{Parsed, ok, refuse, Parser, bind, times, word, up-to, count, in-value-range, number}
 use Rattle.words.specs.Exact.{Exact, refuse-ok, bind-ok, cond-ok, word-ok, number-words, Value, up-to-exact, count-exact, number-exact, Each, times-exact}
-use Rattle.read.specs.Read.{read-range, size-at, read-rising, read-enumerative, read-domain, read-cell, read-int, read-bool, read-table, read-stmt, at-end, read-problem, read-set}
+use Rattle.read.specs.Read.{read-range, size-at, size-of, read-rising, read-enumerative, read-domain, read-cell, read-int, read-bool, read-table, read-stmt, at-end, read-problem, read-set}
 use Rattle.read.specs.WellFormed.{RisingFrom, Rising, WellDomain, WellInt, WellBool, WellCell, WellRow, WellStmt, WellFormed}
 use Rattle.read.specs.ExactExpr.{int-exact, bool-exact}
 
@@ -51,7 +51,7 @@ range-complete low high r h =
     below true e = sym e
     below false e = refl
 
-size-exact : Exact number-words (λ n. (0 < n) × (n ≤ max-count)) (λ xs. bind (word xs) size-at)
+pub size-exact : Exact number-words (λ n. (0 < n) × (n ≤ max-count)) size-of
 size-exact = record {
   sound = λ xs n r h. bind-ok (word xs) size-at n r h λ w s hw hs. rw (word-ok xs w s hw) (at w s n r hs);
   complete = back;
@@ -103,7 +103,7 @@ rising-star (x ∷ l) h k = (above-star x (h .0), k)
 enumerative-sound : (xs : List ℤ) (d : Domain) (r : List ℤ) → read-enumerative xs ≡ ok d r → (pos 1 ∷ xs ≡ encode-domain d ++ r) × WellDomain d
 unfolding read-enumerative
 enumerative-sound xs d r h =
-    bind-ok (bind (word xs) size-at) _ d r h λ n s hn h1.
+    bind-ok (size-of xs) _ d r h λ n s hn h1.
     bind-ok (read-rising n star-word s) _ d r h1 λ l t hl h2.
     let m : Enumerative l ≡ d = cc in
     let q : t ≡ r = cc in
@@ -180,14 +180,14 @@ row-exact n =
 
 -- ---- statements
 
+pub columns-exact : (ni n : ℕ) → Exact (λ es. flat (map encode-int es)) (λ es. (length es ≡ n) × Each (WellInt ni max-depth) es) (times n (read-int ni max-depth))
+columns-exact ni = times-exact encode-int (WellInt ni max-depth) (read-int ni max-depth) (int-exact ni max-depth)
+
+pub rows-exact : (n k : ℕ) → Exact (λ rs. flat (map (map encode-cell) rs)) (λ rs. (length rs ≡ k) × Each (WellRow n) rs) (times k (times n read-cell))
+rows-exact n = times-exact (map encode-cell) (WellRow n) (times n read-cell) (row-exact n)
+
 module _ (nb ni : ℕ) where
-  columns-exact : (n : ℕ) → Exact (λ es. flat (map encode-int es)) (λ es. (length es ≡ n) × Each (WellInt ni max-depth) es) (times n (read-int ni max-depth))
-  columns-exact = times-exact encode-int (WellInt ni max-depth) (read-int ni max-depth) (int-exact ni max-depth)
-
-  rows-exact : (n k : ℕ) → Exact (λ rs. flat (map (map encode-cell) rs)) (λ rs. (length rs ≡ k) × Each (WellRow n) rs) (times k (times n read-cell))
-  rows-exact n = times-exact (map encode-cell) (WellRow n) (times n read-cell) (row-exact n)
-
-  table-sound : (xs : List ℤ) (c : Stmt) (r : List ℤ) → read-table nb ni xs ≡ ok c r → (pos 2 ∷ xs ≡ encode-stmt c ++ r) × WellStmt nb ni c
+  table-sound : (xs : List ℤ) (c : Stmt) (r : List ℤ) → read-table ni xs ≡ ok c r → (pos 2 ∷ xs ≡ encode-stmt c ++ r) × WellStmt nb ni c
   unfolding read-table encode-stmt
   table-sound xs c r h =
       bind-ok (count xs) _ c r h λ n s hn h1.
@@ -198,17 +198,17 @@ module _ (nb ni : ℕ) where
       let q : v ≡ r = cc in
       let i = count-exact .sound xs n s hn in
       let j = count-exact .sound s k t hk in
-      let l = columns-exact n .sound t es u he in
+      let l = columns-exact ni n .sound t es u he in
       let o = rows-exact n k .sound u rs v hr in
       let all : xs ≡ pos n ∷ pos k ∷ (flat (map encode-int es) ++ flat (map (map encode-cell) rs)) ++ v =
       i .0 ∙ ap (λ z. pos n ∷ z) (j .0 ∙ ap (λ z. pos k ∷ z) (l .0 ∙ ap (λ z. flat (map encode-int es) ++ z) (o .0) ∙ sym (append-assoc (flat (map encode-int es)) (flat (map (map encode-cell) rs)) v))) in
       rw (← m, ← q, l .1 .0, o .1 .0) (ap (λ z. pos 2 ∷ z) all, (i .1, j .1, l .1 .1, o .1 .1))
 
   table-complete : (es : List IntExpr) (rs : List (List Cell)) (r : List ℤ) → WellStmt nb ni (Table es rs)
-      → read-table nb ni (pos (length es) ∷ pos (length rs) ∷ (flat (map encode-int es) ++ flat (map (map encode-cell) rs)) ++ r) ≡ ok (Table es rs) r
+      → read-table ni (pos (length es) ∷ pos (length rs) ∷ (flat (map encode-int es) ++ flat (map (map encode-cell) rs)) ++ r) ≡ ok (Table es rs) r
   unfolding read-table
   table-complete es rs r h =
-      rw (append-assoc (flat (map encode-int es)) (flat (map (map encode-cell) rs)) r, count-exact .complete (length es) (pos (length rs) ∷ flat (map encode-int es) ++ (flat (map (map encode-cell) rs) ++ r)) (h .0), count-exact .complete (length rs) (flat (map encode-int es) ++ (flat (map (map encode-cell) rs) ++ r)) (h .1), columns-exact (length es) .complete es (flat (map (map encode-cell) rs) ++ r) (refl, h .2), rows-exact (length es) (length rs) .complete rs r (refl, h .3)) refl
+      rw (append-assoc (flat (map encode-int es)) (flat (map (map encode-cell) rs)) r, count-exact .complete (length es) (pos (length rs) ∷ flat (map encode-int es) ++ (flat (map (map encode-cell) rs) ++ r)) (h .0), count-exact .complete (length rs) (flat (map encode-int es) ++ (flat (map (map encode-cell) rs) ++ r)) (h .1), columns-exact ni (length es) .complete es (flat (map (map encode-cell) rs) ++ r) (refl, h .2), rows-exact (length es) (length rs) .complete rs r (refl, h .3)) refl
 
   pub stmt-exact : Exact encode-stmt (WellStmt nb ni) (read-stmt nb ni)
   unfolding read-stmt encode-stmt
@@ -225,12 +225,12 @@ module _ (nb ni : ℕ) where
           let i = bool-exact nb ni max-depth .sound s e t he in
           rw (← m, ← q) (ap (λ z. pos 1 ∷ z) (i .0), i .1)
 
-      table-or : (w : ℤ) (s : List ℤ) (c : Stmt) (r : List ℤ) (t : Bool) → eqZ w (pos 2) ≡ t → cond t (read-table nb ni s) (refuse 5) ≡ ok c r → (w ∷ s ≡ encode-stmt c ++ r) × WellStmt nb ni c
+      table-or : (w : ℤ) (s : List ℤ) (c : Stmt) (r : List ℤ) (t : Bool) → eqZ w (pos 2) ≡ t → cond t (read-table ni s) (refuse 5) ≡ ok c r → (w ∷ s ≡ encode-stmt c ++ r) × WellStmt nb ni c
       table-or w s c r true e h = rw (eqZ-is w (pos 2) e) (table-sound s c r h)
       table-or w s c r false e h = refuse-ok 5 c r h
 
       rule-or : (w : ℤ) (s : List ℤ) (c : Stmt) (r : List ℤ) (t : Bool) → eqZ w (pos 1) ≡ t
-          → cond t (bind (read-bool nb ni max-depth s) (λ e t. ok (Rule e) t)) (cond (eqZ w (pos 2)) (read-table nb ni s) (refuse 5)) ≡ ok c r → (w ∷ s ≡ encode-stmt c ++ r) × WellStmt nb ni c
+          → cond t (bind (read-bool nb ni max-depth s) (λ e t. ok (Rule e) t)) (cond (eqZ w (pos 2)) (read-table ni s) (refuse 5)) ≡ ok c r → (w ∷ s ≡ encode-stmt c ++ r) × WellStmt nb ni c
       rule-or w s c r true e h = rw (eqZ-is w (pos 1) e) (rule s c r h)
       rule-or w s c r false e h = table-or w s c r (eqZ w (pos 2)) refl h
 

@@ -2,3 +2,4 @@ pub mod Read
 pub mod WellFormed
 pub mod ExactExpr
 pub mod Exact
+pub mod Position

@@ -24,6 +24,9 @@ size-at (pos zero) r = refuse 7
 size-at (pos (suc n)) r = cond (leb (suc n) max-count) (ok (suc n) r) (refuse 4)
 size-at (negsuc n) r = refuse 7
 
+abbrev pub size-of : Parser ℕ
+size-of xs = bind (word xs) size-at
+
 -- n values, each above the one before it
 unfoldable pub read-rising : ℕ → ℤ → Parser (List ℤ)
 read-rising zero before xs = ok [] xs
@@ -31,7 +34,7 @@ read-rising (suc n) before xs = bind (number xs) (λ x r. cond (ltZ before x) (b
 
 -- every value is above starWord
 unfoldable pub read-enumerative : Parser Domain
-read-enumerative xs = bind (bind (word xs) size-at) (λ n r. bind (read-rising n star-word r) (λ l s. ok (Enumerative l) s))
+read-enumerative xs = bind (size-of xs) (λ n r. bind (read-rising n star-word r) (λ l s. ok (Enumerative l) s))
 
 unfoldable pub read-domain : Parser Domain
 read-domain xs = bind (word xs) (λ w r. cond (eqZ w (pos 0)) (read-range r) (cond (eqZ w (pos 1)) (read-enumerative r) (refuse 5)))
@@ -111,6 +114,10 @@ module _ (ni : ℕ) where
   read-int zero xs = bind (word xs) (λ w r. refuse (too-deep-int (kind-int w)))
   read-int (suc left) xs = bind (word xs) (λ w r. step-int (read-int left) (kind-int w) r)
 
+  -- columns n, rows k, n expressions, k rows of n cells
+  unfoldable pub read-table : Parser Stmt
+  read-table xs = bind (count xs) (λ n r. bind (count r) (λ k s. seq-parser Table (times n (read-int max-depth)) (λ es. times k (times n read-cell)) s))
+
 module _ (nb ni : ℕ) where
   -- what follows a Boolean code; p and q read a part one level down
   unfoldable pub step-bool : Parser BoolExpr → Parser IntExpr → BoolKind → Parser BoolExpr
@@ -129,13 +136,8 @@ module _ (nb ni : ℕ) where
   read-bool zero xs = bind (word xs) (λ w r. refuse (too-deep-bool (kind-bool w)))
   read-bool (suc left) xs = bind (word xs) (λ w r. step-bool (read-bool left) (read-int ni left) (kind-bool w) r)
 
-  -- ---- statements
-
-  unfoldable pub read-table : Parser Stmt
-  read-table xs = bind (count xs) (λ n r. bind (count r) (λ k s. seq-parser Table (times n (read-int ni max-depth)) (λ es. times k (times n read-cell)) s))
-
   unfoldable pub read-stmt : Parser Stmt
-  read-stmt xs = bind (word xs) (λ w r. cond (eqZ w (pos 1)) (map-parser Rule (read-bool max-depth) r) (cond (eqZ w (pos 2)) (read-table r) (refuse 5)))
+  read-stmt xs = bind (word xs) (λ w r. cond (eqZ w (pos 1)) (map-parser Rule (read-bool max-depth) r) (cond (eqZ w (pos 2)) (read-table ni r) (refuse 5)))
 
 -- ---- the set
 
