@@ -4,3 +4,4 @@ pub mod CountLaws
 pub mod TestLaws
 pub mod RuleLaws
 pub mod StatementLaws
+pub mod SetLaws

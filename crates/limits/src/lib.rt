@@ -6,11 +6,12 @@ ghost use Prim.Native.Nat.{ℕ, _+_, _*_, _<_, _≤_, min, max};
 ghost use lib.IntN.{ℤ, pos, natAbs, _-ℤ_};
 ghost use lib.ListN.{length, getD};
 ghost use Rattle.limits.specs.Total.{cap, joined, product, constant-total, bounds-total};
+ghost use Rattle.limits.specs.Accepted.{Ready-set, Limits-post};
 ghost use Rattle.limits.specs.Walk.{Ready-var, Var-post, Ready-int, Ready-terms, Int-post, Terms-post, Behind, Head-post, Writes-post, Either-post, Marked-post, Ready-pair, Pair-post, Ready-column, Column-post, Ready-columns, Columns-post, Ready-bool, Ready-bools, Step-post, Bools-post, Ready-stmt, Stmt-post, Ready-stmts, Stmts-post, Check-post};
 
 // ---- sizes
 
-pub fn wide_size(d: i64) -> usize
+fn wide_size(d: i64) -> usize
     requires { ⌜ natAbs d < 9223372036854775808 ⌝ }
     ensures { λ r. ⌜ r ≡ natAbs d ⌝ }
 {
@@ -21,20 +22,20 @@ pub fn wide_size(d: i64) -> usize
     d as usize
 }
 
-pub fn size(w: i32) -> usize
+fn size(w: i32) -> usize
     ensures { λ r. ⌜ r ≡ natAbs w ⌝ }
 {
     wide_size(w as i64)
 }
 
 // The distance of two words.
-pub fn distance(low: i32, high: i32) -> usize
+fn distance(low: i32, high: i32) -> usize
     ensures { λ r. ⌜ r ≡ natAbs (high -ℤ low) ⌝ }
 {
     wide_size((high as i64) - (low as i64))
 }
 
-pub fn capped(n: usize) -> usize
+fn capped(n: usize) -> usize
     ensures { λ r. ⌜ r ≡ min n cap ⌝ }
 {
     if n < 1073741824 {
@@ -43,7 +44,7 @@ pub fn capped(n: usize) -> usize
     1073741824
 }
 
-pub fn larger(a: usize, b: usize) -> usize
+fn larger(a: usize, b: usize) -> usize
     ensures { λ r. ⌜ r ≡ max a b ⌝ }
 {
     if a < b {
@@ -54,7 +55,7 @@ pub fn larger(a: usize, b: usize) -> usize
 
 // ---- totals: weights (`weigh`) or distances
 
-pub fn constant_total(w: i32, weigh: bool) -> usize
+fn constant_total(w: i32, weigh: bool) -> usize
     ensures { λ r. ⌜ r ≡ constant-total weigh w ⌝ }
 {
     if weigh {
@@ -64,7 +65,7 @@ pub fn constant_total(w: i32, weigh: bool) -> usize
     0
 }
 
-pub fn bounds_total(low: i32, high: i32, weigh: bool) -> usize
+fn bounds_total(low: i32, high: i32, weigh: bool) -> usize
     ensures { λ r. ⌜ r ≡ bounds-total weigh low high ⌝ }
 {
     if weigh {
@@ -78,7 +79,7 @@ pub fn bounds_total(low: i32, high: i32, weigh: bool) -> usize
     capped(n)
 }
 
-pub fn variable_total(work: &[i32], v: usize, weigh: bool) -> usize
+fn variable_total(work: &[i32], v: usize, weigh: bool) -> usize
     requires { ⌜ Ready-var (now work) v ⌝ }
     ensures { λ r. ⌜ Var-post (now (work .entry)) weigh v r ⌝ }
 {
@@ -88,7 +89,7 @@ pub fn variable_total(work: &[i32], v: usize, weigh: bool) -> usize
 }
 
 // A coefficient times a total, joined to what was totalled before.
-pub fn add_term(k: i32, t: usize, weigh: bool, acc: usize) -> usize
+fn add_term(k: i32, t: usize, weigh: bool, acc: usize) -> usize
     requires { ⌜ (t ≤ cap) × (acc ≤ cap) ⌝ }
     ensures { λ r. ⌜ r ≡ joined acc (product weigh (natAbs k) t) ⌝ }
 {
@@ -107,24 +108,24 @@ pub struct Total {
 }
 
 // As many terms as `n` says.
-pub fn terms_total(set: &[i32], work: &[i32], at: usize, n: usize, weigh: bool) -> Total
+fn terms_total(set: &[i32], work: &[i32], at: usize, n: usize, weigh: bool) -> Total
     requires { ⌜ Ready-terms (now set) (now work) at n ⌝ }
     ensures { λ r. ⌜ Terms-post (now (set .entry)) (now (work .entry)) weigh at n 0 (r .next) (r .total) ⌝ }
 {
     let mut next = at;
     let mut total = 0;
-    let mut rest = n;
-    while rest != 0 {
+    let mut left = n;
+    while left != 0 {
         let t = int_total(set, work, next + 1, weigh);
         let k = set[next];
         total = add_term(k, t.total, weigh, total);
         next = t.next;
-        rest = rest - 1;
+        left = left - 1;
     }
     Total { next, total }
 }
 
-pub fn int_total(set: &[i32], work: &[i32], at: usize, weigh: bool) -> Total
+fn int_total(set: &[i32], work: &[i32], at: usize, weigh: bool) -> Total
     requires { ⌜ Ready-int (now set) (now work) at ⌝ }
     ensures { λ r. ⌜ Int-post (now (set .entry)) (now (work .entry)) weigh at (r .next) (r .total) ⌝ }
 {
@@ -156,7 +157,7 @@ pub struct Head {
 }
 
 // Whether the integer expression is variable v, and how many terms it has.
-pub fn int_head(set: &[i32], at: usize, v: usize) -> Head
+fn int_head(set: &[i32], at: usize, v: usize) -> Head
     requires { ⌜ Behind (now set) at ⌝ }
     ensures { λ r. ⌜ Head-post (now (set .entry)) at v (r .hit) (r .terms) ⌝ }
 {
@@ -179,7 +180,7 @@ pub fn int_head(set: &[i32], at: usize, v: usize) -> Head
 }
 
 // Whether the integer expression writes variable v. Every expression's two words are followed by a coefficient or by the end.
-pub fn writes(set: &[i32], at: usize, v: usize) -> bool
+fn writes(set: &[i32], at: usize, v: usize) -> bool
     requires { ⌜ Behind (now set) at ⌝ }
     ensures { λ r. ⌜ Writes-post (now (set .entry)) at v r ⌝ }
 {
@@ -197,7 +198,7 @@ pub fn writes(set: &[i32], at: usize, v: usize) -> bool
 }
 
 // 1 where one of two integer expressions writes variable v, else 0.
-pub fn writes_either(set: &[i32], a: usize, b: usize, v: usize) -> usize
+fn writes_either(set: &[i32], a: usize, b: usize, v: usize) -> usize
     requires { ⌜ Behind (now set) a × Behind (now set) b ⌝ }
     ensures { λ r. ⌜ Either-post (now (set .entry)) a b v r ⌝ }
 {
@@ -211,7 +212,7 @@ pub fn writes_either(set: &[i32], a: usize, b: usize, v: usize) -> usize
 }
 
 // How many of the first n variables two integer expressions write.
-pub fn different(set: &[i32], a: usize, b: usize, n: usize) -> usize
+fn different(set: &[i32], a: usize, b: usize, n: usize) -> usize
     requires { ⌜ Behind (now set) a × Behind (now set) b × (n < 2147483648) ⌝ }
     ensures { λ r. ⌜ Marked-post (now (set .entry)) a b n r ⌝ }
 {
@@ -227,7 +228,7 @@ pub fn different(set: &[i32], a: usize, b: usize, n: usize) -> usize
 
 // ---- the test of refusal m, on a comparison and on a column
 
-pub fn unless(hit: bool, next: usize) -> usize
+fn unless(hit: bool, next: usize) -> usize
     ensures { λ r. ⌜ r ≡ cond hit 0 next ⌝ }
 {
     if hit {
@@ -236,7 +237,7 @@ pub fn unless(hit: bool, next: usize) -> usize
     next
 }
 
-pub fn comparison(set: &[i32], work: &[i32], at: usize, ni: usize, m: usize) -> usize
+fn comparison(set: &[i32], work: &[i32], at: usize, ni: usize, m: usize) -> usize
     requires { ⌜ Ready-pair (now set) (now work) at ni × (ni < 2147483648) ⌝ }
     ensures { λ r. ⌜ Pair-post (now (set .entry)) (now (work .entry)) at ni m r ⌝ }
 {
@@ -253,7 +254,7 @@ pub fn comparison(set: &[i32], work: &[i32], at: usize, ni: usize, m: usize) -> 
     b.next
 }
 
-pub fn column(set: &[i32], work: &[i32], at: usize, ni: usize, m: usize) -> usize
+fn column(set: &[i32], work: &[i32], at: usize, ni: usize, m: usize) -> usize
     requires { ⌜ Ready-column (now set) (now work) at ni × (ni < 2147483648) ⌝ }
     ensures { λ r. ⌜ Column-post (now (set .entry)) (now (work .entry)) at ni m r ⌝ }
 {
@@ -269,7 +270,7 @@ pub fn column(set: &[i32], work: &[i32], at: usize, ni: usize, m: usize) -> usiz
     unless(a.total > 4095, a.next)
 }
 
-pub fn columns(set: &[i32], work: &[i32], at: usize, n: usize, ni: usize, m: usize) -> usize
+fn columns(set: &[i32], work: &[i32], at: usize, n: usize, ni: usize, m: usize) -> usize
     requires { ⌜ Ready-columns (now set) (now work) at n ni × (ni < 2147483648) ⌝ }
     ensures { λ r. ⌜ Columns-post (now (set .entry)) (now (work .entry)) at n ni m r ⌝ }
 {
@@ -293,7 +294,7 @@ pub struct Step {
     pub members: usize,
 }
 
-pub fn rule_step(set: &[i32], work: &[i32], at: usize, ni: usize, m: usize) -> Step
+fn rule_step(set: &[i32], work: &[i32], at: usize, ni: usize, m: usize) -> Step
     requires { ⌜ Ready-bool (now set) (now work) at ni × (ni < 2147483648) ⌝ }
     ensures { λ r. ⌜ Step-post (now (set .entry)) (now (work .entry)) at ni m (r .next) (r .members) ⌝ }
 {
@@ -327,7 +328,7 @@ pub fn rule_step(set: &[i32], work: &[i32], at: usize, ni: usize, m: usize) -> S
     Step { next, members: 0 }
 }
 
-pub fn rules(set: &[i32], work: &[i32], at: usize, n: usize, ni: usize, m: usize) -> usize
+fn rules(set: &[i32], work: &[i32], at: usize, n: usize, ni: usize, m: usize) -> usize
     requires { ⌜ Ready-bools (now set) (now work) at n ni × (ni < 2147483648) ⌝ }
     ensures { λ r. ⌜ Bools-post (now (set .entry)) (now (work .entry)) at n ni m r ⌝ }
 {
@@ -347,7 +348,7 @@ pub fn rules(set: &[i32], work: &[i32], at: usize, n: usize, ni: usize, m: usize
 
 // ---- statements
 
-pub fn statement(set: &[i32], work: &[i32], at: usize, ni: usize, m: usize) -> usize
+fn statement(set: &[i32], work: &[i32], at: usize, ni: usize, m: usize) -> usize
     requires { ⌜ Ready-stmt (now set) (now work) at ni × (ni < 2147483648) ⌝ }
     ensures { λ r. ⌜ Stmt-post (now (set .entry)) (now (work .entry)) at ni m r ⌝ }
 {
@@ -364,7 +365,7 @@ pub fn statement(set: &[i32], work: &[i32], at: usize, ni: usize, m: usize) -> u
     r + n * k
 }
 
-pub fn statements(set: &[i32], work: &[i32], at: usize, n: usize, ni: usize, m: usize) -> bool
+fn statements(set: &[i32], work: &[i32], at: usize, n: usize, ni: usize, m: usize) -> bool
     requires { ⌜ Ready-stmts (now set) (now work) at n ni × (ni < 2147483648) ⌝ }
     ensures { λ r. ⌜ Stmts-post (now (set .entry)) (now (work .entry)) at n ni m r ⌝ }
 {
@@ -382,7 +383,7 @@ pub fn statements(set: &[i32], work: &[i32], at: usize, n: usize, ni: usize, m: 
 }
 
 // The refusal of n statements from `at` on, or 0.
-pub fn check(set: &[i32], work: &[i32], at: usize, n: usize, ni: usize) -> usize
+fn check(set: &[i32], work: &[i32], at: usize, n: usize, ni: usize) -> usize
     requires { ⌜ Ready-stmts (now set) (now work) at n ni × (ni < 2147483648) ⌝ }
     ensures { λ r. ⌜ Check-post (now (set .entry)) (now (work .entry)) at n ni r ⌝ }
 {
@@ -396,4 +397,15 @@ pub fn check(set: &[i32], work: &[i32], at: usize, n: usize, ni: usize) -> usize
         return 11;
     }
     0
+}
+
+// Refusals 9, 10 and 11 of a set that was read, or 0. The table of bounds stays in the work slice.
+pub fn check_limits(set: &[i32], work: &mut [i32]) -> usize
+    requires { ⌜ Ready-set (now set) (now work) ⌝ }
+    ensures { λ r. ⌜ Limits-post (now (set .entry)) (now (work .entry)) (now (work .exit)) r ⌝ }
+{
+    let ni = domains::number(set, 1);
+    let at = domains::write_bounds(set, 2, ni, work, 7936);
+    let n = domains::number(set, at);
+    check(set, work, at + 1, n, ni)
 }

@@ -123,8 +123,8 @@ terms-total-shared-slice-copy-out-k t c = let q = term-inside _ _ (c .before .be
 terms-total-add-term-requires : (t : ℕ) → terms-total-lts.Need-add-term-requires (terms-total-claims t) (terms-total-at t) terms-total.Post terms-total-Inv-loop terms-total-μ-loop
 terms-total-add-term-requires t c κs = (rest-ready _ _ (c .before .before .before .before .args .weigh) _ _ (c .before .before .loop-test .taken) _ _ (c .before .int-total .ensures) (c .before .before .before .loop .inv .0) .2, c .before .before .before .loop .inv .2)
 
-terms-total-sub-rest : (t : ℕ) → terms-total-lts.Need-sub-rest (terms-total-claims t) (terms-total-at t) terms-total.Post terms-total-Inv-loop terms-total-μ-loop
-terms-total-sub-rest t c = search needs
+terms-total-sub-left : (t : ℕ) → terms-total-lts.Need-sub-left (terms-total-claims t) (terms-total-at t) terms-total.Post terms-total-Inv-loop terms-total-μ-loop
+terms-total-sub-left t c = search needs
 
 terms-total-loop-less : (t : ℕ) → terms-total-lts.Need-loop-less (terms-total-claims t) (terms-total-at t) terms-total.Post terms-total-Inv-loop terms-total-μ-loop
 terms-total-loop-less t c = search needs
@@ -165,7 +165,7 @@ pub +int-total+terms-total-spec : {M : Type 1} → statement M
     (terms-total-mul-k t)
     (terms-total-shared-slice-copy-out-k t)
     (terms-total-add-term-requires t)
-    (terms-total-sub-rest t)
+    (terms-total-sub-left t)
     (terms-total-loop-less t)
     (terms-total-loop-again t)
     (terms-total-returns t)
