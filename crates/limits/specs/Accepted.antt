@@ -21,6 +21,9 @@ use Rattle.syntax.specs.Written.{EveryInt, EveryTerm, EveryColumn}
 use Rattle.words.specs.Exact.{Value, Each}
 use Rattle.words.specs.Parse.{Parsed, ok, refuse}
 use Rattle.read.specs.Read.{read-set}
+use Rattle.read.specs.Position.{set-at}
+use Rattle.read.specs.declared.Set as declared-set
+use Rattle.read.specs.declared.Set.the-variants as set
 use Rattle.read.specs.WellFormed.{RisingFrom, Rising, WellDomain, WellInt, WellTerms, WellBool, WellMembers, WellRow, WellStmt, WellFormed}
 use Rattle.domains.specs.Declared.{Domains, Plain, bounds-words, bounds-length, Bounds-room, Bounds-post}
 use Rattle.limits.specs.Limits.{largest, domain-weight, heavy, heavy-comparison, many-comparison, many-column, wide-column, check}
@@ -183,3 +186,24 @@ module _ (ws : List ℤ) (p : Problem) (h : Set-of ws p) where
     words = has-sets work bounds-place (bounds-words (p .domains)) (omega (arith, bounds-length (p .domains), h .well .few-ints));
     bounded = well-bounded (p .domains) (h .well .domains-well);
   }
+
+-- ---- refusals 1 to 11, for all words and lengths: what the set declares, or the refusal
+
+unfoldable pub unless-refused : declared-set.Set → ℕ → declared-set.Set
+unless-refused s zero = s
+unless-refused s (suc k) = set.Refused (suc k)
+
+unfoldable pub limited : Parsed Problem → declared-set.Set
+limited (refuse k) = set.Refused k
+limited (ok p r) = unless-refused (set-at (ok p r)) (check p)
+
+unfoldable pub accepted : ℕ → List ℤ → declared-set.Set
+accepted n ws = cond (ltb n min-work-words) (set.Refused 1) (cond (ltb max-set-words (length ws)) (set.Refused 2) (limited (read-set ws)))
+
+-- the work slice then: a set that is read leaves the table of its bounds
+unfoldable pub table-read : Parsed Problem → List ℤ → List ℤ
+table-read (refuse k) work = work
+table-read (ok p r) work = sets work bounds-place (bounds-words (p .domains))
+
+unfoldable pub table-after : List ℤ → List ℤ → List ℤ
+table-after ws work = cond (ltb (length work) min-work-words) work (cond (ltb max-set-words (length ws)) work (table-read (read-set ws) work))

@@ -1,12 +1,13 @@
 // Refusals 9, 10 and 11 over a set's words: `m` is the refusal that is tested. `work` holds the table of bounds from 7936 on.
 // A walk that tests what it passes answers with the place behind, or with 0 where the test hits.
+use read::Set;
 ghost use mathlib.Core.Path.{_≡_};
 ghost use mathlib.Core.Bool.{Bool, cond, false};
 ghost use Prim.Native.Nat.{ℕ, _+_, _*_, _<_, _≤_, min, max};
 ghost use lib.IntN.{ℤ, pos, natAbs, _-ℤ_};
 ghost use lib.ListN.{length, getD};
 ghost use Rattle.limits.specs.Total.{cap, joined, product, constant-total, bounds-total};
-ghost use Rattle.limits.specs.Accepted.{Ready-set, Limits-post};
+ghost use Rattle.limits.specs.Accepted.{Ready-set, Limits-post, accepted, table-after};
 ghost use Rattle.limits.specs.Walk.{Ready-var, Var-post, Ready-int, Ready-terms, Int-post, Terms-post, Behind, Head-post, Writes-post, Either-post, Marked-post, Ready-pair, Pair-post, Ready-column, Column-post, Ready-columns, Columns-post, Ready-bool, Ready-bools, Step-post, Bools-post, Ready-stmt, Stmt-post, Ready-stmts, Stmts-post, Check-post};
 
 // ---- sizes
@@ -408,4 +409,26 @@ pub fn check_limits(set: &[i32], work: &mut [i32]) -> usize
     let at = domains::write_bounds(set, 2, ni, work, 7936);
     let n = domains::number(set, at);
     check(set, work, at + 1, n, ni)
+}
+
+// Refusals 1 to 11 for any words and lengths: what the set declares, or the refusal.
+pub fn accept(set: &[i32], work: &mut [i32]) -> Set
+    ensures { λ r. ⌜ (r ≡ accepted (length (now (work .entry))) (now (set .entry))) × (now (work .exit) ≡ table-after (now (set .entry)) (now (work .entry))) ⌝ }
+{
+    if work.len() < 16384 {
+        return Set::Refused(1);
+    }
+    if set.len() > 4096 {
+        return Set::Refused(2);
+    }
+    match read::read_set(set) {
+        Set::Refused(k) => Set::Refused(k),
+        Set::Ok(d) => {
+            let k = check_limits(set, work);
+            if k != 0 {
+                return Set::Refused(k);
+            }
+            Set::Ok(d)
+        }
+    }
 }
