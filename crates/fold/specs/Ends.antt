@@ -154,10 +154,10 @@ bit false = 0
 
 module _ (B : ℕ) where
   -- a change leaves one open variable fewer at least
-  abbrev Fewer : Fixed → Bool → Fixed → Type 0
+  abbrev pub Fewer : Fixed → Bool → Fixed → Type 0
   Fewer f c g = opens B g + bit c ≤ opens B f
 
-  fewer-steps : Steps (λ v. v < B) Fewer
+  pub fewer-steps : Steps (λ v. v < B) Fewer
   fewer-steps = record {
     idle = λ f. omega arith;
     one = λ f v b h l. omega (arith, opens-fix B f v b h l);

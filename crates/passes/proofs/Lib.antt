@@ -2,3 +2,4 @@ pub mod SkipLaws
 pub mod PropLaws
 pub mod StmtLaws
 pub mod PropStmtLaws
+pub mod PassLaws
