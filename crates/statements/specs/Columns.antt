@@ -82,6 +82,13 @@ unfoldable pub columns-clauses : List ℤ → ℕ → List IntExpr → List Clau
 columns-clauses w p [] = []
 columns-clauses w p (e ∷ es) = column-clause w p e ++ columns-clauses w (p + length (encode-int e)) es
 
+-- an integer expression has two words at least
+pub int-words : (e : IntExpr) → 2 ≤ length (encode-int e)
+unfolding encode-int
+int-words (IConst c) = omega arith
+int-words (IVar v) = omega arith
+int-words (Linear ts) = omega arith
+
 -- ---- what numbering the columns from p on keeps: all below the maps, and the numbers of the columns before p
 
 pub record Grown (p : ℕ) (w w' : List ℤ) : Type 0 where
@@ -171,12 +178,6 @@ module _ (F : List ℤ) (ds : List Domain) where
 
   pub grown-less : (p q : ℕ) {w w' : List ℤ} → p ≤ q → Grown q w w' → Grown p w w'
   grown-less p q l g = record { below = g .below; columns = λ k h m. g .columns k h (omega arith); size = g .size }
-
-  int-words : (e : IntExpr) → 2 ≤ length (encode-int e)
-  unfolding encode-int
-  int-words (IConst c) = omega arith
-  int-words (IVar v) = omega arith
-  int-words (Linear ts) = omega arith
 
   -- what is numbered behind the columns keeps them
   pub placed-keeps : (w w' : List ℤ) (p : ℕ) (es : List IntExpr) (s : Log) → 512 ≤ p → Grown (p + length (words-of es)) w w' → Placed w p es s → Placed w' p es s

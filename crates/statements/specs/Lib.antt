@@ -3,3 +3,5 @@ pub mod Columns
 pub mod Star
 pub mod Table
 pub mod Statements
+pub mod Bounds
+pub mod Emitted

@@ -169,7 +169,7 @@ module _ (F : List ℤ) (ds : List Domain) where
 
   -- ---- all statements
 
-  abbrev LegalStmts : List Stmt → Type 0
+  abbrev pub LegalStmts : List Stmt → Type 0
   LegalStmts [] = Unit {0}
   LegalStmts (t ∷ ts) = LegalStmt t × LegalStmts ts
 

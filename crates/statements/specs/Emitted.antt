@@ -1,0 +1,200 @@
+-- How many integers are emitted: each declared variable once, and one for each column that is no variable.
+use mathlib.Core.Path.{_≡_, refl, sym, ap, _∙_}
+use mathlib.Core.Bool.{Bool, true, false, not, cond}
+use mathlib.Core.Option.{Option, none as nothing, some}
+use mathlib.Core.List.{List, [], _∷_, _++_, map}
+use Prim.Native.Nat.{ℕ, zero, suc, _+_, _-_, _*_, _≤_, _<_}
+use native.Mathlib.Omega.{arith}
+use lib.Dec.{eqb, ltb}
+use borrow.Author.Tests.{ne-eqb, eqb-true, eqb-false, ltb-true, ltb-false}
+use lib.IntN.{pos}
+use lib.ListN.{length, length-append}
+use Rattle.laws.specs.Lists.{any, flat}
+use Rattle.syntax.specs.Syntax.{Domain, domain-of, IntExpr, IConst, IVar, Linear, Terms, tnil, tmore, encode-int, BoolExpr, Const, Var, NVar, And, Or, Not, Xor, Iff, Imp, Cmp, Members, none, more, Cell, encode-cell, Stmt, Rule, Table, encode-stmt}
+use Rattle.syntax.specs.Satisfies.{IVal}
+use Rattle.sums.specs.LinearSum.{LinearSum, constant}
+use Rattle.clauses.specs.Clause.{Clause}
+use Rattle.clauses.specs.Log.{Made, declared, aux, side, declared-int, column, Log, next-bool, next-int, get-bool-var, get-int-var, bool-var-at, convert-bool-var, int-var-at, convert-int-var}
+use Rattle.clauses.specs.Disjunction.{normalize-disjunction}
+use Rattle.clauses.specs.Normalize.{no-run, run-then, normalize-conjunction, disjunction-of, cross as cross-run, normalize-var, normalize-comparison, normalize-int-var, normalize-term, normalize-int-expr, normalize-terms, lit-clauses}
+use Rattle.clauses.specs.Split.{normalize-and-register-expr, unsplit, split-not, split-members, split-two, split-sides, split-more, tseitin-transformation-bool as split, tseitin-transformation-members as split-each}
+use Rattle.clauses.specs.Grow.{Grows as GrowsFrom, same, grow}
+use Rattle.tables.specs.Tables.{is-star, star-row, star-table, plain-table, emitted-domains, new-column, old-column, equivalent-int-var, equivalent-int-vars, normalize-extension-supports, normalize-table}
+use Rattle.answer.specs.Answer.{normalize-stmt, normalize-stmts}
+use Rattle.answer.specs.Declared.{Declared}
+use Rattle.walk.specs.Tree.{Tree, var, num, cmp, conj, disj, cross, tied, Trees, nil, cons, num-run, run, runs}
+use Rattle.walk.specs.Resolve.{rule-trees, rule-runs}
+use Rattle.walk.specs.Texts.{Auxed, here, above, disjunction-auxed}
+use Rattle.statements.specs.Columns.{int-words}
+
+-- ---- declared variables without a number
+
+abbrev is-open : Option ℕ → ℕ
+is-open nothing = 1
+is-open (some n) = 0
+
+abbrev opens : ℕ → Log → ℕ
+opens zero s = 0
+opens (suc i) s = is-open (get-int-var i s) + opens i s
+
+opens-most : (i : ℕ) → opens i [] ≡ i
+unfolding get-int-var
+opens-most zero = refl
+opens-most (suc i) = omega (arith, opens-most i)
+
+opens-keep : (i v : ℕ) (s : Log) → i ≤ v → opens i (declared-int v ∷ s) ≡ opens i s
+unfolding get-int-var
+opens-keep zero v s h = refl
+opens-keep (suc i) v s h = rw (ne-eqb i v (λ e. omega arith), opens-keep i v s (omega arith)) refl
+
+ne-lt : (v i : ℕ) → v < suc i → (i ≡ v → ⊥) → v < i
+ne-lt v i h n = go (ltb v i) refl
+  where
+    go : (t : Bool) → ltb v i ≡ t → v < i
+    go true q = ltb-true v i q
+    go false q = absurd (n (omega (arith, ltb-false v i q)))
+
+opens-drop : (i v : ℕ) (s : Log) → v < i → get-int-var v s ≡ nothing → opens i (declared-int v ∷ s) + 1 ≡ opens i s
+unfolding get-int-var
+opens-drop zero v s h e = absurd (omega arith)
+opens-drop (suc i) v s h e = go (eqb i v) refl (λ k. opens-drop i v s k e)
+  where
+    go : (t : Bool) → eqb i v ≡ t → (v < i → opens i (declared-int v ∷ s) + 1 ≡ opens i s) → is-open (get-int-var i (declared-int v ∷ s)) + opens i (declared-int v ∷ s) + 1 ≡ is-open (get-int-var i s) + opens i s
+    go true q r = let z : i ≡ v = eqb-true i v q in let k = opens-keep i v s (omega arith) in let m : get-int-var i s ≡ nothing = rw z e in rw (q, m) (omega arith)
+    go false q r = rw q (omega (arith, r (let z : i ≡ v → ⊥ = eqb-false i v q in ne-lt v i h z)))
+
+-- ---- columns of a log
+
+abbrev columns : Log → ℕ
+columns [] = 0
+columns (declared v ∷ s) = columns s
+columns (aux cs ∷ s) = columns s
+columns (side e ∷ s) = columns s
+columns (declared-int v ∷ s) = columns s
+columns (column l d ∷ s) = suc (columns s)
+
+same-opens : (i : ℕ) (s t : Log) → ((v : ℕ) → get-int-var v s ≡ get-int-var v t) → opens i s ≡ opens i t
+same-opens zero s t h = refl
+same-opens (suc i) s t h = rw (h i, same-opens i s t h) refl
+
+-- every emitted integer is a declared variable's or a column's
+emitted-is : (b i : ℕ) {ε : IVal} {s : Log} → GrowsFrom ε [] s → Declared b i s → next-int s + opens i s ≤ i + columns s
+unfolding get-int-var
+emitted-is b i same d = omega (arith, opens-most i)
+emitted-is b i (grow {t} (declared v) l g) d = omega (arith, emitted-is b i g (d .1), same-opens i (declared v ∷ t) t (λ w. refl))
+emitted-is b i (grow {t} (aux cs) l g) d = omega (arith, emitted-is b i g d, same-opens i (aux cs ∷ t) t (λ w. refl))
+emitted-is b i (grow {t} (side e) l g) d = omega (arith, emitted-is b i g d, same-opens i (side e ∷ t) t (λ w. refl))
+emitted-is b i (grow {t} (declared-int v) l g) d = omega (arith, emitted-is b i g (d .1), opens-drop i v t (d .0) l)
+emitted-is b i (grow {t} (column x e) l g) d = omega (arith, emitted-is b i g (d .1), same-opens i (column x e ∷ t) t (λ w. refl))
+
+-- ---- only columns of tables are columns of the log
+
+auxed-columns : {s t : Log} → Auxed s t → columns t ≡ columns s
+auxed-columns here = refl
+auxed-columns (above a) = auxed-columns a
+
+disj-columns : (css : List (List Clause)) (s : Log) → columns (normalize-disjunction css s .1) ≡ columns s
+disj-columns css s = auxed-columns (disjunction-auxed css s)
+
+int-var-columns : (o : Option ℕ) (v : ℕ) (s : Log) → columns (int-var-at o v s .1) ≡ columns s
+int-var-columns (some n) v s = refl
+int-var-columns nothing v s = refl
+
+bool-var-columns : (o : Option ℕ) (v : ℕ) (s : Log) → columns (bool-var-at o v s .1) ≡ columns s
+bool-var-columns (some n) v s = refl
+bool-var-columns nothing v s = refl
+
+mutual
+  unfolding normalize-int-expr normalize-int-var normalize-term convert-int-var
+
+  int-columns : (e : IntExpr) (s : Log) → columns (normalize-int-expr e s .1) ≡ columns s
+  int-columns (IConst c) s = refl
+  int-columns (IVar v) s = int-var-columns (get-int-var v s) v s
+  int-columns (Linear ts) s = terms-columns ts (constant (pos 0)) s
+
+  terms-columns : (ts : Terms) (sum : LinearSum) (s : Log) → columns (normalize-terms ts sum s .1) ≡ columns s
+  terms-columns tnil sum s = refl
+  terms-columns (tmore k e ts) sum s = terms-columns ts _ (normalize-int-expr e s .1) ∙ int-columns e s
+
+mutual
+  unfolding run normalize-var convert-bool-var normalize-comparison normalize-conjunction disjunction-of cross-run no-run run-then num-run
+
+  run-columns : (t : Tree) (s : Log) → columns (run t s .1) ≡ columns s
+  run-columns (var v g) s = bool-var-columns (get-bool-var v s) v s
+  run-columns (num n g) s = refl
+  run-columns (cmp p o a b g) s = int-columns b (normalize-int-expr a s .1) ∙ int-columns a s
+  run-columns (conj ts) s = runs-columns ts s
+  run-columns (disj ts) s = disj-columns (runs ts s .0) (runs ts s .1) ∙ runs-columns ts s
+  run-columns (cross ts us) s =
+      let a = runs ts s in let b = runs us (a .1) in let c = normalize-disjunction (a .0) (b .1) in
+      disj-columns (b .0) (c .1) ∙ disj-columns (a .0) (b .1) ∙ runs-columns us (a .1) ∙ runs-columns ts s
+  run-columns (tied v t u) s =
+      let a = run t s in let b = run u (a .1) in let c = normalize-disjunction (a .0 ∷ lit-clauses v true ∷ []) (b .1) in
+      disj-columns (b .0 ∷ lit-clauses v false ∷ []) (c .1) ∙ disj-columns (a .0 ∷ lit-clauses v true ∷ []) (b .1) ∙ run-columns u (a .1) ∙ run-columns t s
+
+  runs-columns : (ts : Trees) (s : Log) → columns (runs ts s .1) ≡ columns s
+  runs-columns nil s = refl
+  runs-columns (cons t ts) s = runs-columns ts (run t s .1) ∙ run-columns t s
+
+mutual
+  unfolding split unsplit split-not split-members split-two split-sides split-more
+
+  split-columns : (e : BoolExpr) (t : Bool) (s : Log) → columns (split e t s .log) ≡ columns s
+  split-columns (Const b) t s = refl
+  split-columns (Var v) t s = refl
+  split-columns (NVar n) t s = refl
+  split-columns (And ms) t s = split-columns-each ms t s
+  split-columns (Or ms) t s = split-columns-each ms t s
+  split-columns (Not e) t s = split-columns e t s
+  split-columns (Xor a b) false s = split-columns b true (split a true s .log) ∙ split-columns a true s
+  split-columns (Xor a b) true s = let r : Log = side b ∷ side a ∷ s in split-columns b true (split a true r .log) ∙ split-columns a true r
+  split-columns (Iff a b) false s = split-columns b true (split a true s .log) ∙ split-columns a true s
+  split-columns (Iff a b) true s = let r : Log = side b ∷ side a ∷ s in split-columns b true (split a true r .log) ∙ split-columns a true r
+  split-columns (Imp a b) t s = split-columns b t (split a t s .log) ∙ split-columns a t s
+  split-columns (Cmp o a b) t s = refl
+
+  split-columns-each : (ms : Members) (t : Bool) (s : Log) → columns (split-each ms t s .log) ≡ columns s
+  split-columns-each none t s = refl
+  split-columns-each (more e ms) t s = split-columns-each ms t (split e t s .log) ∙ split-columns e t s
+
+rule-columns : (e : BoolExpr) (s : Log) → columns (normalize-and-register-expr e s .1) ≡ columns s
+unfolding normalize-conjunction
+rule-columns e s = rw (rule-runs e 0 s) (runs-columns (rule-trees e 0 (next-bool s)) (split e false s .log) ∙ split-columns e false s)
+
+module _ (ds : List Domain) where
+  one-column : (e : IntExpr) (s : Log) → columns (equivalent-int-var ds e s .log) ≤ columns s + 1
+  unfolding equivalent-int-var old-column new-column convert-int-var
+  one-column (IConst c) s = omega (arith, int-columns (IConst c) s)
+  one-column (IVar v) s = omega (arith, int-var-columns (get-int-var v s) v s)
+  one-column (Linear ts) s = omega (arith, int-columns (Linear ts) s)
+
+  some-columns : (es : List IntExpr) (s : Log) → columns (equivalent-int-vars ds es s .log) ≤ columns s + length es
+  unfolding equivalent-int-vars
+  some-columns [] s = omega arith
+  some-columns (e ∷ es) s = omega (arith, one-column e s, some-columns es (equivalent-int-var ds e s .log))
+
+  supports-columns : (vs : List ℕ) (rows : List (List Cell)) (z : Log) → columns (normalize-extension-supports ds vs rows z .1) ≡ columns z
+  unfolding normalize-extension-supports
+  supports-columns vs rows z = go (any (any is-star) rows)
+    where
+      go : (t : Bool) → columns (cond t (star-table vs rows z) (plain-table vs (map (domain-of (emitted-domains ds z)) vs) rows, z) .1) ≡ columns z
+      go true = unfold star-table in disj-columns (map (star-row vs) rows) z
+      go false = refl
+
+  column-words : (es : List IntExpr) → 2 * length es ≤ length (flat (map encode-int es))
+  column-words [] = omega arith
+  column-words (e ∷ es) = omega (arith, column-words es, int-words e, length-append (encode-int e) (flat (map encode-int es)))
+
+  stmt-columns : (t : Stmt) (s : Log) → 2 * columns (normalize-stmt ds t s .1) ≤ 2 * columns s + length (encode-stmt t)
+  unfolding normalize-stmt normalize-table encode-stmt
+  stmt-columns (Rule e) s = omega (arith, rule-columns e s)
+  stmt-columns (Table es rows) s = omega (arith, supports-columns (equivalent-int-vars ds es s .vars) rows (equivalent-int-vars ds es s .log), some-columns es s, column-words es, length-append (flat (map encode-int es)) (flat (map (map encode-cell) rows)))
+
+  stmts-columns : (ts : List Stmt) (s : Log) → 2 * columns (normalize-stmts ds ts s .1) ≤ 2 * columns s + length (flat (map encode-stmt ts))
+  unfolding normalize-stmts
+  stmts-columns [] s = omega arith
+  stmts-columns (t ∷ ts) s = omega (arith, stmt-columns t s, stmts-columns ts (normalize-stmt ds t s .1), length-append (encode-stmt t) (flat (map encode-stmt ts)))
+
+  -- at most half as many as there are words, besides the declared ones
+  pub emitted-few : (b i : ℕ) (ε : IVal) (ts : List Stmt) → GrowsFrom ε [] (normalize-stmts ds ts [] .1) → Declared b i (normalize-stmts ds ts [] .1) → 2 * next-int (normalize-stmts ds ts [] .1) ≤ 2 * i + length (flat (map encode-stmt ts))
+  emitted-few b i ε ts g d = omega (arith, emitted-is b i g d, stmts-columns ts [])
