@@ -79,7 +79,7 @@ domain-ordered (Range low high) h = h .2
 domain-ordered (Enumerative []) h = absurd (omega (arith, h .0))
 domain-ordered (Enumerative (x ∷ xs)) h = rising-is x xs (h .3)
 
-domains-ordered : (ds : List Domain) → Each WellDomain ds → (v : ℕ) → v < length ds → ordered (domain-of ds v) ≡ true
+pub domains-ordered : (ds : List Domain) → Each WellDomain ds → (v : ℕ) → v < length ds → ordered (domain-of ds v) ≡ true
 domains-ordered [] h v k = absurd (omega arith)
 domains-ordered (d ∷ ds) h zero k = domain-ordered d (h .0)
 domains-ordered (d ∷ ds) h (suc v) k = domains-ordered ds (h .1) v (omega arith)

@@ -5,3 +5,5 @@ pub mod Table
 pub mod Statements
 pub mod Bounds
 pub mod Emitted
+pub mod Settled
+pub mod Whole

@@ -1,0 +1,130 @@
+-- The answer's words by the two passes: after numbering, the maps and counters of the work slice and the statements' words make up the layout.
+use mathlib.Core.Path.{_≡_, refl, sym, ap, _∙_}
+use mathlib.Core.Bool.{Bool, true, false, _||_, false≢true}
+use mathlib.Core.Option.{Option, none as nothing, some}
+use mathlib.Core.List.{List, [], _∷_, _++_, map}
+use Prim.Native.Nat.{ℕ, zero, suc, _+_, _*_, _≤_, _<_}
+use native.Mathlib.Omega.{arith}
+use lib.IntN.{ℤ, pos}
+use lib.ListN.{length}
+use Rattle.laws.specs.Bools.{or-l}
+use Rattle.laws.specs.Ints.{eqZ}
+use Rattle.laws.specs.Order.{eqZ-refl, leZ-refl}
+use Rattle.laws.specs.Lists.{any, flat, from, below, counted}
+use Rattle.laws.specs.Slices.{Has}
+use Rattle.syntax.specs.Syntax.{Domain, Range, Enumerative, lower-bound, in-domain, domain-of, Stmt, encode-stmt, Problem}
+use Rattle.syntax.specs.Satisfies.{IVal}
+use Rattle.syntax.specs.Written.{EveryStmts, every-stmts-map}
+use Rattle.words.specs.Exact.{Each}
+use Rattle.read.specs.WellFormed.{WellDomain, WellFormed}
+use Rattle.fold.specs.Fold.{Fixed}
+use Rattle.fold.specs.Optimize.{settled, optimize}
+use Rattle.sums.specs.Domain.{ordered}
+use Rattle.clauses.specs.Log.{Log, next-bool, next-int, get-bool-var, get-int-var}
+use Rattle.clauses.specs.Disjunction.{Out}
+use Rattle.clauses.specs.Grow.{Grows as GrowsFrom}
+use Rattle.tables.specs.Tables.{emitted-domains}
+use Rattle.tables.specs.ColumnMeaning.{Standing}
+use Rattle.answer.specs.Answer.{Answer, fixed-word, map-word, domain-words, clause-words, layout, answer-of, normalize, normalize-stmts}
+use Rattle.answer.specs.Declared.{Declared, stmts-declared}
+use Rattle.call.specs.Demand.{stmts-mean, domains-ordered}
+use Rattle.walk.specs.Item.{limit, bool-map, bool-entry, int-entry, State}
+use Rattle.walk.specs.Num.{max-emitted, code, Recorded, Numbered, numbered-fit}
+use Rattle.walk.specs.Two.{Low}
+use Rattle.statements.specs.Columns.{ColumnRecord}
+use Rattle.statements.specs.Statements.{Stable, meet-stmts, stmts-text, LegalStmts, AllInPlace, StmtsPasses, stmts-passes}
+use Rattle.statements.specs.Bounds.{stmts-low}
+use Rattle.statements.specs.Emitted.{emitted-few}
+use Rattle.statements.specs.Settled.{settled-declared, settled-plain, settled-few, settled-legal}
+
+-- ---- before numbering: empty maps
+
+pub record Empty (w : List ℤ) : Type 0 where
+  pub bools : (v : ℕ) → v < 512 → bool-entry w v ≡ 0
+  pub ints : (v : ℕ) → v < 256 → int-entry w v ≡ 0
+  pub size : 16384 ≤ length w
+
+abbrev pub start : List ℤ → State
+start w = record { work = w; bools = 0; ints = 0 }
+
+start-numbered : (F : List ℤ) (ds : List Domain) (w : List ℤ) → Empty w → Numbered (ColumnRecord F ds) (start w) []
+unfolding get-bool-var get-int-var Recorded
+start-numbered F ds w h = record {
+  map = λ v k. h .bools v k;
+  map-int = λ v k. h .ints v k;
+  bools = refl;
+  ints = refl;
+  low = λ v n e. absurd (let z : _≡_ {A = ℕ} 0 1 = cc in omega arith);
+  low-int = λ v n e. absurd (let z : _≡_ {A = ℕ} 0 1 = cc in omega arith);
+  size = h .size;
+  records = tt;
+}
+
+-- ---- the assignment of lowest values is within the domains
+
+abbrev lowest : List Domain → IVal
+lowest ds v = lower-bound (domain-of ds v)
+
+lowest-in : (d : Domain) → ordered d ≡ true → in-domain (lower-bound d) d ≡ true
+lowest-in (Range low high) h = rw (leZ-refl low) h
+lowest-in (Enumerative []) h = absurd (false≢true h)
+lowest-in (Enumerative (x ∷ xs)) h = or-l (eqZ x x) (any (eqZ x) xs) (eqZ-refl x)
+
+-- ---- an accepted set that settles. F: the folded words; w: the work slice before numbering
+
+map-code : (o : Option ℕ) → map-word o ≡ pos (code o)
+map-code nothing = refl
+map-code (some n) = refl
+
+-- the words of a map, from its entries
+entries : (entry : ℕ → ℕ) (look : ℕ → Option ℕ) (i n : ℕ) → ((v : ℕ) → v < i + n → entry v ≡ code (look v)) → map map-word (map look (from i n)) ≡ map (λ v. pos (entry v)) (from i n)
+entries entry look i zero h = refl
+entries entry look i (suc n) h = rw (map-code (look i), sym (h i (omega arith)), entries entry look (suc i) n (λ v k. h v (omega arith))) refl
+
+module _ (p : Problem) (well : WellFormed p) (f : Fixed) (ss : List Stmt) (end : optimize p ≡ settled f ss)
+    (F : List ℤ) (stands : Has F 512 (flat (map encode-stmt ss))) (short : length (flat (map encode-stmt ss)) ≤ 4096) (few : 2 * length (p .domains) + length (flat (map encode-stmt ss)) ≤ 4608)
+    (w : List ℤ) (empty : Empty w) where
+  abbrev ds : List Domain
+  ds = p .domains
+
+  abbrev out : Out
+  out = normalize-stmts ds ss []
+
+  abbrev st : State
+  st = meet-stmts 512 ss (start w)
+
+  standing : EveryStmts (λ v. Unit {0}) (Standing ds (lowest ds)) ss
+  standing =
+      every-stmts-map (λ v. v < p .bools) (λ v. v < length ds) (λ v. Unit {0}) (Standing ds (lowest ds)) (λ v h. tt)
+      (λ v h. let o = domains-ordered ds (well .domains-well) v h in (o, lowest-in (domain-of ds v) o)) ss (settled-declared p well f ss end)
+
+  grown : GrowsFrom (lowest ds) [] (out .1)
+  grown = stmts-mean (λ n. false) (lowest ds) (λ n. false) (lowest ds) ds ss [] (settled-plain p well f ss end) standing .grows
+
+  declared : Declared (p .bools) (length ds) (out .1)
+  declared = stmts-declared (p .bools) (length ds) ds ss (settled-declared p well f ss end) [] tt
+
+  roomy : next-int (out .1) < max-emitted
+  roomy = omega (arith, emitted-few ds (p .bools) (length ds) (lowest ds) ss grown declared)
+
+  low : Low (out .1)
+  low = record { bools = omega (arith, stmts-low F ds ss [] (settled-legal p well f ss end F) (settled-few p well f ss end)); ints = omega (arith, roomy) }
+
+  pub passes : StmtsPasses F ds 512 ss (start w) []
+  passes = stmts-passes F ds (lowest ds) 512 ss (start w) [] (omega arith) (omega arith) stands (settled-legal p well f ss end F) (settled-plain p well f ss end) standing (start-numbered F ds w empty) low roomy
+
+  -- the answer's words: the fixed values, the entries of the maps, the counters and domains, the count and the words of the clauses
+  pub answer-words : (dom : ℕ → Domain) → Stable ds dom (out .1)
+      → layout (normalize p f ss)
+      ≡ map fixed-word (map f (below (p .bools)))
+      ++ (map (λ v. pos (bool-entry (st .work) v)) (below (p .bools))
+      ++ (map (λ v. pos (int-entry (st .work) v)) (below (length ds))
+      ++ (pos (st .bools) ∷ (counted domain-words (emitted-domains ds (out .1)) ++ (pos (length (out .0)) ∷ stmts-text (st .work) dom 512 ss 0)))))
+  unfolding layout normalize answer-of
+  answer-words dom d =
+      let n = passes .numbered in
+      let fit = numbered-fit (ColumnRecord F ds) st (out .1) n (low .bools) in
+      let b : map map-word (map (λ v. get-bool-var v (out .1)) (below (p .bools))) ≡ map (λ v. pos (bool-entry (st .work) v)) (below (p .bools)) = entries (bool-entry (st .work)) (λ v. get-bool-var v (out .1)) 0 (p .bools) (λ v k. n .map v (omega (arith, well .few-bools))) in
+      let i : map map-word (map (λ v. get-int-var v (out .1)) (below (length ds))) ≡ map (λ v. pos (int-entry (st .work) v)) (below (length ds)) = entries (int-entry (st .work)) (λ v. get-int-var v (out .1)) 0 (length ds) (λ v k. n .map-int v (omega (arith, well .few-ints))) in
+      let t : stmts-text (st .work) dom 512 ss 0 ≡ flat (map clause-words (out .0)) = passes .text (st .work) dom fit (passes .placed) d in
+      rw (b, i, n .bools, t) refl
