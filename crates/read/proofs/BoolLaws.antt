@@ -1,14 +1,14 @@
 -- A law for each answer of the Boolean reader, over variables. Assumes nothing.
 use mathlib.Core.Path.{_≡_, refl, sym, ap, _∙_}
-use mathlib.Core.List.{List, [], _∷_, _++_}
-use Prim.Native.Nat.{ℕ, zero, suc, _+_, _-_, _≤_, _<_}
+use mathlib.Core.List.{List}
+use Prim.Native.Nat.{ℕ, zero, suc, _-_, _<_}
 use native.Mathlib.Omega.{arith}
 use native.Mathlib.Numerals.{sub-one}
 use lib.IntN.{ℤ, pos}
 use lib.ListN.{length, drop}
-use Rattle.syntax.specs.Syntax.{op-at, encode-bool, IntExpr, BoolExpr, Const, Var, NVar, And, Or, Not, Xor, Iff, Imp, Cmp, Members, none, more}
-use Rattle.words.specs.Parse.{Parsed, ok, refuse, Parser, bind, seq-parser, map-parser, word, up-to, count, index}
-use Rattle.words.specs.Exact.{Exact, word-ok, up-to-exact, count-exact, index-exact}
+use Rattle.syntax.specs.Syntax.{op-at, encode-bool, BoolExpr, Const, Var, NVar, And, Or, Not, Xor, Iff, Imp, Cmp, more}
+use Rattle.words.specs.Parse.{refuse, Parser, bind, seq-parser, word, up-to, count, index}
+use Rattle.words.specs.Exact.{word-ok, up-to-exact, count-exact, index-exact}
 use Rattle.words.specs.Cursor.{cursor, next-at, counted-at}
 use Rattle.words.specs.declared.Cursor.{Cursor}
 use Rattle.words.specs.declared.Next.the-variants as next
@@ -20,7 +20,7 @@ use Rattle.read.specs.WellFormed.{WellBool}
 use Rattle.read.specs.ExactExpr.{int-exact, members-exact, bool-exact}
 use Rattle.read.specs.Position.{read-at, reads, list-of, pair-of, comparison-of}
 use Rattle.read.proofs.Tails.{Shortens, exact-shortens, ok-shortens, refuse-shortens, bind-shortens}
-use Rattle.read.proofs.Laws.{reads-refused, reads-ok, bind-refused, reads-then, number-refused, number-then, word-refused, word-then, map-same, seq-same, reads-falls}
+use Rattle.read.proofs.Laws.{reads-refused, bind-refused, reads-then, number-refused, number-then, word-refused, word-then, map-same, seq-same, reads-falls}
 
 -- ---- comparisons
 

@@ -1,19 +1,19 @@
 -- A law for each answer of the readers of domains, over variables. Assumes nothing.
-use mathlib.Core.Path.{_≡_, refl, sym, ap, _∙_}
+use mathlib.Core.Path.{_≡_, refl, ap, _∙_}
 use mathlib.Core.Bool.{Bool, true, false, cond}
 use mathlib.Core.List.{List, [], _∷_}
-use Prim.Native.Nat.{ℕ, zero, suc, _+_, _-_, _≤_, _<_}
+use Prim.Native.Nat.{ℕ, zero, suc, _-_, _≤_, _<_}
 use native.Mathlib.Omega.{arith}
 use native.Mathlib.Numerals.{sub-one}
 use lib.IntN.{ℤ, pos, negsuc}
 use lib.Signed.{ltZ}
-use lib.ListN.{length, drop}
+use lib.ListN.{drop}
 use borrow.Author.Tests.{le-leb, lt-leb}
 use Rattle.laws.specs.Ints.{eqZ}
 use Rattle.syntax.specs.Words.{star-word}
 use Rattle.syntax.specs.Syntax.{Domain, Range, Enumerative}
 use Rattle.words.specs.Parse.{Parsed, ok, refuse, Parser, bind, map-parser, word, number}
-use Rattle.words.specs.Exact.{Exact, word-ok, number-exact, cond-ok, bind-ok}
+use Rattle.words.specs.Exact.{word-ok, number-exact}
 use Rattle.words.specs.Cursor.{cursor, plain-of, next-at, counted-at, next-refused, next-word, plain-number}
 use Rattle.words.specs.declared.Cursor.{Cursor}
 use Rattle.words.specs.declared.Plain.the-variants.{Negative, Number}
@@ -22,7 +22,7 @@ use Rattle.words.specs.declared.Counted.the-variants as counted
 use Rattle.read.specs.declared.Read.{Read}
 use Rattle.read.specs.declared.Read.the-variants as read
 use Rattle.read.specs.Read.{read-range, size-at, size-of, read-rising, read-enumerative, read-domain}
-use Rattle.read.specs.Exact.{size-exact, domain-exact}
+use Rattle.read.specs.Exact.{size-exact}
 use Rattle.read.specs.Position.{read-at, reads}
 use Rattle.read.proofs.Tails.{Shortens, exact-shortens, ok-shortens, refuse-shortens, bind-shortens, cond-shortens}
 use Rattle.read.proofs.Laws.{number-refused, number-then, word-refused, word-then, map-same, value-front}

@@ -1,14 +1,14 @@
 -- A law for each answer of the integer reader, over variables. Assumes nothing.
-use mathlib.Core.Path.{_≡_, refl, sym, ap, _∙_}
-use mathlib.Core.List.{List, [], _∷_, _++_}
-use Prim.Native.Nat.{ℕ, zero, suc, _+_, _-_, _≤_, _<_}
+use mathlib.Core.Path.{_≡_, refl, ap, _∙_}
+use mathlib.Core.List.{List}
+use Prim.Native.Nat.{ℕ, zero, suc, _-_, _<_}
 use native.Mathlib.Omega.{arith}
 use native.Mathlib.Numerals.{sub-one}
 use lib.IntN.{ℤ, pos}
 use lib.ListN.{length, drop}
 use Rattle.syntax.specs.Syntax.{encode-int, IntExpr, IConst, IVar, Linear, Terms, tmore}
 use Rattle.words.specs.Parse.{Parsed, ok, refuse, Parser, bind, map-parser, word, number, up-to, count, index}
-use Rattle.words.specs.Exact.{Exact, word-ok, number-exact, count-exact, index-exact}
+use Rattle.words.specs.Exact.{word-ok, number-exact, count-exact, index-exact}
 use Rattle.words.specs.Cursor.{cursor, next-at, counted-at}
 use Rattle.words.specs.declared.Cursor.{Cursor}
 use Rattle.words.specs.declared.Next.the-variants as next
@@ -20,7 +20,7 @@ use Rattle.read.specs.WellFormed.{WellInt}
 use Rattle.read.specs.ExactExpr.{terms-exact, int-exact}
 use Rattle.read.specs.Position.{read-at, reads}
 use Rattle.read.proofs.Tails.{Shortens, exact-shortens, ok-shortens, refuse-shortens, bind-shortens}
-use Rattle.read.proofs.Laws.{reads-refused, reads-ok, bind-refused, reads-then, number-refused, number-then, word-refused, word-then, map-same, value-front, reads-falls}
+use Rattle.read.proofs.Laws.{reads-refused, bind-refused, reads-then, number-refused, number-then, word-refused, word-then, map-same, value-front, reads-falls}
 
 -- ---- terms
 

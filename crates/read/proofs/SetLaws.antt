@@ -1,23 +1,22 @@
 -- A law for each answer of the readers of a whole set, over variables. Assumes nothing.
 use mathlib.Core.Path.{_≡_, refl, sym, ap, _∙_}
-use mathlib.Core.List.{List, [], _∷_, _++_, map}
-use Prim.Native.Nat.{ℕ, zero, suc, _+_, _-_, _≤_, _<_}
+use mathlib.Core.List.{List, [], _∷_, map}
+use Prim.Native.Nat.{ℕ, _+_, _-_, _≤_, _<_}
 use native.Mathlib.Omega.{arith}
-use lib.IntN.{ℤ, pos}
+use lib.IntN.{ℤ}
 use lib.ListN.{length, drop, length-drop, length-append}
 use lib.Seq.{drop-drop, drop-append-seam}
 use Rattle.laws.specs.Lists.{flat}
-use Rattle.syntax.specs.Words.{max-bools, max-ints}
 use Rattle.syntax.specs.Syntax.{encode-domain, encode-stmt, Domain, Stmt, Problem}
 use Rattle.words.specs.Parse.{Parsed, ok, refuse, Parser, bind, times, up-to, count}
-use Rattle.words.specs.Exact.{Exact, number-words, up-to-exact, count-exact, times-exact}
+use Rattle.words.specs.Exact.{Exact, number-words, up-to-exact, times-exact}
 use Rattle.words.specs.Cursor.{cursor, counted-at, counted-refused, counted-number}
 use Rattle.words.specs.declared.Cursor.{Cursor}
 use Rattle.words.specs.declared.Counted.the-variants as counted
 use Rattle.read.specs.declared.Read.the-variants as read
 use Rattle.read.specs.declared.Set.{Set}
 use Rattle.read.specs.declared.Set.the-variants as set
-use Rattle.read.specs.Read.{read-domain, read-stmt, at-end, read-problem, read-set}
+use Rattle.read.specs.Read.{read-domain, read-stmt, at-end, read-set}
 use Rattle.read.specs.WellFormed.{WellDomain, WellStmt}
 use Rattle.read.specs.Exact.{domain-exact, stmt-exact}
 use Rattle.read.specs.Position.{reads, stmts-of, stmts-at, set-at}

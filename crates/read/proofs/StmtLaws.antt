@@ -1,8 +1,8 @@
 -- A law for each answer of the readers of cells, tables, statements and sets, over variables. Assumes nothing.
-use mathlib.Core.Path.{_≡_, refl, sym, ap, _∙_}
-use mathlib.Core.Bool.{Bool, true, false, cond}
-use mathlib.Core.List.{List, [], _∷_}
-use Prim.Native.Nat.{ℕ, zero, suc, _+_, _-_, _≤_, _<_}
+use mathlib.Core.Path.{_≡_, refl, ap, _∙_}
+use mathlib.Core.Bool.{true, false, cond}
+use mathlib.Core.List.{List, []}
+use Prim.Native.Nat.{ℕ, _+_, _-_}
 use native.Mathlib.Omega.{arith}
 use lib.IntN.{ℤ, pos, negsuc}
 use lib.ListN.{length, drop}
@@ -11,9 +11,9 @@ use mir.Syntax.{w32}
 use mir.Val.{ofZ}
 use Rattle.laws.specs.Ints.{eqZ}
 use Rattle.syntax.specs.Words.{star-word, max-depth}
-use Rattle.syntax.specs.Syntax.{IntExpr, BoolExpr, Cell, star, value, Stmt, Rule, Table}
-use Rattle.words.specs.Parse.{Parsed, ok, refuse, Parser, bind, seq-parser, map-parser, times, word, up-to, count, in-value-range}
-use Rattle.words.specs.Exact.{Exact, word-ok, count-exact, Each, times-exact}
+use Rattle.syntax.specs.Syntax.{IntExpr, Cell, star, value, Stmt, Rule, Table}
+use Rattle.words.specs.Parse.{ok, refuse, Parser, bind, seq-parser, map-parser, times, word, up-to, count, in-value-range}
+use Rattle.words.specs.Exact.{word-ok, count-exact}
 use Rattle.words.specs.Cursor.{cursor, next-at, counted-at}
 use Rattle.words.specs.declared.Cursor.{Cursor}
 use Rattle.words.specs.declared.Next.the-variants as next
@@ -21,8 +21,8 @@ use Rattle.words.specs.declared.Counted.the-variants as counted
 use Rattle.read.specs.declared.Read.{Read}
 use Rattle.read.specs.declared.Read.the-variants as read
 use Rattle.read.specs.Read.{read-cell, read-int, read-bool, read-table, read-stmt}
-use Rattle.read.specs.ExactExpr.{int-exact, bool-exact}
-use Rattle.read.specs.Exact.{row-exact, columns-exact, rows-exact}
+use Rattle.read.specs.ExactExpr.{bool-exact}
+use Rattle.read.specs.Exact.{columns-exact, rows-exact}
 use Rattle.read.specs.Position.{read-at, reads}
 use Rattle.read.proofs.Tails.{Shortens, exact-shortens, ok-shortens, refuse-shortens, bind-shortens, cond-shortens}
 use Rattle.read.proofs.Laws.{reads-refused, bind-refused, reads-then, number-refused, number-then, word-refused, word-then, map-same, seq-same}

@@ -1,5 +1,5 @@
 -- A parser hands back an end of the words that it was given. Assumes nothing.
-use mathlib.Core.Path.{_≡_, refl, sym, ap, _∙_}
+use mathlib.Core.Path.{_≡_, sym, ap, _∙_}
 use mathlib.Core.Bool.{Bool, true, false, cond}
 use mathlib.Core.List.{List, [], _∷_, _++_}
 use Prim.Native.Nat.{ℕ, _+_, _-_, _≤_}
@@ -7,7 +7,7 @@ use native.Mathlib.Omega.{arith}
 use lib.IntN.{ℤ}
 use lib.ListN.{length, drop, length-append}
 use lib.Seq.{drop-drop, drop-at}
-use Rattle.words.specs.Parse.{Parsed, ok, refuse, Parser, bind, word}
+use Rattle.words.specs.Parse.{ok, refuse, Parser, bind, word}
 use Rattle.words.specs.Exact.{Exact, refuse-ok, bind-ok, word-ok}
 
 pub record Tail (xs r : List ℤ) : Type 0 where

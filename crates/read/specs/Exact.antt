@@ -6,7 +6,7 @@ use mathlib.Core.List.{List, [], _∷_, _++_, map, append-assoc, append-nil}
 use Prim.Native.Nat.{ℕ, zero, suc, _≤_, _<_}
 use native.Mathlib.Omega.{arith}
 use lib.IntN.{ℤ, pos, negsuc, natAbs}
-use lib.Signed.{ltZ, leZ}
+use lib.Signed.{ltZ}
 use lib.ListN.{length}
 use lib.Dec.{leb}
 use borrow.Author.Tests.{leb-true, le-leb, lt-ltb}
@@ -14,11 +14,11 @@ use Rattle.laws.specs.Ints.{eqZ}
 use Rattle.laws.specs.Order.{eqZ-is, not-eqZ, leZ-not}
 use Rattle.laws.specs.Lists.{flat, counted}
 use Rattle.syntax.specs.Words.{star-word, max-bools, max-ints, max-count, max-value, max-depth}
-use Rattle.syntax.specs.Syntax.{encode-domain, encode-int, encode-bool, encode-cell, encode-stmt, encode, Domain, Range, Enumerative, IntExpr, Cell, star, value, Stmt, Rule, Table, Problem}
-use Rattle.words.specs.Parse.{Parsed, ok, refuse, Parser, bind, times, word, up-to, count, in-value-range, number}
+use Rattle.syntax.specs.Syntax.{encode-domain, encode-int, encode-cell, encode-stmt, encode, Domain, Range, Enumerative, IntExpr, Cell, star, value, Stmt, Rule, Table, Problem}
+use Rattle.words.specs.Parse.{Parsed, ok, refuse, bind, times, word, up-to, count, in-value-range, number}
 use Rattle.words.specs.Exact.{Exact, refuse-ok, bind-ok, cond-ok, word-ok, number-words, Value, up-to-exact, count-exact, number-exact, Each, times-exact}
 use Rattle.read.specs.Read.{read-range, size-at, size-of, read-rising, read-enumerative, read-domain, read-cell, read-int, read-bool, read-table, read-stmt, at-end, read-problem, read-set}
-use Rattle.read.specs.WellFormed.{RisingFrom, Rising, WellDomain, WellInt, WellBool, WellCell, WellRow, WellStmt, WellFormed}
+use Rattle.read.specs.WellFormed.{RisingFrom, Rising, WellDomain, WellInt, WellCell, WellRow, WellStmt, WellFormed}
 use Rattle.read.specs.ExactExpr.{int-exact, bool-exact}
 
 -- ---- tests

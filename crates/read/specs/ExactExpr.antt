@@ -3,7 +3,7 @@
 use mathlib.Core.Path.{_≡_, refl, sym, ap, _∙_}
 use mathlib.Core.Logic.{_⊎_, inl, inr, ⊎-elim}
 use mathlib.Core.Bool.{Bool, true, false, cond}
-use mathlib.Core.List.{List, [], _∷_, _++_, append-assoc}
+use mathlib.Core.List.{List, _∷_, _++_, append-assoc}
 use Prim.Native.Nat.{ℕ, zero, suc, _≤_}
 use native.Mathlib.Omega.{arith}
 use native.Mathlib.Numerals.{sub-one}
@@ -11,7 +11,7 @@ use lib.IntN.{ℤ, pos}
 use Rattle.laws.specs.Ints.{eqZ}
 use Rattle.laws.specs.Order.{eqZ-is}
 use Rattle.syntax.specs.Syntax.{op-at, encode-op, encode-int, encode-terms, encode-bool, encode-members, encode-bit, count-terms, count-members, CmpOp, Eq, Ne, Le, Lt, Ge, Gt, IntExpr, IConst, IVar, Linear, Terms, tnil, tmore, BoolExpr, Const, Var, NVar, And, Or, Not, Xor, Iff, Imp, Cmp, Members, none, more}
-use Rattle.words.specs.Parse.{Parsed, ok, refuse, Parser, bind, seq-parser, word, up-to, count, index, number}
+use Rattle.words.specs.Parse.{ok, Parser, bind, seq-parser, word, up-to, count, index, number}
 use Rattle.words.specs.Exact.{Exact, refuse-ok, bind-ok, word-ok, up-to-exact, count-exact, index-exact, number-exact}
 use Rattle.read.specs.Read.{kind-int, IntKind, i-const, i-var, i-sum, i-unknown, kind-bool, BoolKind, k-const, k-var, k-and, k-or, k-not, k-xor, k-iff, k-imp, k-cmp, k-unknown, bit-at, read-terms, read-members, step-int, read-int, step-bool, read-bool}
 use Rattle.read.specs.WellFormed.{WellInt, WellTerms, WellBool, WellMembers}

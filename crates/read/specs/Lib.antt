@@ -3,3 +3,4 @@ pub mod WellFormed
 pub mod ExactExpr
 pub mod Exact
 pub mod Position
+pub mod Accepted

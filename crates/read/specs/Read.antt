@@ -7,7 +7,7 @@ use lib.Signed.{ltZ}
 use lib.Dec.{leb}
 use Rattle.laws.specs.Ints.{eqZ}
 use Rattle.syntax.specs.Words.{star-word, max-bools, max-ints, max-count, max-depth}
-use Rattle.syntax.specs.Syntax.{op-at, Domain, Range, Enumerative, CmpOp, Eq, Ne, Le, Lt, Ge, Gt, IntExpr, IConst, IVar, Linear, Terms, tnil, tmore, BoolExpr, Const, Var, And, Or, Not, Xor, Iff, Imp, Cmp, Members, none, more, Cell, star, value, Stmt, Rule, Table, Problem}
+use Rattle.syntax.specs.Syntax.{op-at, Domain, Range, Enumerative, IntExpr, IConst, IVar, Linear, Terms, tnil, tmore, BoolExpr, Const, Var, And, Or, Not, Xor, Iff, Imp, Cmp, Members, none, more, Cell, star, value, Stmt, Rule, Table, Problem}
 pub use Rattle.words.specs.Parse.{Parsed, ok, refuse}
 unfoldable pub use Rattle.words.specs.Parse.{times, up-to, count, index, number}
 use Rattle.words.specs.Parse.{Parser, bind, seq-parser, map-parser, word, in-value-range}

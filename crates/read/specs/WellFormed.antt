@@ -8,7 +8,7 @@ use lib.IntN.{ℤ}
 use lib.Signed.{ltZ, leZ}
 use lib.ListN.{length}
 use Rattle.syntax.specs.Words.{max-bools, max-ints, max-count, max-depth}
-use Rattle.syntax.specs.Syntax.{count-terms, count-members, Domain, Range, Enumerative, CmpOp, IntExpr, IConst, IVar, Linear, Terms, tnil, tmore, BoolExpr, Const, Var, NVar, And, Or, Not, Xor, Iff, Imp, Cmp, Members, none, more, Cell, star, value, Stmt, Rule, Table, Problem}
+use Rattle.syntax.specs.Syntax.{count-terms, count-members, Domain, Range, Enumerative, IntExpr, IConst, IVar, Linear, Terms, tnil, tmore, BoolExpr, Const, Var, NVar, And, Or, Not, Xor, Iff, Imp, Cmp, Members, none, more, Cell, star, value, Stmt, Rule, Table, Problem}
 use Rattle.words.specs.Exact.{Value, Each}
 
 -- each value above the one before it

@@ -1,9 +1,9 @@
 // Reading a set from its words: refusals 3 to 8 at the first offending word, or the counts and places that later passes start from.
-pub mod leaves; // leaves.rt: numbers that only have to be passed
-pub mod ints; // ints.rt: integer expressions
-pub mod bools; // bools.rt: Boolean expressions
-pub mod domains; // domains.rt: domains
-pub mod statements; // statements.rt: rules and tables
+mod leaves; // leaves.rt: numbers that only have to be passed
+mod ints; // ints.rt: integer expressions
+mod bools; // bools.rt: Boolean expressions
+mod domains; // domains.rt: domains
+mod statements; // statements.rt: rules and tables
 
 use words::Counted;
 use words::Cursor;

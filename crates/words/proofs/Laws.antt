@@ -1,16 +1,15 @@
 -- A law for each answer of the readers, over variables. Assumes nothing.
-use mathlib.Core.Path.{_≡_, refl, sym, ap, _∙_}
-use mathlib.Core.Bool.{Bool, true, false, cond}
-use mathlib.Core.List.{List, [], _∷_}
-use Prim.Native.Nat.{ℕ, _+_, _≤_, _<_}
+use mathlib.Core.Path.{_≡_, refl}
+use mathlib.Core.Bool.{true, false}
+use mathlib.Core.List.{List}
+use Prim.Native.Nat.{ℕ, _≤_, _<_}
 use native.Mathlib.Omega.{arith}
 use lib.IntN.{ℤ, pos, negsuc, natAbs}
 use lib.Signed.{ltZ, nonNeg}
 use lib.Dec.{T}
 use borrow.Author.Tests.{ltb-true, lt-ltb, le-ltb, le-leb, lt-leb}
-use Rattle.words.specs.Parse.{Parsed, ok, refuse, Parser, bind, word, up-to-at, up-to, index-at, index, in-value-range, number}
-use Rattle.words.specs.Exact.{word-ok}
-use Rattle.words.specs.Cursor.{cursor, plain-of, next-at, counted-at, next-refused, next-word, plain-number}
+use Rattle.words.specs.Parse.{ok, refuse, Parser, bind, word, up-to-at, up-to, index-at, index, in-value-range, number}
+use Rattle.words.specs.Cursor.{plain-of, next-at, counted-at, next-refused, next-word, plain-number}
 use Rattle.words.specs.declared.Cursor.{Cursor}
 use Rattle.words.specs.declared.Plain.the-variants.{Negative, Number}
 use Rattle.words.specs.declared.Next.the-variants as next

@@ -1,5 +1,5 @@
 -- Parsers over words: what stands at the front of a list of words and the words after it, or a refusal; and the numbers of document 01.
-use mathlib.Core.Bool.{Bool, true, false, cond}
+use mathlib.Core.Bool.{Bool, cond}
 use mathlib.Core.List.{List, [], _∷_}
 use Prim.Native.Nat.{ℕ, zero, suc}
 use lib.IntN.{ℤ, pos, negsuc, natAbs}

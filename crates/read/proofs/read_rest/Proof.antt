@@ -1,5 +1,5 @@
 -- `read::read_rest` meets its contract. Assumes nothing.
-use mathlib.Core.Path.{_≡_, refl, sym, _∙_}
+use mathlib.Core.Path.{sym, _∙_}
 use Rattle.read.proofs.SetLaws.{stmts-no-count, stmts-refused, stmts-more, stmts-end}
 use borrow.Author.Needs.{needs}
 use Rattle.read.proofs.read_rest.Statement.{statement}

@@ -1,5 +1,5 @@
 -- `read::read_set` meets its contract. Assumes nothing.
-use mathlib.Core.Path.{_≡_, refl, sym, _∙_}
+use mathlib.Core.Path.{sym, _∙_}
 use Rattle.read.proofs.SetLaws.{set-no-bools, set-no-ints, set-no-domains, set-rest}
 use borrow.Author.Needs.{needs}
 use Rattle.read.proofs.read_set.Statement.{statement}

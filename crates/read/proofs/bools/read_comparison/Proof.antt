@@ -1,5 +1,5 @@
 -- `read::bools::read_comparison` meets its contract. Assumes nothing.
-use mathlib.Core.Path.{_≡_, refl, sym, _∙_}
+use mathlib.Core.Path.{sym, _∙_}
 use Rattle.read.proofs.BoolLaws.{comparison-no-operator, comparison-no-left, comparison-right}
 use borrow.Author.Needs.{needs}
 use Rattle.read.proofs.bools.read_comparison.Statement.{statement}

@@ -1,5 +1,5 @@
 -- `read::domains::read_enumerative` meets its contract. Assumes nothing.
-use mathlib.Core.Path.{_≡_, refl, sym, _∙_}
+use mathlib.Core.Path.{sym, _∙_}
 use Rattle.read.proofs.DomainLaws.{enumerative-refused, enumerative-values}
 use borrow.Author.Needs.{needs}
 use Rattle.read.proofs.domains.read_enumerative.Statement.{statement}

@@ -3,7 +3,6 @@ use mathlib.Core.Path.{sym, ap}
 use Rattle.laws.specs.Signed.{value-is}
 use Rattle.read.specs.Read.{kind-bool, too-deep-bool}
 use Rattle.read.proofs.Codes.{bool-unknown}
-use borrow.Author.Needs.{needs}
 use Rattle.read.proofs.leaves.bool_too_deep.Statement.{statement}
 use Rattle.read.proofs.leaves.bool_too_deep.Tie as tie
 

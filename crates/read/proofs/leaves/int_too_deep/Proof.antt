@@ -3,7 +3,6 @@ use mathlib.Core.Path.{sym, ap}
 use Rattle.laws.specs.Signed.{value-is}
 use Rattle.read.specs.Read.{kind-int, too-deep-int}
 use Rattle.read.proofs.Codes.{int-unknown}
-use borrow.Author.Needs.{needs}
 use Rattle.read.proofs.leaves.int_too_deep.Statement.{statement}
 use Rattle.read.proofs.leaves.int_too_deep.Tie as tie
 

@@ -1,5 +1,5 @@
 -- `read::statements::read_table` meets its contract. Assumes nothing.
-use mathlib.Core.Path.{_≡_, refl, sym, _∙_}
+use mathlib.Core.Path.{sym, _∙_}
 use Rattle.read.proofs.StmtLaws.{table-no-columns, table-no-rows, table-column-refused, table-rows}
 use borrow.Author.Needs.{needs}
 use Rattle.read.proofs.statements.read_table.Statement.{statement}

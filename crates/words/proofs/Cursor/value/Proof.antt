@@ -1,5 +1,5 @@
 -- `words::Cursor::value` meets its contract. Assumes nothing.
-use mathlib.Core.Path.{_≡_, sym, _∙_}
+use mathlib.Core.Path.{sym, _∙_}
 use lib.IntN.{pos, negsuc}
 use lib.Signed.{ltZ}
 use mir.Syntax.{w32}
