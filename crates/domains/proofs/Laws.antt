@@ -5,18 +5,18 @@ use mathlib.Core.Bool.{Bool, true, false, cond}
 use mathlib.Core.Option.{Option, none as nothing, some}
 use mathlib.Core.List.{List, [], _∷_, _++_, map}
 use native.Mathlib.Omega.{arith}
-use lib.IntN.{ℤ, pos, negsuc}
+use lib.IntN.{ℤ, pos, negsuc, natAbs, sucℤ, _+ℤ_, _-ℤ_, +ℤ-one}
 use lib.ListN.{length, getD, set, drop, length-append, length-set}
 use lib.Seq.{sets}
 use mir.Syntax.{w32}
 use mir.Val.{SFits, ofZ, toZ}
 use mir.Facts.{toZ-ofZ}
-use Rattle.laws.specs.Ints.{eqZ}
+use Rattle.laws.specs.Ints.{eqZ, sfits-natAbs}
 use Rattle.laws.specs.Order.{is-eqZ, not-eqZ}
 use Rattle.laws.specs.Lists.{flat}
 use Rattle.laws.specs.Slices.{Has, has-fits, has-front, has-back, has-word, has-rest, has-nth}
-use Rattle.syntax.specs.Syntax.{Domain, Range, Enumerative, as-constant, lower-bound, upper-bound, last-or, domain-of, encode-domain}
-use Rattle.domains.specs.Declared.{Plain, Domain-at, Domain-below, Domain-post, One-value, Domains, bounds-words, Bounds-room, Bounds-stored, Bounds-post}
+use Rattle.syntax.specs.Syntax.{Domain, Range, Enumerative, as-constant, lower-bound, upper-bound, num-candidates, last-or, domain-of, encode-domain}
+use Rattle.domains.specs.Declared.{Plain, Domain-at, Sized-at, Domain-below, Domain-post, One-value, Domains, bounds-words, Bounds-room, Bounds-stored, Bounds-post}
 
 abbrev kind : Domain → ℕ
 kind (Range low high) = 0
@@ -195,6 +195,31 @@ module _ (ws : List ℤ) (at k : ℕ) (hk : getD ws at (pos 0) ≡ pos k) where
         let l = count-is ws at k hk n hn xs g in
         let m : at + 1 + n ≡ at + suc (length xs) = omega arith in
         rw (q, m) (has-nth ws at _ (suc (length xs)) (pos 0) g (omega arith) ∙ enum-last xs)
+
+-- ---- `num_candidates`
+
+pub sized-at : (ws : List ℤ) (at : ℕ) → Sized-at ws at → Domain-at ws at
+sized-at ws at s = record { it = s .it; words = s .words }
+
+-- a number whose successor fits
+before-fits : (z : ℤ) → natAbs (sucℤ z) < 2147483648 → SFits w32 z
+before-fits (pos n) h = record { sfits = omega arith }
+before-fits (negsuc zero) h = record { sfits = omega arith }
+before-fits (negsuc (suc n)) h = record { sfits = omega arith }
+
+module _ (ws : List ℤ) (at k : ℕ) (hk : getD ws at (pos 0) ≡ pos k) where
+  module _ (z : k ≡ 0) (low high : ℤ) (hl : low ≡ getD ws (at + 1) (pos 0)) (hh : high ≡ getD ws (at + 2) (pos 0)) where
+    pub range-size : (dm : Domain) → Has ws at (encode-domain dm) → (high -ℤ low) +ℤ pos 1 ≡ num-candidates dm
+    range-size dm h = range-inv ws at k hk dm h z λ l u q g. let e = ends-are ws at k hk l u g in rw (q, hl ∙ e .0, hh ∙ e .1) refl
+
+    pub range-size-fits : Sized-at ws at → SFits w32 ((high -ℤ low) +ℤ pos 1)
+    range-size-fits s = sfits-natAbs w32 _ (rw (range-size (s .it) (s .words)) (s .fits))
+
+    pub range-apart-fits : Sized-at ws at → SFits w32 (high -ℤ low)
+    range-apart-fits s = before-fits (high -ℤ low) (rw (sym (+ℤ-one (high -ℤ low)), range-size (s .it) (s .words)) (s .fits))
+
+  pub enum-size : (n : ℕ) → getD ws (at + 1) (pos 0) ≡ pos n → (k ≡ 0 → ⊥) → (dm : Domain) → Has ws at (encode-domain dm) → pos n ≡ num-candidates dm
+  enum-size n hn z dm h = enum-inv ws at k hk dm h z λ xs q g. rw q (ap pos (sym (count-is ws at k hk n hn xs g)))
 
 -- ---- `write_bounds`
 

@@ -4,12 +4,12 @@ use mathlib.Core.Option.{Option, none as nothing, some}
 use mathlib.Core.List.{List, [], _∷_, _++_, map}
 use Prim.Native.Nat.{ℕ, zero, suc, _+_, _*_, _<_, _≤_}
 use native.Mathlib.Omega.{arith}
-use lib.IntN.{ℤ, pos}
+use lib.IntN.{ℤ, pos, natAbs}
 use lib.ListN.{length, getD}
 use lib.Seq.{sets}
 use Rattle.laws.specs.Lists.{flat}
 use Rattle.laws.specs.Slices.{Has, has-fits, has-nth}
-use Rattle.syntax.specs.Syntax.{Domain, encode-domain, domain-of, as-constant, lower-bound, upper-bound}
+use Rattle.syntax.specs.Syntax.{Domain, encode-domain, domain-of, as-constant, lower-bound, upper-bound, num-candidates}
 
 -- a word that is a number
 pub record Plain (ws : List ℤ) (at : ℕ) : Type 0 where
@@ -22,6 +22,12 @@ pub record Plain (ws : List ℤ) (at : ℕ) : Type 0 where
 pub record Domain-at (ws : List ℤ) (at : ℕ) : Type 0 where
   pub it : Domain
   pub words : Has ws at (encode-domain it)
+
+-- a domain whose number of values fits a word
+pub record Sized-at (ws : List ℤ) (at : ℕ) : Type 0 where
+  pub it : Domain
+  pub words : Has ws at (encode-domain it)
+  pub fits : natAbs (num-candidates it) < 2147483648
 
 -- the place of a domain's one value, or 0
 pub record One-value (ws : List ℤ) (dm : Domain) (r : ℕ) : Type 0 where

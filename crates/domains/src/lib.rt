@@ -1,4 +1,4 @@
-// The declared domains in a set's words: where each stands, its lowest and highest value, its one value; and a table of all bounds.
+// The declared domains in a set's words: where each stands, its lowest and highest value, its one value, how many values it has; and a table of all bounds.
 // `d` is the place of the set's first domain.
 ghost use mathlib.Core.Path.{_≡_};
 ghost use mathlib.Core.List.{List, map};
@@ -6,8 +6,8 @@ ghost use Prim.Native.Nat.{ℕ, _+_, _*_, _<_, _≤_};
 ghost use lib.IntN.{ℤ, pos};
 ghost use lib.ListN.{length, getD};
 ghost use Rattle.laws.specs.Slices.{Has};
-ghost use Rattle.syntax.specs.Syntax.{Domain, encode-domain, lower-bound, upper-bound};
-ghost use Rattle.domains.specs.Declared.{Plain, Domain-at, Domain-below, Domain-post, One-value, Bounds-room, Bounds-post};
+ghost use Rattle.syntax.specs.Syntax.{Domain, encode-domain, lower-bound, upper-bound, num-candidates};
+ghost use Rattle.domains.specs.Declared.{Plain, Domain-at, Sized-at, Domain-below, Domain-post, One-value, Bounds-room, Bounds-post};
 
 // A word that is a number.
 pub fn number(words: &[i32], at: usize) -> usize
@@ -94,6 +94,22 @@ pub fn upper_bound(words: &[i32], at: usize) -> i32
     let n = number(words, at + 1);
     let high = words[at + 1 + n];
     high
+}
+
+// How many values the domain has.
+pub fn num_candidates(words: &[i32], at: usize) -> i32
+    requires { ⌜ Sized-at (now words) at ⌝ }
+    ensures { λ r. ⌜ ((dm : Domain) → Has (now (words .entry)) at (encode-domain dm) → r ≡ num-candidates dm) ⌝ }
+{
+    let kind = number(words, at);
+    if kind == 0 {
+        let low = words[at + 1];
+        let high = words[at + 2];
+        let apart = high - low;
+        return apart + 1;
+    }
+    let n = number(words, at + 1);
+    n as i32
 }
 
 // The bounds of the n domains from `d` on, stored from `o` on; the place behind the domains.
