@@ -20,7 +20,7 @@ pub struct Nested {
 }
 
 // A word as a count; a negative one counts as 0.
-pub fn count_of(x: i32) -> usize
+fn count_of(x: i32) -> usize
     ensures { λ r. ⌜ (r ≡ count-of x) × (r < 2147483648) ⌝ }
 {
     if x < 0 {
@@ -30,7 +30,7 @@ pub fn count_of(x: i32) -> usize
 }
 
 // The emitted number of a declared variable, from the map's words.
-pub fn number_at(numbers: &[i32], v: usize) -> usize
+fn number_at(numbers: &[i32], v: usize) -> usize
     ensures { λ r. ⌜ (r ≡ number-at (now (numbers .entry)) v) × (r < 2147483648) ⌝ }
 {
     let n = numbers.len();

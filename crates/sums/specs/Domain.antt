@@ -150,17 +150,17 @@ module _ (domain : ℕ → Domain) where
 -- u: the width of each declared variable's domain
 module _ (u : ℕ → ℕ) where
   unfoldable mutual
-    breadth : IntExpr → ℕ
+    pub breadth : IntExpr → ℕ
     breadth (IConst c) = 0
     breadth (IVar v) = u v
     breadth (Linear ts) = breadth-terms ts
 
-    breadth-terms : Terms → ℕ
+    pub breadth-terms : Terms → ℕ
     breadth-terms tnil = 0
     breadth-terms (tmore k e ts) = natAbs k * breadth e + breadth-terms ts
 
 module _ (ds : List Domain) where
-  abbrev declared-width : ℕ → ℕ
+  abbrev pub declared-width : ℕ → ℕ
   declared-width v = width (domain-of ds v)
 
   mutual
@@ -179,7 +179,7 @@ module _ (ds : List Domain) where
         apart-sum (times-low k (interval ds e .0) (interval ds e .1)) (times-high k (interval ds e .0) (interval ds e .1)) (terms-interval ds ts .0) (terms-interval ds ts .1) (natAbs k * breadth declared-width e) (breadth-terms declared-width ts)
         (times-apart k (interval ds e .0) (interval ds e .1) (breadth declared-width e) a) b
 
-  span-is : (e : IntExpr) → ((v : ℕ) → Among (written e) v → Bounded (domain-of ds v)) → span ds e ≡ suc (breadth declared-width e)
+  pub span-is : (e : IntExpr) → ((v : ℕ) → Among (written e) v → Bounded (domain-of ds v)) → span ds e ≡ suc (breadth declared-width e)
   unfolding span
   span-is e h = ap (λ (x : ℤ). suc (natAbs x)) (ap (λ (x : ℤ). x -ℤ interval ds e .0) (interval-apart e h) ∙ gap-size (interval ds e .0) (breadth declared-width e))
 

@@ -1,0 +1,296 @@
+-- What refusals 9, 10 and 11 leave is kept by folding: a folded expression weighs no more, writes no other variable and spans no more.
+use mathlib.Core.Path.{_≡_, refl, sym, ap, _∙_}
+use mathlib.Core.Bool.{Bool, true, false, _||_, cond}
+use mathlib.Core.Option.{Option, none as nothing, some}
+use mathlib.Core.List.{List, [], _∷_, _++_, map}
+use Prim.Native.Nat.{ℕ, zero, suc, _+_, _*_, _≤_, max, zero-le}
+use native.Mathlib.Nat.{mul-le-mul-left, le-trans}
+use native.Mathlib.Omega.{arith}
+use lib.Dec.{ltb, eqb}
+use lib.IntN.{ℤ, pos, natAbs}
+use borrow.Author.Tests.{ltb-false, le-ltb}
+use Rattle.laws.specs.Bools.{never, or-l, or-r, or-no-l, or-no-r}
+use Rattle.laws.specs.Ints.{eqZ}
+use Rattle.laws.specs.Order.{eqZ-is}
+use Rattle.laws.specs.Lists.{any, any-append, different}
+use Rattle.syntax.specs.Words.{max-weight, max-span, max-comparison-vars, max-column-vars}
+use Rattle.syntax.specs.Syntax.{Domain, Range, Enumerative, as-constant, domain-of, IntExpr, IConst, IVar, Linear, Terms, tnil, tmore, BoolExpr, Const, Var, NVar, And, Or, Not, Xor, Iff, Imp, Cmp, Members, none, more, Stmt, Rule, Table}
+use Rattle.limits.specs.Limits.{any-comparison, any-comparison-members, any-part, largest, domain-weight, weight, terms-weight, heavy, heavy-terms, heavy-comparison, written, written-terms, many-comparison, many-column, span, wide-column}
+use Rattle.fold.specs.Fold.{Fixed, is-const, is-value, has-const, keep-member, kept, join-and, join-or, fold-and, fold-or, not-of, fold-not, fold-var, fold-binary, act, action, Op, op-xor, op-iff, op-imp, Action, be-false, be-true, left, not-left, right, not-right, keep, fold-int-var, fold-sum, constant-folding-int, constant-folding-terms, constant-folding-bool, constant-folding-members, constant-folding-stmt}
+use Rattle.sums.specs.Rising.{Among, among-left, among-right, different-part}
+use Rattle.sums.specs.Bounds.{heavy-weight}
+use Rattle.sums.specs.Domain.{Bounded, breadth, breadth-terms, declared-width, span-is}
+
+-- ---- 9: weights
+
+constant-weight : (d : Domain) (c : ℤ) → as-constant d ≡ some c → natAbs c ≤ domain-weight d
+constant-weight (Range low high) c e = go (eqZ low high) e
+  where
+    go : (t : Bool) → cond t (some low) nothing ≡ some c → natAbs c ≤ max 1 (max (natAbs low) (natAbs high))
+    go true e = let z : low ≡ c = cc in rw (← z) (omega arith)
+    go false e = let z : _≡_ {A = ℕ} 0 1 = cc in absurd (omega arith)
+constant-weight (Enumerative []) c e = let z : _≡_ {A = ℕ} 0 1 = cc in absurd (omega arith)
+constant-weight (Enumerative (x ∷ [])) c e = let z : x ≡ c = cc in rw (← z) (omega arith)
+constant-weight (Enumerative (x ∷ y ∷ xs)) c e = let z : _≡_ {A = ℕ} 0 1 = cc in absurd (omega arith)
+
+among-either : {X : Type 0} (v : ℕ) (us ws : List ℕ) → Among (us ++ ws) v → (Among us v → X) → (Among ws v → X) → X
+among-either {X = X} v us ws m f g = go (any (eqb v) us) refl (sym (any-append (eqb v) us ws) ∙ m)
+  where
+    go : (t : Bool) → any (eqb v) us ≡ t → t || any (eqb v) ws ≡ true → X
+    go true q h = f q
+    go false q h = g h
+
+module _ (ds : List Domain) where
+  sum-weight : (ts : Terms) → weight ds (fold-sum ts) ≤ terms-weight ds ts
+  unfolding weight
+  sum-weight tnil = zero-le
+  sum-weight (tmore k e tnil) = go (eqZ k (pos 1)) refl
+    where
+      go : (t : Bool) → eqZ k (pos 1) ≡ t → weight ds (cond t e (Linear (tmore k e tnil))) ≤ natAbs k * weight ds e + 0
+      go true q = rw (eqZ-is k (pos 1) q) (omega arith)
+      go false q = omega arith
+  sum-weight (tmore k e (tmore l f ts)) = omega arith
+
+  var-weight : (v : ℕ) (o : Option ℤ) → as-constant (domain-of ds v) ≡ o → weight ds (fold-int-var o v) ≤ domain-weight (domain-of ds v)
+  unfolding weight
+  var-weight v nothing e = omega arith
+  var-weight v (some c) e = constant-weight (domain-of ds v) c e
+
+  mutual
+    unfolding constant-folding-int weight
+
+    pub fold-weight : (e : IntExpr) → weight ds (constant-folding-int ds e) ≤ weight ds e
+    fold-weight (IConst c) = omega arith
+    fold-weight (IVar v) = var-weight v (as-constant (domain-of ds v)) refl
+    fold-weight (Linear ts) = omega (arith, sum-weight (constant-folding-terms ds ts), fold-terms-weight ts)
+
+    fold-terms-weight : (ts : Terms) → terms-weight ds (constant-folding-terms ds ts) ≤ terms-weight ds ts
+    fold-terms-weight tnil = omega arith
+    fold-terms-weight (tmore k e ts) = omega (arith, mul-le-mul-left (natAbs k) (fold-weight e), fold-terms-weight ts)
+
+  within : (n m : ℕ) → n ≤ m → ltb max-weight m ≡ false → ltb max-weight n ≡ false
+  within n m h l = le-ltb max-weight n (omega (arith, ltb-false max-weight m l))
+
+  sum-light : (ts : Terms) → terms-weight ds ts ≤ max-weight → heavy-terms ds ts ≡ false → heavy ds (fold-sum ts) ≡ false
+  unfolding heavy weight
+  sum-light tnil l h = refl
+  sum-light (tmore k e tnil) l h = go (eqZ k (pos 1))
+    where
+      go : (t : Bool) → heavy ds (cond t e (Linear (tmore k e tnil))) ≡ false
+      go true = or-no-l (heavy ds e) false h
+      go false = rw (le-ltb max-weight (terms-weight ds (tmore k e tnil)) l) h
+  sum-light (tmore k e (tmore m f ts)) l h = rw (le-ltb max-weight (terms-weight ds (tmore k e (tmore m f ts))) l) h
+
+  var-light : (v : ℕ) (o : Option ℤ) → as-constant (domain-of ds v) ≡ o → heavy ds (IVar v) ≡ false → heavy ds (fold-int-var o v) ≡ false
+  unfolding heavy weight
+  var-light v nothing e h = h
+  var-light v (some c) e h = within (natAbs c) (domain-weight (domain-of ds v)) (constant-weight (domain-of ds v) c e) h
+
+  mutual
+    unfolding constant-folding-int heavy weight
+
+    pub fold-light : (e : IntExpr) → heavy ds e ≡ false → heavy ds (constant-folding-int ds e) ≡ false
+    fold-light (IConst c) h = h
+    fold-light (IVar v) h = var-light v (as-constant (domain-of ds v)) refl h
+    fold-light (Linear ts) h =
+        sum-light (constant-folding-terms ds ts) (le-trans (fold-terms-weight ts) (heavy-weight ds (Linear ts) h)) (fold-terms-light ts (or-no-r (ltb max-weight (terms-weight ds ts)) (heavy-terms ds ts) h))
+
+    fold-terms-light : (ts : Terms) → heavy-terms ds ts ≡ false → heavy-terms ds (constant-folding-terms ds ts) ≡ false
+    fold-terms-light tnil h = refl
+    fold-terms-light (tmore k e ts) h = rw (fold-light e (or-no-l (heavy ds e) (heavy-terms ds ts) h), fold-terms-light ts (or-no-r (heavy ds e) (heavy-terms ds ts) h)) refl
+
+  pub fold-comparison-light : (a b : IntExpr) → heavy-comparison ds a b ≡ false → heavy-comparison ds (constant-folding-int ds a) (constant-folding-int ds b) ≡ false
+  unfolding heavy-comparison
+  fold-comparison-light a b h =
+      let r = or-no-r (heavy ds a) (heavy ds b || ltb max-weight (weight ds a + weight ds b)) h in
+      rw (fold-light a (or-no-l (heavy ds a) (heavy ds b || ltb max-weight (weight ds a + weight ds b)) h), fold-light b (or-no-l (heavy ds b) (ltb max-weight (weight ds a + weight ds b)) r))
+      (within (weight ds (constant-folding-int ds a) + weight ds (constant-folding-int ds b)) (weight ds a + weight ds b) (omega (arith, fold-weight a, fold-weight b)) (or-no-r (heavy ds b) (ltb max-weight (weight ds a + weight ds b)) r))
+
+  -- ---- 10: variables written
+
+  sum-written : (ts : Terms) (v : ℕ) → Among (written (fold-sum ts)) v → Among (written-terms ts) v
+  unfolding written
+  sum-written tnil v m = m
+  sum-written (tmore k e tnil) v m = go (eqZ k (pos 1)) m
+    where
+      go : (t : Bool) → Among (written (cond t e (Linear (tmore k e tnil)))) v → Among (written e ++ []) v
+      go true m = among-left v (written e) [] m
+      go false m = m
+  sum-written (tmore k e (tmore l f ts)) v m = m
+
+  var-written : (u : ℕ) (o : Option ℤ) (v : ℕ) → Among (written (fold-int-var o u)) v → Among (u ∷ []) v
+  unfolding written
+  var-written u nothing v m = m
+  var-written u (some c) v m = never m
+
+  mutual
+    unfolding constant-folding-int written
+
+    pub fold-written : (e : IntExpr) (v : ℕ) → Among (written (constant-folding-int ds e)) v → Among (written e) v
+    fold-written (IConst c) v m = m
+    fold-written (IVar u) v m = var-written u (as-constant (domain-of ds u)) v m
+    fold-written (Linear ts) v m = fold-terms-written ts v (sum-written (constant-folding-terms ds ts) v m)
+
+    fold-terms-written : (ts : Terms) (v : ℕ) → Among (written-terms (constant-folding-terms ds ts)) v → Among (written-terms ts) v
+    fold-terms-written tnil v m = m
+    fold-terms-written (tmore k e ts) v m =
+        among-either v (written (constant-folding-int ds e)) (written-terms (constant-folding-terms ds ts)) m (λ q. among-left v (written e) (written-terms ts) (fold-written e v q)) (λ q. among-right v (written e) (written-terms ts) (fold-terms-written ts v q))
+
+  pub fold-comparison-few : (a b : IntExpr) → many-comparison a b ≡ false → many-comparison (constant-folding-int ds a) (constant-folding-int ds b) ≡ false
+  unfolding many-comparison
+  fold-comparison-few a b h =
+      let x = written (constant-folding-int ds a) in
+      let y = written (constant-folding-int ds b) in
+      let p = different-part (x ++ y) (written a ++ written b) (λ v m. among-either v x y m (λ q. among-left v (written a) (written b) (fold-written a v q)) (λ q. among-right v (written a) (written b) (fold-written b v q))) in
+      le-ltb max-comparison-vars (different (x ++ y)) (le-trans p (ltb-false max-comparison-vars (different (written a ++ written b)) h))
+
+  pub fold-column-few : (e : IntExpr) → many-column e ≡ false → many-column (constant-folding-int ds e) ≡ false
+  unfolding many-column
+  fold-column-few e h = le-ltb max-column-vars (different (written (constant-folding-int ds e))) (le-trans (different-part (written (constant-folding-int ds e)) (written e) (fold-written e)) (ltb-false max-column-vars (different (written e)) h))
+
+  -- ---- 11: spans
+
+  sum-breadth : (ts : Terms) → breadth (declared-width ds) (fold-sum ts) ≤ breadth-terms (declared-width ds) ts
+  unfolding breadth
+  sum-breadth tnil = zero-le
+  sum-breadth (tmore k e tnil) = go (eqZ k (pos 1)) refl
+    where
+      go : (t : Bool) → eqZ k (pos 1) ≡ t → breadth (declared-width ds) (cond t e (Linear (tmore k e tnil))) ≤ natAbs k * breadth (declared-width ds) e + 0
+      go true q = rw (eqZ-is k (pos 1) q) (omega arith)
+      go false q = omega arith
+  sum-breadth (tmore k e (tmore l f ts)) = omega arith
+
+  var-breadth : (v : ℕ) (o : Option ℤ) → breadth (declared-width ds) (fold-int-var o v) ≤ declared-width ds v
+  unfolding breadth
+  var-breadth v nothing = omega arith
+  var-breadth v (some c) = zero-le
+
+  mutual
+    unfolding constant-folding-int breadth
+
+    fold-breadth : (e : IntExpr) → breadth (declared-width ds) (constant-folding-int ds e) ≤ breadth (declared-width ds) e
+    fold-breadth (IConst c) = omega arith
+    fold-breadth (IVar v) = var-breadth v (as-constant (domain-of ds v))
+    fold-breadth (Linear ts) = omega (arith, sum-breadth (constant-folding-terms ds ts), fold-terms-breadth ts)
+
+    fold-terms-breadth : (ts : Terms) → breadth-terms (declared-width ds) (constant-folding-terms ds ts) ≤ breadth-terms (declared-width ds) ts
+    fold-terms-breadth tnil = omega arith
+    fold-terms-breadth (tmore k e ts) = omega (arith, mul-le-mul-left (natAbs k) (fold-breadth e), fold-terms-breadth ts)
+
+  pub fold-span : (e : IntExpr) → ((v : ℕ) → Among (written e) v → Bounded (domain-of ds v)) → span ds (constant-folding-int ds e) ≤ span ds e
+  fold-span e h = omega (arith, span-is ds e h, span-is ds (constant-folding-int ds e) (λ v m. h v (fold-written e v m)), fold-breadth e)
+
+  pub fold-column-narrow : (e : IntExpr) → ((v : ℕ) → Among (written e) v → Bounded (domain-of ds v)) → wide-column ds e ≡ false → wide-column ds (constant-folding-int ds e) ≡ false
+  unfolding wide-column
+  fold-column-narrow e b h = le-ltb max-span (span ds (constant-folding-int ds e)) (le-trans (fold-span e b) (ltb-false max-span (span ds e) h))
+
+-- ---- a test of every comparison that folding of the sides keeps, folding of a rule keeps
+
+module _ (P : IntExpr → IntExpr → Bool) (C : IntExpr → Bool) where
+  abbrev No : BoolExpr → Type 0
+  No e = any-comparison P C e ≡ false
+
+  abbrev Nos : Members → Type 0
+  Nos ms = any-comparison-members P C ms ≡ false
+
+  kept-no : (ms : Members) → Nos ms → Nos (kept ms)
+  unfolding kept any-comparison
+  kept-no none h = refl
+  kept-no (more e ms) h = go (is-const e) (kept-no ms (or-no-r (any-comparison P C e) (any-comparison-members P C ms) h))
+    where
+      go : (o : Option Bool) → Nos (kept ms) → Nos (keep-member o e (kept ms))
+      go nothing q = rw (or-no-l (any-comparison P C e) (any-comparison-members P C ms) h) q
+      go (some b) q = q
+
+  join-and-no : (ms : Members) → Nos ms → No (join-and ms)
+  unfolding any-comparison
+  join-and-no none h = refl
+  join-and-no (more e none) h = or-no-l (any-comparison P C e) false h
+  join-and-no (more e (more f ms)) h = h
+
+  join-or-no : (ms : Members) → Nos ms → No (join-or ms)
+  unfolding any-comparison
+  join-or-no none h = refl
+  join-or-no (more e none) h = or-no-l (any-comparison P C e) false h
+  join-or-no (more e (more f ms)) h = h
+
+  fold-and-no : (ms : Members) → Nos ms → No (fold-and ms)
+  unfolding fold-and any-comparison
+  fold-and-no ms h = go (has-const false ms)
+    where
+      go : (t : Bool) → No (cond t (Const false) (join-and (kept ms)))
+      go true = refl
+      go false = join-and-no (kept ms) (kept-no ms h)
+
+  fold-or-no : (ms : Members) → Nos ms → No (fold-or ms)
+  unfolding fold-or any-comparison
+  fold-or-no ms h = go (has-const true ms)
+    where
+      go : (t : Bool) → No (cond t (Const true) (join-or (kept ms)))
+      go true = refl
+      go false = join-or-no (kept ms) (kept-no ms h)
+
+  fold-not-no : (e : BoolExpr) → No e → No (fold-not e)
+  unfolding fold-not any-comparison
+  fold-not-no e h = go (is-const e)
+    where
+      go : (o : Option Bool) → No (not-of o e)
+      go nothing = h
+      go (some b) = refl
+
+  fold-var-no : (o : Option Bool) (v : ℕ) → No (fold-var o v)
+  unfolding any-comparison
+  fold-var-no nothing v = refl
+  fold-var-no (some b) v = refl
+
+  act-no : (x : Action) (o : Op) (a b : BoolExpr) → No a → No b → No (act x o a b)
+  unfolding any-comparison
+  act-no be-false o a b h k = refl
+  act-no be-true o a b h k = refl
+  act-no left o a b h k = h
+  act-no not-left o a b h k = h
+  act-no right o a b h k = k
+  act-no not-right o a b h k = k
+  act-no keep op-xor a b h k = rw (h, k) refl
+  act-no keep op-iff a b h k = rw (h, k) refl
+  act-no keep op-imp a b h k = rw (h, k) refl
+
+  fold-binary-no : (o : Op) (a b : BoolExpr) → No a → No b → No (fold-binary o a b)
+  unfolding fold-binary
+  fold-binary-no o a b h k = act-no (action o (is-const a) (is-const b)) o a b h k
+
+  module _ (ds : List Domain) (f : Fixed) (keeps : (a b : IntExpr) → P a b ≡ false → P (constant-folding-int ds a) (constant-folding-int ds b) ≡ false) where
+    mutual
+      unfolding constant-folding-bool any-comparison
+
+      pub fold-no : (e : BoolExpr) → No e → No (constant-folding-bool ds f e)
+      fold-no (Const b) h = refl
+      fold-no (Var v) h = fold-var-no (f v) v
+      fold-no (NVar n) h = refl
+      fold-no (And ms) h = fold-and-no (constant-folding-members ds f ms) (fold-members-no ms h)
+      fold-no (Or ms) h = fold-or-no (constant-folding-members ds f ms) (fold-members-no ms h)
+      fold-no (Not e) h = fold-not-no (constant-folding-bool ds f e) (fold-no e h)
+      fold-no (Xor a b) h = fold-binary-no op-xor (constant-folding-bool ds f a) (constant-folding-bool ds f b) (fold-no a (or-no-l (any-comparison P C a) (any-comparison P C b) h)) (fold-no b (or-no-r (any-comparison P C a) (any-comparison P C b) h))
+      fold-no (Iff a b) h = fold-binary-no op-iff (constant-folding-bool ds f a) (constant-folding-bool ds f b) (fold-no a (or-no-l (any-comparison P C a) (any-comparison P C b) h)) (fold-no b (or-no-r (any-comparison P C a) (any-comparison P C b) h))
+      fold-no (Imp a b) h = fold-binary-no op-imp (constant-folding-bool ds f a) (constant-folding-bool ds f b) (fold-no a (or-no-l (any-comparison P C a) (any-comparison P C b) h)) (fold-no b (or-no-r (any-comparison P C a) (any-comparison P C b) h))
+      fold-no (Cmp o a b) h = keeps a b h
+
+      fold-members-no : (ms : Members) → Nos ms → Nos (constant-folding-members ds f ms)
+      fold-members-no none h = refl
+      fold-members-no (more e ms) h = rw (fold-no e (or-no-l (any-comparison P C e) (any-comparison-members P C ms) h), fold-members-no ms (or-no-r (any-comparison P C e) (any-comparison-members P C ms) h)) refl
+
+    columns-no : ((e : IntExpr) → C e ≡ false → C (constant-folding-int ds e) ≡ false) → (es : List IntExpr) → any C es ≡ false → any C (map (constant-folding-int ds) es) ≡ false
+    columns-no column [] h = refl
+    columns-no column (e ∷ es) h = rw (column e (or-no-l (C e) (any C es) h), columns-no column es (or-no-r (C e) (any C es) h)) refl
+
+    pub fold-stmt-no : ((e : IntExpr) → C e ≡ false → C (constant-folding-int ds e) ≡ false) → (s : Stmt) → any-part P C s ≡ false → any-part P C (constant-folding-stmt ds f s) ≡ false
+    unfolding any-part constant-folding-stmt
+    fold-stmt-no column (Rule e) h = fold-no e h
+    fold-stmt-no column (Table es rows) h = columns-no column es h
+
+-- refusals 9 and 10 of a statement, after folding under any fixed values
+pub fold-stmt-light : (ds : List Domain) (f : Fixed) (s : Stmt) → any-part (heavy-comparison ds) (heavy ds) s ≡ false → any-part (heavy-comparison ds) (heavy ds) (constant-folding-stmt ds f s) ≡ false
+fold-stmt-light ds f = fold-stmt-no (heavy-comparison ds) (heavy ds) ds f (fold-comparison-light ds) (fold-light ds)
+
+pub fold-stmt-few : (ds : List Domain) (f : Fixed) (s : Stmt) → any-part many-comparison many-column s ≡ false → any-part many-comparison many-column (constant-folding-stmt ds f s) ≡ false
+fold-stmt-few ds f = fold-stmt-no many-comparison many-column ds f (fold-comparison-few ds) (fold-column-few ds)
