@@ -7,3 +7,4 @@ pub mod StarMeaning
 pub mod Emitted
 pub mod ColumnMeaning
 pub mod TableMeaning
+pub mod Values
