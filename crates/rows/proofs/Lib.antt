@@ -1,2 +1,7 @@
 pub mod Sorting
 pub mod Dropping
+pub mod Next
+pub mod Emitting
+pub mod Looping
+pub mod Grouping
+pub mod Whole

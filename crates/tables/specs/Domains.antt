@@ -37,7 +37,7 @@ has-rising x z (suc m) = ap (λ (b : Bool). eqZ x z || b) (has-rising x (sucℤ 
     go false h = tidy (ltZ x z) (ltZ x (z +ℤ pos (suc m)))
 
 -- the difference of two numbers in order
-sub-nonNeg : (lo hi : ℤ) → leZ lo hi ≡ true → T (nonNeg (hi -ℤ lo))
+pub sub-nonNeg : (lo hi : ℤ) → leZ lo hi ≡ true → T (nonNeg (hi -ℤ lo))
 sub-nonNeg lo hi h = from-lt lo hi (not-true (ltZ hi lo) (sym (leZ-not lo hi) ∙ h))
   where
     not-true : (b : Bool) → not b ≡ true → b ≡ false
