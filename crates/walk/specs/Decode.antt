@@ -5,11 +5,11 @@ use mathlib.Core.List.{List, [], _∷_, _++_}
 use Prim.Native.Nat.{ℕ, zero, suc, _+_, _≤_, _<_, min}
 use lib.IntN.{ℤ, pos, negsuc}
 use lib.ListN.{length, getD, take}
-use lib.Dec.{eqb}
+use lib.Dec.{eqb, ltb}
 use Rattle.syntax.specs.Syntax.{op-at, IntExpr, IConst, IVar, Linear, Terms, tnil, tmore}
 use Rattle.clauses.specs.Clause.{negate-if}
 use Rattle.walk.specs.Tree.{Tree, var, num, cmp, conj, disj, cross, tied, Trees, nil, cons, append, joined, crossed, both-tied}
-use Rattle.walk.specs.Item.{limit, bump, nat, Tally, tally, Item, item, items, tallies, counts, all-lines, lines-of}
+use Rattle.walk.specs.Item.{limit, bump, is-none, mode-in, fresh-in, lines-in, nat, Tally, tally, Item, item, items, tallies, counts, all-lines, lines-of}
 use Rattle.walk.specs.declared.Node.{Node}
 use Rattle.walk.specs.declared.Node.the-variants.{Var, Cmp, Not, Join, Cross}
 use Rattle.walk.specs.declared.Surveyed.{Surveyed}
@@ -19,6 +19,10 @@ word ws at = nat (getD ws at (pos 0))
 
 abbrev pub past : List ℤ → ℕ → ℕ
 past ws p = min p (length ws)
+
+-- a variable's index; 0 for what is none
+abbrev pub below : ℕ → ℕ → ℕ
+below l x = cond (ltb x l) x 0
 
 -- ---- integer expressions
 
@@ -32,7 +36,7 @@ terms ws p (suc n) at =
 
 unfoldable pub int-step : List ℤ → (ℕ → IntExpr × ℕ) → ℕ → ℕ → IntExpr × ℕ
 int-step ws p at k =
-    cond (eqb k 21) (IVar (word ws (at + 1)), past ws (at + 2))
+    cond (eqb k 21) (IVar (below 256 (word ws (at + 1))), past ws (at + 2))
     (cond (eqb k 22) (let a = terms ws p (word ws (at + 1)) (past ws (at + 2)) in (Linear (a .0), a .1))
     (IConst (getD ws (at + 1) (pos 0)), past ws (at + 2)))
 
@@ -46,18 +50,24 @@ int-end ws l at = int-at ws l at .1
 
 -- ---- Boolean expressions
 
+abbrev pub constant-node : ℕ → Bool → ℕ → Node
+constant-node x g q = Join (not (negate-if g (eqb x 1))) 0 g g q
+
+abbrev pub comparison-node : List ℤ → ℕ → ℕ → Node
+comparison-node ws l a = Cmp (int-end ws l a) (int-end ws l (int-end ws l a))
+
 -- what the code k at the position asks, the expression negated if g; l levels are left below it
 unfoldable pub node-of : List ℤ → ℕ → Bool → ℕ → ℕ → Node
 node-of ws l g at k =
-    cond (eqb k 10) (Join (not (negate-if g (eqb (word ws (at + 1)) 1))) 0 g g (past ws (at + 2)))
-    (cond (eqb k 11) (Var (word ws (at + 1)) (past ws (at + 2)))
+    cond (eqb k 10) (constant-node (word ws (at + 1)) g (past ws (at + 2)))
+    (cond (eqb k 11) (Var (below 512 (word ws (at + 1))) (past ws (at + 2)))
     (cond (eqb k 12) (Join g (word ws (at + 1)) g g (past ws (at + 2)))
     (cond (eqb k 13) (Join (not g) (word ws (at + 1)) g g (past ws (at + 2)))
     (cond (eqb k 14) (Not (past ws (at + 1)))
     (cond (eqb k 15) (Cross g (past ws (at + 1)))
     (cond (eqb k 16) (Cross (not g) (past ws (at + 1)))
     (cond (eqb k 17) (Join (not g) 2 (not g) g (past ws (at + 1)))
-    (cond (eqb k 18) (let b = int-end ws l (past ws (at + 2)) in Cmp b (int-end ws l b))
+    (cond (eqb k 18) (comparison-node ws l (past ws (at + 2)))
     (Join true 0 g g (past ws (at + 1)))))))))))
 
 unfoldable pub node-at : List ℤ → ℕ → Bool → ℕ → Node
@@ -140,7 +150,7 @@ ties-at ws (suc l) t at n = ties-step (decode ws l) (ties-at ws l) t n (node-of 
 -- ---- what the code speaks of
 
 -- the words of the work slice that hold the folded statements
-abbrev pub read-part : List ℤ → List ℤ
+unfoldable pub read-part : List ℤ → List ℤ
 read-part w = take 4608 w
 
 abbrev pub item-at : List ℤ → ℕ → Bool → Bool → ℕ → ℕ → Item
@@ -148,6 +158,30 @@ item-at ws l t g at n = item (decode ws l t g at n .tree)
 
 abbrev pub items-at : List ℤ → ℕ → Bool → ℕ → Bool → Bool → ℕ → ℕ → List Item
 items-at ws l t k g h at n = items (many (decode ws l t) k g h at n .trees)
+
+abbrev pub surveyed : ℕ → ℕ → ℕ → ℕ → ℕ → ℕ → ℕ → ℕ → Surveyed
+surveyed at base n longs lits cmps lines all = record { at = at; base = base; n = n; longs = longs; lits = lits; cmps = cmps; lines = lines; all = all }
+
+-- a disjunction and a cross, from what is found of their members
+abbrev pub fresh-of : Surveyed → ℕ
+fresh-of s = fresh-in (mode-in (s .longs) (s .lits) (s .cmps)) (s .longs)
+
+abbrev pub lines-in-of : Surveyed → ℕ
+lines-in-of s = lines-in (mode-in (s .longs) (s .lits) (s .cmps)) (s .lines)
+
+unfoldable pub closed-disj : Surveyed → Surveyed
+closed-disj s =
+    cond (is-none (s .longs))
+    (surveyed (s .at) (s .base) (s .n) 0 (s .lits) (s .cmps) (s .lines) 1)
+    (surveyed (s .at) (s .base) (bump (s .n) (fresh-of s)) 1 0 0 (lines-in-of s) (lines-in-of s))
+
+unfoldable pub closed-cross : Surveyed → Surveyed → Surveyed
+closed-cross s u =
+    let l = bump (lines-in-of s) (lines-in-of u) in
+    surveyed (u .at) (u .base) (bump (bump (u .n) (fresh-of s)) (fresh-of u)) 1 0 0 l l
+
+unfoldable pub added : Surveyed → Surveyed → Surveyed
+added r s = surveyed (s .at) (s .base) (s .n) (r .longs + s .longs) (r .lits + s .lits) (r .cmps + s .cmps) (bump (r .lines) (s .lines)) (bump (r .all) (s .all))
 
 -- the counts of a survey, within the words that it read
 pub record Counted (ws : List ℤ) (t : Tally) (at stop next total whole : ℕ) (r : Surveyed) : Type 0 where

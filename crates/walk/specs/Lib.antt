@@ -11,3 +11,4 @@ pub mod Decode
 pub mod Legal
 pub mod Rule
 pub mod Standing
+pub mod Steps

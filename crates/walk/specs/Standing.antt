@@ -7,6 +7,7 @@ use Prim.Native.Nat.{ℕ, zero, suc, _+_, _-_, _≤_, _<_, min}
 use native.Mathlib.Omega.{arith}
 use native.Mathlib.Numerals.{sub-one, add-one}
 use lib.IntN.{ℤ, pos, negsuc}
+use borrow.Author.Tests.{lt-ltb}
 use lib.ListN.{length, getD, length-append}
 use Rattle.laws.specs.Slices.{Has, has-fits, has-front, has-back, has-word, has-rest}
 use Rattle.syntax.specs.Syntax.{CmpOp, Eq, Ne, Le, Lt, Ge, Gt, op-at, encode-op, IntExpr, IConst, IVar, Linear, Terms, tnil, tmore, count-terms, encode-int, encode-terms, BoolExpr, Const, Var, NVar, And, Or, Not, Xor, Iff, Imp, Cmp, Members, none, more, count-members, encode-bool, encode-members}
@@ -65,7 +66,7 @@ mutual
       rw (int-level ws l at h, p .first, p .second, p .stop)
   int-is (IVar v) l ws at h d =
       let p = two ws at (pos 21) (pos v) [] d in
-      rw (int-level ws l at (h .0), p .first, p .second, p .stop)
+      rw (int-level ws l at (h .0), p .first, p .second, p .stop, lt-ltb v 256 (h .1))
   int-is (Linear ts) l ws at h d =
       let p = two ws at (pos 22) (pos (count-terms ts)) (encode-terms ts) d in
       rw (int-level ws l at (h .0), p .first, p .second, p .stop, terms-is ts (l - 1) ws (at + 2) (h .1) (p .rest)) (ap (λ n. (Linear ts, n)) (omega arith))
@@ -131,7 +132,7 @@ mutual
   decode-is (Const b) l t g ws at n h d k = absurd h
   decode-is (Var v) l t g ws at n h d k =
       let p = two ws at (pos 11) (pos v) [] d in
-      rw (level ws l t g at n (h .0), p .first, p .second, p .stop) (reading-to _ _ _ _ _ _ refl refl (omega arith))
+      rw (level ws l t g at n (h .0), p .first, p .second, p .stop, lt-ltb v 512 (h .1)) (reading-to _ _ _ _ _ _ refl refl (omega arith))
   decode-is (NVar m) l t g ws at n h d k = absurd h
   decode-is (And ms) l t g ws at n h d k =
       let p = two ws at (pos 12) (pos (count-members ms)) (encode-members ms) d in
