@@ -6,14 +6,17 @@ use Prim.Native.Nat.{ℕ, zero, suc, _+_, _-_, _≤_, _<_, min}
 use native.Mathlib.Omega.{arith}
 use native.Mathlib.Numerals.{sub-one}
 use lib.IntN.{ℤ, pos, negsuc, natAbs}
-use lib.ListN.{length, getD, take, length-take, List·getD-eq-default}
+use lib.ListN.{length, getD, set, take, length-take, List·getD-eq-default}
+use mir.Syntax.{w32}
+use mir.Val.{SFits, toZ}
+use mir.Facts.{toZ-ofZ}
 use lib.Seq.{getD-take}
 use lib.Signed.{ltZ, nonNeg}
 use lib.Dec.{T, eqb}
 use borrow.Author.Tests.{ltb-true, eq-eqb, ne-eqb}
 use Rattle.syntax.specs.Syntax.{IntExpr}
 use Rattle.clauses.specs.Clause.{negate-if}
-use Rattle.walk.specs.Item.{nat, bump, is-none, mode-in}
+use Rattle.walk.specs.Item.{limit, nat, bump, is-none, mode-in}
 use Rattle.walk.specs.Decode.{word, past, below, terms, int-step, int-at, int-end, constant-node, comparison-node, node-of, read-part, surveyed, fresh-of, lines-in-of, closed-disj}
 use Rattle.walk.specs.declared.Mode.{Mode}
 use Rattle.walk.specs.declared.Mode.the-variants.{Pool, Pass, Two, Each}
@@ -209,3 +212,14 @@ disj-long s h = go (s .longs) refl
 -- a node known to be a disjunction or not
 pub join-is : {N : Node} {c d g h : Bool} {k q : ℕ} → Join c k g h q ≡ N → c ≡ d → Join d k g h q ≡ N
 join-is e f = cc
+
+-- ---- stores
+
+pos-fits : (x : ℕ) → x ≤ limit → SFits w32 (pos x)
+pos-fits x h = record { sfits = omega arith }
+
+pub pos-is : (x : ℕ) → x ≤ limit → toZ w32 x ≡ pos x
+pos-is x h = toZ-ofZ (pos-fits x h)
+
+pub at-in : (w : List ℤ) (at : ℕ) → 4608 ≤ length w → at ≤ 4608 → at ≤ length (read-part w)
+at-in w at h k = omega (arith, read-length w h)

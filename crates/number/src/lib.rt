@@ -4,9 +4,11 @@ ghost use mathlib.Core.Bool.{Bool, true, false, not};
 ghost use mathlib.Core.List.{List};
 ghost use Prim.Native.Nat.{ℕ, _+_, _*_, _-_, _≤_, _<_, min};
 ghost use lib.IntN.{ℤ, pos};
-ghost use lib.ListN.{length, getD, take};
-ghost use Rattle.walk.specs.Item.{limit, bump as bump-of, nat, mode-in, fresh-in, lines-in, var-item};
-ghost use Rattle.walk.specs.Decode.{word as word-in, past, below as below-of, int-end as int-end-of, node-of, constant-node, comparison-node, read-part, surveyed, closed-disj, closed-cross, added, Surveys, SurveysAll};
+ghost use lib.ListN.{length, getD, set, take};
+ghost use Rattle.walk.specs.Item.{limit, bump as bump-of, nat, mode-in, fresh-in, lines-in, var-item, fresh as fresh-tally, meet-bool, meet-int-var, meet-int, pass-bools, tallies, mets};
+ghost use Rattle.walk.specs.Decode.{word as word-in, past, below as below-of, int-end as int-end-of, node-of, constant-node, comparison-node, read-part, surveyed, closed-disj, closed-cross, added, Surveys, SurveysAll, int-at, item-at, items-at};
+ghost use Rattle.walk.specs.Meets.{Met};
+use walk::Counters;
 use walk::Mode;
 use walk::Node;
 use walk::Surveyed;
@@ -339,6 +341,174 @@ pub fn survey(
             let s = surveys(work, q, under, true, 2, base, false, h, n);
             let u = surveys(work, q, under, true, 2, base, true, !h, s.n);
             close_cross(s, u)
+        }
+    }
+}
+
+// ---- the numbering
+
+// A number stored in the work slice; past the end nothing is.
+fn store(work: &mut [i32], i: usize, x: usize)
+    requires { ⌜ x ≤ limit ⌝ }
+    ensures { λ r. ⌜ (now (work .exit) ≡ set (now (work .entry)) i (pos x)) × (length (now (work .exit)) ≡ length (now (work .entry))) ⌝ }
+{
+    if i < work.len() {
+        work[i] = x as i32;
+    }
+}
+
+// A declared Boolean gets its number at its first meeting.
+fn declare(work: &mut [i32], v: usize, c: Counters) -> Counters
+    requires { ⌜ (v < 512) × ((c .bools ≤ limit) × (c .ints ≤ limit)) ⌝ }
+    ensures { λ r. ⌜ Met (meet-bool v) (now (work .entry)) c (now (work .exit)) r ⌝ }
+{
+    if entry(work, 4608 + v) == 0 {
+        let k = bump(c.bools, 1);
+        store(work, 4608 + v, k);
+        return Counters {
+            bools: k,
+            ints: c.ints,
+        };
+    }
+    c
+}
+
+// A declared integer does too, and its record is its index.
+pub fn declare_int(work: &mut [i32], v: usize, c: Counters) -> Counters
+    requires { ⌜ (v < 256) × ((c .bools ≤ limit) × (c .ints ≤ limit)) ⌝ }
+    ensures { λ r. ⌜ Met (meet-int-var v) (now (work .entry)) c (now (work .exit)) r ⌝ }
+{
+    if entry(work, 5120 + v) == 0 {
+        let k = bump(c.ints, 1);
+        store(work, 5120 + v, k);
+        store(work, 5376 + c.ints, v);
+        return Counters {
+            bools: c.bools,
+            ints: k,
+        };
+    }
+    c
+}
+
+// The integers of the expression at a place, in order.
+pub fn number_int(work: &mut [i32], at: usize, left: usize, c: Counters) -> Counters
+    requires { do ⌜ (4608 ≤ (← ⟦work.len()⟧)) × ((at ≤ 4608) × ((c .bools ≤ limit) × (c .ints ≤ limit))) ⌝ }
+    ensures { λ r. ⌜ Met (meet-int (int-at (read-part (now (work .entry))) left at .0)) (now (work .entry)) c (now (work .exit)) r ⌝ }
+{
+    if left == 0 {
+        return c;
+    }
+    let code = word(work, at);
+    let x = word(work, at + 1);
+    if code == 21 {
+        return declare_int(work, below(x, 256), c);
+    }
+    if code != 22 {
+        return c;
+    }
+    let mut rest = x;
+    let mut q = within(at + 2);
+    let mut d = c;
+    while rest != 0 {
+        let p = within(q + 1);
+        d = number_int(work, p, left - 1, d);
+        q = int_end(work, p, left - 1);
+        rest = rest - 1;
+    }
+    d
+}
+
+// The counter passes the new numbers of a disjunction of so many members.
+fn pass(
+    work: &[i32],
+    at: usize,
+    left: usize,
+    t: bool,
+    count: usize,
+    base: usize,
+    g: bool,
+    h: bool,
+    c: Counters,
+) -> Counters
+    requires { do ⌜ (4608 ≤ (← ⟦work.len()⟧)) × ((at ≤ 4608) × ((base ≤ limit) × ((c .bools ≤ limit) × (c .ints ≤ limit)))) ⌝ }
+    ensures { λ r. ⌜ Met (pass-bools (fresh-tally (tallies (items-at (read-part (now (work .entry))) left t count g h at base)))) (now (work .entry)) c (now (work .entry)) r ⌝ }
+{
+    let s = surveys(work, at, left, t, count, base, g, h, 0);
+    let n = bump(c.bools, fresh(s.longs, s.lits, s.cmps));
+    Counters {
+        bools: n,
+        ints: c.ints,
+    }
+}
+
+pub fn numbers(
+    work: &mut [i32],
+    at: usize,
+    left: usize,
+    t: bool,
+    count: usize,
+    base: usize,
+    g: bool,
+    h: bool,
+    c: Counters,
+) -> Counters
+    requires { do ⌜ (4608 ≤ (← ⟦work.len()⟧)) × ((at ≤ 4608) × ((base ≤ limit) × ((c .bools ≤ limit) × (c .ints ≤ limit)))) ⌝ }
+    ensures { λ r. ⌜ Met (mets (items-at (read-part (now (work .entry))) left t count g h at base)) (now (work .entry)) c (now (work .exit)) r ⌝ }
+{
+    let mut q = at;
+    let mut b = base;
+    let mut rest = count;
+    let mut f = g;
+    let mut d = c;
+    while rest != 0 {
+        d = number(work, q, left, t, b, f, d);
+        let s = survey(work, q, left, t, b, f, 0);
+        q = s.at;
+        b = s.base;
+        rest = rest - 1;
+        f = h;
+    }
+    d
+}
+
+pub fn number(
+    work: &mut [i32],
+    at: usize,
+    left: usize,
+    t: bool,
+    base: usize,
+    g: bool,
+    c: Counters,
+) -> Counters
+    requires { do ⌜ (4608 ≤ (← ⟦work.len()⟧)) × ((at ≤ 4608) × ((base ≤ limit) × ((c .bools ≤ limit) × (c .ints ≤ limit)))) ⌝ }
+    ensures { λ r. ⌜ Met (item-at (read-part (now (work .entry))) left t g at base .met) (now (work .entry)) c (now (work .exit)) r ⌝ }
+{
+    if left == 0 {
+        return c;
+    }
+    let under = left - 1;
+    match node_at(work, under, g, at) {
+        Node::Var(v, _) => declare(work, v, c),
+        Node::Cmp(b, _) => {
+            let d = number_int(work, within(at + 2), under, c);
+            number_int(work, b, under, d)
+        }
+        Node::Not(q) => number(work, q, under, t, base, !g, c),
+        Node::Join(d, k, a, b, q) => {
+            let p = numbers(work, q, under, t, k, base, a, b, c);
+            if d {
+                return pass(work, q, under, t, k, base, a, b, p);
+            }
+            p
+        }
+        Node::Cross(h, q) => {
+            if t {
+                return c;
+            }
+            let a = numbers(work, q, under, true, 2, base, false, h, c);
+            let b = numbers(work, q, under, true, 2, base, true, !h, a);
+            let p = pass(work, q, under, true, 2, base, false, h, b);
+            pass(work, q, under, true, 2, base, true, !h, p)
         }
     }
 }

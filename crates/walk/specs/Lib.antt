@@ -12,3 +12,4 @@ pub mod Legal
 pub mod Rule
 pub mod Standing
 pub mod Steps
+pub mod Meets

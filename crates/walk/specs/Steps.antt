@@ -55,7 +55,7 @@ either : (P : Node → Type 0) (b : Bool) (x y : Node) → P x → P y → P (co
 either P true x y p q = p
 either P false x y p q = q
 
-below-lt : (l x : ℕ) → 0 < l → below l x < l
+pub below-lt : (l x : ℕ) → 0 < l → below l x < l
 below-lt l x h = go (ltb x l) refl
   where
     go : (b : Bool) → ltb x l ≡ b → cond b x 0 < l

@@ -31,3 +31,9 @@ pub struct Surveyed {
     pub lines: usize,
     pub all: usize,
 }
+
+// The next Boolean's and the next integer's number.
+pub struct Counters {
+    pub bools: usize,
+    pub ints: usize,
+}
