@@ -3,3 +3,4 @@ pub mod Decimal
 pub mod ReadText
 pub mod Listing
 pub mod Cases
+pub mod Input

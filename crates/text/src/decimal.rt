@@ -1,0 +1,85 @@
+// Decimal numbers: read from bytes.
+use super::Natural;
+use super::Number;
+ghost use mathlib.Core.Path.{_≡_};
+ghost use Prim.Native.Nat.{_≤_};
+ghost use lib.ListN.{length, drop};
+ghost use Rattle.text.specs.Decimal.{read-digits as digits, read-natural as natural, read-number as number};
+ghost use Rattle.text.specs.Input.{limited, natural-of, number-of};
+
+// The digits from a place on.
+fn read_digits(part: &[u8], from: usize) -> Natural
+    requires { ⌜ from ≤ length (now part) ⌝ }
+    ensures { λ r. ⌜ r ≡ natural-of (limited (digits 0 (drop from (now (part .entry))))) ⌝ }
+{
+    let mut n: u64 = 0;
+    let mut i = from;
+    while i < part.len() {
+        let b = part[i];
+        if b < 48 {
+            return Natural::Unread;
+        }
+        if 57 < b {
+            return Natural::Unread;
+        }
+        n = 10 * n + wide(b - 48);
+        if 2147483648 < n {
+            return Natural::Unread;
+        }
+        i += 1;
+    }
+    Natural::Value(n)
+}
+
+fn wide(b: u8) -> u64
+    ensures { λ r. ⌜ r ≡ b ⌝ }
+{
+    b as u64
+}
+
+// At least one digit; a first 0 stands alone.
+fn read_natural(part: &[u8], from: usize) -> Natural
+    requires { ⌜ from ≤ length (now part) ⌝ }
+    ensures { λ r. ⌜ r ≡ natural-of (limited (natural (drop from (now (part .entry))))) ⌝ }
+{
+    if from == part.len() {
+        return Natural::Unread;
+    }
+    if part[from] == 48 {
+        if from + 1 == part.len() {
+            return Natural::Value(0);
+        }
+        return Natural::Unread;
+    }
+    read_digits(part, from)
+}
+
+pub fn read_number(part: &[u8]) -> Number
+    ensures { λ r. ⌜ r ≡ number-of (number (now (part .entry))) ⌝ }
+{
+    if part.len() == 0 {
+        return Number::Unread;
+    }
+    if part[0] == b'-' {
+        match read_natural(part, 1) {
+            Natural::Unread => Number::Unread,
+            Natural::Value(n) => {
+                if n == 0 {
+                    return Number::Unread;
+                }
+                let m = (n - 1) as i32;
+                Number::Value(-1 - m)
+            }
+        }
+    } else {
+        match read_natural(part, 0) {
+            Natural::Unread => Number::Unread,
+            Natural::Value(n) => {
+                if 2147483647 < n {
+                    return Number::Unread;
+                }
+                Number::Value(n as i32)
+            }
+        }
+    }
+}
