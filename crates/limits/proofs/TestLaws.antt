@@ -15,7 +15,7 @@ use Rattle.syntax.specs.Syntax.{Domain, IntExpr, encode-int}
 use Rattle.syntax.specs.Written.{EveryColumn}
 use Rattle.limits.specs.Limits.{heavy-comparison, heavy, many-comparison, many-column, wide-column}
 use Rattle.limits.specs.Total.{total, cap, total-cap, heavy-total, heavy-comparison-total, wide-total}
-use Rattle.limits.specs.Count.{either, marked, many-comparison-marked, many-column-marked}
+use Rattle.limits.specs.Count.{either, marked, many-comparison-marked, many-column-marked, few-comparison, few-column}
 use Rattle.limits.specs.Walk.{Bounds, Int-at, Ready-int, Int-post, Behind, Marked-post, test-comparison, test-column, Ready-pair, Pair-post, Ready-column, Column-post, Columns-at, Ready-columns, Columns-post}
 use Rattle.limits.proofs.Laws.{int-fits, int-long}
 
@@ -84,6 +84,15 @@ module _ (ws work : List ℤ) (at ni m : ℕ) where
           let k : n ≡ marked (either a b) ni = p a b (i .words) (rw e (j .words)) in
           h ∙ rw (k, right-of ds a b bs q i j .0, ne-eqb m 9 z, eq-eqb m 10 z', many-comparison-marked ni a b (i .vars) (j .vars)) refl
 
+      pub pair-on : Ready-pair ws work at ni → at ≤ nb
+      pair-on r = omega (arith, right-of (r .ds) (r .left) (r .right) (r .bounds) (r .few) (r .left-at) (r .right-at) .0)
+
+      pub pair-small : (m ≡ 9 → ⊥) → m ≡ 10 → nb - at < 128 → Pair-post ws work at ni m nb
+      unfolding test-comparison
+      pair-small z z' l ds a b bs q i j =
+          let e = right-of ds a b bs q i j .0 in
+          rw (ne-eqb m 9 z, eq-eqb m 10 z', few-comparison a b (omega arith)) e
+
       pub pair-none : (m ≡ 9 → ⊥) → (m ≡ 10 → ⊥) → Pair-post ws work at ni m nb
       unfolding test-comparison
       pair-none z z' ds a b bs q i j = rw (ne-eqb m 9 z, ne-eqb m 10 z') (right-of ds a b bs q i j .0)
@@ -113,6 +122,15 @@ module _ (ws work : List ℤ) (at ni m : ℕ) where
     column-many z z' n r p h ds a bs q i =
         let k : n ≡ marked (either a a) ni = p a a (i .words) (i .words) in
         h ∙ rw (k, column-of ds a bs q i .0, ne-eqb m 9 z, eq-eqb m 10 z', many-column-marked ni a (i .vars)) refl
+
+    pub column-on : Ready-column ws work at ni → at ≤ na
+    column-on r = omega (arith, column-of (r .ds) (r .it) (r .bounds) (r .few) (r .reads) .0)
+
+    pub column-small : (m ≡ 9 → ⊥) → m ≡ 10 → na - at < 128 → Column-post ws work at ni m na
+    unfolding test-column
+    column-small z z' l ds a bs q i =
+        let e = column-of ds a bs q i .0 in
+        rw (ne-eqb m 9 z, eq-eqb m 10 z', few-column a (omega arith)) e
 
     pub column-wide : (m ≡ 9 → ⊥) → (m ≡ 10 → ⊥) → (r : ℕ) → r ≡ cond (ltb 4095 ta) 0 na → Column-post ws work at ni m r
     unfolding test-column

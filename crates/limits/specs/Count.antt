@@ -2,13 +2,14 @@
 use mathlib.Core.Path.{_≡_, refl, sym, ap, _∙_}
 use mathlib.Core.Bool.{Bool, true, false, _||_, cond}
 use mathlib.Core.List.{List, [], _∷_, _++_}
-use Prim.Native.Nat.{ℕ, zero, suc, _+_, _≤_, _<_}
+use Prim.Native.Nat.{ℕ, zero, suc, _+_, _*_, _≤_, _<_}
 use native.Mathlib.Omega.{arith}
 use lib.Dec.{eqb, ltb}
-use borrow.Author.Tests.{eqb-true, eqb-false, eq-eqb, ne-eqb}
+use lib.ListN.{length, length-append}
+use borrow.Author.Tests.{eqb-true, eqb-false, eq-eqb, ne-eqb, le-ltb}
 use Rattle.laws.specs.Bools.{never}
 use Rattle.laws.specs.Lists.{any, any-append, different}
-use Rattle.syntax.specs.Syntax.{IntExpr, IConst, IVar, Linear, Terms, tnil, tmore}
+use Rattle.syntax.specs.Syntax.{IntExpr, IConst, IVar, Linear, Terms, tnil, tmore, encode-int, encode-terms}
 use Rattle.syntax.specs.Written.{EveryInt, EveryTerm}
 use Rattle.limits.specs.Limits.{written, written-terms, many-comparison, many-column}
 
@@ -106,3 +107,33 @@ module _ (n : ℕ) where
       twice : (t : Bool) → t ≡ (t || t)
       twice true = refl
       twice false = refl
+
+-- ---- few words write few variables
+
+different-few : (xs : List ℕ) → different xs ≤ length xs
+different-few [] = omega arith
+different-few (x ∷ xs) = go (any (eqb x) xs) (different-few xs)
+  where
+    go : (t : Bool) → different xs ≤ length xs → cond t (different xs) (suc (different xs)) ≤ suc (length xs)
+    go true h = omega arith
+    go false h = omega arith
+
+mutual
+  unfolding written encode-int
+
+  written-few : (e : IntExpr) → 2 * length (written e) ≤ length (encode-int e)
+  written-few (IConst c) = omega arith
+  written-few (IVar v) = omega arith
+  written-few (Linear ts) = omega (arith, written-terms-few ts)
+
+  written-terms-few : (ts : Terms) → 2 * length (written-terms ts) ≤ length (encode-terms ts)
+  written-terms-few tnil = omega arith
+  written-terms-few (tmore k e ts) = omega (arith, written-few e, written-terms-few ts, length-append (written e) (written-terms ts), length-append (encode-int e) (encode-terms ts))
+
+pub few-comparison : (a b : IntExpr) → length (encode-int a) + length (encode-int b) < 128 → many-comparison a b ≡ false
+unfolding many-comparison
+few-comparison a b h = le-ltb 64 (different (written a ++ written b)) (omega (arith, different-few (written a ++ written b), length-append (written a) (written b), written-few a, written-few b))
+
+pub few-column : (e : IntExpr) → length (encode-int e) < 128 → many-column e ≡ false
+unfolding many-column
+few-column e h = le-ltb 63 (different (written e)) (omega (arith, different-few (written e), written-few e))

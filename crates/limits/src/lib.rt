@@ -227,7 +227,7 @@ fn different(set: &[i32], a: usize, b: usize, n: usize) -> usize
     count
 }
 
-// ---- the test of refusal m, on a comparison and on a column
+// ---- the test of refusal m, on a comparison and on a column; below 128 words there are too few variables for 10
 
 fn unless(hit: bool, next: usize) -> usize
     ensures { λ r. ⌜ r ≡ cond hit 0 next ⌝ }
@@ -249,6 +249,10 @@ fn comparison(set: &[i32], work: &[i32], at: usize, ni: usize, m: usize) -> usiz
         return unless(a.total + b.total > 1073741823, b.next);
     }
     if m == 10 {
+        let words = b.next - at;
+        if words < 128 {
+            return b.next;
+        }
         let n = different(set, at, a.next, ni);
         return unless(n > 64, b.next);
     }
@@ -265,6 +269,10 @@ fn column(set: &[i32], work: &[i32], at: usize, ni: usize, m: usize) -> usize
         return unless(a.total > 1073741823, a.next);
     }
     if m == 10 {
+        let words = a.next - at;
+        if words < 128 {
+            return a.next;
+        }
         let n = different(set, at, at, ni);
         return unless(n > 63, a.next);
     }
