@@ -7,3 +7,4 @@ pub mod Bounds
 pub mod Emitted
 pub mod Settled
 pub mod Whole
+pub mod Records

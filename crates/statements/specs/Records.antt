@@ -1,0 +1,107 @@
+-- The records of the emitted integers tell their domains: a declared variable's is its own, a column's is that of its sum.
+use mathlib.Core.Path.{_≡_, refl, sym, ap, _∙_, subst}
+use mathlib.Core.Bool.{Bool, true, false}
+use mathlib.Core.List.{List, [], _∷_, _++_, map}
+use Prim.Native.Nat.{ℕ, zero, suc, _+_, _≤_, _<_, max}
+use native.Mathlib.Omega.{arith}
+use lib.IntN.{ℤ, pos, negsuc, _+ℤ_}
+use lib.Dec.{ltb}
+use borrow.Author.Tests.{ltb-true, ltb-false}
+use lib.ListN.{length, getD}
+use Rattle.laws.specs.Slices.{Has}
+use Rattle.laws.specs.Ints.{times-low, times-high}
+use Rattle.syntax.specs.Syntax.{Domain, Range, lower-bound, upper-bound, domain-of, IntExpr, encode-int}
+use Rattle.syntax.specs.Satisfies.{IVal}
+use Rattle.sums.specs.LinearSum.{Term, term, LinearSum, linear-sum, lowest, highest, get-domain-linear-sum}
+use Rattle.sums.specs.Linear.{linear-of}
+use Rattle.clauses.specs.Log.{declared, aux, side, declared-int, column, Log, next-int}
+use Rattle.clauses.specs.Normalize.{IntOut, normalize-int-expr}
+use Rattle.clauses.specs.Bounds.{terms-bound, sum-bound}
+use Rattle.clauses.specs.Grow.{Grows as GrowsFrom, same, grow, grows-trans, grows-bool, grows-int, grows-get-bool, grows-get-int}
+use Rattle.tables.specs.Tables.{emitted-domains}
+use Rattle.tables.specs.Emitted.{new-int-domain, new-column-domain, domain-stays}
+use Rattle.answer.specs.Declared.{Declared}
+use Rattle.walk.specs.Item.{emitted-ints, int-number}
+use Rattle.walk.specs.Grow.{Grows, Fit, back}
+use Rattle.walk.specs.Ints.{int-linear}
+use Rattle.walk.specs.Num.{Recorded}
+use Rattle.statements.specs.Columns.{ColumnRecord}
+
+-- ---- the domain of a sum depends on the variables that it names
+
+module _ (dom dom' : ℕ → Domain) (m : ℕ) (same-below : (v : ℕ) → v < m → dom v ≡ dom' v) where
+  lowest-same : (c : ℤ) (ts : List Term) → terms-bound ts ≤ m → lowest dom c ts ≡ lowest dom' c ts
+  unfolding lowest
+  lowest-same c [] h = refl
+  lowest-same c (term v a ∷ ts) h = rw (same-below v (omega arith)) (lowest-same _ ts (omega arith))
+
+  highest-same : (c : ℤ) (ts : List Term) → terms-bound ts ≤ m → highest dom c ts ≡ highest dom' c ts
+  unfolding highest
+  highest-same c [] h = refl
+  highest-same c (term v a ∷ ts) h = rw (same-below v (omega arith)) (highest-same _ ts (omega arith))
+
+  domain-same : (l : LinearSum) → sum-bound l ≤ m → get-domain-linear-sum dom l ≡ get-domain-linear-sum dom' l
+  unfolding get-domain-linear-sum
+  domain-same (linear-sum c ts) h = rw (lowest-same c ts h, highest-same c ts h) refl
+
+least : {X : Type 0} (i v : ℕ) (t : Bool) → ltb i v ≡ t → i ≤ v → (i < v → X) → (i ≡ v → X) → X
+least i v true q l f g = f (ltb-true i v q)
+least i v false q l f g = g (omega (arith, ltb-false i v q))
+
+-- ---- the entry of each emitted number. w: the work slice after numbering; L: the log
+
+module _ (F : List ℤ) (ds : List Domain) (b i : ℕ) (w : List ℤ) (L : Log) where
+  abbrev domain-at : ℕ → Domain
+  domain-at = domain-of (emitted-domains ds L)
+
+  abbrev record-at : ℕ → ℤ
+  record-at n = getD w (emitted-ints + n) (pos 0)
+
+  pub record ColumnEntry (n : ℕ) : Type 0 where
+    pub place : ℕ
+    pub expr : IntExpr
+    pub word : record-at n ≡ negsuc place
+    pub stands : Has F place (encode-int expr)
+    pub bound : sum-bound (linear-of (int-number w) expr) ≤ n
+    pub domain : domain-at n ≡ get-domain-linear-sum domain-at (linear-of (int-number w) expr)
+
+  -- a declared variable's record is its index, a column's its place
+  pub data Entry (n : ℕ) : Type 0 where
+    of-declared : (v : ℕ) → record-at n ≡ pos v → v < i → domain-at n ≡ domain-of ds v → Entry n
+    of-column : ColumnEntry n → Entry n
+
+  module _ (ε : IVal) where
+    walk-grows : {s t : Log} → GrowsFrom ε s t → Grows s t
+    walk-grows g = record { bools = grows-bool g; ints = grows-int g; keep = grows-get-bool g; keep-int = grows-get-int g }
+
+    column-entry : (l : LinearSum) (d : Domain) (t : Log) → ColumnRecord F ds t (record-at (next-int t)) l d → sum-bound l ≤ next-int t → GrowsFrom ε (column l d ∷ t) L → GrowsFrom ε t L → Fit w L → Entry (next-int t)
+    column-entry l d t c h g k f =
+        let n : ℕ = next-int t in
+        let m : normalize-int-expr (c .expr) (c .before) ≡ (l, t) = c .made in
+        let fit : Fit w (normalize-int-expr (c .expr) (c .before) .1) = subst (λ (o : IntOut). Fit w (o .1)) (sym m) (back (walk-grows k) f) in
+        let e : l ≡ linear-of (int-number w) (c .expr) = sym (ap (λ (o : IntOut). o .0) m) ∙ int-linear w (c .expr) (c .before) fit in
+        let a : domain-at n ≡ d = domain-stays ds g n (omega arith) ∙ new-column-domain ds l d t in
+        let q : get-domain-linear-sum (domain-of (emitted-domains ds t)) l ≡ get-domain-linear-sum domain-at l = domain-same (domain-of (emitted-domains ds t)) domain-at n (λ v x. sym (domain-stays ds k v x)) l h in
+        of-column (record {
+          place = c .place;
+          expr = c .expr;
+          word = c .record-word;
+          stands = c .stands;
+          bound = rw (← e) h;
+          domain = a ∙ c .domain ∙ q ∙ ap (get-domain-linear-sum domain-at) e;
+        })
+
+    entry-at : {s : Log} → GrowsFrom ε [] s → GrowsFrom ε s L → Recorded (ColumnRecord F ds) w s → Declared b i s → Fit w L → (n : ℕ) → n < next-int s → Entry n
+    unfolding Recorded
+    entry-at same g r d f n h = absurd (omega arith)
+    entry-at (grow {t} (declared v) l k) g r d f n h = entry-at k (grows-trans (grow (declared v) l same) g) r (d .1) f n h
+    entry-at (grow {t} (aux cs) l k) g r d f n h = entry-at k (grows-trans (grow (aux cs) l same) g) r d f n h
+    entry-at (grow {t} (side e) l k) g r d f n h = entry-at k (grows-trans (grow (side e) l same) g) r d f n h
+    entry-at (grow {t} (declared-int v) l k) g r d f n h =
+        least n (next-int t) (ltb n (next-int t)) refl (omega arith)
+        (λ m. entry-at k (grows-trans (grow (declared-int v) l same) g) (r .1) (d .1) f n m)
+        (λ z. rw z (of-declared v (r .0) (d .0) (domain-stays ds g (next-int t) (omega arith) ∙ new-int-domain ds v t)))
+    entry-at (grow {t} (column x e) l k) g r d f n h =
+        least n (next-int t) (ltb n (next-int t)) refl (omega arith)
+        (λ m. entry-at k (grows-trans (grow (column x e) l same) g) (r .1) (d .1) f n m)
+        (λ z. rw z (column-entry x e t (r .0) (l .0) g (grows-trans (grow (column x e) l same) g) f))
