@@ -294,3 +294,8 @@ fold-stmt-light ds f = fold-stmt-no (heavy-comparison ds) (heavy ds) ds f (fold-
 
 pub fold-stmt-few : (ds : List Domain) (f : Fixed) (s : Stmt) → any-part many-comparison many-column s ≡ false → any-part many-comparison many-column (constant-folding-stmt ds f s) ≡ false
 fold-stmt-few ds f = fold-stmt-no many-comparison many-column ds f (fold-comparison-few ds) (fold-column-few ds)
+
+-- refusal 11, where every declared domain is ordered
+pub fold-stmt-narrow : (ds : List Domain) (f : Fixed) (s : Stmt) → ((v : ℕ) → Bounded (domain-of ds v))
+    → any-part (λ a b. false) (wide-column ds) s ≡ false → any-part (λ a b. false) (wide-column ds) (constant-folding-stmt ds f s) ≡ false
+fold-stmt-narrow ds f s h = fold-stmt-no (λ a b. false) (wide-column ds) ds f (λ a b q. refl) (λ e. fold-column-narrow ds e (λ v m. h v)) s

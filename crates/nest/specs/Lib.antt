@@ -1,3 +1,4 @@
 pub mod Numbers
 pub mod Nest
 pub mod Ranges
+pub mod Column
