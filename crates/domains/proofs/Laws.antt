@@ -1,22 +1,20 @@
 -- What the functions over the set's domains ask and give at each step, over variables. Assumes nothing.
 use Prim.Native.Nat.{ℕ, zero, suc, _+_, _-_, _*_, _≤_, _<_}
-use mathlib.Core.Path.{_≡_, refl, sym, ap, _∙_, subst}
-use mathlib.Core.Bool.{Bool, true, false, cond}
-use mathlib.Core.Option.{Option, none as nothing, some}
-use mathlib.Core.List.{List, [], _∷_, _++_, map}
+use mathlib.Core.Path.{_≡_, refl, sym, ap, _∙_}
+use mathlib.Core.Bool.{true}
+use mathlib.Core.Option.{none as nothing, some}
+use mathlib.Core.List.{List, [], _∷_, map}
 use native.Mathlib.Omega.{arith}
 use lib.IntN.{ℤ, pos, negsuc, natAbs, sucℤ, _+ℤ_, _-ℤ_, +ℤ-one}
-use lib.ListN.{length, getD, set, drop, length-append, length-set}
-use lib.Seq.{sets}
+use lib.ListN.{length, getD, set, length-append, length-set}
 use mir.Syntax.{w32}
-use mir.Val.{SFits, ofZ, toZ}
-use mir.Facts.{toZ-ofZ}
+use mir.Val.{SFits}
 use Rattle.laws.specs.Ints.{eqZ, sfits-natAbs}
 use Rattle.laws.specs.Order.{is-eqZ, not-eqZ}
 use Rattle.laws.specs.Lists.{flat}
 use Rattle.laws.specs.Slices.{Has, has-fits, has-front, has-back, has-word, has-rest, has-nth}
 use Rattle.syntax.specs.Syntax.{Domain, Range, Enumerative, as-constant, lower-bound, upper-bound, num-candidates, last-or, domain-of, encode-domain}
-use Rattle.domains.specs.Declared.{Plain, Domain-at, Sized-at, Domain-below, Domain-post, One-value, Domains, bounds-words, Bounds-room, Bounds-stored, Bounds-post}
+use Rattle.domains.specs.Declared.{Plain, Domain-at, Sized-at, Domain-below, Domain-post, One-value, Domains, Bounds-room, Bounds-post}
 
 abbrev kind : Domain → ℕ
 kind (Range low high) = 0

@@ -1,17 +1,17 @@
 -- What the totals of integer expressions ask and give at each step, over variables. Assumes nothing.
-use Prim.Native.Nat.{ℕ, zero, suc, _+_, _-_, _*_, _≤_, _<_}
+use Prim.Native.Nat.{ℕ, suc, _+_, _-_, _*_, _≤_, _<_}
 use mathlib.Core.Path.{_≡_, refl, sym, ap, _∙_}
-use mathlib.Core.Bool.{Bool, true, false, cond}
-use mathlib.Core.List.{List, [], _∷_, _++_}
+use mathlib.Core.Bool.{Bool}
+use mathlib.Core.List.{List, _++_}
 use native.Mathlib.Omega.{arith}
 use lib.IntN.{ℤ, pos, natAbs}
 use lib.ListN.{length, getD, length-append}
 use Rattle.laws.specs.Slices.{Has, has-fits, has-front, has-back, has-word, has-rest}
-use Rattle.syntax.specs.Syntax.{Domain, lower-bound, upper-bound, domain-of, IntExpr, IConst, IVar, Linear, Terms, tnil, tmore, count-terms, encode-int, encode-terms}
+use Rattle.syntax.specs.Syntax.{IntExpr, IConst, IVar, Linear, Terms, tnil, tmore, count-terms, encode-int, encode-terms}
 use Rattle.syntax.specs.Written.{EveryInt, EveryTerm}
 use Rattle.domains.specs.Declared.{Plain, bound-inside, low-at, high-at}
 use Rattle.limits.specs.Total.{total, terms-total, joined, product, constant-total, bounds-total, joined-assoc, joined-none, joined-cap, terms-total-cap, total-cap, cap}
-use Rattle.limits.specs.Walk.{bounds-place, Bounds, Int-at, Terms-at, Ready-var, Var-post, Ready-int, Ready-terms, Int-post, Terms-post}
+use Rattle.limits.specs.Walk.{bounds-place, Int-at, Terms-at, Ready-var, Var-post, Ready-int, Ready-terms, Int-post, Terms-post}
 
 -- ---- `variable_total`
 
@@ -29,7 +29,7 @@ tag (IConst c) = 20
 tag (IVar v) = 21
 tag (Linear ts) = 22
 
-pos-eq : (z : ℤ) (m n : ℕ) → z ≡ pos m → z ≡ pos n → m ≡ n
+pub pos-eq : (z : ℤ) (m n : ℕ) → z ≡ pos m → z ≡ pos n → m ≡ n
 pos-eq z m n p q = cc
 
 pub int-long : (e : IntExpr) → 2 ≤ length (encode-int e)

@@ -1,19 +1,19 @@
 -- What the walk over a rule's pending expressions asks and gives at each step, over variables. Assumes nothing.
-use Prim.Native.Nat.{ℕ, zero, suc, _+_, _-_, _*_, _≤_, _<_}
+use Prim.Native.Nat.{ℕ, suc, _+_, _-_, _≤_, _<_}
 use mathlib.Core.Path.{_≡_, refl, sym, ap, _∙_, subst}
 use mathlib.Core.Bool.{Bool, true, false, _||_, cond}
 use mathlib.Core.List.{List, [], _∷_, _++_, map, append-assoc, append-nil}
 use native.Mathlib.Omega.{arith}
 use lib.IntN.{ℤ, pos}
 use lib.ListN.{length, getD, length-append}
-use Rattle.laws.specs.Bools.{or-assoc}
-use Rattle.laws.specs.Lists.{any, any-append, flat, flat-append}
+use Rattle.laws.specs.Lists.{any, any-append, flat}
 use Rattle.laws.specs.Slices.{Has, has-fits, has-front, has-back, has-word, has-rest}
-use Rattle.syntax.specs.Syntax.{Domain, IntExpr, encode-int, CmpOp, BoolExpr, Const, Var, NVar, And, Or, Not, Xor, Iff, Imp, Cmp, Members, none, more, count-members, encode-bit, encode-op, encode-bool, encode-members}
+use Rattle.syntax.specs.Syntax.{IntExpr, encode-int, CmpOp, BoolExpr, Const, Var, NVar, And, Or, Not, Xor, Iff, Imp, Cmp, Members, none, more, count-members, encode-bit, encode-op, encode-bool, encode-members}
 use Rattle.domains.specs.Declared.{Plain}
 use Rattle.limits.specs.Limits.{any-comparison, any-comparison-members}
-use Rattle.limits.specs.Walk.{Bounds, Int-at, test-comparison, test-column, Ready-pair, Pair-post, Usable, Usable-members, Usable-all, listed, parts, head-length, own-test, Bool-at, Bools-at, Ready-bool, Ready-bools, Step-post, Bools-post}
-use Rattle.limits.proofs.TestLaws.{hit-of, miss-of}
+use Rattle.limits.specs.Walk.{Int-at, test-comparison, test-column, Ready-pair, Pair-post, Usable, Usable-members, Usable-all, listed, parts, head-length, own-test, Bool-at, Bools-at, Ready-bool, Ready-bools, Step-post, Bools-post}
+use Rattle.limits.proofs.TestLaws.{hit-of, miss-of, or-false}
+use Rattle.limits.proofs.Laws.{pos-eq}
 
 -- ---- an expression's own words, and those of its parts
 
@@ -96,10 +96,6 @@ module _ (f : IntExpr → IntExpr → Bool) (g : IntExpr → Bool) where
   listed-test none = refl
   listed-test (more e ms) = ap (λ b. any-comparison f g e || b) (listed-test ms)
 
-  or-false : (a : Bool) → a ≡ a || false
-  or-false true = refl
-  or-false false = refl
-
   split-test : (e : BoolExpr) → any-comparison f g e ≡ own-test f e || any (any-comparison f g) (parts e)
   unfolding any-comparison
   split-test (Const b) = refl
@@ -107,11 +103,11 @@ module _ (f : IntExpr → IntExpr → Bool) (g : IntExpr → Bool) where
   split-test (NVar n) = refl
   split-test (And ms) = listed-test ms
   split-test (Or ms) = listed-test ms
-  split-test (Not e) = or-false (any-comparison f g e)
-  split-test (Xor a b) = ap (λ t. any-comparison f g a || t) (or-false (any-comparison f g b))
-  split-test (Iff a b) = ap (λ t. any-comparison f g a || t) (or-false (any-comparison f g b))
-  split-test (Imp a b) = ap (λ t. any-comparison f g a || t) (or-false (any-comparison f g b))
-  split-test (Cmp o a b) = or-false (f a b)
+  split-test (Not e) = sym (or-false (any-comparison f g e))
+  split-test (Xor a b) = ap (λ t. any-comparison f g a || t) (sym (or-false (any-comparison f g b)))
+  split-test (Iff a b) = ap (λ t. any-comparison f g a || t) (sym (or-false (any-comparison f g b)))
+  split-test (Imp a b) = ap (λ t. any-comparison f g a || t) (sym (or-false (any-comparison f g b)))
+  split-test (Cmp o a b) = sym (or-false (f a b))
 
 module _ (ni : ℕ) where
   listed-usable : (ms : Members) → Usable-members ni ms → Usable-all ni (listed ms)
@@ -147,9 +143,6 @@ flat-map [] us = refl
 flat-map (e ∷ es) us = ap (λ l. encode-bool e ++ l) (flat-map es us) ∙ sym (append-assoc (encode-bool e) (flat (map encode-bool es)) (flat (map encode-bool us)))
 
 -- ---- `rule_step`
-
-pos-eq : (z : ℤ) (m n : ℕ) → z ≡ pos m → z ≡ pos n → m ≡ n
-pos-eq z m n p q = cc
 
 tag-word : (ni : ℕ) (ws : List ℤ) (at : ℕ) (e : BoolExpr) → Bool-at ni ws at e → getD ws at (pos 0) ≡ pos (tag e)
 unfolding encode-bool Usable

@@ -1,6 +1,6 @@
 -- What `check_limits` and `accept` ask and gives at each step, over variables. Assumes nothing.
-use Prim.Native.Nat.{ℕ, zero, suc, _+_, _*_, _≤_, _<_}
-use mathlib.Core.Path.{_≡_, refl, sym, ap, _∙_, subst}
+use Prim.Native.Nat.{ℕ, zero, suc, _+_, _≤_, _<_}
+use mathlib.Core.Path.{_≡_, refl, sym, ap, _∙_}
 use mathlib.Core.List.{List, map}
 use native.Mathlib.Omega.{arith}
 use lib.IntN.{ℤ, pos}
@@ -10,7 +10,7 @@ use Rattle.laws.specs.Lists.{flat}
 use Rattle.syntax.specs.Syntax.{encode-domain, Problem}
 use Rattle.domains.specs.Declared.{Plain, bounds-words, Bounds-room, Bounds-post}
 use Rattle.limits.specs.Limits.{check}
-use Rattle.limits.specs.Walk.{bounds-place, Bounds, Stmts-at, Ready-stmts, check-stmts, Check-post}
+use Rattle.limits.specs.Walk.{bounds-place, Bounds, Stmts-at, Ready-stmts, Check-post}
 use Rattle.syntax.specs.Words.{min-work-words, max-set-words}
 use Rattle.words.specs.Parse.{Parsed, ok, refuse}
 use Rattle.read.specs.Read.{read-set}
@@ -21,9 +21,7 @@ use Rattle.read.specs.declared.Set as declared-set
 use Rattle.read.specs.declared.Set.the-variants as set
 use borrow.Author.Tests.{lt-ltb, le-ltb}
 use Rattle.limits.specs.Accepted.{unless-refused, limited, accepted, table-read, table-after, Set-of, Ready-set, Limits-post, ints-word, domains-stand, stmts-word, stmts-inside, stmts-stand, table-stands, check-is}
-
-pos-eq : (z : ℤ) (m n : ℕ) → z ≡ pos m → z ≡ pos n → m ≡ n
-pos-eq z m n p q = cc
+use Rattle.limits.proofs.Laws.{pos-eq}
 
 module _ (ws work : List ℤ) (r : Ready-set ws work) where
   pub ints-plain : Plain ws 1

@@ -1,5 +1,5 @@
 -- What the walk over the statements asks and gives at each step, over variables. Assumes nothing.
-use Prim.Native.Nat.{ℕ, zero, suc, _+_, _-_, _*_, _≤_, _<_}
+use Prim.Native.Nat.{ℕ, suc, _+_, _-_, _*_, _≤_, _<_}
 use mathlib.Core.Path.{_≡_, refl, sym, ap, _∙_, subst}
 use mathlib.Core.Bool.{Bool, true, false, _||_, cond}
 use mathlib.Core.List.{List, [], _∷_, _++_, map, append-nil}
@@ -12,17 +12,15 @@ use Rattle.laws.specs.Slices.{Has, has-fits, has-front, has-back, has-word, has
 use Rattle.syntax.specs.Syntax.{Domain, IntExpr, encode-int, BoolExpr, encode-bool, Cell, encode-cell, Stmt, Rule, Table, encode-stmt}
 use Rattle.domains.specs.Declared.{Plain}
 use Rattle.limits.specs.Limits.{any-comparison, any-part}
-use Rattle.limits.specs.Walk.{Bounds, test-comparison, test-column, Columns-at, Ready-columns, Columns-post, Usable, Usable-all, Bools-at, Ready-bools, Bools-post, Wide, Usable-stmt, Usable-stmts, Stmt-at, Stmts-at, Ready-stmt, Ready-stmts, test-stmt, Stmt-post, Stmts-post, check-stmts, Check-post}
-use Rattle.limits.proofs.TestLaws.{hit-of, miss-of}
+use Rattle.limits.specs.Walk.{Bounds, test-comparison, test-column, Columns-at, Ready-columns, Columns-post, Usable-all, Bools-at, Ready-bools, Bools-post, Wide, Usable-stmt, Usable-stmts, Stmt-at, Stmts-at, Ready-stmt, Ready-stmts, test-stmt, Stmt-post, Stmts-post, check-stmts, Check-post}
+use Rattle.limits.proofs.TestLaws.{hit-of, miss-of, or-false}
+use Rattle.limits.proofs.Laws.{pos-eq}
 
 -- ---- `statement`
 
 abbrev tag : Stmt → ℕ
 tag (Rule e) = 1
 tag (Table es rows) = 2
-
-pos-eq : (z : ℤ) (m n : ℕ) → z ≡ pos m → z ≡ pos n → m ≡ n
-pos-eq z m n p q = cc
 
 tag-word : (ws : List ℤ) (at : ℕ) (s : Stmt) → Has ws at (encode-stmt s) → getD ws at (pos 0) ≡ pos (tag s)
 unfolding encode-stmt
@@ -59,10 +57,6 @@ module _ (ws work : List ℤ) (at ni m : ℕ) where
         go : (s : Stmt) → tag s ≡ w → Stmt-at ni ws at s → Ready-bools ws work (at + 1) 1 ni
         go (Rule e) t r = record { ds = y .ds; bounds = y .bounds; few = y .few; them = e ∷ []; reads = one-rule e r }
         go (Table es rows) t r = absurd (omega arith)
-
-    or-false : (a : Bool) → a || false ≡ a
-    or-false true = refl
-    or-false false = refl
 
     pub rule-post : w ≡ 1 → (x : ℕ) → Bools-post ws work (at + 1) 1 ni m x → Stmt-post ws work at ni m x
     unfolding encode-stmt any-part

@@ -1,28 +1,23 @@
 -- What the tests of a comparison and of columns ask and give at each step, over variables. Assumes nothing.
-use Prim.Native.Nat.{ℕ, zero, suc, _+_, _-_, _*_, _≤_, _<_}
-use mathlib.Core.Path.{_≡_, refl, sym, ap, _∙_, subst}
+use Prim.Native.Nat.{ℕ, suc, _+_, _-_, _≤_, _<_}
+use mathlib.Core.Path.{_≡_, refl, ap, _∙_, subst}
 use mathlib.Core.Bool.{Bool, true, false, _||_, cond}
-use mathlib.Core.List.{List, [], _∷_, _++_, map}
+use mathlib.Core.List.{List, [], _∷_, map}
 use native.Mathlib.Omega.{arith}
 use lib.IntN.{ℤ, pos}
-use lib.ListN.{length, getD, length-append}
+use lib.ListN.{length, length-append}
 use lib.Dec.{eqb, ltb}
 use borrow.Author.Tests.{eq-eqb, ne-eqb}
 use Rattle.laws.specs.Lists.{any, flat}
-use Rattle.laws.specs.Slices.{Has, has-fits, has-front, has-back}
-use Rattle.syntax.specs.Words.{max-weight}
+use Rattle.laws.specs.Slices.{has-front, has-back}
 use Rattle.syntax.specs.Syntax.{Domain, IntExpr, encode-int}
 use Rattle.syntax.specs.Written.{EveryColumn}
-use Rattle.limits.specs.Limits.{heavy-comparison, heavy, many-comparison, many-column, wide-column}
 use Rattle.limits.specs.Total.{total, cap, total-cap, heavy-total, heavy-comparison-total, wide-total}
 use Rattle.limits.specs.Count.{either, marked, many-comparison-marked, many-column-marked, few-comparison, few-column}
 use Rattle.limits.specs.Walk.{Bounds, Int-at, Ready-int, Int-post, Behind, Marked-post, test-comparison, test-column, Ready-pair, Pair-post, Ready-column, Column-post, Columns-at, Ready-columns, Columns-post}
-use Rattle.limits.proofs.Laws.{int-fits, int-long}
+use Rattle.limits.proofs.Laws.{int-long}
 
 -- ---- an answer that is 0 where the test hits
-
-never : {X : Type 0} → _≡_ {A = ℕ} 0 1 → X
-never z = absurd (omega arith)
 
 pub hit-of : (t : Bool) (n r : ℕ) → 0 < n → r ≡ cond t 0 n → r ≡ 0 → t ≡ true
 hit-of true n r l e z = refl
@@ -31,6 +26,10 @@ hit-of false n r l e z = absurd (omega arith)
 pub miss-of : (t : Bool) (n r : ℕ) → r ≡ cond t 0 n → (r ≡ 0 → ⊥) → (t ≡ false) × (r ≡ n)
 miss-of true n r e z = absurd (z e)
 miss-of false n r e z = (refl, e)
+
+pub or-false : (a : Bool) → a || false ≡ a
+or-false true = refl
+or-false false = refl
 
 few-as : (ws : List ℤ) (at ni n : ℕ) (e : IntExpr) → ni ≡ n → Int-at ni ws at e → Int-at n ws at e
 few-as ws at ni n e q r = subst (λ k. Int-at k ws at e) q r

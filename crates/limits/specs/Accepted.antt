@@ -1,34 +1,34 @@
 -- What a well-formed set gives the walks: its domains' weights and bounds, declared variables, rows of one width; and the refusal that the walks test.
 -- Assumes nothing.
-use mathlib.Core.Path.{_≡_, refl, sym, ap, _∙_}
-use mathlib.Core.Bool.{Bool, true, false, cond}
+use mathlib.Core.Path.{_≡_, refl, ap, _∙_}
+use mathlib.Core.Bool.{true, cond}
 use mathlib.Core.List.{List, [], _∷_, _++_, map}
-use Prim.Native.Nat.{ℕ, zero, suc, _+_, _-_, _*_, _≤_, _<_, max}
+use Prim.Native.Nat.{ℕ, zero, suc, _+_, _-_, _≤_, _<_, max}
 use native.Mathlib.Omega.{arith}
 use lib.IntN.{ℤ, pos, negsuc, natAbs}
 use lib.Signed.{ltZ, leZ}
 use lib.Dec.{ltb}
-use lib.ListN.{length, take, drop, getD}
+use lib.ListN.{length, take, getD}
 use lib.Seq.{take-all, sets}
 use borrow.Author.Tests.{ltb-true, leb-true}
 use Rattle.laws.specs.Bools.{never}
-use Rattle.laws.specs.Lists.{any, flat, counted}
+use Rattle.laws.specs.Lists.{flat}
 use Rattle.laws.specs.Order.{leZ-refl, leZ-lt, leZ-trans}
 use Rattle.laws.specs.Slices.{Has, has-fits, has-front, has-back, has-word, has-rest, has-sets}
 use Rattle.syntax.specs.Words.{min-work-words, max-set-words}
 use Rattle.syntax.specs.Syntax.{Domain, Range, Enumerative, lower-bound, upper-bound, last-or, domain-of, encode-domain, IntExpr, IConst, IVar, Linear, Terms, tnil, tmore, BoolExpr, Const, Var, NVar, And, Or, Not, Xor, Iff, Imp, Cmp, Members, none, more, Cell, Stmt, Rule, Table, encode-stmt, Problem, encode}
 use Rattle.syntax.specs.Written.{EveryInt, EveryTerm, EveryColumn}
-use Rattle.words.specs.Exact.{Value, Each}
+use Rattle.words.specs.Exact.{Each}
 use Rattle.words.specs.Parse.{Parsed, ok, refuse}
 use Rattle.read.specs.Read.{read-set}
 use Rattle.read.specs.Position.{set-at}
 use Rattle.read.specs.declared.Set as declared-set
 use Rattle.read.specs.declared.Set.the-variants as set
-use Rattle.read.specs.WellFormed.{RisingFrom, Rising, WellDomain, WellInt, WellTerms, WellBool, WellMembers, WellRow, WellStmt, WellFormed}
-use Rattle.domains.specs.Declared.{Domains, Plain, bounds-words, bounds-length, Bounds-room, Bounds-post}
-use Rattle.limits.specs.Limits.{largest, domain-weight, heavy, heavy-comparison, many-comparison, many-column, wide-column, check}
+use Rattle.read.specs.WellFormed.{RisingFrom, WellDomain, WellInt, WellTerms, WellBool, WellMembers, WellRow, WellStmt, WellFormed}
+use Rattle.domains.specs.Declared.{Domains, bounds-words, bounds-length}
+use Rattle.limits.specs.Limits.{largest, domain-weight, check}
 use Rattle.limits.specs.Total.{Bounded}
-use Rattle.limits.specs.Walk.{bounds-place, Bounds, Usable, Usable-members, Wide, Usable-stmt, Usable-stmts, Stmts-at, Ready-stmts, test-comparison, test-column, check-stmts, Check-post}
+use Rattle.limits.specs.Walk.{bounds-place, Bounds, Usable, Usable-members, Wide, Usable-stmt, Usable-stmts, Stmts-at, test-comparison, test-column, check-stmts}
 
 -- ---- domains
 

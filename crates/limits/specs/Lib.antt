@@ -3,3 +3,4 @@ pub mod Total
 pub mod Count
 pub mod Walk
 pub mod Accepted
+pub mod Taken

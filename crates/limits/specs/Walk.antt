@@ -1,21 +1,21 @@
 -- What the walks over a set's words ask and give. Assumes nothing.
 -- A walk that tests what it passes answers with the place behind, or with 0 where the test hits.
-use mathlib.Core.Path.{_≡_, refl, sym, ap, _∙_}
-use mathlib.Core.Bool.{Bool, true, false, _||_, cond}
-use mathlib.Core.List.{List, [], _∷_, _++_, map}
-use Prim.Native.Nat.{ℕ, _+_, _*_, _<_, _≤_}
+use mathlib.Core.Path.{_≡_}
+use mathlib.Core.Bool.{Bool, false, cond}
+use mathlib.Core.List.{List, [], _∷_, map}
+use Prim.Native.Nat.{ℕ, _+_, _<_}
 use lib.IntN.{ℤ, pos}
 use lib.ListN.{length}
 use lib.Dec.{eqb}
 use Rattle.laws.specs.Lists.{any, flat}
 use Rattle.laws.specs.Slices.{Has}
-use Rattle.syntax.specs.Syntax.{Domain, lower-bound, upper-bound, domain-of, IntExpr, IConst, IVar, Linear, Terms, tnil, tmore, count-terms, encode-int, encode-terms, BoolExpr, Const, Var, NVar, And, Or, Not, Xor, Iff, Imp, Cmp, Members, none, more, encode-bool, Cell, Stmt, Rule, Table, encode-cell, encode-stmt}
+use Rattle.syntax.specs.Syntax.{Domain, lower-bound, upper-bound, domain-of, IntExpr, IConst, IVar, Linear, Terms, tnil, count-terms, encode-int, encode-terms, BoolExpr, Const, Var, NVar, And, Or, Not, Xor, Iff, Imp, Cmp, Members, none, more, encode-bool, Cell, Stmt, Rule, Table, encode-stmt}
 use Rattle.syntax.specs.Written.{EveryInt, EveryTerm, EveryColumn}
 use Rattle.domains.specs.Declared.{bounds-words}
 use Rattle.limits.specs.Limits.{any-comparison, any-part, heavy, heavy-comparison, many-comparison, many-column, wide-column}
 use Rattle.limits.specs.Total.{Bounded, total, terms-total, joined, bounds-total}
 use Rattle.limits.specs.Count.{among, either, marked}
-use Rattle.limits.specs.Limits.{written, written-terms}
+use Rattle.limits.specs.Limits.{written}
 
 -- where the table of bounds stands in the work slice
 abbrev pub bounds-place : ℕ

@@ -3,8 +3,7 @@ use Rattle.domains.proofs.as_constant.Tie as tie
 use Rattle.domains.proofs.as_constant.Reads as reads
 use Rattle.domains.proofs.as_constant.Lts as lts
 use Rattle.domains.proofs.number.Reads as number-reads
-use native.Mathlib.Omega.{arith}
-use mathlib.Core.Path.{_≡_, sym, ap, _∙_}
+use mathlib.Core.Path.{ap}
 use Prim.Native.Nat.{_+_}
 use lib.IntN.{pos}
 use lib.ListN.{getD}

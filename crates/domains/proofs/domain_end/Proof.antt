@@ -4,7 +4,6 @@ use Rattle.domains.proofs.domain_end.Reads as reads
 use Rattle.domains.proofs.domain_end.Lts as lts
 use Rattle.domains.proofs.number.Reads as number-reads
 use borrow.Author.Needs.{needs}
-use native.Mathlib.Omega.{arith}
 use Rattle.domains.proofs.Laws.{kind-plain, range-fits, range-end, count-plain, enum-fits, enum-end, domain-inside}
 
 number-requires : tie.Need-number-requires

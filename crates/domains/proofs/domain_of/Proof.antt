@@ -4,8 +4,6 @@ use Rattle.domains.proofs.domain_of.Reads as reads
 use Rattle.domains.proofs.domain_of.Lts as lts
 use Rattle.domains.proofs.domain_end.Reads as domain-end-reads
 use borrow.Author.Needs.{needs}
-use mathlib.Core.Path.{_≡_}
-use native.Mathlib.Omega.{arith}
 use Prim.Native.Nat.{ℕ}
 use Rattle.domains.specs.Declared.{Domain-below, Domain-post}
 use Rattle.domains.proofs.Laws.{first-domain, rest-below, rest-post, zero-post}

@@ -1,11 +1,11 @@
 use native.Mathlib.Omega.{arith}
-use mathlib.Core.Path.{_≡_, refl, sym, ap, _∙_}
+use mathlib.Core.Path.{_≡_, refl, _∙_}
 use mathlib.Core.List.{List}
 use lib.IntN.{ℤ}
 use lib.ListN.{length, set, length-set}
 use mir.Syntax.{w32}
 use mir.Val.{SFits, ofZ, toZ}
-use Prim.Native.Nat.{ℕ, _+_, _*_, _≤_}
+use Prim.Native.Nat.{ℕ, _+_}
 use mir.Facts.{toZ-ofZ}
 use Rattle.domains.specs.Declared.{Bounds-room, Bounds-post}
 use Rattle.domains.proofs.Laws.{bounds-first, bounds-rest, bounds-more, bounds-none}

@@ -13,17 +13,16 @@ use Rattle.limits.proofs.constant_total.Reads as constant-total-reads
 use Rattle.limits.proofs.variable_total.Reads as variable-total-reads
 use Rattle.limits.proofs.+int_total+terms_total.{statement}
 use Rattle.limits.proofs.+int_total+terms_total.Tie.{close}
-use mathlib.Core.Path.{_≡_, refl, sym, ap, _∙_}
+use mathlib.Core.Path.{refl}
 use Prim.Native.Nat.{_+_, _-_, _*_, _≤_}
 use native.Mathlib.Omega.{arith}
-use mathlib.Core.List.{List}
-use lib.IntN.{ℤ, pos}
+use lib.IntN.{pos}
 use lib.ListN.{length, getD}
 use mir.Syntax.{w32}
 use mir.Val.{SFits}
 use mir.Facts.{toZ-ofZ}
 use borrow.Author.Needs.{needs, sfits-of}
-use Rattle.limits.specs.Total.{cap, joined-cap}
+use Rattle.limits.specs.Total.{cap}
 use Rattle.limits.specs.Walk.{Ready-terms, Terms-post}
 use Rattle.limits.proofs.Laws.{int-first, int-inside, const-total, int-second, var-ready, var-total, sum-ready, sum-total, terms-none, term-ready, term-inside, rest-ready, terms-more, joined-under}
 

@@ -1,6 +1,5 @@
 use native.Mathlib.Omega.{arith}
-use mathlib.Core.Path.{_≡_, refl, sym, _∙_}
-use Prim.Native.Nat.{ℕ, _+_, _≤_, _<_}
+use mathlib.Core.Path.{sym, _∙_}
 use Rattle.limits.proofs.SetLaws.{accept-short, accept-long, accept-refused, accept-ready, accept-limit, accept-ok}
 use borrow.Author.Needs.{needs}
 use Rattle.limits.proofs.accept.Statement.{statement}

@@ -1,5 +1,4 @@
 use Rattle.limits.proofs.StatementLaws.{check-9, check-10, check-11, check-none}
-use borrow.Author.Needs.{needs}
 use Rattle.limits.proofs.check.Statement.{statement}
 use Rattle.limits.proofs.check.Tie as tie
 use Rattle.limits.proofs.check.Reads as reads

@@ -1,5 +1,4 @@
 use native.Mathlib.Omega.{arith}
-use Prim.Native.Nat.{ℕ, _+_, _≤_, _<_}
 use Rattle.limits.proofs.SetLaws.{ints-plain, few-ints, table-room, count-plain, count-inside, stmts-ready, limits-post}
 use borrow.Author.Needs.{needs}
 use Rattle.limits.proofs.check_limits.Statement.{statement}

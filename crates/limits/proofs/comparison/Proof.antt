@@ -1,5 +1,3 @@
-use native.Mathlib.Omega.{arith}
-use Prim.Native.Nat.{ℕ, _+_, _≤_}
 use Rattle.limits.proofs.TestLaws.{pair-left, pair-right, pair-behind, pair-totals, pair-heavy, pair-many, pair-none, pair-on, pair-small}
 use borrow.Author.Needs.{needs}
 use Rattle.limits.proofs.comparison.Statement.{statement}

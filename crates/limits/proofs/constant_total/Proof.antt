@@ -1,4 +1,4 @@
-use mathlib.Core.Path.{_≡_, refl, sym, ap, _∙_}
+use mathlib.Core.Path.{refl, ap, _∙_}
 use Prim.Native.Nat.{min}
 use mir.Facts.{toZ-ofZ}
 use Rattle.limits.specs.Total.{cap, constant-total}

@@ -1,6 +1,5 @@
 use native.Mathlib.Omega.{arith}
-use mathlib.Core.Path.{_≡_, refl, sym, ap, _∙_}
-use Prim.Native.Nat.{ℕ, _+_, _-_, _≤_}
+use Prim.Native.Nat.{_-_, _≤_}
 use Rattle.limits.specs.Walk.{Marked-post}
 use Rattle.limits.proofs.CountLaws.{marked-start, marked-next, marked-under, either-bit, marked-all}
 use borrow.Author.Needs.{needs}

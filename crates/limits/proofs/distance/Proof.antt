@@ -1,10 +1,7 @@
-use mathlib.Core.Path.{_≡_, refl, sym, ap, _∙_}
-use native.Mathlib.Omega.{arith}
 use mir.Syntax.{w64}
 use mir.Val.{SFits}
 use mir.Facts.{toZ-ofZ, sfits-widen}
-use Rattle.limits.proofs.Sizes.{small, distance-small, distance-fits}
-use borrow.Author.Needs.{needs}
+use Rattle.limits.proofs.Sizes.{distance-small, distance-fits}
 use Rattle.limits.proofs.distance.Statement.{statement}
 use Rattle.limits.proofs.distance.Tie as tie
 use Rattle.limits.proofs.distance.Reads as reads

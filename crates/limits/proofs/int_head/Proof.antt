@@ -1,4 +1,3 @@
-use native.Mathlib.Omega.{arith}
 use Rattle.limits.proofs.CountLaws.{head-plain, head-inside, head-const, head-second, head-var, head-sum}
 use borrow.Author.Needs.{needs}
 use Rattle.limits.proofs.int_head.Statement.{statement}

@@ -1,5 +1,4 @@
 use native.Mathlib.Omega.{arith}
-use Prim.Native.Nat.{ℕ, _+_, _≤_, _<_}
 use Rattle.limits.proofs.RuleLaws.{bool-inside, bool-plain, step-leaf, list-plain, step-list, step-not, step-two, cmp-ready, step-cmp}
 use borrow.Author.Needs.{needs}
 use Rattle.limits.proofs.rule_step.Statement.{statement}

@@ -1,5 +1,5 @@
 use native.Mathlib.Omega.{arith}
-use Prim.Native.Nat.{ℕ, _+_, _-_, _≤_, _<_}
+use Prim.Native.Nat.{ℕ, _-_}
 use lib.ListN.{length}
 use Rattle.limits.specs.Walk.{Ready-bools, Bools-post}
 use Rattle.limits.proofs.RuleLaws.{bool-inside, rules-none, rule-first, rules-hit, rules-ready, rules-on, rules-rest, rules-room}

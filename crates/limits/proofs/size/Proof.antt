@@ -1,10 +1,8 @@
-use mathlib.Core.Path.{_≡_, refl, sym, ap, _∙_}
 use native.Mathlib.Omega.{arith}
 use mir.Syntax.{w64}
 use mir.Val.{SFits}
 use mir.Facts.{toZ-ofZ, sfits-widen}
 use Rattle.limits.proofs.Sizes.{small}
-use borrow.Author.Needs.{needs}
 use Rattle.limits.proofs.size.Statement.{statement}
 use Rattle.limits.proofs.size.Tie as tie
 use Rattle.limits.proofs.size.Reads as reads

@@ -1,5 +1,3 @@
-use native.Mathlib.Omega.{arith}
-use Prim.Native.Nat.{ℕ, _+_, _*_, _≤_, _<_}
 use Rattle.limits.proofs.StatementLaws.{stmt-inside, stmt-plain, rule-ready, rule-post, table-inside, table-first, table-second, table-ready, table-hit, table-room, table-post}
 use borrow.Author.Needs.{needs}
 use Rattle.limits.proofs.statement.Statement.{statement}

@@ -1,13 +1,10 @@
-use mathlib.Core.Path.{_≡_, refl, sym, ap, _∙_}
-use mathlib.Core.Bool.{Bool, true, false}
-use lib.IntN.{pos, natAbs, _-ℤ_}
+use mathlib.Core.Path.{_≡_, refl}
+use mathlib.Core.Bool.{true, false}
+use lib.IntN.{pos}
 use lib.Signed.{ltZ}
-use mir.Syntax.{w64}
-use mir.Val.{SFits}
 use mir.Facts.{toZ-ofZ}
 use Rattle.laws.specs.Signed.{test-of, not-neg}
 use Rattle.limits.proofs.Sizes.{minus-is, minus-fits, size-fits}
-use borrow.Author.Needs.{needs}
 use Rattle.limits.proofs.wide_size.Statement.{statement}
 use Rattle.limits.proofs.wide_size.Tie as tie
 use Rattle.limits.proofs.wide_size.Reads as reads

@@ -1,5 +1,4 @@
 use Rattle.limits.proofs.CountLaws.{either-left, either-right, either-none}
-use borrow.Author.Needs.{needs}
 use Rattle.limits.proofs.writes_either.Statement.{statement}
 use Rattle.limits.proofs.writes_either.Tie as tie
 use Rattle.limits.proofs.writes_either.Reads as reads
