@@ -1,22 +1,24 @@
 -- What folding of Boolean expressions asks and gives at each step, over variables. Assumes nothing.
-use Prim.Native.Nat.{ℕ, zero, suc, _+_, _-_, _*_, _≤_, _<_}
+use Prim.Native.Nat.{ℕ, zero, suc, _+_, _-_, _≤_, _<_}
 use mathlib.Core.Path.{_≡_, refl, sym, ap, _∙_, subst}
-use mathlib.Core.Bool.{Bool, true, false, not, _||_, cond}
+use mathlib.Core.Bool.{Bool, true, false, _||_, cond}
 use mathlib.Core.Option.{Option, none as nothing, some}
 use mathlib.Core.List.{List, [], _∷_, _++_, append-nil}
 use native.Mathlib.Omega.{arith}
 use lib.Dec.{eqb}
 use lib.IntN.{ℤ, pos}
 use lib.ListN.{length, take, drop, getD, length-append}
-use lib.Seq.{slice, getD-take, length-take-le}
+use lib.Seq.{slice, getD-take}
 use Rattle.laws.specs.Slices.{Has, has-fits, has-front, has-back, has-word, has-rest, Pushed, pushed-below, pushed-slice, pushed-then, pushed-over, pushed-none, Stored, drop-up}
 use Rattle.syntax.specs.Words.{max-bools}
-use Rattle.syntax.specs.Syntax.{Domain, CmpOp, encode-op, IntExpr, BoolExpr, Const, Var, NVar, And, Or, Not, Xor, Iff, Imp, Cmp, Members, none, more, count-members, encode-int, encode-bool, encode-members, encode-bit}
-use Rattle.fold.specs.Fold.{Fixed, is-const, Op, op-xor, op-iff, op-imp, expr-of, Action, action, act, fold-binary, has-const, keep-member, kept, fold-not, not-of, fold-var, constant-folding-int, constant-folding-bool, constant-folding-members}
+use Rattle.syntax.specs.Syntax.{CmpOp, encode-op, IntExpr, BoolExpr, Const, Var, NVar, And, Or, Not, Xor, Iff, Imp, Cmp, Members, none, more, count-members, encode-int, encode-bool, encode-members}
+use Rattle.fold.specs.Fold.{is-const, Op, op-xor, op-iff, op-imp, expr-of, action, act, fold-binary, has-const, keep-member, kept, fold-not, not-of, fold-var, constant-folding-int, constant-folding-bool, constant-folding-members}
 use Rattle.fold.specs.Table.{op-num, action-num, bit, state-num, op-small, bit-small, state-small}
-use Rattle.fold.specs.Forms.{list-of, fold-list, list-folding, binary-folding, list-words, binary-words, bit-word, op-word, op-word-is, Declared-int, Declared, Declared-members, declared-list, declared-binary, int-long, bool-long, members-long}
-use Rattle.fold.specs.Size.{int-size, fold-size, members-size, fold-declared, members-declared, kept-declared, kept-size, fold-list-size, not-size, binary-size}
-use Rattle.fold.specs.Steps.{Plain, Domains, state-of, fixed-of, fixed-in, var-step, not-step, not-state, list-step, list-state, binary-step, binary-state, Reads-int, Ready-int, Folds-int, Int-post, Reads, Reads-members, Ready, Ready-members, Folds, Folds-members, Fold-post, Members-post, var-words, not-words, not-state-is, bit-state, fold-list-words, fold-list-state, act-words, fold-binary-state, hit-one, count-one, kept-fewer, members-count}
+use Rattle.fold.specs.Forms.{list-of, fold-list, list-folding, binary-folding, list-words, binary-words, bit-word, op-word, op-word-is, Declared, Declared-members, declared-list, declared-binary, bool-long, members-long}
+use Rattle.fold.specs.Size.{fold-declared, kept-size, fold-list-size, not-size, binary-size}
+use Rattle.fold.specs.Kept.{fold-int-size, fold-size, fold-members-size}
+use Rattle.domains.specs.Declared.{Plain}
+use Rattle.fold.specs.Steps.{state-of, fixed-of, fixed-in, var-step, not-step, not-state, list-step, list-state, binary-step, binary-state, Reads-int, Ready-int, Int-post, Reads, Reads-members, Ready, Ready-members, Fold-post, Members-post, var-words, not-words, not-state-is, bit-state, fold-list-words, fold-list-state, act-words, fold-binary-state, hit-one, count-one, kept-fewer, members-count}
 
 -- ---- the form, from the first word
 
@@ -311,7 +313,7 @@ module _ (ws : List ℤ) (d at : ℕ) (out : List ℤ) (o w : ℕ) (hw : getD ws
           let y = p (r .ds) a (r .domains) (rs .0) in
           let nx : next ≡ at + 2 + length (encode-int a) = y .nexts in
           let en : end ≡ m + length (encode-int (constant-folding-int (r .ds) a)) = y .pushed .end in
-          record { ds = r .ds; domains = r .domains; it = b; reads = rw nx (rs .1); room = omega (arith, length-append (encode-int a) (encode-int b), int-size (r .ds) a) }
+          record { ds = r .ds; domains = r .domains; it = b; reads = rw nx (rs .1); room = omega (arith, length-append (encode-int a) (encode-int b), fold-int-size (r .ds) a) }
 
       pub cmp-folds : (out' : List ℤ) (next' end' : ℕ) → Int-post ws d next mid' end out' next' end' → Fold-post ws d at out o out' next' end' 2
       unfolding encode-bool second constant-folding-bool
@@ -330,7 +332,7 @@ module _ (ws : List ℤ) (d at : ℕ) (out : List ℤ) (o w : ℕ) (hw : getD ws
             nexts = omega (arith, length-append (encode-int a) (encode-int b));
             states = refl;
             pushed = rw eo (pushed-then out o (pos 18 ∷ pos v ∷ []) mid m _ out' end' (s .pushed) (pushed-then mid m _ mid' end _ out' end' (y .pushed) (y' .pushed)));
-            above = drop-up (end + length (encode-int b)) (o + length (encode-bool (Cmp x a b))) out' mid' (y' .above) (omega (arith, length-append (encode-int a) (encode-int b), int-size ds a))
+            above = drop-up (end + length (encode-int b)) (o + length (encode-bool (Cmp x a b))) out' mid' (y' .above) (omega (arith, length-append (encode-int a) (encode-int b), fold-int-size ds a))
                 ∙ drop-up (m + length (encode-int a)) (o + length (encode-bool (Cmp x a b))) mid' mid (y .above) (omega (arith, length-append (encode-int a) (encode-int b)))
                 ∙ drop-up m (o + length (encode-bool (Cmp x a b))) mid out (s .above) (omega arith);
           })
@@ -356,7 +358,7 @@ module _ (ws : List ℤ) (d at : ℕ) (out : List ℤ) (o w : ℕ) (hw : getD ws
         let e : end ≡ o + 1 + length (encode-bool y) = f .pushed .end in
         let z : o + suc (length (encode-bool x)) ≤ length out = rw q at (r .room) in
         let s : state ≡ state-num (is-const y) = f .states in
-        (omega (arith, bool-long max-bools _ y (fold-declared max-bools _ (r .ds) (fixed-in out) x (rd .vars))), omega (arith, fold-size max-bools _ (r .ds) (fixed-in out) x (rd .vars)), omega (arith, state-small (is-const y)))
+        (omega (arith, bool-long max-bools _ y (fold-declared max-bools _ (r .ds) (fixed-in out) x (rd .vars))), omega (arith, fold-size (r .ds) (fixed-in out) x), omega (arith, state-small (is-const y)))
 
     pub not-folds : (out' : List ℤ) (next' end' state' : ℕ) → Ready ws d at out o → w ≡ 14 → next' ≡ next → state' ≡ not-state state → Stored mid o (not-step state (slice (o + 1) end mid)) out' end'
         → Fold-post ws d at out o out' next' end' state'
@@ -375,7 +377,7 @@ module _ (ws : List ℤ) (d at : ℕ) (out : List ℤ) (o w : ℕ) (hw : getD ws
           states = hs ∙ ap not-state (f .states) ∙ not-state-is (is-const y) y;
           pushed = pushed-over out (o + 1) (encode-bool y) mid end o _ out' end' (f .pushed) (omega arith) l ww;
           above = above-both (o + suc (length (encode-bool x))) out mid out' (o + 1 + length (encode-bool x)) end' (f .above) (st .above) (omega arith)
-              (let k : end' ≡ o + length (encode-bool (not-of (is-const y) y)) = ww .end in omega (arith, not-size max-bools _ (is-const y) y yd, fold-size max-bools _ ds (fixed-in out) x (rx .vars)));
+              (let k : end' ≡ o + length (encode-bool (not-of (is-const y) y)) = ww .end in omega (arith, not-size max-bools _ (is-const y) y yd, fold-size ds (fixed-in out) x));
         })
 
   -- ---- And, Or
@@ -411,7 +413,7 @@ module _ (ws : List ℤ) (d at : ℕ) (out : List ℤ) (o w : ℕ) (hw : getD ws
           let ns = constant-folding-members (r .ds) (fixed-in out) ms in
           let e : end ≡ o + 2 + length (encode-members (kept ns)) = f .pushed .end in
           let c : size ≡ count-members (kept ns) = f .sizes in
-          (omega arith, omega (arith, kept-size ns, members-size max-bools _ (r .ds) (fixed-in out) ms (g .vars), ap length (list-words b ms)), omega (arith, bit-small b), omega (arith, kept-fewer ns, members-count (r .ds) (fixed-in out) ms))
+          (omega arith, omega (arith, kept-size ns, fold-members-size (r .ds) (fixed-in out) ms, ap length (list-words b ms)), omega (arith, bit-small b), omega (arith, kept-fewer ns, members-count (r .ds) (fixed-in out) ms))
 
       pub list-folds : (out' : List ℤ) (next' end' state' : ℕ) → Ready ws d at out o → next' ≡ next → state' ≡ list-state (w - 12) hit size → Stored mid o (list-step (w - 12) hit size (slice (o + 2) end mid)) out' end'
           → Fold-post ws d at out o out' next' end' state'
@@ -432,7 +434,7 @@ module _ (ws : List ℤ) (d at : ℕ) (out : List ℤ) (o w : ℕ) (hw : getD ws
             states = ss ∙ ap (λ x. state-num (is-const x)) (sym lf);
             pushed = subst (λ x. Pushed out o (encode-bool x) out' end') (sym lf) po;
             above = above-both (o + length (encode-bool (list-of b ms))) out mid out' (o + 2 + length (encode-members ms)) end' (f .above) (st .above) (omega arith)
-                (let k : end' ≡ o + length (encode-bool (fold-list b ns)) = ww .end in omega (arith, fold-list-size b ns, members-size max-bools _ ds (fixed-in out) ms (g .vars)));
+                (let k : end' ≡ o + length (encode-bool (fold-list b ns)) = ww .end in omega (arith, fold-list-size b ns, fold-members-size ds (fixed-in out) ms));
           })
 
   -- ---- Xor, Iff, Imp
@@ -464,7 +466,7 @@ module _ (ws : List ℤ) (d at : ℕ) (out : List ℤ) (o w : ℕ) (hw : getD ws
           let f = p (r .ds) a (r .domains) ra in
           let n : next ≡ at + 1 + length (encode-bool a) = f .nexts in
           let e : end ≡ o + 1 + length (encode-bool (constant-folding-bool (r .ds) (fixed-in out) a)) = f .pushed .end in
-          (record { ds = r .ds; domains = r .domains; it = b; reads = rw n rb; low = omega arith; room = omega (arith, binary-length y a b, fold-size max-bools _ (r .ds) (fixed-in out) a (ra .vars)) }, omega (arith, reads-long _ ws (at + 1) a ra))
+          (record { ds = r .ds; domains = r .domains; it = b; reads = rw n rb; low = omega arith; room = omega (arith, binary-length y a b, fold-size (r .ds) (fixed-in out) a) }, omega (arith, reads-long _ ws (at + 1) a ra))
 
       module _ (mid' : List ℤ) (next' end' state' : ℕ) (p' : Fold-post ws d next mid end mid' next' end' state') where
         pub binary-closes : Ready ws d at out o → length mid ≡ length out → length mid' ≡ length mid
@@ -483,7 +485,7 @@ module _ (ws : List ℤ) (d at : ℕ) (out : List ℤ) (o w : ℕ) (hw : getD ws
             let s' : state' ≡ state-num (is-const B) = g .states in (
               omega (arith, bool-long max-bools _ A (fold-declared max-bools _ (r .ds) (fixed-in out) a (ra .vars))),
               omega arith,
-              omega (arith, binary-length y a b, fold-size max-bools _ (r .ds) (fixed-in out) a (ra .vars), fold-size max-bools _ (r .ds) (fixed-in mid) b (rb .vars)),
+              omega (arith, binary-length y a b, fold-size (r .ds) (fixed-in out) a, fold-size (r .ds) (fixed-in mid) b),
               omega (arith, op-small y),
               omega (arith, state-small (is-const A)),
               omega (arith, state-small (is-const B)),
@@ -524,9 +526,9 @@ module _ (ws : List ℤ) (d at : ℕ) (out : List ℤ) (o w : ℕ) (hw : getD ws
               states = ss ∙ ap (λ x. state-num (is-const x)) (sym bf);
               pushed = subst (λ x. Pushed out o (encode-bool x) out' end″) (sym bf) po;
               above = above-both (o + length (encode-bool (expr-of y a b))) out mid' out' (o + 1 + length (encode-bool a) + length (encode-bool b)) end″
-                  (drop-up (end + length (encode-bool b)) (o + 1 + length (encode-bool a) + length (encode-bool b)) mid' mid (g .above) (omega (arith, fold-size max-bools _ ds (fixed-in out) a (ra .vars))) ∙ drop-up (o + 1 + length (encode-bool a)) (o + 1 + length (encode-bool a) + length (encode-bool b)) mid out (f .above) (omega arith))
+                  (drop-up (end + length (encode-bool b)) (o + 1 + length (encode-bool a) + length (encode-bool b)) mid' mid (g .above) (omega (arith, fold-size ds (fixed-in out) a)) ∙ drop-up (o + 1 + length (encode-bool a)) (o + 1 + length (encode-bool a) + length (encode-bool b)) mid out (f .above) (omega arith))
                   (st .above) (omega (arith, binary-length y a b))
-                  (let k : end″ ≡ o + length (encode-bool T) = ww .end in omega (arith, binary-length y a b, binary-size max-bools _ y A B Ad Bd, fold-size max-bools _ ds (fixed-in out) a (ra .vars), fold-size max-bools _ ds (fixed-in out) b (rb .vars)));
+                  (let k : end″ ≡ o + length (encode-bool T) = ww .end in omega (arith, binary-length y a b, binary-size max-bools _ y A B Ad Bd, fold-size ds (fixed-in out) a, fold-size ds (fixed-in out) b));
             })
 
 -- ---- members
@@ -579,7 +581,7 @@ module _ (ws : List ℤ) (d at n : ℕ) (out : List ℤ) (o : ℕ) (z : n ≡ 0 
         let kf = kept-at (is-const E) E (f .states) (f .pushed) (omega arith) in
         let ke : from ≡ o + length (encode-members (keep-member (is-const E) E none)) = kf .end in
         let lo : max-bools ≤ o = r .low in (
-          record { ds = r .ds; domains = r .domains; them = ns; reads = rw nx (reads-rest _ ws at n e ns rd); low = omega arith; room = omega (arith, length-append (encode-bool e) (encode-members ns), kept-one-size (is-const E) E, fold-size max-bools _ (r .ds) (fixed-in out) e (re .vars)) },
+          record { ds = r .ds; domains = r .domains; them = ns; reads = rw nx (reads-rest _ ws at n e ns rd); low = omega arith; room = omega (arith, length-append (encode-bool e) (encode-members ns), kept-one-size (is-const E) E, fold-size (r .ds) (fixed-in out) e) },
           omega (arith, reads-long _ ws at e re),
         )
 
@@ -608,7 +610,7 @@ module _ (ws : List ℤ) (d at n : ℕ) (out : List ℤ) (o : ℕ) (z : n ≡ 0 
           hits = rw (f .states, hb, gh, hit-one (is-const E) c) refl;
           sizes = rw (f .states, gs) (count-one (is-const E) E (kept N));
           pushed = rw (kept-split (is-const E) E (kept N)) (pushed-then out o (encode-members (keep-member (is-const E) E none)) mid from (encode-members (kept N)) out' end' kf gw);
-          above = drop-up (from + length (encode-members ns)) (o + length (encode-bool e ++ encode-members ns)) out' mid (g .above) (omega (arith, length-append (encode-bool e) (encode-members ns), kept-one-size (is-const E) E, fold-size max-bools _ ds (fixed-in out) e (re .vars)))
+          above = drop-up (from + length (encode-members ns)) (o + length (encode-bool e ++ encode-members ns)) out' mid (g .above) (omega (arith, length-append (encode-bool e) (encode-members ns), kept-one-size (is-const E) E, fold-size ds (fixed-in out) e))
               ∙ drop-up (o + length (encode-bool e)) (o + length (encode-bool e ++ encode-members ns)) mid out (f .above) (omega (arith, length-append (encode-bool e) (encode-members ns)));
         })
 

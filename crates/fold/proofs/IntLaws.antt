@@ -1,23 +1,23 @@
 -- What folding of integer expressions asks and gives at each step, over variables. Assumes nothing.
-use Prim.Native.Nat.{ℕ, zero, suc, _+_, _-_, _*_, _≤_, _<_}
+use Prim.Native.Nat.{ℕ, suc, _+_, _-_, _≤_, _<_}
 use mathlib.Core.Path.{_≡_, refl, sym, ap, _∙_, subst}
 use mathlib.Core.Bool.{Bool, true, false, cond}
 use mathlib.Core.Option.{Option, none, some}
-use mathlib.Core.List.{List, [], _∷_, _++_, map}
+use mathlib.Core.List.{List, [], _∷_, _++_}
 use native.Mathlib.Omega.{arith}
 use lib.Dec.{eqb}
 use borrow.Author.Tests.{eq-eqb, eqb-true}
 use lib.IntN.{ℤ, pos}
 use lib.ListN.{length, drop, getD, set, length-append, length-set}
-use lib.Seq.{slice-empty, drop-set-lt}
+use lib.Seq.{slice-empty}
 use Rattle.laws.specs.Ints.{eqZ}
-use Rattle.laws.specs.Lists.{flat}
 use Rattle.laws.specs.Slices.{Has, has-fits, has-front, has-back, has-word, has-rest, Pushed, pushed-then, pushed-none, Stored, stored-two, heads-one, drop-up}
-use Rattle.syntax.specs.Syntax.{Domain, as-constant, domain-of, encode-domain, IntExpr, IConst, IVar, Linear, Terms, tnil, tmore, count-terms, encode-int, encode-terms}
+use Rattle.syntax.specs.Syntax.{Domain, as-constant, domain-of, IntExpr, IConst, IVar, Linear, Terms, tnil, tmore, count-terms, encode-int, encode-terms}
 use Rattle.fold.specs.Fold.{fold-int-var, fold-sum, constant-folding-int, constant-folding-terms}
 use Rattle.fold.specs.Forms.{Declared-int, Declared-terms, int-long}
-use Rattle.fold.specs.Size.{int-size, terms-size}
-use Rattle.fold.specs.Steps.{Plain, single-of, Domain-below, Int-var-post, Reads-int, Reads-terms, Ready-int, Ready-terms, Folds-int, Folds-terms, Int-post, Terms-post}
+use Rattle.fold.specs.Kept.{fold-int-size}
+use Rattle.domains.specs.Declared.{Plain, Domain-below}
+use Rattle.fold.specs.Steps.{single-of, Int-var-post, Reads-int, Reads-terms, Ready-int, Ready-terms, Folds-int, Int-post, Terms-post}
 
 -- ---- the form, from the first word
 
@@ -274,7 +274,7 @@ module _ (ws : List ℤ) (d at n : ℕ) (out : List ℤ) (o : ℕ) (z : n ≡ 0 
         let y = p (r .ds) e (r .domains) (term-first _ ws at n c e us g) in
         let nx : next ≡ at + 1 + length (encode-int e) = y .nexts in
         let ef : end ≡ o + 1 + length (encode-int (constant-folding-int (r .ds) e)) = y .pushed .end in
-        (record { ds = r .ds; domains = r .domains; them = us; reads = rw nx (term-rest _ ws at n c e us g); room = omega (arith, length-append (encode-int e) (encode-terms us), int-size (r .ds) e) }, omega (arith, int-long e))
+        (record { ds = r .ds; domains = r .domains; them = us; reads = rw nx (term-rest _ ws at n c e us g); room = omega (arith, length-append (encode-int e) (encode-terms us), fold-int-size (r .ds) e) }, omega (arith, int-long e))
 
     stored-one : (c : ℤ) → o < length out → Stored out o (c ∷ []) (set out o c) (o + 1)
     stored-one c lo = rw (slice-empty (o + 1) out) at (heads-one out o c (o + 1) (omega arith) (omega arith))
@@ -294,7 +294,7 @@ module _ (ws : List ℤ) (d at n : ℕ) (out : List ℤ) (o : ℕ) (z : n ≡ 0 
         rw q (record {
           nexts = omega (arith, length-append (encode-int e) (encode-terms us));
           pushed = pushed-then out o (c ∷ []) mid (o + 1) _ out' end' (w0 .pushed) (pushed-then mid (o + 1) _ mid' end _ out' end' (y .pushed) (y' .pushed));
-          above = drop-up (end + length (encode-terms us)) (o + length (encode-terms (tmore c e us))) out' mid' (y' .above) (omega (arith, length-append (encode-int e) (encode-terms us), int-size ds e))
+          above = drop-up (end + length (encode-terms us)) (o + length (encode-terms (tmore c e us))) out' mid' (y' .above) (omega (arith, length-append (encode-int e) (encode-terms us), fold-int-size ds e))
               ∙ drop-up (o + 1 + length (encode-int e)) (o + length (encode-terms (tmore c e us))) mid' mid (y .above) (omega (arith, length-append (encode-int e) (encode-terms us)))
               ∙ drop-up (o + 1) (o + length (encode-terms (tmore c e us))) mid out (w0 .above) (omega arith);
         })

@@ -1,15 +1,14 @@
 -- Expressions by their first two words: And and Or as one form, named by the value that settles it, and Xor, Iff, Imp as another.
 -- `Declared`: every variable is below the counts, and no emitted number stands in the expression.
-use Prim.Native.Nat.{ℕ, zero, suc, _+_, _≤_, _<_}
-use mathlib.Core.Path.{_≡_, refl, sym, ap, _∙_}
+use Prim.Native.Nat.{ℕ, _+_, _≤_, _<_}
+use mathlib.Core.Path.{_≡_, refl}
 use mathlib.Core.Bool.{Bool, true, false, not, cond}
-use mathlib.Core.Option.{Option, none as nothing, some}
-use mathlib.Core.List.{List, [], _∷_, _++_}
+use mathlib.Core.List.{List, _∷_, _++_}
 use native.Mathlib.Omega.{arith}
-use lib.IntN.{ℤ, pos}
+use lib.IntN.{pos}
 use lib.ListN.{length, length-append}
-use Rattle.syntax.specs.Syntax.{Domain, CmpOp, Eq, Ne, Le, Lt, Ge, Gt, encode-op, IntExpr, IConst, IVar, Linear, Terms, tnil, tmore, BoolExpr, Const, Var, NVar, And, Or, Not, Xor, Iff, Imp, Cmp, Members, none, more, count-terms, count-members, encode-int, encode-terms, encode-bool, encode-members, encode-bit}
-use Rattle.fold.specs.Fold.{Fixed, is-const, Op, op-xor, op-iff, op-imp, expr-of, fold-binary, has-const, kept, join-and, join-or, fold-and, fold-or, constant-folding-bool, constant-folding-members}
+use Rattle.syntax.specs.Syntax.{Domain, CmpOp, Eq, Ne, Le, Lt, Ge, Gt, encode-op, IntExpr, IConst, IVar, Linear, Terms, tnil, tmore, BoolExpr, Const, Var, NVar, And, Or, Not, Xor, Iff, Imp, Cmp, Members, none, more, count-members, encode-int, encode-bool, encode-members, encode-bit}
+use Rattle.fold.specs.Fold.{Fixed, Op, op-xor, op-iff, op-imp, expr-of, fold-binary, has-const, kept, join-and, join-or, fold-and, fold-or, constant-folding-bool, constant-folding-members}
 use Rattle.fold.specs.Table.{op-num, bit}
 
 -- ---- And and Or

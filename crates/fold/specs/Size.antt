@@ -1,16 +1,16 @@
--- Folding brings no variable in and never lengthens the words.
-use Prim.Native.Nat.{ℕ, zero, suc, _+_, _≤_, _<_}
-use mathlib.Core.Path.{_≡_, refl, sym, ap, _∙_}
-use mathlib.Core.Bool.{Bool, true, false, not, cond}
+-- Folding brings no variable in; how long the words of a closing step are. (Kept has the lengths of what is folded.)
+use Prim.Native.Nat.{ℕ, suc, _+_, _≤_, _<_}
+use mathlib.Core.Path.{ap}
+use mathlib.Core.Bool.{Bool, true, false, cond}
 use mathlib.Core.Option.{Option, none as nothing, some}
-use mathlib.Core.List.{List, [], _∷_, _++_}
+use mathlib.Core.List.{List, []}
 use native.Mathlib.Omega.{arith}
 use lib.IntN.{ℤ, pos}
 use lib.ListN.{length, length-append}
 use Rattle.laws.specs.Ints.{eqZ}
-use Rattle.syntax.specs.Syntax.{Domain, as-constant, domain-of, IntExpr, IConst, IVar, Linear, Terms, tnil, tmore, BoolExpr, Const, Var, NVar, And, Or, Not, Xor, Iff, Imp, Cmp, Members, none, more, count-terms, count-members, encode-int, encode-terms, encode-bool, encode-members}
+use Rattle.syntax.specs.Syntax.{Domain, as-constant, domain-of, IntExpr, IConst, IVar, Linear, Terms, tnil, tmore, BoolExpr, Const, Var, NVar, And, Or, Not, Xor, Iff, Imp, Cmp, Members, none, more, encode-bool, encode-members}
 use Rattle.fold.specs.Fold.{Fixed, is-const, Op, op-xor, op-iff, op-imp, expr-of, Action, be-false, be-true, left, not-left, right, not-right, keep, action, act, fold-binary, has-const, keep-member, kept, fold-not, not-of, fold-var, fold-int-var, fold-sum, constant-folding-int, constant-folding-terms, constant-folding-bool, constant-folding-members}
-use Rattle.fold.specs.Forms.{list-of, join, fold-list, list-folding, binary-folding, list-words, binary-words, Declared-int, Declared-terms, Declared, Declared-members, bool-long, members-long, int-long}
+use Rattle.fold.specs.Forms.{list-of, join, fold-list, list-folding, list-words, binary-words, Declared-int, Declared-terms, Declared, Declared-members, bool-long}
 
 -- ---- integers
 
@@ -29,21 +29,6 @@ unfolding Declared-int
 int-var-declared ni nothing v h = h
 int-var-declared ni (some c) v h = tt
 
-sum-size : (ts : Terms) → length (encode-int (fold-sum ts)) ≤ 2 + length (encode-terms ts)
-unfolding encode-int
-sum-size tnil = omega arith
-sum-size (tmore k e tnil) = go (eqZ k (pos 1))
-  where
-    go : (b : Bool) → length (encode-int (cond b e (Linear (tmore k e tnil)))) ≤ 2 + suc (length (encode-int e ++ []))
-    go true = omega (arith, length-append (encode-int e) [])
-    go false = omega arith
-sum-size (tmore k e (tmore l f ts)) = omega arith
-
-int-var-size : (k : Option ℤ) (v : ℕ) → length (encode-int (fold-int-var k v)) ≤ 2
-unfolding encode-int
-int-var-size nothing v = omega arith
-int-var-size (some c) v = omega arith
-
 module _ (ds : List Domain) where
   mutual
     unfolding constant-folding-int Declared-int
@@ -56,18 +41,6 @@ module _ (ds : List Domain) where
     pub terms-declared : (ni : ℕ) (ts : Terms) → Declared-terms ni ts → Declared-terms ni (constant-folding-terms ds ts)
     terms-declared ni tnil h = tt
     terms-declared ni (tmore k e ts) h = (int-declared ni e (h .0), terms-declared ni ts (h .1))
-
-  mutual
-    unfolding constant-folding-int encode-int
-
-    pub int-size : (e : IntExpr) → length (encode-int (constant-folding-int ds e)) ≤ length (encode-int e)
-    int-size (IConst c) = omega arith
-    int-size (IVar v) = omega (arith, int-var-size (as-constant (domain-of ds v)) v)
-    int-size (Linear ts) = omega (arith, sum-size (constant-folding-terms ds ts), terms-size ts)
-
-    pub terms-size : (ts : Terms) → length (encode-terms (constant-folding-terms ds ts)) ≤ length (encode-terms ts)
-    terms-size tnil = omega arith
-    terms-size (tmore k e ts) = omega (arith, int-size e, terms-size ts, length-append (encode-int e) (encode-terms ts), length-append (encode-int (constant-folding-int ds e)) (encode-terms (constant-folding-terms ds ts)))
 
 -- ---- Booleans: variables
 
@@ -196,31 +169,3 @@ module _ (nb ni : ℕ) where
   pub binary-size : (o : Op) (a b : BoolExpr) → Declared nb ni a → Declared nb ni b → length (encode-bool (fold-binary o a b)) ≤ suc (length (encode-bool a) + length (encode-bool b))
   unfolding fold-binary
   binary-size o a b h g = act-size (action o (is-const a) (is-const b)) o a b h g
-
-var-size : (k : Option Bool) (v : ℕ) → length (encode-bool (fold-var k v)) ≤ 2
-unfolding encode-bool
-var-size nothing v = omega arith
-var-size (some b) v = omega arith
-
-module _ (nb ni : ℕ) (ds : List Domain) (f : Fixed) where
-  two-size : (o : Op) (a b : BoolExpr) → Declared nb ni a → Declared nb ni b → length (encode-bool (constant-folding-bool ds f a)) ≤ length (encode-bool a) → length (encode-bool (constant-folding-bool ds f b)) ≤ length (encode-bool b) → length (encode-bool (fold-binary o (constant-folding-bool ds f a) (constant-folding-bool ds f b))) ≤ suc (length (encode-bool a ++ encode-bool b))
-  two-size o a b h g p q = omega (arith, binary-size nb ni o (constant-folding-bool ds f a) (constant-folding-bool ds f b) (fold-declared nb ni ds f a h) (fold-declared nb ni ds f b g), p, q, length-append (encode-bool a) (encode-bool b))
-
-  mutual
-    unfolding constant-folding-bool encode-bool Declared fold-not
-
-    pub fold-size : (e : BoolExpr) → Declared nb ni e → length (encode-bool (constant-folding-bool ds f e)) ≤ length (encode-bool e)
-    fold-size (Const b) h = omega arith
-    fold-size (Var v) h = omega (arith, var-size (f v) v)
-    fold-size (NVar n) h = absurd h
-    fold-size (And ms) h = rw (list-folding ds f false ms) (omega (arith, fold-list-size false (constant-folding-members ds f ms), members-size ms h))
-    fold-size (Or ms) h = rw (list-folding ds f true ms) (omega (arith, fold-list-size true (constant-folding-members ds f ms), members-size ms h))
-    fold-size (Not e) h = omega (arith, not-size nb ni (is-const (constant-folding-bool ds f e)) (constant-folding-bool ds f e) (fold-declared nb ni ds f e h), fold-size e h)
-    fold-size (Xor a b) h = two-size op-xor a b (h .0) (h .1) (fold-size a (h .0)) (fold-size b (h .1))
-    fold-size (Iff a b) h = two-size op-iff a b (h .0) (h .1) (fold-size a (h .0)) (fold-size b (h .1))
-    fold-size (Imp a b) h = two-size op-imp a b (h .0) (h .1) (fold-size a (h .0)) (fold-size b (h .1))
-    fold-size (Cmp o a b) h = omega (arith, int-size ds a, int-size ds b, length-append (encode-int a) (encode-int b), length-append (encode-int (constant-folding-int ds a)) (encode-int (constant-folding-int ds b)))
-
-    pub members-size : (ms : Members) → Declared-members nb ni ms → length (encode-members (constant-folding-members ds f ms)) ≤ length (encode-members ms)
-    members-size none h = omega arith
-    members-size (more e ms) h = omega (arith, fold-size e (h .0), members-size ms (h .1), length-append (encode-bool e) (encode-members ms), length-append (encode-bool (constant-folding-bool ds f e)) (encode-members (constant-folding-members ds f ms)))

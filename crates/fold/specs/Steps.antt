@@ -1,9 +1,9 @@
 -- What the code's contracts say: the words that a closing step writes, as functions of numbers and words; and what folding asks and gives.
-use Prim.Native.Nat.{ℕ, zero, suc, _+_, _-_, _*_, _≤_, _<_}
+use Prim.Native.Nat.{ℕ, zero, suc, _+_, _-_, _≤_, _<_}
 use mathlib.Core.Path.{_≡_, refl, sym, ap, _∙_}
-use mathlib.Core.Bool.{Bool, true, false, not, _||_, Bool·beq, cond}
+use mathlib.Core.Bool.{Bool, true, false, not, cond}
 use mathlib.Core.Option.{Option, none as nothing, some}
-use mathlib.Core.List.{List, [], _∷_, _++_, map, append-nil}
+use mathlib.Core.List.{List, [], _∷_, _++_, append-nil}
 use native.Mathlib.Omega.{arith}
 use native.Mathlib.Numerals.{add-one}
 use lib.Dec.{eqb, ltb}
@@ -11,20 +11,14 @@ use borrow.Author.Tests.{ne-eqb}
 use lib.IntN.{ℤ, pos, negsuc}
 use lib.ListN.{length, take, drop, getD}
 use Rattle.laws.specs.Ints.{eqZ}
-use Rattle.laws.specs.Lists.{flat}
 use Rattle.laws.specs.Slices.{Has, Pushed, Stored}
 use Rattle.syntax.specs.Words.{max-bools}
-use Rattle.syntax.specs.Syntax.{Domain, as-constant, domain-of, encode-domain, IntExpr, Terms, BoolExpr, Const, Var, NVar, And, Or, Not, Xor, Iff, Imp, Cmp, Members, none, more, count-terms, count-members, encode-int, encode-terms, encode-bool, encode-members}
-use Rattle.fold.specs.Fold.{Fixed, is-const, Op, op-xor, op-iff, op-imp, expr-of, Action, be-false, be-true, left, not-left, right, not-right, keep, action, act, fold-binary, is-value, has-const, keep-member, kept, fold-not, not-of, fold-var, fold-int-var, constant-folding-int, constant-folding-terms, constant-folding-bool, constant-folding-members}
+use Rattle.syntax.specs.Syntax.{Domain, as-constant, domain-of, IntExpr, Terms, BoolExpr, Const, Members, none, more, count-terms, count-members, encode-int, encode-terms, encode-bool, encode-members}
+use Rattle.domains.specs.Declared.{Domains}
+use Rattle.fold.specs.Fold.{Fixed, is-const, Op, op-xor, op-iff, op-imp, Action, be-false, be-true, left, not-left, right, not-right, keep, action, act, fold-binary, is-value, has-const, keep-member, kept, not-of, fold-var, fold-int-var, constant-folding-int, constant-folding-terms, constant-folding-bool, constant-folding-members}
 use Rattle.fold.specs.Refold.{const-or}
 use Rattle.fold.specs.Table.{op-num, action-num, bit, state-num}
 use Rattle.fold.specs.Forms.{list-of, join, fold-list, list-words, binary-words, bit-word, Declared-int, Declared-terms, Declared, Declared-members}
-
--- a word that is a number
-pub record Plain (ws : List ℤ) (at : ℕ) : Type 0 where
-  pub inside : at < length ws
-  pub value : ℕ
-  pub is : getD ws at (pos 0) ≡ pos value
 
 -- ---- the fixed values: 0 false, 1 true, else open
 
@@ -71,11 +65,6 @@ binary-step k op l r =
 unfoldable pub binary-state : ℕ → ℕ
 binary-state k = cond (ltb k 2) k 2
 
--- ---- domains: the set's stand from d on
-
-pub record Domains (ws : List ℤ) (d : ℕ) (ds : List Domain) : Type 0 where
-  pub words : Has ws d (flat (map encode-domain ds))
-
 -- ---- integers: what stands in the words, and what is written for it
 
 pub record Reads-int (ni : ℕ) (ws : List ℤ) (at : ℕ) (e : IntExpr) : Type 0 where
@@ -121,25 +110,6 @@ Terms-post ws d at n out o out' next end = (ds : List Domain) (ts : Terms) → D
 -- a sum of one term with coefficient 1
 unfoldable pub single-of : ℕ → ℤ → Bool
 single-of n c = cond (eqb n 1) (eqZ c (pos 1)) false
-
--- ---- one domain
-
-pub record Domain-at (ws : List ℤ) (at : ℕ) : Type 0 where
-  pub it : Domain
-  pub words : Has ws at (encode-domain it)
-
-pub record Domain-below (ws : List ℤ) (d v : ℕ) : Type 0 where
-  pub ds : List Domain
-  pub domains : Domains ws d ds
-  pub below : v < length ds
-
-abbrev pub Domain-post : List ℤ → ℕ → ℕ → ℕ → Type 0
-Domain-post ws d v r = (ds : List Domain) → Domains ws d ds → v < length ds → Has ws r (encode-domain (domain-of ds v))
-
--- the place of a domain's one value, or 0
-pub record One-value (ws : List ℤ) (dm : Domain) (r : ℕ) : Type 0 where
-  pub absent : r ≡ 0 → as-constant dm ≡ nothing
-  pub found : (r ≡ 0 → ⊥) → (as-constant dm ≡ some (getD ws r (pos 0))) × (r < length ws)
 
 abbrev pub Int-var-post : List ℤ → ℕ → List ℤ → ℕ → ℕ → List ℤ → ℕ → Type 0
 Int-var-post ws d out o v out' r = (ds : List Domain) → Domains ws d ds → v < length ds → Stored out o (encode-int (fold-int-var (as-constant (domain-of ds v)) v)) out' r

@@ -9,12 +9,11 @@ ghost use lib.IntN.{ℤ, pos};
 ghost use lib.Dec.{eqb};
 ghost use lib.ListN.{length, getD, set};
 ghost use lib.Seq.{slice};
-ghost use Rattle.laws.specs.Lists.{flat};
-ghost use Rattle.laws.specs.Slices.{Has, Stored};
-ghost use Rattle.syntax.specs.Syntax.{Domain, encode-domain};
+ghost use Rattle.laws.specs.Slices.{Stored};
 ghost use Rattle.fold.specs.Fold.{Op, action as action-of};
 ghost use Rattle.fold.specs.Table.{op-num, action-num, bit, state-num};
-ghost use Rattle.fold.specs.Steps.{Plain, state-of, var-step, not-step, not-state, list-step, list-state, binary-step, binary-state, single-of, Domain-at, Domain-below, Domain-post, One-value, Int-var-post, Ready-int, Ready-terms, Int-post, Terms-post, Ready, Ready-members, Fold-post, Members-post};
+ghost use Rattle.domains.specs.Declared.{Domain-below};
+ghost use Rattle.fold.specs.Steps.{state-of, var-step, not-step, not-state, list-step, list-state, binary-step, binary-state, single-of, Int-var-post, Ready-int, Ready-terms, Int-post, Terms-post, Ready, Ready-members, Fold-post, Members-post};
 
 pub struct Span {
     pub next: usize,
@@ -35,14 +34,6 @@ pub struct Listed {
 }
 
 // ---- the leaves that know of signs
-
-pub fn number(words: &[i32], at: usize) -> usize
-    requires { ⌜ Plain (now words) at ⌝ }
-    ensures { λ r. ⌜ (getD (now (words .entry)) at (pos 0) ≡ pos r) × (r < 2147483648) ⌝ }
-{
-    let w = words[at];
-    w as usize
-}
 
 pub fn put(work: &mut [i32], o: usize, v: usize)
     requires { ⌜ (o < length (now work)) × (v < 2147483648) ⌝ }
@@ -161,6 +152,35 @@ pub fn close_not(work: &mut [i32], o: usize, next: usize, e: usize, s: usize) ->
     }
 }
 
+// The words of a list whose kept members stand behind its header.
+pub fn put_list(work: &mut [i32], o: usize, e: usize, b: usize, hit: bool, kept: usize) -> usize
+    requires { ⌜ (o + 2 ≤ e) × (e ≤ length (now work)) × (b < 2) × (kept < 2147483648) ⌝ }
+    ensures { λ r. ⌜ Stored (now (work .entry)) o (list-step b hit kept (slice (o + 2) e (now (work .entry)))) (now (work .exit)) r ⌝ }
+{
+    if hit {
+        return put_two(work, o, 10, b);
+    }
+    if kept == 0 {
+        return put_two(work, o, 10, 1 - b);
+    }
+    if kept == 1 {
+        return shift(work, o + 2, e, o);
+    }
+    put(work, o, 12 + b);
+    put(work, o + 1, kept);
+    e
+}
+
+pub fn list_state(b: usize, hit: bool, kept: usize) -> usize
+    requires { ⌜ b < 2 ⌝ }
+    ensures { λ r. ⌜ r ≡ list-state b hit kept ⌝ }
+{
+    if hit {
+        return b;
+    }
+    if kept == 0 { 1 - b } else { 2 }
+}
+
 pub fn close_list(
     work: &mut [i32],
     o: usize,
@@ -173,37 +193,41 @@ pub fn close_list(
     requires { ⌜ (o + 2 ≤ e) × (e ≤ length (now work)) × (b < 2) × (kept < 2147483648) ⌝ }
     ensures { λ r. ⌜ (r .next ≡ next) × (r .state ≡ list-state b hit kept) × Stored (now (work .entry)) o (list-step b hit kept (slice (o + 2) e (now (work .entry)))) (now (work .exit)) (r .end) ⌝ }
 {
-    if hit {
-        let end = put_two(work, o, 10, b);
-        return Folded {
-            next,
-            end,
-            state: b,
-        };
+    let end = put_list(work, o, e, b, hit, kept);
+    let state = list_state(b, hit, kept);
+    Folded { next, end, state }
+}
+
+// The words of an action on two sides that stand behind the header.
+pub fn put_binary(work: &mut [i32], o: usize, m: usize, e: usize, op: usize, k: usize) -> usize
+    requires { ⌜ (o + 2 ≤ m) × (m ≤ e) × (e ≤ length (now work)) × (op < 3) ⌝ }
+    ensures { λ r. ⌜ Stored (now (work .entry)) o (binary-step k op (slice (o + 1) m (now (work .entry))) (slice m e (now (work .entry)))) (now (work .exit)) r ⌝ }
+{
+    if k < 2 {
+        return put_two(work, o, 10, k);
     }
-    if kept == 0 {
-        let end = put_two(work, o, 10, 1 - b);
-        return Folded {
-            next,
-            end,
-            state: 1 - b,
-        };
+    if k == 2 {
+        return shift(work, o + 1, m, o);
     }
-    if kept == 1 {
-        let end = shift(work, o + 2, e, o);
-        return Folded {
-            next,
-            end,
-            state: 2,
-        };
+    if k == 3 {
+        put(work, o, 14);
+        return m;
     }
-    put(work, o, 12 + b);
-    put(work, o + 1, kept);
-    Folded {
-        next,
-        end: e,
-        state: 2,
+    if k == 4 {
+        return shift(work, m, e, o);
     }
+    if k == 5 {
+        put(work, o, 14);
+        return shift(work, m, e, o + 1);
+    }
+    put(work, o, 15 + op);
+    e
+}
+
+pub fn binary_state(k: usize) -> usize
+    ensures { λ r. ⌜ r ≡ binary-state k ⌝ }
+{
+    if k < 2 { k } else { 2 }
 }
 
 pub fn close_binary(
@@ -218,56 +242,10 @@ pub fn close_binary(
     requires { ⌜ (o + 2 ≤ m) × (m ≤ e) × (e ≤ length (now work)) × (op < 3) ⌝ }
     ensures { λ r. ⌜ (r .next ≡ next) × (r .state ≡ binary-state k) × Stored (now (work .entry)) o (binary-step k op (slice (o + 1) m (now (work .entry))) (slice m e (now (work .entry)))) (now (work .exit)) (r .end) ⌝ }
 {
-    if k < 2 {
-        let end = put_two(work, o, 10, k);
-        return Folded {
-            next,
-            end,
-            state: k,
-        };
-    }
-    if k == 2 {
-        let end = shift(work, o + 1, m, o);
-        return Folded {
-            next,
-            end,
-            state: 2,
-        };
-    }
-    if k == 3 {
-        put(work, o, 14);
-        return Folded {
-            next,
-            end: m,
-            state: 2,
-        };
-    }
-    if k == 4 {
-        let end = shift(work, m, e, o);
-        return Folded {
-            next,
-            end,
-            state: 2,
-        };
-    }
-    if k == 5 {
-        put(work, o, 14);
-        let end = shift(work, m, e, o + 1);
-        return Folded {
-            next,
-            end,
-            state: 2,
-        };
-    }
-    put(work, o, 15 + op);
-    Folded {
-        next,
-        end: e,
-        state: 2,
-    }
+    let end = put_binary(work, o, m, e, op, k);
+    let state = binary_state(k);
+    Folded { next, end, state }
 }
-
-// ---- domains
 
 pub fn copy_word(words: &[i32], at: usize, work: &mut [i32], o: usize)
     requires { ⌜ (at < length (now words)) × (o < length (now work)) ⌝ }
@@ -275,53 +253,6 @@ pub fn copy_word(words: &[i32], at: usize, work: &mut [i32], o: usize)
 {
     let w = words[at];
     work[o] = w;
-}
-
-pub fn domain_end(words: &[i32], at: usize) -> usize
-    requires { ⌜ Domain-at (now words) at ⌝ }
-    ensures { λ r. ⌜ ((dm : Domain) → Has (now (words .entry)) at (encode-domain dm) → r ≡ at + length (encode-domain dm)) ⌝ }
-{
-    let kind = number(words, at);
-    if kind == 0 {
-        return at + 3;
-    }
-    let n = number(words, at + 1);
-    at + 2 + n
-}
-
-// The place of variable v's domain.
-pub fn domain_of(words: &[i32], d: usize, v: usize) -> usize
-    requires { ⌜ Domain-below (now words) d v ⌝ }
-    ensures { λ r. ⌜ Domain-post (now (words .entry)) d v r ⌝ }
-{
-    let mut at = d;
-    let mut left = v;
-    while left != 0 {
-        at = domain_end(words, at);
-        left = left - 1;
-    }
-    at
-}
-
-// The place of the one value of the domain at `at`, or 0 (as_constant).
-pub fn as_constant(words: &[i32], at: usize) -> usize
-    requires { ⌜ Domain-at (now words) at ⌝ }
-    ensures { λ r. ⌜ ((dm : Domain) → Has (now (words .entry)) at (encode-domain dm) → One-value (now (words .entry)) dm r) ⌝ }
-{
-    let kind = number(words, at);
-    if kind == 0 {
-        let low = words[at + 1];
-        let high = words[at + 2];
-        if low == high {
-            return at + 1;
-        }
-        return 0;
-    }
-    let n = number(words, at + 1);
-    if n == 1 {
-        return at + 2;
-    }
-    0
 }
 
 // ---- integer expressions
@@ -346,8 +277,8 @@ pub fn put_int_var(words: &[i32], d: usize, work: &mut [i32], o: usize, v: usize
     requires { ⌜ (o + 2 ≤ length (now work)) × (v < 2147483648) ⌝ }
     ensures { λ r. ⌜ Int-var-post (now (words .entry)) d (now (work .entry)) o v (now (work .exit)) r ⌝ }
 {
-    let at = domain_of(words, d, v);
-    let p = as_constant(words, at);
+    let at = domains::domain_of(words, d, v);
+    let p = domains::as_constant(words, at);
     if p == 0 {
         return put_two(work, o, 21, v);
     }
@@ -385,7 +316,7 @@ pub fn constant_folding_int(words: &[i32], d: usize, at: usize, work: &mut [i32]
     requires { ⌜ Ready-int (now words) d at (now work) o ⌝ }
     ensures { λ r. ⌜ Int-post (now (words .entry)) d at (now (work .entry)) o (now (work .exit)) (r .next) (r .end) ⌝ }
 {
-    let w = number(words, at);
+    let w = domains::number(words, at);
     if w == 20 {
         put(work, o, 20);
         copy_word(words, at + 1, work, o + 1);
@@ -394,7 +325,7 @@ pub fn constant_folding_int(words: &[i32], d: usize, at: usize, work: &mut [i32]
             end: o + 2,
         };
     }
-    let v = number(words, at + 1);
+    let v = domains::number(words, at + 1);
     if w == 21 {
         let end = put_int_var(words, d, work, o, v);
         return Span { next: at + 2, end };
@@ -439,7 +370,7 @@ pub fn fold_leaf(words: &[i32], d: usize, at: usize, work: &mut [i32], o: usize,
     requires { ⌜ (getD (now words) at (pos 0) ≡ pos w) × (w < 12) ⌝ }
     ensures { λ r. ⌜ Fold-post (now (words .entry)) d at (now (work .entry)) o (now (work .exit)) (r .next) (r .end) (r .state) ⌝ }
 {
-    let v = number(words, at + 1);
+    let v = domains::number(words, at + 1);
     if w == 10 {
         let end = put_two(work, o, 10, v);
         return Folded {
@@ -463,7 +394,7 @@ pub fn fold_comparison(words: &[i32], d: usize, at: usize, work: &mut [i32], o: 
     requires { ⌜ getD (now words) at (pos 0) ≡ pos 18 ⌝ }
     ensures { λ r. ⌜ Fold-post (now (words .entry)) d at (now (work .entry)) o (now (work .exit)) (r .next) (r .end) (r .state) ⌝ }
 {
-    let v = number(words, at + 1);
+    let v = domains::number(words, at + 1);
     let m = put_two(work, o, 18, v);
     let a = constant_folding_int(words, d, at + 2, work, m);
     let b = constant_folding_int(words, d, a.next, work, a.end);
@@ -518,7 +449,7 @@ pub fn constant_folding_bool(
     requires { ⌜ Ready (now words) d at (now work) o ⌝ }
     ensures { λ r. ⌜ Fold-post (now (words .entry)) d at (now (work .entry)) o (now (work .exit)) (r .next) (r .end) (r .state) ⌝ }
 {
-    let w = number(words, at);
+    let w = domains::number(words, at);
     if w < 12 {
         return fold_leaf(words, d, at, work, o, w);
     }
@@ -530,7 +461,7 @@ pub fn constant_folding_bool(
         return close_not(work, o, a.next, a.end, a.state);
     }
     if w < 14 {
-        let n = number(words, at + 1);
+        let n = domains::number(words, at + 1);
         let m = constant_folding_members(words, d, at + 2, n, work, o + 2, w - 12);
         return close_list(work, o, m.next, m.end, w - 12, m.hit, m.kept);
     }

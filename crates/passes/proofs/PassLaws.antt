@@ -1,6 +1,6 @@
 -- What the passes and the whole of optimize ask and give at each step, over variables. Assumes nothing.
-use Prim.Native.Nat.{ℕ, zero, suc, _+_, _-_, _*_, _≤_, _<_}
-use mathlib.Core.Path.{_≡_, refl, sym, ap, _∙_, subst}
+use Prim.Native.Nat.{ℕ, zero, suc, _+_, _-_, _≤_, _<_}
+use mathlib.Core.Path.{_≡_, refl, sym, ap, _∙_}
 use mathlib.Core.Bool.{Bool, true, false, cond}
 use mathlib.Core.Option.{Option, none as nothing, some}
 use mathlib.Core.List.{List, [], _∷_, _++_, map}
@@ -16,16 +16,17 @@ use Rattle.syntax.specs.Words.{max-bools, max-set-words, min-work-words}
 use Rattle.syntax.specs.Syntax.{Domain, Stmt, Problem, encode-domain, encode-stmt, encode}
 use Rattle.read.specs.WellFormed.{WellFormed}
 use Rattle.fold.specs.Fold.{Fixed, constant-folding-stmt}
-use Rattle.fold.specs.Optimize.{Status, unsatisfiable, updated, constant-prop-stmts, Outcome, inconsistent, settled, passes, optimize}
+use Rattle.fold.specs.Optimize.{Status, unsatisfiable, updated, constant-prop-stmts, Outcome, passes, optimize}
 use Rattle.fold.specs.Ends.{optimize-more}
 use Rattle.fold.specs.Kept.{fold-stmts-size}
 use Rattle.fold.specs.Table.{state-num}
-use Rattle.fold.specs.Steps.{Plain, Domains, Domain-at, state-of, fixed-of, fixed-in}
+use Rattle.domains.specs.Declared.{Plain, Domains, Domain-at}
+use Rattle.fold.specs.Steps.{state-of, fixed-of, fixed-in}
 use Rattle.fold.proofs.BoolLaws.{fixed-at}
-use Rattle.passes.specs.Want.{status-num, Values, Propagates}
-use Rattle.passes.specs.Statements.{Declared-stmts, Reads-stmts, Ready-stmts, Folds-stmts, Stmts-post, Stand-stmts, Prop-stmts-post}
+use Rattle.passes.specs.Want.{Values, Propagates}
+use Rattle.passes.specs.Statements.{Declared-stmts, Reads-stmts, Stmts-post, Stand-stmts, Prop-stmts-post}
 use Rattle.passes.specs.Passes.{stmts-every, stmts-kept, stmts-length, open-count, open-most, open-fewer, pass-unsatisfiable, pass-settled, pass-again}
-use Rattle.passes.specs.Optimized.{Some-domains, Domains-end-post, Opened, outcome, Ready-passes, Settles, Passes-post, Accepted, Optimize-post}
+use Rattle.passes.specs.Optimized.{Some-domains, Domains-end-post, Opened, Ready-passes, Settles, Passes-post}
 use Rattle.passes.specs.WellDeclared.{well-stmts}
 
 pos-eq : (z : ℤ) (m n : ℕ) → z ≡ pos m → z ≡ pos n → m ≡ n

@@ -1,26 +1,27 @@
 -- What requiring asks and gives at each step, over variables. Assumes nothing.
-use Prim.Native.Nat.{ℕ, zero, suc, _+_, _-_, _*_, _≤_, _<_, max}
+use Prim.Native.Nat.{ℕ, zero, suc, _+_, _-_, _≤_, _<_, max}
 use mathlib.Core.Path.{_≡_, refl, sym, ap, _∙_, subst}
-use mathlib.Core.Bool.{Bool, true, false, not, _||_, Bool·beq, cond}
+use mathlib.Core.Bool.{Bool, true, false, _||_, cond}
 use mathlib.Core.Option.{Option, none as nothing, some}
-use mathlib.Core.List.{List, [], _∷_, _++_}
+use mathlib.Core.List.{List}
 use native.Mathlib.Omega.{arith}
 use lib.Dec.{eqb, ltb}
 use borrow.Author.Tests.{eqb-true, eqb-false, ltb-true, ltb-false}
 use lib.IntN.{ℤ, pos}
-use lib.ListN.{length, take, drop, getD, set, length-append}
+use lib.ListN.{length, drop, getD, set, length-append}
 use lib.Seq.{drop-set-lt, getD-set-same, getD-set-other}
 use Rattle.laws.specs.Slices.{Has, drop-up}
 use Rattle.syntax.specs.Words.{max-bools}
-use Rattle.syntax.specs.Syntax.{CmpOp, IntExpr, BoolExpr, Const, Var, NVar, And, Or, Not, Xor, Iff, Imp, Cmp, Members, none, more, count-members, encode-int, encode-bool, encode-members}
+use Rattle.syntax.specs.Syntax.{CmpOp, IntExpr, BoolExpr, Const, Var, Cmp, Members, none, more, count-members, encode-int, encode-bool, encode-members}
 use Rattle.fold.specs.Fold.{Fixed, Op, expr-of}
-use Rattle.fold.specs.Optimize.{Status, unsatisfiable, updated, fix, set-infeasible, worst, and-then, constant-prop-bool, constant-prop-members}
-use Rattle.fold.specs.Table.{op-num, bit, state-num, bit-small, op-small, state-small}
-use Rattle.fold.specs.Forms.{list-of, list-words, binary-words, bit-word, Declared}
-use Rattle.fold.specs.Steps.{Plain, state-of, Reads, Reads-members, Reads-int}
+use Rattle.fold.specs.Optimize.{Status, unsatisfiable, updated, fix, worst, and-then, constant-prop-bool, constant-prop-members}
+use Rattle.fold.specs.Table.{op-num, bit, state-num}
+use Rattle.fold.specs.Forms.{list-of, list-words, binary-words, Declared}
+use Rattle.domains.specs.Declared.{Plain}
+use Rattle.fold.specs.Steps.{state-of, Reads, Reads-members}
 use Rattle.fold.proofs.BoolLaws.{tag, const-inv, var-inv, cmp-inv, not-inv, list-inv, binary-inv, first-word, second, second-word, tag-low, inside, reads-long, reads-not, reads-list, reads-left, reads-right, reads-first, reads-rest, reads-sides}
 use Rattle.passes.specs.Want.{prop-want, members-want, flip, pass-list, left-want, right-want, want-not, want-list, want-binary, want-more, status-num, worst-num, clash-num, set-status, set-words, flip-num, pass-num, left-num, right-num, flip-is, pass-is, left-is, right-is, status-small, worst-two, worst-is, Values, Propagates}
-use Rattle.passes.specs.Contracts.{Int-at, Some-int, Skip-post, Stands, Stand-members, Comparison-post, Requires, Requires-members, Prop-post, Members-post}
+use Rattle.passes.specs.Contracts.{Some-int, Skip-post, Stands, Stand-members, Comparison-post, Prop-post, Members-post}
 
 pos-eq : (z : ℤ) (m n : ℕ) → z ≡ pos m → z ≡ pos n → m ≡ n
 pos-eq z m n p q = cc

@@ -1,22 +1,20 @@
 -- What requiring statements asks and gives at each step, over variables. Assumes nothing.
-use Prim.Native.Nat.{ℕ, zero, suc, _+_, _-_, _*_, _≤_, _<_}
+use Prim.Native.Nat.{ℕ, suc, _+_, _-_, _*_, _≤_}
 use mathlib.Core.Path.{_≡_, refl, sym, ap, _∙_, subst}
-use mathlib.Core.Bool.{Bool, true, false}
+use mathlib.Core.Bool.{true}
 use mathlib.Core.Option.{some}
-use mathlib.Core.List.{List, [], _∷_, _++_, map}
+use mathlib.Core.List.{List, [], _∷_, map}
 use native.Mathlib.Omega.{arith}
 use lib.IntN.{ℤ, pos}
 use lib.ListN.{length, drop, getD, length-append}
 use Rattle.laws.specs.Lists.{flat}
-use Rattle.laws.specs.Slices.{Has}
 use Rattle.syntax.specs.Words.{max-bools}
-use Rattle.syntax.specs.Syntax.{IntExpr, BoolExpr, Cell, Stmt, Rule, Table, encode-int, encode-bool, encode-cell, encode-stmt}
-use Rattle.fold.specs.Fold.{Fixed}
-use Rattle.fold.specs.Optimize.{Status, updated, and-then, constant-prop-bool, constant-prop-stmts}
-use Rattle.fold.specs.Steps.{Plain, Reads, Reads-int}
-use Rattle.passes.specs.Want.{status-num, worst-num, Values, Propagates}
-use Rattle.passes.specs.Contracts.{Int-at, Some-int, Skip-post, Stands, Requires, Prop-post}
-use Rattle.passes.specs.Statements.{Reads-columns, Reads-stmt, Reads-stmts, prop-stmt, prop-stmts-more, Stands-stmt, Stand-stmts, Requires-stmt, Prop-stmt-post, Prop-stmts-post, Some-columns, Skip-columns-post, Skip-table-post}
+use Rattle.syntax.specs.Syntax.{Stmt, encode-int, encode-cell, encode-stmt}
+use Rattle.fold.specs.Optimize.{constant-prop-stmts}
+use Rattle.domains.specs.Declared.{Plain}
+use Rattle.passes.specs.Want.{worst-num}
+use Rattle.passes.specs.Contracts.{Some-int, Skip-post, Stands, Prop-post}
+use Rattle.passes.specs.Statements.{Reads-stmt, Reads-stmts, prop-stmt, prop-stmts-more, Stands-stmt, Stand-stmts, Prop-stmt-post, Prop-stmts-post, Some-columns, Skip-columns-post, Skip-table-post}
 use Rattle.passes.proofs.StmtLaws.{columns-inv, stmt-inside, stmt-length, stmt-plain, rule-inv, table-inv, stmts-inv}
 use Rattle.passes.proofs.PropLaws.{still, then-props, as-status, worst-assoc, worst-none, worst-zero, has-up}
 

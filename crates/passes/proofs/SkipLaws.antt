@@ -1,5 +1,5 @@
 -- What passing over integer expressions asks and gives at each step, over variables. Assumes nothing.
-use Prim.Native.Nat.{ℕ, zero, suc, _+_, _-_, _*_, _≤_, _<_}
+use Prim.Native.Nat.{ℕ, zero, suc, _+_, _-_, _≤_}
 use mathlib.Core.Path.{_≡_, refl, sym, ap, _∙_}
 use mathlib.Core.List.{List, [], _∷_, _++_, append-assoc}
 use native.Mathlib.Omega.{arith}
@@ -9,7 +9,7 @@ use lib.Seq.{take-add, drop-drop}
 use Rattle.laws.specs.Slices.{Has, has-fits, has-front, has-back, has-word, has-rest}
 use Rattle.syntax.specs.Syntax.{IntExpr, IConst, IVar, Linear, Terms, tnil, tmore, count-terms, encode-int, encode-terms}
 use Rattle.fold.specs.Forms.{int-long}
-use Rattle.fold.specs.Steps.{Plain}
+use Rattle.domains.specs.Declared.{Plain}
 use Rattle.passes.specs.Contracts.{Int-at, Terms-at, Some-int, Some-terms, body, Count-post, Skip-post, Skip-terms-post}
 
 abbrev tag : IntExpr → ℕ

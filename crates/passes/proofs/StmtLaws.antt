@@ -1,7 +1,6 @@
 -- What folding of statements asks and gives at each step, over variables. Assumes nothing.
-use Prim.Native.Nat.{ℕ, zero, suc, _+_, _-_, _*_, _≤_, _<_}
-use mathlib.Core.Path.{_≡_, refl, sym, ap, _∙_, subst}
-use mathlib.Core.Bool.{Bool, true, false}
+use Prim.Native.Nat.{ℕ, suc, _+_, _-_, _*_, _≤_, _<_}
+use mathlib.Core.Path.{_≡_, refl, sym, ap, _∙_}
 use mathlib.Core.List.{List, [], _∷_, _++_, map, append-assoc, append-nil}
 use native.Mathlib.Omega.{arith}
 use native.Mathlib.Numerals.{add-one}
@@ -11,14 +10,14 @@ use lib.Seq.{take-suc, take-suc-set, drop-set-lt, getD-drop, take-set-le, slice-
 use Rattle.laws.specs.Lists.{flat}
 use Rattle.laws.specs.Slices.{Has, has-fits, has-front, has-back, has-word, has-rest, Pushed, pushed-below, pushed-then, pushed-none, Stored, heads-one, drop-up}
 use Rattle.syntax.specs.Words.{max-bools}
-use Rattle.syntax.specs.Syntax.{Domain, IntExpr, BoolExpr, Cell, Stmt, Rule, Table, encode-int, encode-bool, encode-cell, encode-stmt}
-use Rattle.fold.specs.Fold.{Fixed, constant-folding-int, constant-folding-bool, constant-folding-stmt}
-use Rattle.fold.specs.Forms.{Declared-int, Declared, int-long, bool-long}
-use Rattle.fold.specs.Size.{int-size, fold-size}
-use Rattle.fold.specs.Kept.{fold-columns-size, fold-stmt-size}
-use Rattle.fold.specs.Steps.{Plain, Domains, fixed-in, Reads-int, Ready-int, Int-post, Reads, Ready, Fold-post}
+use Rattle.syntax.specs.Syntax.{IntExpr, BoolExpr, Cell, Stmt, Rule, Table, encode-int, encode-bool, encode-cell, encode-stmt}
+use Rattle.fold.specs.Fold.{constant-folding-int, constant-folding-bool, constant-folding-stmt}
+use Rattle.fold.specs.Forms.{bool-long}
+use Rattle.fold.specs.Kept.{fold-columns-size, fold-stmt-size, fold-int-size}
+use Rattle.domains.specs.Declared.{Plain}
+use Rattle.fold.specs.Steps.{fixed-in, Reads-int, Ready-int, Int-post, Reads, Ready, Fold-post}
 use Rattle.fold.proofs.BoolLaws.{same-fixed}
-use Rattle.passes.specs.Statements.{Declared-columns, Wide, Declared-stmt, Declared-stmts, Reads-columns, Ready-columns, Folds-columns, Columns-post, Reads-stmt, Reads-stmts, Ready-stmt, Ready-stmts, Folds-stmt, Folds-stmts, Stmt-post, Stmts-post, rows-length}
+use Rattle.passes.specs.Statements.{Declared-columns, Declared-stmt, Declared-stmts, Reads-columns, Ready-columns, Columns-post, Reads-stmt, Reads-stmts, Ready-stmt, Ready-stmts, Stmt-post, Stmts-post, rows-length}
 
 pos-eq : (z : ℤ) (m n : ℕ) → z ≡ pos m → z ≡ pos n → m ≡ n
 pos-eq z m n p q = cc
@@ -82,7 +81,7 @@ module _ (ws : List ℤ) (d at n : ℕ) (out : List ℤ) (o : ℕ) (z : n ≡ 0 
         let y = p (r .ds) e (r .domains) re in
         let nx : next ≡ at + length (encode-int e) = y .nexts in
         let ef : end ≡ o + length (encode-int (constant-folding-int (r .ds) e)) = y .pushed .end in
-        record { ds = r .ds; domains = r .domains; them = fs; reads = rw nx rs; room = omega (arith, length-append (encode-int e) (flat (map encode-int fs)), int-size (r .ds) e) }
+        record { ds = r .ds; domains = r .domains; them = fs; reads = rw nx rs; room = omega (arith, length-append (encode-int e) (flat (map encode-int fs)), fold-int-size (r .ds) e) }
 
     pub columns-more : (out' : List ℤ) (next' end' : ℕ) → Columns-post ws d next (n - 1) mid end out' next' end' → Columns-post ws d at n out o out' next' end'
     columns-more out' next' end' p' ds es hd r =
@@ -95,7 +94,7 @@ module _ (ws : List ℤ) (d at n : ℕ) (out : List ℤ) (o : ℕ) (z : n ≡ 0 
         rw q (record {
           nexts = omega (arith, length-append (encode-int e) (flat (map encode-int fs)));
           pushed = pushed-then out o _ mid end _ out' end' (y .pushed) (y' .pushed);
-          above = drop-up (end + length (flat (map encode-int fs))) (o + length (encode-int e ++ flat (map encode-int fs))) out' mid (y' .above) (omega (arith, length-append (encode-int e) (flat (map encode-int fs)), int-size ds e))
+          above = drop-up (end + length (flat (map encode-int fs))) (o + length (encode-int e ++ flat (map encode-int fs))) out' mid (y' .above) (omega (arith, length-append (encode-int e) (flat (map encode-int fs)), fold-int-size ds e))
               ∙ drop-up (o + length (encode-int e)) (o + length (encode-int e ++ flat (map encode-int fs))) mid out (y .above) (omega (arith, length-append (encode-int e) (flat (map encode-int fs))));
         })
 

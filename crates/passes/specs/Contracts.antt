@@ -1,14 +1,14 @@
 -- What passing over integer expressions and requiring ask and give.
-use Prim.Native.Nat.{ℕ, zero, suc, _+_, _-_, _≤_, _<_}
-use mathlib.Core.Path.{_≡_, refl, sym, ap, _∙_}
-use mathlib.Core.Bool.{Bool, true, false}
-use mathlib.Core.Option.{Option, none as nothing, some}
-use mathlib.Core.List.{List, [], _∷_, _++_}
-use lib.IntN.{ℤ, pos}
+use Prim.Native.Nat.{ℕ, _+_, _-_, _≤_}
+use mathlib.Core.Path.{_≡_}
+use mathlib.Core.Bool.{Bool}
+use mathlib.Core.Option.{Option}
+use mathlib.Core.List.{List}
+use lib.IntN.{ℤ}
 use lib.ListN.{length}
 use Rattle.laws.specs.Slices.{Has}
 use Rattle.syntax.specs.Words.{max-bools}
-use Rattle.syntax.specs.Syntax.{IntExpr, IConst, IVar, Linear, Terms, tnil, tmore, BoolExpr, Members, count-terms, encode-int, encode-terms, encode-bool, encode-members}
+use Rattle.syntax.specs.Syntax.{IntExpr, IConst, IVar, Linear, Terms, tnil, BoolExpr, Members, count-terms, encode-int, encode-terms, encode-bool, encode-members}
 use Rattle.fold.specs.Fold.{Fixed}
 use Rattle.fold.specs.Table.{state-num}
 use Rattle.fold.specs.Steps.{Reads, Reads-members}

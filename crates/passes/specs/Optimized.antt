@@ -1,8 +1,7 @@
 -- What the passes and the whole of optimize ask and give.
-use Prim.Native.Nat.{ℕ, zero, suc, _+_, _-_, _*_, _≤_, _<_}
-use mathlib.Core.Path.{_≡_, refl, sym, ap, _∙_}
-use mathlib.Core.Bool.{Bool, true, false}
-use mathlib.Core.List.{List, [], _∷_, _++_, map}
+use Prim.Native.Nat.{ℕ, zero, suc, _+_, _-_, _≤_, _<_}
+use mathlib.Core.Path.{_≡_}
+use mathlib.Core.List.{List, map}
 use lib.IntN.{ℤ, pos}
 use lib.ListN.{length, drop, getD}
 use Rattle.laws.specs.Lists.{flat}
@@ -12,7 +11,7 @@ use Rattle.syntax.specs.Syntax.{Domain, Stmt, Problem, encode-domain, encode-st
 use Rattle.read.specs.WellFormed.{WellFormed}
 use Rattle.fold.specs.Fold.{Fixed}
 use Rattle.fold.specs.Optimize.{Outcome, inconsistent, settled, passes, optimize}
-use Rattle.fold.specs.Steps.{Domains}
+use Rattle.domains.specs.Declared.{Domains}
 use Rattle.passes.specs.Want.{Values}
 use Rattle.passes.specs.Statements.{Reads-stmts, Ready-stmts}
 use Rattle.passes.specs.Passes.{open-count}

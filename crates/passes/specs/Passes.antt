@@ -1,21 +1,19 @@
 -- The passes one at a time: what each makes of the fixed values, from the original statements. What is declared stays declared.
-use Prim.Native.Nat.{ℕ, zero, suc, _+_, _-_, _*_, _≤_, _<_}
-use mathlib.Core.Path.{_≡_, refl, sym, ap, _∙_}
-use mathlib.Core.Bool.{Bool, true, false}
-use mathlib.Core.Option.{Option, none as nothing, some}
-use mathlib.Core.List.{List, [], _∷_, _++_, map}
+use Prim.Native.Nat.{ℕ, suc, _-_, _≤_, _<_}
+use mathlib.Core.Path.{_≡_, refl, ap, _∙_}
+use mathlib.Core.Bool.{true, false}
+use mathlib.Core.List.{List, [], _∷_, map}
 use native.Mathlib.Omega.{arith}
 use lib.ListN.{length}
 use Rattle.syntax.specs.Words.{max-bools}
-use Rattle.syntax.specs.Syntax.{Domain, IntExpr, IConst, IVar, Linear, Terms, tnil, tmore, BoolExpr, Const, Var, NVar, And, Or, Not, Xor, Iff, Imp, Cmp, Members, none, more, Cell, Stmt, Rule, Table, Problem}
+use Rattle.syntax.specs.Syntax.{Domain, IntExpr, IConst, IVar, Linear, Terms, tnil, tmore, BoolExpr, Const, Var, NVar, And, Or, Not, Xor, Iff, Imp, Cmp, Members, none, more, Stmt, Rule, Table}
 use Rattle.syntax.specs.Written.{EveryInt, EveryTerm, EveryColumn, Every, EveryMember, EveryStmt, EveryStmts}
-use Rattle.fold.specs.Fold.{Fixed, constant-folding-int, constant-folding-bool, constant-folding-stmt}
-use Rattle.fold.specs.Optimize.{Status, unsatisfiable, updated, constant-prop-stmts, Outcome, inconsistent, settled, next-pass, passes}
-use Rattle.fold.specs.Ends.{After, prop-stmts-after, prop-extends, passes-original, opens, opens-most, Fewer, fewer-steps}
-use Rattle.fold.specs.Table.{bit}
+use Rattle.fold.specs.Fold.{Fixed, constant-folding-int, constant-folding-stmt}
+use Rattle.fold.specs.Optimize.{unsatisfiable, updated, constant-prop-stmts, inconsistent, settled, passes}
+use Rattle.fold.specs.Ends.{prop-stmts-after, prop-extends, passes-original, opens, opens-most, Fewer, fewer-steps}
 use Rattle.fold.specs.Forms.{Declared-int, Declared-terms, Declared, Declared-members}
 use Rattle.fold.specs.Size.{int-declared, fold-declared}
-use Rattle.passes.specs.Statements.{Declared-columns, Wide, Declared-stmt, Declared-stmts}
+use Rattle.passes.specs.Statements.{Declared-columns, Declared-stmt, Declared-stmts}
 
 -- ---- declared, in the words of the theorems on folding
 

@@ -1,20 +1,21 @@
 -- Statements: what is asked of their parts, their words, and what folding and requiring them ask and give.
-use Prim.Native.Nat.{ℕ, zero, suc, _+_, _-_, _*_, _≤_, _<_}
-use mathlib.Core.Path.{_≡_, refl, sym, ap, _∙_}
-use mathlib.Core.Bool.{Bool, true, false, _||_}
-use mathlib.Core.List.{List, [], _∷_, _++_, map}
+use Prim.Native.Nat.{ℕ, suc, _+_, _-_, _*_, _≤_}
+use mathlib.Core.Path.{_≡_, refl, ap}
+use mathlib.Core.Bool.{true, false}
+use mathlib.Core.List.{List, [], _∷_, map}
 use native.Mathlib.Omega.{arith}
 use native.Mathlib.Numerals.{unary-clauses}
-use lib.IntN.{ℤ, pos}
+use lib.IntN.{ℤ}
 use lib.ListN.{length, drop, length-append}
 use Rattle.laws.specs.Lists.{flat}
 use Rattle.laws.specs.Slices.{Has, Pushed}
 use Rattle.syntax.specs.Words.{max-bools}
-use Rattle.syntax.specs.Syntax.{Domain, IntExpr, BoolExpr, Cell, Stmt, Rule, Table, encode-int, encode-bool, encode-cell, encode-stmt}
+use Rattle.syntax.specs.Syntax.{Domain, IntExpr, Cell, Stmt, Rule, Table, encode-int, encode-cell, encode-stmt}
 use Rattle.fold.specs.Fold.{Fixed, constant-folding-int, constant-folding-stmt}
 use Rattle.fold.specs.Optimize.{Status, unsatisfiable, updated, worst, and-then, constant-prop-bool, constant-prop-stmts}
 use Rattle.fold.specs.Forms.{Declared-int, Declared}
-use Rattle.fold.specs.Steps.{Domains, fixed-in}
+use Rattle.domains.specs.Declared.{Domains}
+use Rattle.fold.specs.Steps.{fixed-in}
 use Rattle.passes.specs.Want.{Values, Propagates}
 
 -- ---- declared, and every row as wide as its table

@@ -1,20 +1,19 @@
 -- Requiring with a third want, nothing, under which the walk only passes over an expression; its status in numbers; and the fixed
 -- values as the first words of the work slice.
-use Prim.Native.Nat.{ℕ, zero, suc, _+_, _-_, _≤_, _<_}
-use mathlib.Core.Path.{_≡_, refl, sym, ap, _∙_}
-use mathlib.Core.Bool.{Bool, true, false, not, _||_, Bool·beq, cond}
+use Prim.Native.Nat.{ℕ, _+_, _-_, _≤_, _<_}
+use mathlib.Core.Path.{_≡_, refl}
+use mathlib.Core.Bool.{Bool, true, false, not, Bool·beq, cond}
 use mathlib.Core.Option.{Option, none as nothing, some}
-use mathlib.Core.List.{List, [], _∷_}
+use mathlib.Core.List.{List}
 use native.Mathlib.Omega.{arith}
 use lib.Dec.{eqb, ltb}
-use borrow.Author.Tests.{eqb-true, eqb-false, lt-ltb, le-ltb, ltb-true, ltb-false}
+use borrow.Author.Tests.{le-ltb}
 use lib.IntN.{ℤ, pos}
-use lib.ListN.{length, take, drop, getD, set, length-set}
-use lib.Seq.{drop-set-lt, getD-set-same, getD-set-other}
+use lib.ListN.{drop, getD, set}
 use Rattle.syntax.specs.Words.{max-bools}
-use Rattle.syntax.specs.Syntax.{BoolExpr, Const, Var, NVar, And, Or, Not, Xor, Iff, Imp, Cmp, Members, none, more}
+use Rattle.syntax.specs.Syntax.{BoolExpr, Not, Members, more}
 use Rattle.fold.specs.Fold.{Fixed, Op, op-xor, op-iff, op-imp, expr-of}
-use Rattle.fold.specs.Optimize.{Status, unsatisfiable, updated, fix, set-infeasible, worst, and-then, constant-prop-bool, constant-prop-members}
+use Rattle.fold.specs.Optimize.{Status, unsatisfiable, updated, worst, and-then, constant-prop-bool, constant-prop-members}
 use Rattle.fold.specs.Table.{op-num, bit, state-num}
 use Rattle.fold.specs.Forms.{list-of}
 

@@ -37,9 +37,9 @@ pub fn sum_count(words: &[i32], at: usize) -> usize
     requires { ⌜ Some-int (now words) at ⌝ }
     ensures { λ r. ⌜ Count-post (now (words .entry)) at r ⌝ }
 {
-    let w = fold::number(words, at);
+    let w = domains::number(words, at);
     if w == 22 {
-        return fold::number(words, at + 1);
+        return domains::number(words, at + 1);
     }
     0
 }
@@ -143,7 +143,7 @@ pub fn prop_leaf(work: &mut [i32], at: usize, w: usize, want: usize) -> Required
     requires { ⌜ (getD (now work) at (pos 0) ≡ pos w) × (w < 12) × (want < 3) ⌝ }
     ensures { λ r. ⌜ Prop-post (now (work .entry)) at want (now (work .exit)) (r .next) (r .status) ⌝ }
 {
-    let v = fold::number(work, at + 1);
+    let v = domains::number(work, at + 1);
     if w == 10 {
         let s = clash(v, want);
         return Required {
@@ -190,7 +190,7 @@ pub fn constant_prop_bool(work: &mut [i32], at: usize, want: usize) -> Required
     requires { ⌜ want < 3 ⌝ }
     ensures { λ r. ⌜ Prop-post (now (work .entry)) at want (now (work .exit)) (r .next) (r .status) ⌝ }
 {
-    let w = fold::number(work, at);
+    let w = domains::number(work, at);
     if w < 12 {
         return prop_leaf(work, at, w, want);
     }
@@ -204,7 +204,7 @@ pub fn constant_prop_bool(work: &mut [i32], at: usize, want: usize) -> Required
     }
     if w < 14 {
         let k = pass(w - 12, want);
-        let n = fold::number(work, at + 1);
+        let n = domains::number(work, at + 1);
         return constant_prop_members(work, at + 2, n, k);
     }
     let l = left_want(w, want);
@@ -262,8 +262,8 @@ pub fn fold_table(words: &[i32], d: usize, at: usize, work: &mut [i32], o: usize
     requires { ⌜ (getD (now words) at (pos 0) ≡ pos 1 → ⊥) ⌝ }
     ensures { λ r. ⌜ Stmt-post (now (words .entry)) d at (now (work .entry)) o (now (work .exit)) (r .next) (r .end) ⌝ }
 {
-    let n = fold::number(words, at + 1);
-    let k = fold::number(words, at + 2);
+    let n = domains::number(words, at + 1);
+    let k = domains::number(words, at + 2);
     fold::put(work, o, 2);
     let m = fold::put_two(work, o + 1, n, k);
     let a = fold_columns(words, d, at + 3, n, work, m);
@@ -279,7 +279,7 @@ pub fn fold_stmt(words: &[i32], d: usize, at: usize, work: &mut [i32], o: usize)
     requires { ⌜ Ready-stmt (now words) d at (now work) o ⌝ }
     ensures { λ r. ⌜ Stmt-post (now (words .entry)) d at (now (work .entry)) o (now (work .exit)) (r .next) (r .end) ⌝ }
 {
-    let w = fold::number(words, at);
+    let w = domains::number(words, at);
     if w == 1 {
         fold::put(work, o, 1);
         let f = fold::constant_folding_bool(words, d, at + 1, work, o + 1);
@@ -335,8 +335,8 @@ pub fn skip_table(words: &[i32], at: usize) -> usize
     requires { ⌜ (getD (now words) at (pos 0) ≡ pos 1 → ⊥) ⌝ }
     ensures { λ r. ⌜ Skip-table-post (now (words .entry)) at r ⌝ }
 {
-    let n = fold::number(words, at + 1);
-    let k = fold::number(words, at + 2);
+    let n = domains::number(words, at + 1);
+    let k = domains::number(words, at + 2);
     let m = skip_columns(words, at + 3, n);
     m + n * k
 }
@@ -345,7 +345,7 @@ pub fn prop_stmt(work: &mut [i32], at: usize) -> Required
     requires { ⌜ Stands-stmt (now work) at ⌝ }
     ensures { λ r. ⌜ Prop-stmt-post (now (work .entry)) at (now (work .exit)) (r .next) (r .status) ⌝ }
 {
-    let w = fold::number(work, at);
+    let w = domains::number(work, at);
     if w == 1 {
         return constant_prop_bool(work, at + 1, 1);
     }
@@ -392,7 +392,7 @@ pub fn domains_end(words: &[i32], d: usize, n: usize) -> usize
     let mut at = d;
     let mut rest = n;
     while rest != 0 {
-        at = fold::domain_end(words, at);
+        at = domains::domain_end(words, at);
         rest = rest - 1;
     }
     at
@@ -418,9 +418,9 @@ pub fn optimize(words: &[i32], work: &mut [i32]) -> Optimized
     requires { ⌜ Accepted (now words) (now work) ⌝ }
     ensures { λ r. ⌜ Optimize-post (now (words .entry)) (now (work .entry)) (now (work .exit)) (r .status) (r .end) ⌝ }
 {
-    let ni = fold::number(words, 1);
+    let ni = domains::number(words, 1);
     let at = domains_end(words, 2, ni);
-    let count = fold::number(words, at);
+    let count = domains::number(words, at);
     fill_open(work);
     run_passes(words, at + 1, count, work)
 }

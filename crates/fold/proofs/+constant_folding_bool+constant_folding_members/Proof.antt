@@ -16,7 +16,7 @@ use Rattle.fold.proofs.fold_leaf.Reads as fold-leaf-reads
 use Rattle.fold.proofs.hits.Reads as hits-reads
 use Rattle.fold.proofs.kept_count.Reads as kept-count-reads
 use Rattle.fold.proofs.kept_end.Reads as kept-end-reads
-use Rattle.fold.proofs.number.Reads as number-reads
+use Rattle.domains.proofs.number.Reads as number-reads
 use Rattle.fold.proofs.+constant_folding_bool+constant_folding_members.{statement}
 use Rattle.fold.proofs.+constant_folding_bool+constant_folding_members.Tie.{close}
 use mathlib.Core.Path.{_≡_, refl, sym, _∙_}

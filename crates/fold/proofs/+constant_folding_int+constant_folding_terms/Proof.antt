@@ -9,7 +9,7 @@ use Rattle.fold.proofs.constant_folding_terms.Kinds as constant-folding
 use Rattle.fold.proofs.+constant_folding_int+constant_folding_terms.Lts-constant_folding_terms as constant-folding-terms-lts
 use Rattle.fold.proofs.copy_word.Reads as copy-word-reads
 use Rattle.fold.proofs.is_single.Reads as is-single-reads
-use Rattle.fold.proofs.number.Reads as number-reads
+use Rattle.domains.proofs.number.Reads as number-reads
 use Rattle.fold.proofs.put.Reads as put-reads
 use Rattle.fold.proofs.put_int_var.Reads as put-int-var-reads
 use Rattle.fold.proofs.put_two.Reads as put-two-reads

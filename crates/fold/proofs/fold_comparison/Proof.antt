@@ -4,7 +4,7 @@ use Rattle.fold.proofs.fold_comparison.Tie as tie
 use Rattle.fold.proofs.fold_comparison.Reads as reads
 use Rattle.fold.proofs.fold_comparison.Lts as lts
 use Rattle.fold.proofs.constant_folding_int.Reads as constant-folding-int-reads
-use Rattle.fold.proofs.number.Reads as number-reads
+use Rattle.domains.proofs.number.Reads as number-reads
 use Rattle.fold.proofs.put_two.Reads as put-two-reads
 use native.Mathlib.Omega.{arith}
 use mathlib.Core.Path.{_≡_, refl, sym, ap, _∙_}

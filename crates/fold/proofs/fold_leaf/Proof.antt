@@ -3,7 +3,7 @@ use Rattle.fold.proofs.fold_leaf.Statement.{statement}
 use Rattle.fold.proofs.fold_leaf.Tie as tie
 use Rattle.fold.proofs.fold_leaf.Reads as reads
 use Rattle.fold.proofs.fold_leaf.Lts as lts
-use Rattle.fold.proofs.number.Reads as number-reads
+use Rattle.domains.proofs.number.Reads as number-reads
 use Rattle.fold.proofs.put_two.Reads as put-two-reads
 use Rattle.fold.proofs.put_var.Reads as put-var-reads
 use Rattle.fold.proofs.state_at.Reads as state-at-reads

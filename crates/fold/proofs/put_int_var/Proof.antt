@@ -3,9 +3,9 @@ use Rattle.fold.proofs.put_int_var.Statement.{statement}
 use Rattle.fold.proofs.put_int_var.Tie as tie
 use Rattle.fold.proofs.put_int_var.Reads as reads
 use Rattle.fold.proofs.put_int_var.Lts as lts
-use Rattle.fold.proofs.as_constant.Reads as as-constant-reads
+use Rattle.domains.proofs.as_constant.Reads as as-constant-reads
 use Rattle.fold.proofs.copy_word.Reads as copy-word-reads
-use Rattle.fold.proofs.domain_of.Reads as domain-of-reads
+use Rattle.domains.proofs.domain_of.Reads as domain-of-reads
 use Rattle.fold.proofs.put.Reads as put-reads
 use Rattle.fold.proofs.put_two.Reads as put-two-reads
 use native.Mathlib.Omega.{arith}

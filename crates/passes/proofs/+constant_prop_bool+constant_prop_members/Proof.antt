@@ -7,7 +7,7 @@ use Rattle.passes.proofs.+constant_prop_bool+constant_prop_members.Lts-
 use Rattle.passes.proofs.constant_prop_members.Reads as constant-prop-members
 use Rattle.passes.proofs.constant_prop_members.Kinds as constant-prop-members-kinds
 use Rattle.passes.proofs.+constant_prop_bool+constant_prop_members.Lts-constant_prop_members as constant-prop-members-lts
-use Rattle.fold.proofs.number.Reads as number-reads
+use Rattle.domains.proofs.number.Reads as number-reads
 use Rattle.passes.proofs.flip.Reads as flip-reads
 use Rattle.passes.proofs.left_want.Reads as left-want-reads
 use Rattle.passes.proofs.pass.Reads as pass-reads

@@ -2,7 +2,7 @@ use Rattle.passes.proofs.domains_end.Statement.{statement}
 use Rattle.passes.proofs.domains_end.Tie as tie
 use Rattle.passes.proofs.domains_end.Reads as reads
 use Rattle.passes.proofs.domains_end.Lts as lts
-use Rattle.fold.proofs.domain_end.Reads as domain-end-reads
+use Rattle.domains.proofs.domain_end.Reads as domain-end-reads
 use borrow.Author.Needs.{needs}
 use mathlib.Core.Path.{_≡_}
 use Prim.Native.Nat.{ℕ}

@@ -3,7 +3,7 @@ use Rattle.passes.proofs.fold_table.Statement.{statement}
 use Rattle.passes.proofs.fold_table.Tie as tie
 use Rattle.passes.proofs.fold_table.Reads as reads
 use Rattle.passes.proofs.fold_table.Lts as lts
-use Rattle.fold.proofs.number.Reads as number-reads
+use Rattle.domains.proofs.number.Reads as number-reads
 use Rattle.fold.proofs.put.Reads as put-reads
 use Rattle.fold.proofs.put_two.Reads as put-two-reads
 use Rattle.passes.proofs.copy_words.Reads as copy-words-reads

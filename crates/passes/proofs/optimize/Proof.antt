@@ -3,7 +3,7 @@ use Rattle.passes.proofs.optimize.Statement.{statement}
 use Rattle.passes.proofs.optimize.Tie as tie
 use Rattle.passes.proofs.optimize.Reads as reads
 use Rattle.passes.proofs.optimize.Lts as lts
-use Rattle.fold.proofs.number.Reads as number-reads
+use Rattle.domains.proofs.number.Reads as number-reads
 use Rattle.passes.proofs.domains_end.Reads as domains-end-reads
 use Rattle.passes.proofs.fill_open.Reads as fill-open-reads
 use Rattle.passes.proofs.run_passes.Reads as run-passes-reads

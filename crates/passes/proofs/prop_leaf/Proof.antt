@@ -3,7 +3,7 @@ use Rattle.passes.proofs.prop_leaf.Statement.{statement}
 use Rattle.passes.proofs.prop_leaf.Tie as tie
 use Rattle.passes.proofs.prop_leaf.Reads as reads
 use Rattle.passes.proofs.prop_leaf.Lts as lts
-use Rattle.fold.proofs.number.Reads as number-reads
+use Rattle.domains.proofs.number.Reads as number-reads
 use Rattle.passes.proofs.clash.Reads as clash-reads
 use Rattle.passes.proofs.set_infeasible.Reads as set-infeasible-reads
 use mathlib.Core.Path.{_≡_, refl}

@@ -3,7 +3,7 @@ use Rattle.passes.proofs.prop_stmt.Statement.{statement}
 use Rattle.passes.proofs.prop_stmt.Tie as tie
 use Rattle.passes.proofs.prop_stmt.Reads as reads
 use Rattle.passes.proofs.prop_stmt.Lts as lts
-use Rattle.fold.proofs.number.Reads as number-reads
+use Rattle.domains.proofs.number.Reads as number-reads
 use Rattle.passes.proofs.constant_prop_bool.Reads as constant-prop-bool-reads
 use Rattle.passes.proofs.skip_table.Reads as skip-table-reads
 use mathlib.Core.Path.{_≡_}

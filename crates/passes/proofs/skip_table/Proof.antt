@@ -2,7 +2,7 @@ use Rattle.passes.proofs.skip_table.Statement.{statement}
 use Rattle.passes.proofs.skip_table.Tie as tie
 use Rattle.passes.proofs.skip_table.Reads as reads
 use Rattle.passes.proofs.skip_table.Lts as lts
-use Rattle.fold.proofs.number.Reads as number-reads
+use Rattle.domains.proofs.number.Reads as number-reads
 use Rattle.passes.proofs.skip_columns.Reads as skip-columns-reads
 use borrow.Author.Needs.{needs}
 use mathlib.Core.Path.{_≡_}

@@ -1,16 +1,16 @@
 use borrow.Author.Needs.{needs}
-use Rattle.fold.proofs.close_list.Statement.{statement}
-use Rattle.fold.proofs.close_list.Tie as tie
-use Rattle.fold.proofs.close_list.Reads as reads
-use Rattle.fold.proofs.close_list.Lts as lts
+use Rattle.fold.proofs.put_list.Statement.{statement}
+use Rattle.fold.proofs.put_list.Tie as tie
+use Rattle.fold.proofs.put_list.Reads as reads
+use Rattle.fold.proofs.put_list.Lts as lts
 use Rattle.fold.proofs.put.Reads as put-reads
 use Rattle.fold.proofs.put_two.Reads as put-two-reads
 use Rattle.fold.proofs.shift.Reads as shift-reads
 use mathlib.Core.Path.{_≡_, refl, sym, ap, _∙_}
 use native.Mathlib.Omega.{arith}
 use borrow.Author.Tests.{eq-eqb, ne-eqb}
-use Rattle.fold.specs.Steps.{list-step, list-state}
 use Rattle.laws.specs.Slices.{heads-two}
+use Rattle.fold.specs.Steps.{list-step}
 
 put-two-requires : tie.Need-put-two-requires
 put-two-requires c κs = search needs
@@ -19,8 +19,8 @@ same-length : tie.Need-same-length
 same-length c = search needs
 
 returns : tie.Need-returns
-unfolding list-step list-state
-returns c = rw (c .before .before .before .if1 .taken) (refl, refl, c .before .put-two .ensures)
+unfolding list-step
+returns c = rw (c .before .before .before .if1 .taken) (c .before .put-two .ensures)
 
 sub-put-two : tie.Need-sub-put-two
 sub-put-two c = search needs
@@ -28,15 +28,12 @@ sub-put-two c = search needs
 put-two-requires-2 : tie.Need-put-two-requires-2
 put-two-requires-2 c κs = search needs
 
-sub-t16 : tie.Need-sub-t16
-sub-t16 c = search needs
-
 same-length-2 : tie.Need-same-length-2
 same-length-2 c = search needs
 
 returns-2 : tie.Need-returns-2
-unfolding list-step list-state
-returns-2 c = rw (c .before .before .before .before .if1 .left, eq-eqb _ _ (c .before .before .before .if2 .taken)) (refl, refl, c .before .put-two2 .ensures)
+unfolding list-step
+returns-2 c = rw (c .before .before .before .before .if1 .left, eq-eqb _ _ (c .before .before .before .if2 .taken)) (c .before .put-two2 .ensures)
 
 add-shift : tie.Need-add-shift
 add-shift c = search needs
@@ -48,8 +45,8 @@ same-length-3 : tie.Need-same-length-3
 same-length-3 c = search needs
 
 returns-3 : tie.Need-returns-3
-unfolding list-step list-state
-returns-3 c = rw (c .before .before .before .before .before .if1 .left, ne-eqb _ 0 (c .before .before .before .before .if2 .left), eq-eqb _ _ (c .before .before .before .if3 .taken)) (refl, refl, c .before .shift .ensures)
+unfolding list-step
+returns-3 c = rw (c .before .before .before .before .before .if1 .left, ne-eqb _ 0 (c .before .before .before .before .if2 .left), eq-eqb _ _ (c .before .before .before .if3 .taken)) (c .before .shift .ensures)
 
 add-put : tie.Need-add-put
 add-put c = search needs
@@ -67,11 +64,11 @@ same-length-4 : tie.Need-same-length-4
 same-length-4 c = search needs
 
 returns-4 : tie.Need-returns-4
-unfolding list-step list-state
-returns-4 c = rw (c .before .before .before .before .before .before .before .before .if1 .left, ne-eqb _ 0 (c .before .before .before .before .before .before .before .if2 .left), ne-eqb _ 1 (c .before .before .before .before .before .before .if3 .left), c .before .put2 .ensures, c .before .before .before .before .put .ensures) (refl, refl, heads-two _ _ _ _ _ (c .before .before .before .before .before .before .before .before .before .pre .0) (c .before .before .before .before .before .before .before .before .before .pre .1))
+unfolding list-step
+returns-4 c = rw (c .before .before .before .before .before .before .before .before .if1 .left, ne-eqb _ 0 (c .before .before .before .before .before .before .before .if2 .left), ne-eqb _ 1 (c .before .before .before .before .before .before .if3 .left), c .before .put2 .ensures, c .before .before .before .before .put .ensures) (heads-two _ _ _ _ _ (c .before .before .before .before .before .before .before .before .before .pre .0) (c .before .before .before .before .before .before .before .before .before .pre .1))
 
-pub close-list-spec : {M : Type 1} → statement M
-close-list-spec =
+pub put-list-spec : {M : Type 1} → statement M
+put-list-spec =
     tie.close
     (tie.spec
     put-two-requires
@@ -79,7 +76,6 @@ close-list-spec =
     returns
     sub-put-two
     put-two-requires-2
-    sub-t16
     same-length-2
     returns-2
     add-shift
