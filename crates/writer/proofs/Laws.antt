@@ -210,3 +210,16 @@ module _ {w : List ℤ} {at : ℕ} where
 
   pub compared-length : {k : ℕ} {g : Bool} {f : List ℤ → List ℤ} {out out' : List ℤ} {o o' : ℕ} → Compares w at → Compared w at k g f out o out' o' → length out' ≡ length out
   compared-length c x = wrote-length (x .wrote (c .left) (c .right) (c .sides .has))
+
+-- no literal
+pub none-clause : {out a b c : List ℤ} {o p q r : ℕ} (s : Suffix) (x : ℕ) → Open out o → Stacked s 0 → x ≡ 64 - s .from
+    → Wrote out o (word-of x false ∷ []) a p → Wrote a p (suffix s) b q → Wrote b q (pos 0 ∷ []) c r → Wrote out o (clause-text [] (suffix s) 0 []) c r
+unfolding clause-text
+none-clause {out} {a} {b} {c} {o} {p} {q} {r} s x l h e w₁ w₂ w₃ =
+    let n : word-of x false ≡ pos (0 + length (suffix s)) = word-pos x (omega arith) ∙ ap pos (omega (arith, suffix-length s h)) in
+    let l₁ = then-low (l .room) w₁ in
+    let g : Wrote out o (word-of x false ∷ (suffix s ++ (pos 0 ∷ []))) c r = wrote-then (l .room) w₁ (wrote-then l₁ w₂ w₃) in
+    subst (λ (v : ℤ). Wrote out o (v ∷ (suffix s ++ (pos 0 ∷ []))) c r) n g
+
+pub one-stacked : {s r : Suffix} → Stacked s 64 → r .from ≡ s .from - 1 → length (r .words) ≡ 64 → Stacked r 63
+one-stacked h e l = record { size = l; room = omega (arith, e, h .room); inside = omega (arith, e, h .inside) }

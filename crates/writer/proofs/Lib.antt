@@ -1,2 +1,6 @@
 pub mod Laws
 pub mod Differences
+pub mod Steps
+pub mod PoolLaws
+pub mod Written
+pub mod Extras

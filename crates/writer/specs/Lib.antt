@@ -1,2 +1,4 @@
 pub mod Suffix
 pub mod Fine
+pub mod Placed
+pub mod Rules

@@ -1,6 +1,6 @@
 // The words of a rule's clauses, written straight into the output in their final form.
 ghost use mathlib.Core.Path.{_≡_};
-ghost use mathlib.Core.Bool.{Bool, true, false, not};
+ghost use mathlib.Core.Bool.{Bool, true, false, not, cond};
 ghost use mathlib.Core.List.{List, [], _∷_, _++_, map};
 ghost use Prim.Native.Nat.{ℕ, _+_, _*_, _-_, _≤_, _<_, min};
 ghost use lib.IntN.{ℤ, pos};
@@ -14,11 +14,17 @@ ghost use Rattle.nest.specs.Nest.{Word};
 ghost use Rattle.clauses.specs.Clause.{linear};
 ghost use Rattle.clauses.specs.Normalize.{negate-op-if};
 ghost use Rattle.answer.specs.Answer.{term-words, linear-words};
-ghost use Rattle.walk.specs.Item.{limit, word-of, clause-text, extra, block};
+ghost use Rattle.walk.specs.Item.{limit, word-of, clause-text, extra, block as block-of, var-item, pools as pools-of, texts, long-texts, disj-text, items};
+ghost use Rattle.walk.specs.Tree.{cons, nil};
+ghost use Rattle.walk.specs.Decode.{many, decode, tie-at, many-ties, cross-ties, ties-at, read-part, item-at, items-at};
 ghost use Rattle.writer.specs.Suffix.{suffix, Stacked, extra-lits, Open};
-ghost use Rattle.writer.specs.Fine.{Compares, Subtracted, Compared};
+ghost use Rattle.writer.specs.Fine.{Compares, Subtracted, Compared, Fine, Fines};
+ghost use Rattle.writer.specs.Placed.{Placed, Tallied, Listed, RuleWrote};
+ghost use Rattle.writer.specs.Rules.{Writable};
 use sums::LinearSum;
 use walk::Mode;
+use walk::Node;
+use walk::Surveyed;
 
 // The word of the literal whose number plus 1 is x.
 pub fn word_of(x: usize, g: bool) -> i32
@@ -55,7 +61,7 @@ pub struct Suffix {
     pub from: usize,
 }
 
-pub fn push(s: Suffix, w: i32) -> Suffix
+fn push(s: Suffix, w: i32) -> Suffix
     requires { ⌜ Stacked s 1 ⌝ }
     ensures { λ r. ⌜ (suffix r ≡ w ∷ suffix s) × (r .from ≡ s .from - 1) × (length (r .words) ≡ 64) ⌝ }
 {
@@ -65,7 +71,7 @@ pub fn push(s: Suffix, w: i32) -> Suffix
     Suffix { words: a, from: i }
 }
 
-pub fn put_suffix(s: Suffix, out: &mut [i32], o: usize) -> usize
+fn put_suffix(s: Suffix, out: &mut [i32], o: usize) -> usize
     requires { ⌜ Stacked s 0 × Open (now out) o ⌝ }
     ensures { λ r. ⌜ Wrote (now (out .entry)) o (suffix s) (now (out .exit)) r ⌝ }
 {
@@ -81,9 +87,9 @@ pub fn put_suffix(s: Suffix, out: &mut [i32], o: usize) -> usize
 }
 
 // The literals of k numbers from b on.
-pub fn put_block(b: usize, k: usize, out: &mut [i32], o: usize) -> usize
+fn put_block(b: usize, k: usize, out: &mut [i32], o: usize) -> usize
     requires { ⌜ (b + k ≤ 2 * limit) × Open (now out) o ⌝ }
-    ensures { λ r. ⌜ Wrote (now (out .entry)) o (block b k) (now (out .exit)) r ⌝ }
+    ensures { λ r. ⌜ Wrote (now (out .entry)) o (block-of b k) (now (out .exit)) r ⌝ }
 {
     let mut n = b;
     let mut rest = k;
@@ -97,7 +103,7 @@ pub fn put_block(b: usize, k: usize, out: &mut [i32], o: usize) -> usize
 }
 
 // The clause of one literal, whose number plus 1 is x.
-pub fn put_lit(x: usize, g: bool, s: Suffix, out: &mut [i32], o: usize) -> usize
+fn put_lit(x: usize, g: bool, s: Suffix, out: &mut [i32], o: usize) -> usize
     requires { ⌜ Stacked s 0 × Open (now out) o ⌝ }
     ensures { λ r. ⌜ Wrote (now (out .entry)) o (clause-text (word-of x g ∷ []) (suffix s) 0 []) (now (out .exit)) r ⌝ }
 {
@@ -109,7 +115,7 @@ pub fn put_lit(x: usize, g: bool, s: Suffix, out: &mut [i32], o: usize) -> usize
 }
 
 // The word of the operator k, negated if g.
-pub fn op_word(k: usize, g: bool) -> i32
+fn op_word(k: usize, g: bool) -> i32
     ensures { λ r. ⌜ r ≡ encode-op (negate-op-if g (op-at k)) ⌝ }
 {
     if g {
@@ -133,7 +139,7 @@ pub fn op_word(k: usize, g: bool) -> i32
 }
 
 // The terms of a sum: variable and coefficient of each.
-pub fn put_terms(s: LinearSum, out: &mut [i32], o: usize) -> usize
+fn put_terms(s: LinearSum, out: &mut [i32], o: usize) -> usize
     requires { ⌜ (s .count ≤ 64) × Each Word (terms s) × Open (now out) o ⌝ }
     ensures { λ r. ⌜ Wrote (now (out .entry)) o (flat (map term-words (terms s))) (now (out .exit)) r ⌝ }
 {
@@ -164,7 +170,7 @@ pub fn put_linear(k: usize, g: bool, s: LinearSum, out: &mut [i32], o: usize) ->
 }
 
 // The left side minus the right one, which stand at a place of the work slice, with the final integer map.
-pub fn difference(work: &[i32], at: usize) -> LinearSum
+fn difference(work: &[i32], at: usize) -> LinearSum
     requires { ⌜ (5120 ≤ length (now work)) × Compares (now work) at ⌝ }
     ensures { λ r. ⌜ Subtracted (now (work .entry)) at r ⌝ }
 {
@@ -179,14 +185,7 @@ pub fn difference(work: &[i32], at: usize) -> LinearSum
 }
 
 // The words of a comparison: its operator k, negated if g, and where its sides stand.
-pub fn put_comparison(
-    work: &[i32],
-    at: usize,
-    k: usize,
-    g: bool,
-    out: &mut [i32],
-    o: usize,
-) -> usize
+fn put_comparison(work: &[i32], at: usize, k: usize, g: bool, out: &mut [i32], o: usize) -> usize
     requires { ⌜ (5120 ≤ length (now work)) × Compares (now work) at × Open (now out) o ⌝ }
     ensures { λ r. ⌜ Compared (now (work .entry)) at k g (λ ws. ws) (now (out .entry)) o (now (out .exit)) r ⌝ }
 {
@@ -195,7 +194,7 @@ pub fn put_comparison(
 }
 
 // The clause of a comparison alone.
-pub fn put_cmp(
+fn put_cmp(
     work: &[i32],
     at: usize,
     k: usize,
@@ -215,7 +214,7 @@ pub fn put_cmp(
 }
 
 // The clause of two emitted numbers, each negated if so.
-pub fn put_two(m: usize, g: bool, n: usize, h: bool, s: Suffix, out: &mut [i32], o: usize) -> usize
+fn put_two(m: usize, g: bool, n: usize, h: bool, s: Suffix, out: &mut [i32], o: usize) -> usize
     requires { ⌜ (m ≤ limit) × (n ≤ limit + 1) × Stacked s 0 × Open (now out) o ⌝ }
     ensures { λ r. ⌜ Wrote (now (out .entry)) o (clause-text (word-of (m + 1) g ∷ word-of (n + 1) h ∷ []) (suffix s) 0 []) (now (out .exit)) r ⌝ }
 {
@@ -235,7 +234,7 @@ pub struct Extra {
     pub lit: i32,
 }
 
-pub fn pushed(s: Suffix, x: Extra, k: usize) -> Suffix
+fn pushed(s: Suffix, x: Extra, k: usize) -> Suffix
     requires { ⌜ Stacked s 1 × (x .base ≤ limit) × (k ≤ limit) ⌝ }
     ensures { λ r. ⌜ (suffix r ≡ extra (x .mode) (x .base) (extra-lits x) k ++ suffix s) × (s .from ≤ r .from + 1) × Stacked r 0 ⌝ }
 {
@@ -250,5 +249,558 @@ pub fn pushed(s: Suffix, x: Extra, k: usize) -> Suffix
         }
         Mode::Two => push(s, word_of(x.base + 1, k == 0)),
         Mode::Each => push(s, word_of(x.base + k + 1, true)),
+    }
+}
+
+// ---- the pool
+
+// What a variable has in the pool: its literal among the literals (b), nothing among the comparisons.
+fn pool_var(work: &[i32], v: usize, g: bool, b: bool, out: &mut [i32], o: usize) -> usize
+    requires { ⌜ (v < 512) × Open (now out) o ⌝ }
+    ensures { λ r. ⌜ Wrote (now (out .entry)) o (var-item v g .pool b (now (work .entry))) (now (out .exit)) r ⌝ }
+{
+    if b {
+        return put(out, o, word_of(number::entry(work, 4608 + v), g));
+    }
+    o
+}
+
+// The same of a comparison.
+fn pool_cmp(work: &[i32], at: usize, k: usize, g: bool, b: bool, out: &mut [i32], o: usize) -> usize
+    requires { ⌜ (5120 ≤ length (now work)) × Compares (now work) at × Open (now out) o ⌝ }
+    ensures { λ r. ⌜ Compared (now (work .entry)) at k g (λ ws. cond b [] ws) (now (out .entry)) o (now (out .exit)) r ⌝ }
+{
+    if b {
+        return o;
+    }
+    put_comparison(work, at, k, g, out, o)
+}
+
+// The literals (b) or the comparisons of the single members among so many.
+fn pools(
+    work: &[i32],
+    at: usize,
+    left: usize,
+    t: bool,
+    count: usize,
+    base: usize,
+    g: bool,
+    h: bool,
+    b: bool,
+    out: &mut [i32],
+    o: usize,
+) -> usize
+    requires { ⌜ Placed (now work) at base 0 × Open (now out) o × Fines (now work) (many (decode (read-part (now work)) left t) count g h at base .trees) ⌝ }
+    ensures { λ r. ⌜ Wrote (now (out .entry)) o (pools-of (items-at (read-part (now (work .entry))) left t count g h at base) b (now (work .entry))) (now (out .exit)) r ⌝ }
+{
+    let mut q = at;
+    let mut rest = count;
+    let mut f = g;
+    let mut c = base;
+    let mut p = o;
+    while rest != 0 {
+        let s = number::survey(work, q, left, t, c, f, 0);
+        if s.longs == 0 {
+            p = pool(work, q, left, t, c, f, b, out, p);
+        }
+        q = s.at;
+        c = s.base;
+        rest = rest - 1;
+        f = h;
+    }
+    p
+}
+
+// The literals (b) or the comparisons of the expression at a place, which has one clause.
+fn pool(
+    work: &[i32],
+    at: usize,
+    left: usize,
+    t: bool,
+    base: usize,
+    g: bool,
+    b: bool,
+    out: &mut [i32],
+    o: usize,
+) -> usize
+    requires { ⌜ Placed (now work) at base 0 × Open (now out) o × Fine (now work) (decode (read-part (now work)) left t g at base .tree) ⌝ }
+    requires { ⌜ item-at (read-part (now work)) left t g at base .unit .longs ≡ 0 ⌝ }
+    ensures { λ r. ⌜ Wrote (now (out .entry)) o (item-at (read-part (now (work .entry))) left t g at base .pool b (now (work .entry))) (now (out .exit)) r ⌝ }
+{
+    if left == 0 {
+        return o;
+    }
+    let under = left - 1;
+    match number::node_at(work, under, g, at) {
+        Node::Var(v, _) => pool_var(work, v, g, b, out, o),
+        Node::Cmp(_, _) => pool_cmp(work, at + 2, number::word(work, at + 1), g, b, out, o),
+        Node::Not(q) => pool(work, q, under, t, base, !g, b, out, o),
+        Node::Join(d, k, x, y, q) => {
+            if d {
+                return pools(work, q, under, t, k, base, x, y, b, out, o);
+            }
+            o
+        }
+        Node::Cross(_, _) => o,
+    }
+}
+
+// The clause of the pool, with the block's numbers and the suffix.
+fn put_pool(
+    work: &[i32],
+    at: usize,
+    left: usize,
+    t: bool,
+    count: usize,
+    base: usize,
+    g: bool,
+    h: bool,
+    block: usize,
+    x: Surveyed,
+    s: Suffix,
+    out: &mut [i32],
+    o: usize,
+) -> usize
+    requires { ⌜ Placed (now work) at base 0 × Open (now out) o × Fines (now work) (many (decode (read-part (now work)) left t) count g h at base .trees) ⌝ }
+    requires { ⌜ Tallied (now work) left t count g h at base x × Stacked s 0 × (block ≤ limit) ⌝ }
+    ensures { λ r. ⌜ Wrote (now (out .entry)) o (clause-text (pools-of (items-at (read-part (now (work .entry))) left t count g h at base) true (now (work .entry))) (block-of block (x .longs) ++ suffix s) (x .cmps) (pools-of (items-at (read-part (now (work .entry))) left t count g h at base) false (now (work .entry)))) (now (out .exit)) r ⌝ }
+{
+    let k = x.longs;
+    let n = x.lits + k + (64 - s.from);
+    let a = put(out, o, word_of(n, false));
+    let b = pools(work, at, left, t, count, base, g, h, true, out, a);
+    let c = put_block(block, k, out, b);
+    let d = put_suffix(s, out, c);
+    let e = put(out, d, word_of(x.cmps, false));
+    pools(work, at, left, t, count, base, g, h, false, out, e)
+}
+
+// ---- leaves of the walk
+
+// The empty clause.
+fn put_none(s: Suffix, out: &mut [i32], o: usize) -> usize
+    requires { ⌜ Stacked s 0 × Open (now out) o ⌝ }
+    ensures { λ r. ⌜ Wrote (now (out .entry)) o (clause-text [] (suffix s) 0 []) (now (out .exit)) r ⌝ }
+{
+    let n = 64 - s.from;
+    let a = put(out, o, word_of(n, false));
+    let b = put_suffix(s, out, a);
+    put(out, b, 0)
+}
+
+// A split Xor or Iff, whose sides have the numbers n and n + 1; h: the second is negated in the first clause.
+fn put_split(n: usize, h: bool, s: Suffix, out: &mut [i32], o: usize) -> usize
+    requires { ⌜ (n ≤ limit) × Stacked s 0 × Open (now out) o ⌝ }
+    ensures { λ r. ⌜ Wrote (now (out .entry)) o (clause-text (word-of (n + 1) false ∷ word-of (n + 1 + 1) h ∷ []) (suffix s) 0 [] ++ clause-text (word-of (n + 1) true ∷ word-of (n + 1 + 1) (not h) ∷ []) (suffix s) 0 []) (now (out .exit)) r ⌝ }
+{
+    let a = put_two(n, false, n + 1, h, s, out, o);
+    put_two(n, true, n + 1, !h, s, out, a)
+}
+
+// ---- the walk
+
+// The clauses of so many members, one after another.
+fn write_all(
+    work: &[i32],
+    at: usize,
+    left: usize,
+    t: bool,
+    count: usize,
+    base: usize,
+    g: bool,
+    h: bool,
+    n: usize,
+    s: Suffix,
+    out: &mut [i32],
+    o: usize,
+) -> usize
+    requires { ⌜ Placed (now work) at base n × Open (now out) o × Fines (now work) (many (decode (read-part (now work)) left t) count g h at base .trees) ⌝ }
+    requires { ⌜ Stacked s left ⌝ }
+    ensures { λ r. ⌜ Wrote (now (out .entry)) o (texts (items-at (read-part (now (work .entry))) left t count g h at base) (now (work .entry)) n (suffix s)) (now (out .exit)) r ⌝ }
+{
+    let mut q = at;
+    let mut rest = count;
+    let mut f = g;
+    let mut c = base;
+    let mut e = n;
+    let mut p = o;
+    while rest != 0 {
+        let x = number::survey(work, q, left, t, c, f, e);
+        p = write(work, q, left, t, c, f, e, s, out, p);
+        q = x.at;
+        c = x.base;
+        e = x.n;
+        rest = rest - 1;
+        f = h;
+    }
+    p
+}
+
+// The clauses of the longer ones among so many members, each with its extra literal.
+fn write_longs(
+    work: &[i32],
+    at: usize,
+    left: usize,
+    t: bool,
+    count: usize,
+    base: usize,
+    g: bool,
+    h: bool,
+    n: usize,
+    x: Extra,
+    s: Suffix,
+    out: &mut [i32],
+    o: usize,
+) -> usize
+    requires { ⌜ Placed (now work) at base n × Open (now out) o × Fines (now work) (many (decode (read-part (now work)) left t) count g h at base .trees) ⌝ }
+    requires { ⌜ Stacked s (left + min count 1) × (x .base ≤ limit) ⌝ }
+    ensures { λ r. ⌜ Wrote (now (out .entry)) o (long-texts (x .mode) (x .base) (extra-lits x) (items-at (read-part (now (work .entry))) left t count g h at base) (now (work .entry)) n 0 (suffix s)) (now (out .exit)) r ⌝ }
+{
+    let mut q = at;
+    let mut rest = count;
+    let mut f = g;
+    let mut c = base;
+    let mut e = n;
+    let mut j: usize = 0;
+    let mut p = o;
+    while rest != 0 {
+        let i = q;
+        let b = f;
+        let d = c;
+        let m = e;
+        let y = number::survey(work, i, left, t, d, b, m);
+        q = y.at;
+        c = y.base;
+        e = y.n;
+        rest = rest - 1;
+        f = h;
+        if y.longs == 0 {
+            continue;
+        }
+        p = write(work, i, left, t, d, b, m, pushed(s, x, j), out, p);
+        j = j + 1;
+    }
+    p
+}
+
+// The disjunction of so many members, x their tally, its new numbers from `block` on.
+fn write_disj(
+    work: &[i32],
+    at: usize,
+    left: usize,
+    t: bool,
+    count: usize,
+    base: usize,
+    g: bool,
+    h: bool,
+    n: usize,
+    block: usize,
+    x: Surveyed,
+    s: Suffix,
+    out: &mut [i32],
+    o: usize,
+) -> usize
+    requires { ⌜ Placed (now work) at base n × Open (now out) o × Fines (now work) (many (decode (read-part (now work)) left t) count g h at base .trees) ⌝ }
+    requires { ⌜ Tallied (now work) left t count g h at base x × Stacked s (left + min count 1) × (block ≤ limit) ⌝ }
+    ensures { λ r. ⌜ Wrote (now (out .entry)) o (disj-text (items-at (read-part (now (work .entry))) left t count g h at base) (now (work .entry)) n block (suffix s)) (now (out .exit)) r ⌝ }
+{
+    match number::mode_of(x.longs, x.lits, x.cmps) {
+        Mode::Pool => put_pool(work, at, left, t, count, base, g, h, block, x, s, out, o),
+        Mode::Pass => {
+            let mut one = [0i32; 1];
+            pools(work, at, left, t, count, base, g, h, true, &mut one, 0);
+            let y = Extra {
+                mode: Mode::Pass,
+                base: block,
+                some: x.lits == 1,
+                lit: one[0],
+            };
+            write_longs(work, at, left, t, count, base, g, h, n, y, s, out, o)
+        }
+        Mode::Two => {
+            let y = Extra {
+                mode: Mode::Two,
+                base: block,
+                some: false,
+                lit: 0,
+            };
+            write_longs(work, at, left, t, count, base, g, h, n, y, s, out, o)
+        }
+        Mode::Each => {
+            let y = Extra {
+                mode: Mode::Each,
+                base: block,
+                some: false,
+                lit: 0,
+            };
+            let p = write_longs(work, at, left, t, count, base, g, h, n, y, s, out, o);
+            put_pool(work, at, left, t, count, base, g, h, block, x, s, out, p)
+        }
+    }
+}
+
+// The clauses of the expression at a place, negated if g, each with the suffix; t: an Xor or Iff stands above.
+pub fn write(
+    work: &[i32],
+    at: usize,
+    left: usize,
+    t: bool,
+    base: usize,
+    g: bool,
+    n: usize,
+    s: Suffix,
+    out: &mut [i32],
+    o: usize,
+) -> usize
+    requires { ⌜ Placed (now work) at base n × Open (now out) o × Fine (now work) (decode (read-part (now work)) left t g at base .tree) ⌝ }
+    requires { ⌜ Stacked s left ⌝ }
+    ensures { λ r. ⌜ Wrote (now (out .entry)) o (item-at (read-part (now (work .entry))) left t g at base .text (now (work .entry)) n (suffix s)) (now (out .exit)) r ⌝ }
+{
+    if left == 0 {
+        return put_none(s, out, o);
+    }
+    let under = left - 1;
+    match number::node_at(work, under, g, at) {
+        Node::Var(v, _) => put_lit(number::entry(work, 4608 + v), g, s, out, o),
+        Node::Cmp(_, _) => put_cmp(work, at + 2, number::word(work, at + 1), g, s, out, o),
+        Node::Not(q) => write(work, q, under, t, base, !g, n, s, out, o),
+        Node::Join(d, k, a, b, q) => {
+            if d {
+                let x = number::surveys(work, q, under, t, k, base, a, b, n);
+                let e = x.n;
+                return write_disj(work, q, under, t, k, base, a, b, n, e, x, s, out, o);
+            }
+            write_all(work, q, under, t, k, base, a, b, n, s, out, o)
+        }
+        Node::Cross(h, q) => {
+            if t {
+                return put_split(base, h, s, out, o);
+            }
+            let x = number::surveys(work, q, under, true, 2, base, false, h, n);
+            let p = x.n;
+            let u = number::surveys(work, q, under, true, 2, base, true, !h, p);
+            let b = u.n;
+            let y = write_disj(work, q, under, true, 2, base, false, h, n, b, x, s, out, o);
+            let e = number::bump(b, number::fresh(x.longs, x.lits, x.cmps));
+            write_disj(work, q, under, true, 2, base, true, !h, p, e, u, s, out, y)
+        }
+    }
+}
+
+// ---- the extras
+
+// The counter behind what was written, how many clauses it has, and the position behind it.
+pub struct Tied {
+    pub n: usize,
+    pub lines: usize,
+    pub o: usize,
+}
+
+fn no_suffix() -> Suffix
+    ensures { λ r. ⌜ (suffix r ≡ []) × Stacked r 64 ⌝ }
+{
+    Suffix {
+        words: [0i32; 64],
+        from: 64,
+    }
+}
+
+fn one_literal(x: usize, g: bool) -> Suffix
+    ensures { λ r. ⌜ (suffix r ≡ word-of x g ∷ []) × Stacked r 63 ⌝ }
+{
+    push(no_suffix(), word_of(x, g))
+}
+
+// The side at a place, tied to the number v: its clauses with the number negated behind them, then those of its negation with it plain.
+fn put_tie(
+    work: &[i32],
+    v: usize,
+    at: usize,
+    left: usize,
+    base: usize,
+    n: usize,
+    out: &mut [i32],
+    o: usize,
+) -> Tied
+    requires { ⌜ Placed (now work) at base n × Open (now out) o × Fine (now work) (tie-at (decode (read-part (now work)) left true) v at base) ⌝ }
+    requires { ⌜ (left ≤ 63) × (v ≤ limit + 1) ⌝ }
+    ensures { λ r. ⌜ Listed (now (work .entry)) (items (cons (tie-at (decode (read-part (now (work .entry))) left true) v at base) nil)) n (now (out .entry)) o (now (out .exit)) (r .n) (r .lines) (r .o) ⌝ }
+{
+    let x = number::survey(work, at, left, true, base, false, n);
+    let m = x.n;
+    let a = write(
+        work,
+        at,
+        left,
+        true,
+        base,
+        false,
+        n,
+        one_literal(v + 1, true),
+        out,
+        o,
+    );
+    let y = number::survey(work, at, left, true, base, true, m);
+    let b = write(
+        work,
+        at,
+        left,
+        true,
+        base,
+        true,
+        m,
+        one_literal(v + 1, false),
+        out,
+        a,
+    );
+    Tied {
+        n: y.n,
+        lines: number::bump(x.all, y.all),
+        o: b,
+    }
+}
+
+// Of so many members.
+fn ties_of(
+    work: &[i32],
+    at: usize,
+    left: usize,
+    t: bool,
+    count: usize,
+    base: usize,
+    n: usize,
+    out: &mut [i32],
+    o: usize,
+) -> Tied
+    requires { ⌜ Placed (now work) at base n × Open (now out) o × Fines (now work) (many-ties (decode (read-part (now work)) left t) (ties-at (read-part (now work)) left t) count at base) ⌝ }
+    requires { ⌜ left ≤ 63 ⌝ }
+    ensures { λ r. ⌜ Listed (now (work .entry)) (items (many-ties (decode (read-part (now (work .entry))) left t) (ties-at (read-part (now (work .entry))) left t) count at base)) n (now (out .entry)) o (now (out .exit)) (r .n) (r .lines) (r .o) ⌝ }
+{
+    let mut q = at;
+    let mut rest = count;
+    let mut c = base;
+    let mut e = n;
+    let mut k: usize = 0;
+    let mut p = o;
+    while rest != 0 {
+        let s = number::survey(work, q, left, t, c, false, e);
+        let x = write_ties(work, q, left, t, c, e, out, p);
+        q = s.at;
+        c = s.base;
+        e = x.n;
+        k = number::bump(k, x.lines);
+        p = x.o;
+        rest = rest - 1;
+    }
+    Tied {
+        n: e,
+        lines: k,
+        o: p,
+    }
+}
+
+// Of a split Xor or Iff whose sides get the numbers base and base + 1: of each side, its extras and its tie.
+fn split_ties(
+    work: &[i32],
+    at: usize,
+    left: usize,
+    base: usize,
+    n: usize,
+    out: &mut [i32],
+    o: usize,
+) -> Tied
+    requires { ⌜ Placed (now work) at base n × Open (now out) o × Fines (now work) (cross-ties (decode (read-part (now work)) left) (ties-at (read-part (now work)) left) true at base) ⌝ }
+    requires { ⌜ left ≤ 63 ⌝ }
+    ensures { λ r. ⌜ Listed (now (work .entry)) (items (cross-ties (decode (read-part (now (work .entry))) left) (ties-at (read-part (now (work .entry))) left) true at base)) n (now (out .entry)) o (now (out .exit)) (r .n) (r .lines) (r .o) ⌝ }
+{
+    let c = number::bump(base, 2);
+    let a = write_ties(work, at, left, true, c, n, out, o);
+    let b = put_tie(work, base, at, left, c, a.n, out, a.o);
+    let s = number::survey(work, at, left, true, c, false, 0);
+    let d = write_ties(work, s.at, left, true, s.base, b.n, out, b.o);
+    let e = put_tie(work, base + 1, s.at, left, s.base, d.n, out, d.o);
+    let k = number::bump(
+        number::bump(a.lines, b.lines),
+        number::bump(d.lines, e.lines),
+    );
+    Tied {
+        n: e.n,
+        lines: k,
+        o: e.o,
+    }
+}
+
+// The extras of the expression at a place.
+fn write_ties(
+    work: &[i32],
+    at: usize,
+    left: usize,
+    t: bool,
+    base: usize,
+    n: usize,
+    out: &mut [i32],
+    o: usize,
+) -> Tied
+    requires { ⌜ Placed (now work) at base n × Open (now out) o × Fines (now work) (ties-at (read-part (now work)) left t at base) ⌝ }
+    requires { ⌜ left ≤ 64 ⌝ }
+    ensures { λ r. ⌜ Listed (now (work .entry)) (items (ties-at (read-part (now (work .entry))) left t at base)) n (now (out .entry)) o (now (out .exit)) (r .n) (r .lines) (r .o) ⌝ }
+{
+    if left == 0 {
+        return Tied {
+            n: n,
+            lines: 0,
+            o: o,
+        };
+    }
+    let under = left - 1;
+    match number::node_at(work, under, false, at) {
+        Node::Var(_, _) => Tied {
+            n: n,
+            lines: 0,
+            o: o,
+        },
+        Node::Cmp(_, _) => Tied {
+            n: n,
+            lines: 0,
+            o: o,
+        },
+        Node::Not(q) => write_ties(work, q, under, t, base, n, out, o),
+        Node::Join(_, k, _, _, q) => ties_of(work, q, under, t, k, base, n, out, o),
+        Node::Cross(_, q) => {
+            if t {
+                return split_ties(work, q, under, base, n, out, o);
+            }
+            ties_of(work, q, under, true, 2, base, n, out, o)
+        }
+    }
+}
+
+// ---- a rule
+
+// Where the rule ends, the counter behind it, how many clauses it has, and the position behind them.
+pub struct Ruled {
+    pub at: usize,
+    pub n: usize,
+    pub lines: usize,
+    pub o: usize,
+}
+
+// The rule at a place: its extras, then its own clauses. n: the next number before it.
+pub fn write_rule(work: &[i32], at: usize, n: usize, out: &mut [i32], o: usize) -> Ruled
+    requires { ⌜ Placed (now work) at n n × Open (now out) o × Writable (now work) at n ⌝ }
+    ensures { λ r. ⌜ RuleWrote (now (work .entry)) at n (now (out .entry)) o (now (out .exit)) (r .at) (r .n) (r .lines) (r .o) ⌝ }
+{
+    let x = number::survey(work, at, 64, false, n, false, n);
+    let m = x.base;
+    let a = write_ties(work, at, 64, false, n, m, out, o);
+    let e = a.n;
+    let p = a.o;
+    let y = number::survey(work, at, 64, false, n, false, e);
+    let q = write(work, at, 64, false, n, false, e, no_suffix(), out, p);
+    Ruled {
+        at: y.at,
+        n: y.n,
+        lines: number::bump(a.lines, y.all),
+        o: q,
     }
 }

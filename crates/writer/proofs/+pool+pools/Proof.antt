@@ -1,0 +1,199 @@
+use borrow.Author.Needs.{needs}
+use Prim.Native.Nat.{ℕ, _<_}
+use borrow.Fn.Kinds.{In}
+use borrow.Fn.PlainCycle.{Measures, is, falls, and}
+use Rattle.writer.proofs.pool.Reads as pool
+use Rattle.writer.proofs.pool.Kinds as pool-kinds
+use Rattle.writer.proofs.+pool+pools.Lts-pool as pool-lts
+use Rattle.writer.proofs.pools.Reads as pools
+use Rattle.writer.proofs.pools.Kinds as pools-kinds
+use Rattle.writer.proofs.+pool+pools.Lts-pools as pools-lts
+use Rattle.number.proofs.node_at.Reads as node-at-reads
+use Rattle.writer.proofs.pool_var.Reads as pool-var-reads
+use Rattle.number.proofs.word.Reads as word-reads
+use Rattle.writer.proofs.pool_cmp.Reads as pool-cmp-reads
+use Rattle.number.proofs.survey.Reads as survey-reads
+use Rattle.writer.proofs.+pool+pools.{statement}
+use Rattle.writer.proofs.+pool+pools.Tie.{close}
+use mathlib.Core.Path.{_≡_, refl, sym, ap, _∙_}
+use mathlib.Core.Logic.{⊎-elim}
+use mathlib.Core.List.{List}
+use Prim.Native.Nat.{ℕ, _<_, _≤_, _+_, _-_, _*_, min}
+use native.Mathlib.Omega.{arith}
+use lib.IntN.{ℤ}
+use lib.ListN.{length}
+use Rattle.laws.specs.Writes.{Wrote, wrote-length}
+use Rattle.walk.specs.Item.{Tally, pools as pools-of}
+use Rattle.walk.specs.Decode.{read-part, item-at, items-at}
+use Rattle.writer.specs.Placed.{Placed}
+use Rattle.writer.proofs.Laws.{compared-length}
+use Rattle.writer.proofs.Steps.{part-length, okay, placed-at, compares, fine-cmp, fine-not, fine-join, Sofar, sofar-none, sofar-more, sofar-with, sofar-first}
+use Rattle.writer.proofs.PoolLaws.{pool-none, single-not, pool-var, pool-cmp, pool-not, pool-disj, pool-conj, pool-cross, join-is, pools-none, pools-more, wrote-as, pool-skip}
+
+abbrev μ-pool : Measures 2 pool-kinds.ps ℕ
+μ-pool κs a = 4 * (4608 - a .1 .0) + 1
+
+abbrev μ-pools : Measures 2 pools-kinds.ps ℕ
+μ-pools κs a = 4 * (4608 - a .1 .0) + 2 * min (a .1 .1 .1 .1 .0) 1
+
+abbrev pool-at : ℕ → In 2 pool-kinds.ps
+pool-at t = and 2 pool-kinds.ps (is 2 pool-kinds.ps μ-pool t) pool.Pre
+
+abbrev pool-below : ℕ → In 2 pool-kinds.ps
+pool-below t = and 2 pool-kinds.ps (falls 2 pool-kinds.ps _<_ μ-pool t) pool.Pre
+
+abbrev pools-at : ℕ → In 2 pools-kinds.ps
+pools-at t = and 2 pools-kinds.ps (is 2 pools-kinds.ps μ-pools t) pools.Pre
+
+abbrev pools-below : ℕ → In 2 pools-kinds.ps
+pools-below t = and 2 pools-kinds.ps (falls 2 pools-kinds.ps _<_ μ-pools t) pools.Pre
+
+abbrev pool-claims : ℕ → pool-lts.Claims
+pool-claims t = (node-at-reads.Asked, node-at-reads.Learnt, pool-var-reads.Asked, pool-var-reads.Learnt, word-reads.Asked, word-reads.Learnt, pool-cmp-reads.Asked, pool-cmp-reads.Learnt, pool-below t, pool.Post, pools-below t, pools.Post)
+
+abbrev pools-claims : ℕ → pools-lts.Claims
+pools-claims t = (survey-reads.Asked, survey-reads.Learnt, pool-below t, pool.Post)
+
+abbrev pools-Inv-loop : pools-lts.InvT-loop
+pools-Inv-loop work at left t count base g h b out₀ o q₀ rest₀ f₀ c₀ p₀ out q rest f c p = Sofar work out₀ left t h at count q rest f c 0 p out
+    × ((d : List ℤ) (r : ℕ) → Wrote out p (pools-of (items-at (read-part work) left t rest f h q c) b work) d r → Wrote out₀ o (pools-of (items-at (read-part work) left t count g h at base) b work) d r)
+
+abbrev pools-μ-loop : pools-lts.MeasureT-loop
+pools-μ-loop work at left t count base g h b out₀ o q₀ rest₀ f₀ c₀ p₀ out q rest f c p = rest
+
+-- what the turn wrote, whichever way it took
+member-at : (t : ℕ) (c : pools-lts.Joined1 (pools-claims t) (pools-at t) pools.Post pools-Inv-loop pools-μ-loop) →
+    let l = c .before .before .before .before .loop in
+    let a = c .before .before .before .before .before .args in
+    Wrote (l .out) (l .p) (item-at (read-part (a .work .now)) (a .left) (a .t) (l .f) (l .q) (l .c) .pool (a .b) (a .work .now)) (c .if1 .out) (c .if1 .p)
+member-at t c =
+    ⊎-elim
+    (λ v. wrote-as (v .4) (v .5) (v .2 .ensures))
+    (λ v. wrote-as (v .1) (v .2) (pool-skip _ _ _ _ _ _ _ _ (c .before .before .survey .ensures) (v .0 .left) (c .before .before .before .before .loop .inv .0 .opened)))
+    (c .if1 .came)
+
+pool-returns : (t : ℕ) → pool-lts.Need-returns (pool-claims t) (pool-at t) pool.Post
+pool-returns t c = pool-none ((c .before) .args .work .now) _ _ _ _ _ _ (c .if1 .taken) ((c .before) .pre .1 .0 .1)
+
+pool-node-at-requires : (t : ℕ) → pool-lts.Need-node-at-requires (pool-claims t) (pool-at t) pool.Post
+pool-node-at-requires t c κs = (omega (arith, (c .before) .pre .1 .0 .0 .size), (c .before) .pre .1 .0 .0 .inside)
+
+pool-pool-var-requires : (t : ℕ) → pool-lts.Need-pool-var-requires (pool-claims t) (pool-at t) pool.Post
+pool-pool-var-requires t c κs = (okay ((c .before .before .before .before .before .before) .args .work .now) _ _ _ _ _ _ ((c .before .before .before .before .before .before) .pre .1 .0 .0) (sym (c .before .before .v .given .1) ∙ c .before .before .before .before .node-at .ensures) .2, (c .before .before .before .before .before .before) .pre .1 .0 .1)
+
+pool-add-pool-cmp : (t : ℕ) → pool-lts.Need-add-pool-cmp (pool-claims t) (pool-at t) pool.Post
+pool-add-pool-cmp t c = omega (arith, (c .before .before .before .before) .pre .1 .0 .0 .inside)
+
+pool-add-word : (t : ℕ) → pool-lts.Need-add-word (pool-claims t) (pool-at t) pool.Post
+pool-add-word t c = omega (arith, (c .before .before .before .before) .pre .1 .0 .0 .inside)
+
+pool-pool-cmp-requires : (t : ℕ) → pool-lts.Need-pool-cmp-requires (pool-claims t) (pool-at t) pool.Post
+pool-pool-cmp-requires t c κs = ((c .before .before .before .before .before .before) .pre .1 .0 .0 .size, compares ((c .before .before .before .before .before .before) .args .work .now) _ _ _ (fine-cmp ((c .before .before .before .before .before .before) .args .work .now) _ _ _ _ _ _ (c .before .before .before .before .before .if1 .left) refl _ _ (sym (c .before .before .enum-told .given .1) ∙ c .before .before .before .before .node-at .ensures) ((c .before .before .before .before .before .before) .pre .1 .0 .2)), (c .before .before .before .before .before .before) .pre .1 .0 .1)
+
+pool-pool-requires : (t : ℕ) → pool-lts.Need-pool-requires (pool-claims t) (pool-at t) pool.Post
+pool-pool-requires t c κs = let e = sym (c .before .before .q .given .1) ∙ c .before .before .before .before .node-at .ensures in
+    let o = okay ((c .before .before .before .before .before .before) .args .work .now) _ _ _ _ _ _ ((c .before .before .before .before .before .before) .pre .1 .0 .0) e in (
+      omega (arith, o .0, o .1, part-length ((c .before .before .before .before .before .before) .args .work .now) ((c .before .before .before .before .before .before) .pre .1 .0 .0 .size), (c .before .before .before .before .before .before) .pre .0),
+      ((placed-at _ ((c .before .before .before .before .before .before) .pre .1 .0 .0) (o .1), (c .before .before .before .before .before .before) .pre .1 .0 .1, fine-not ((c .before .before .before .before .before .before) .args .work .now) _ _ _ _ _ _ (c .before .before .before .before .before .if1 .left) refl _ e ((c .before .before .before .before .before .before) .pre .1 .0 .2)), single-not ((c .before .before .before .before .before .before) .args .work .now) _ _ _ _ _ _ (c .before .before .before .before .before .if1 .left) refl _ e ((c .before .before .before .before .before .before) .pre .1 .1)),
+    )
+
+pool-pools-requires : (t : ℕ) → pool-lts.Need-pools-requires (pool-claims t) (pool-at t) pool.Post
+pool-pools-requires t c κs = let e = sym (c .before .before .before .d .given .1) ∙ c .before .before .before .before .before .node-at .ensures in
+    let o = okay ((c .before .before .before .before .before .before .before) .args .work .now) _ _ _ _ _ _ ((c .before .before .before .before .before .before .before) .pre .1 .0 .0) e in (
+      omega (arith, o .0, o .1, o .2, part-length ((c .before .before .before .before .before .before .before) .args .work .now) ((c .before .before .before .before .before .before .before) .pre .1 .0 .0 .size), (c .before .before .before .before .before .before .before) .pre .0),
+      (placed-at _ ((c .before .before .before .before .before .before .before) .pre .1 .0 .0) (o .1), (c .before .before .before .before .before .before .before) .pre .1 .0 .1, fine-join ((c .before .before .before .before .before .before .before) .args .work .now) _ _ _ _ _ _ (c .before .before .before .before .before .before .if1 .left) refl _ _ _ _ _ e ((c .before .before .before .before .before .before .before) .pre .1 .0 .2)),
+    )
+
+pool-same-length : (t : ℕ) → pool-lts.Need-same-length (pool-claims t) (pool-at t) pool.Post
+pool-same-length t c = wrote-length (c .before .pools .ensures)
+
+pool-returns-2 : (t : ℕ) → pool-lts.Need-returns-2 (pool-claims t) (pool-at t) pool.Post
+pool-returns-2 t c = pool-disj ((c .before .before .before .before .before .before .before .before .before) .args .work .now) _ _ _ _ _ _ (c .before .before .before .before .before .before .before .before .if1 .left) refl _ _ _ _ _ _ _ _ _ (join-is (sym (c .before .before .before .before .before .d .given .1) ∙ c .before .before .before .before .before .before .before .node-at .ensures) (c .before .before .before .if2 .taken)) ((c .before .before .before .before .before .before .before .before .before) .pre .1 .1) (c .before .pools .ensures)
+
+pool-same-length-2 : (t : ℕ) → pool-lts.Need-same-length-2 (pool-claims t) (pool-at t) pool.Post
+pool-same-length-2 t c = wrote-length (c .before .pool-var .ensures)
+
+pool-returns-3 : (t : ℕ) → pool-lts.Need-returns-3 (pool-claims t) (pool-at t) pool.Post
+pool-returns-3 t c = pool-var ((c .before .before .before .before .before .before .before .before) .args .work .now) _ _ _ _ _ _ (c .before .before .before .before .before .before .before .if1 .left) refl _ _ _ _ _ _ _ (sym (c .before .before .before .before .v .given .1) ∙ c .before .before .before .before .before .before .node-at .ensures) (c .before .pool-var .ensures)
+
+pool-same-length-3 : (t : ℕ) → pool-lts.Need-same-length-3 (pool-claims t) (pool-at t) pool.Post
+pool-same-length-3 t c = compared-length (compares ((c .before .before .before .before .before .before .before .before) .args .work .now) _ _ _ (fine-cmp ((c .before .before .before .before .before .before .before .before) .args .work .now) _ _ _ _ _ _ (c .before .before .before .before .before .before .before .if1 .left) refl _ _ (sym (c .before .before .before .before .enum-told .given .1) ∙ c .before .before .before .before .before .before .node-at .ensures) ((c .before .before .before .before .before .before .before .before) .pre .1 .0 .2))) (c .before .pool-cmp .ensures)
+
+pool-returns-4 : (t : ℕ) → pool-lts.Need-returns-4 (pool-claims t) (pool-at t) pool.Post
+pool-returns-4 t c = pool-cmp ((c .before .before .before .before .before .before .before .before) .args .work .now) _ _ _ _ _ _ (c .before .before .before .before .before .before .before .if1 .left) refl _ _ _ _ _ _ _ (sym (c .before .before .before .before .enum-told .given .1) ∙ c .before .before .before .before .before .before .node-at .ensures) ((c .before .before .before .before .before .before .before .before) .pre .1 .0 .2) _ (c .before .before .before .word .ensures) (c .before .pool-cmp .ensures)
+
+pool-same-length-4 : (t : ℕ) → pool-lts.Need-same-length-4 (pool-claims t) (pool-at t) pool.Post
+pool-same-length-4 t c = wrote-length (c .before .pool .ensures)
+
+pool-returns-5 : (t : ℕ) → pool-lts.Need-returns-5 (pool-claims t) (pool-at t) pool.Post
+pool-returns-5 t c = pool-not ((c .before .before .before .before .before .before .before .before) .args .work .now) _ _ _ _ _ _ (c .before .before .before .before .before .before .before .if1 .left) refl _ _ _ _ _ _ (sym (c .before .before .before .before .q .given .1) ∙ c .before .before .before .before .before .before .node-at .ensures) (c .before .pool .ensures)
+
+pool-returns-6 : (t : ℕ) → pool-lts.Need-returns-6 (pool-claims t) (pool-at t) pool.Post
+pool-returns-6 t c = pool-conj ((c .before .before .before .before .before .before) .args .work .now) _ _ _ _ _ _ (c .before .before .before .before .before .if1 .left) refl _ ((c .before .before .before .before .before .before) .pre .1 .0 .1) _ _ _ _ (join-is (sym (c .before .before .d .given .1) ∙ c .before .before .before .before .node-at .ensures) (c .if2 .left))
+
+pool-returns-7 : (t : ℕ) → pool-lts.Need-returns-7 (pool-claims t) (pool-at t) pool.Post
+pool-returns-7 t c = pool-cross ((c .before .before .before .before) .args .work .now) _ _ _ _ _ _ (c .before .before .before .if1 .left) refl _ ((c .before .before .before .before) .pre .1 .0 .1) _ _ (sym (c .enum-told2 .given .1) ∙ c .before .before .node-at .ensures)
+
+pools-loop-holds : (t : ℕ) → pools-lts.Need-loop-holds (pools-claims t) (pools-at t) pools.Post pools-Inv-loop pools-μ-loop
+pools-loop-holds t c = (sofar-none (c .pre .1 .0) (c .pre .1 .1) (c .pre .1 .2), λ d r x. x)
+
+pools-survey-requires : (t : ℕ) → pools-lts.Need-survey-requires (pools-claims t) (pools-at t) pools.Post pools-Inv-loop pools-μ-loop
+pools-survey-requires t c κs = let i = c .before .loop .inv .0 in omega (arith, i .placed .size, i .placed .inside, i .placed .low-base)
+
+pools-pool-requires : (t : ℕ) → pools-lts.Need-pool-requires (pools-claims t) (pools-at t) pools.Post pools-Inv-loop pools-μ-loop
+pools-pool-requires t c κs = let z = c .before .before .before .before .loop-test .taken in
+    let i = c .before .before .before .before .before .loop .inv .0 in (
+      omega (arith, z, i .after, i .fewer, i .placed .inside, (c .before .before .before .before .before .before) .pre .0),
+      ((i .placed, i .opened, sofar-first i z (c .before .before .before .survey .ensures)), sym (ap (λ (t : Tally). t .longs) (c .before .before .before .survey .ensures .unit)) ∙ c .before .if1 .taken),
+    )
+
+pools-loop-again : (t : ℕ) → pools-lts.Need-loop-again (pools-claims t) (pools-at t) pools.Post pools-Inv-loop pools-μ-loop
+pools-loop-again t c = let i = c .before .before .before .before .loop .inv in
+    let z = c .before .before .before .loop-test .taken in
+    let m = member-at t (c) in
+    (sofar-with 0 (sofar-more (i .0) z (c .before .before .survey .ensures) m) (omega arith), λ d r x. i .1 d r (pools-more ((c .before .before .before .before .before) .args .work .now) _ _ _ _ _ _ _ _ _ z _ (c .before .before .survey .ensures) (i .0 .opened) m x))
+
+pools-same-length : (t : ℕ) → pools-lts.Need-same-length (pools-claims t) (pools-at t) pools.Post pools-Inv-loop pools-μ-loop
+pools-same-length t c = c .before .loop .inv .0 .same
+
+pools-returns : (t : ℕ) → pools-lts.Need-returns (pools-claims t) (pools-at t) pools.Post pools-Inv-loop pools-μ-loop
+pools-returns t c = c .before .loop .inv .1 _ _ (pools-none ((c .before .before) .args .work .now) _ _ _ _ _ _ _ _ (c .loop-test .left) (c .before .loop .inv .0 .opened))
+
+pub +pool+pools-spec : {M : Type 1} → statement M
++pool+pools-spec =
+    close μ-pool μ-pools
+    (λ t. pool-lts.spec (pool-claims t) (pool-at t) pool.Post
+    (pool-returns t)
+    (λ c. search needs)
+    (pool-node-at-requires t)
+    (λ c. search needs)
+    (pool-pool-var-requires t)
+    (λ c. search needs)
+    (pool-add-pool-cmp t)
+    (pool-add-word t)
+    (λ c κs. search needs)
+    (pool-pool-cmp-requires t)
+    (λ c. search needs)
+    (pool-pool-requires t)
+    (λ c. search needs)
+    (pool-pools-requires t)
+    (pool-same-length t)
+    (pool-returns-2 t)
+    (λ c. search needs)
+    (pool-same-length-2 t)
+    (pool-returns-3 t)
+    (pool-same-length-3 t)
+    (pool-returns-4 t)
+    (pool-same-length-4 t)
+    (pool-returns-5 t)
+    (pool-returns-6 t)
+    (pool-returns-7 t))
+    (λ t. pools-lts.spec (pools-claims t) (pools-at t) pools.Post pools-Inv-loop pools-μ-loop
+    (pools-loop-holds t)
+    (pools-survey-requires t)
+    (pools-pool-requires t)
+    (λ c. search needs)
+    (λ c. search needs)
+    (pools-loop-again t)
+    (pools-same-length t)
+    (pools-returns t))

@@ -1,0 +1,203 @@
+-- What the walk over a tree writes.
+use mathlib.Core.Path.{_≡_, refl, sym, ap, _∙_, subst}
+use mathlib.Core.Bool.{Bool, true, false, not, cond}
+use mathlib.Core.List.{List, [], _∷_, _++_, append-nil}
+use Prim.Native.Nat.{ℕ, zero, suc, _+_, _-_, _≤_, _<_, min}
+use native.Mathlib.Omega.{arith}
+use lib.IntN.{ℤ, pos}
+use lib.ListN.{length, getD}
+use lib.Seq.{sets}
+use lib.Dec.{eqb}
+use Rattle.laws.specs.Writes.{cap, Wrote, wrote-none, wrote-then}
+use Rattle.walk.specs.Tree.{Tree, Trees, num, pair, crossed}
+use Rattle.walk.specs.Item.{bump, is-none, is-single, Tally, tally, mode-in, fresh-in, fresh, nat, bool-map, bool-entry, word-of, clause-text, comparison, block, extra, pool-text, Item, tallies, counts, pools, texts, long-texts, disj-text, item, items, var-item, num-item, cmp-item, conj-item, disj-item, cross-item}
+use Rattle.walk.specs.Decode.{word, past, int-at, node-of, Read, many, as-tree, step, cross-step, decode, read-part, item-at, items-at, Surveys, SurveysAll}
+use Rattle.walk.specs.declared.Mode.{Mode}
+use Rattle.walk.specs.declared.Mode.the-variants.{Pool, Pass, Two, Each}
+use Rattle.walk.specs.declared.Node.{Node}
+use Rattle.walk.specs.declared.Node.the-variants.{Var, Cmp, Not, Join, Cross}
+use Rattle.walk.specs.declared.Surveyed.{Surveyed}
+use Rattle.writer.specs.declared.Suffix.{Suffix}
+use Rattle.writer.specs.Suffix.{Open}
+use Rattle.writer.specs.Fine.{Compared, Fine}
+use Rattle.writer.specs.Placed.{Tallied}
+use Rattle.writer.proofs.Steps.{part-length, Is, up, fine-cmp, items-is}
+
+-- ---- an expression
+
+pub write-none : (w : List ℤ) (l : ℕ) (t g : Bool) (at base n : ℕ) (suf : List ℤ) {out a : List ℤ} {o p : ℕ} → l ≡ 0 → Wrote out o (clause-text [] suf 0 []) a p → Wrote out o (item-at (read-part w) l t g at base .text w n suf) a p
+unfolding decode item disj-item disj-text tallies pools long-texts counts
+write-none w l t g at base n suf {out} {a} {o} {p} e x = rw e x
+
+-- a split Xor or Iff: two clauses of two numbers
+split-text : (w : List ℤ) (u : ℕ) (h : Bool) (q base n : ℕ) (suf : List ℤ) {out a : List ℤ} {o p : ℕ}
+    → Wrote out o (clause-text (word-of (base + 1) false ∷ word-of (base + 1 + 1) h ∷ []) suf 0 [] ++ clause-text (word-of (base + 1) true ∷ word-of (base + 1 + 1) (not h) ∷ []) suf 0 []) a p
+    → Wrote out o (item (cross-step (decode (read-part w) u) true h q base .tree) .text w n suf) a p
+unfolding cross-step item cross-item num-item disj-text tallies pools long-texts counts
+split-text w u h q base n suf x = x
+
+cross-text : (w : List ℤ) (u : ℕ) (h : Bool) (q base n : ℕ) (suf : List ℤ) (x v : Surveyed) → SurveysAll w u true 2 false h q base n x → SurveysAll w u true 2 true (not h) q base (x .n) v
+    → (y b : ℕ) → y ≡ fresh-in (mode-in (x .longs) (x .lits) (x .cmps)) (x .longs) → b ≡ bump (v .n) y
+    → {out c a : List ℤ} {o r p : ℕ} → length out ≤ cap
+    → Wrote out o (disj-text (items-at (read-part w) u true 2 false h q base) w n (v .n) suf) c r → Wrote c r (disj-text (items-at (read-part w) u true 2 true (not h) q base) w (x .n) b suf) a p
+    → Wrote out o (item (cross-step (decode (read-part w) u) false h q base .tree) .text w n suf) a p
+unfolding cross-step item cross-item
+cross-text w u h q base n suf x v f f' y b hy hb {out} {c} {a} {o} {r} {p} m i j =
+    rw (← f .unit, ← f .count, ← f' .count, ← hy, ← hb) (wrote-then m i j)
+
+module _ (w : List ℤ) (l u : ℕ) (t g : Bool) (at base : ℕ) (z : l ≡ 0 → ⊥) (hu : u ≡ l - 1) (n : ℕ) (suf out : List ℤ) (o : ℕ) (a : List ℤ) (p : ℕ) where
+  abbrev F : List ℤ
+  F = read-part w
+
+  abbrev Goal : Type 0
+  Goal = Wrote out o (item-at F l t g at base .text w n suf) a p
+
+  abbrev Of : Read → Type 0
+  Of r = Wrote out o (item (r .tree) .text w n suf) a p
+
+  pub write-var : (v q x : ℕ) → Is w l u t g at base z hu (Var v q) → x ≡ nat (getD w (4608 + v) (pos 0)) → Wrote out o (clause-text (word-of x g ∷ []) suf 0 []) a p → Goal
+  unfolding step item var-item bool-entry
+  write-var v q x e f y = up w l u t g at base z hu Of (Var v q) e (subst (λ (m : ℕ). Wrote out o (clause-text (word-of m g ∷ []) suf 0 []) a p) f y)
+
+  pub write-cmp : (c q : ℕ) → Is w l u t g at base z hu (Cmp c q) → Fine w (decode F l t g at base .tree) → (k : ℕ) → k ≡ word F (at + 1) → Compared w (at + 2) k g (clause-text [] suf 1) out o a p → Goal
+  unfolding step item cmp-item
+  write-cmp c q e f k hk x =
+      let y : Compared w (at + 2) (word F (at + 1)) g (clause-text [] suf 1) out o a p = subst (λ (k : ℕ). Compared w (at + 2) k g (clause-text [] suf 1) out o a p) hk x in
+      up w l u t g at base z hu Of (Cmp c q) e (y .wrote _ _ (fine-cmp w l u t g at base z hu c q e f .has))
+
+  pub write-not : (q : ℕ) → Is w l u t g at base z hu (Not q) → Wrote out o (item-at F u t (not g) q base .text w n suf) a p → Goal
+  unfolding step
+  write-not q e x = up w l u t g at base z hu Of (Not q) e x
+
+  pub write-conj : (k : ℕ) (c d : Bool) (q : ℕ) → Is w l u t g at base z hu (Join false k c d q) → Wrote out o (texts (items-at F u t k c d q base) w n suf) a p → Goal
+  unfolding step item conj-item
+  write-conj k c d q e x = up w l u t g at base z hu Of (Join false k c d q) e x
+
+  pub write-disjoint : (k : ℕ) (c d : Bool) (q : ℕ) → Is w l u t g at base z hu (Join true k c d q) → (x : Surveyed) → SurveysAll w u t k c d q base n x
+      → Wrote out o (disj-text (items-at F u t k c d q base) w n (x .n) suf) a p → Goal
+  unfolding step item disj-item
+  write-disjoint k c d q e x f y = up w l u t g at base z hu Of (Join true k c d q) e (subst (λ (m : ℕ). Wrote out o (disj-text (items-at F u t k c d q base) w n m suf) a p) (f .count) y)
+
+  pub write-split : (h : Bool) (q : ℕ) → t ≡ true → Is w l u t g at base z hu (Cross h q)
+      → Wrote out o (clause-text (word-of (base + 1) false ∷ word-of (base + 1 + 1) h ∷ []) suf 0 [] ++ clause-text (word-of (base + 1) true ∷ word-of (base + 1 + 1) (not h) ∷ []) suf 0 []) a p → Goal
+  unfolding step
+  write-split h q ht e x = up w l u t g at base z hu Of (Cross h q) e (subst (λ (t : Bool). Wrote out o (item (cross-step (decode F u) t h q base .tree) .text w n suf) a p) (sym ht) (split-text w u h q base n suf x))
+
+  pub write-cross : (h : Bool) (q : ℕ) → t ≡ false → Is w l u t g at base z hu (Cross h q) → (x v : Surveyed) → SurveysAll w u true 2 false h q base n x → SurveysAll w u true 2 true (not h) q base (x .n) v
+      → (y b : ℕ) → y ≡ fresh-in (mode-in (x .longs) (x .lits) (x .cmps)) (x .longs) → b ≡ bump (v .n) y → length out ≤ cap
+      → (c : List ℤ) (r : ℕ) → Wrote out o (disj-text (items-at F u true 2 false h q base) w n (v .n) suf) c r → Wrote c r (disj-text (items-at F u true 2 true (not h) q base) w (x .n) b suf) a p → Goal
+  unfolding step
+  write-cross h q ht e x v f f' y b hy hb m c r i j =
+      up w l u t g at base z hu Of (Cross h q) e (subst (λ (t : Bool). Wrote out o (item (cross-step (decode F u) t h q base .tree) .text w n suf) a p) (sym ht)
+      (cross-text w u h q base n suf x v f f' y b hy hb m i j))
+
+-- ---- members
+
+pub texts-none : (w : List ℤ) (l : ℕ) (t : Bool) (k : ℕ) (g h : Bool) (at base n : ℕ) (suf : List ℤ) {out : List ℤ} {o : ℕ} → k ≡ 0 → Open out o → Wrote out o (texts (items-at (read-part w) l t k g h at base) w n suf) out o
+unfolding many items texts
+texts-none w l t k g h at base n suf {out} {o} e i = rw e (wrote-none out o (i .low))
+
+pub longs-none : (w : List ℤ) (l : ℕ) (t : Bool) (k : ℕ) (g h : Bool) (at base n : ℕ) (suf : List ℤ) (d : Mode) (b : ℕ) (ls : List ℤ) (j : ℕ) {out : List ℤ} {o : ℕ} → k ≡ 0 → Open out o
+    → Wrote out o (long-texts d b ls (items-at (read-part w) l t k g h at base) w n j suf) out o
+unfolding many items long-texts
+longs-none w l t k g h at base n suf d b ls j {out} {o} e i = rw e (wrote-none out o (i .low))
+
+module _ (w : List ℤ) (l : ℕ) (t : Bool) (k : ℕ) (g h : Bool) (at base n : ℕ) (suf : List ℤ) (z : k ≡ 0 → ⊥) (s : Surveyed) (hs : Surveys w l t g at base n s) where
+  abbrev this : Item
+  this = item-at (read-part w) l t g at base
+
+  abbrev rest : List Item
+  rest = items-at (read-part w) l t (k - 1) h h (s .at) (s .base)
+
+  pub texts-more : {out a b : List ℤ} {o p q : ℕ} → Open out o → Wrote out o (this .text w n suf) a p → Wrote a p (texts rest w (s .n) suf) b q
+      → Wrote out o (texts (items-at (read-part w) l t k g h at base) w n suf) b q
+  unfolding texts
+  texts-more {out} {a} {b} {o} {p} {q} c x y = rw (items-is w l t k g h at base n z s hs, ← hs .count) (wrote-then (c .room) x y)
+
+  module _ (d : Mode) (b : ℕ) (ls : List ℤ) (j : ℕ) where
+    pub longs-skip : {out c : List ℤ} {o q : ℕ} → s .longs ≡ 0 → Wrote out o (long-texts d b ls rest w (s .n) j suf) c q → Wrote out o (long-texts d b ls (items-at (read-part w) l t k g h at base) w n j suf) c q
+    unfolding long-texts
+    longs-skip c y =
+        let e : is-single this ≡ true = ap (λ (t : Tally). is-none (t .longs)) (sym (hs .unit)) ∙ ap is-none c in
+        rw (items-is w l t k g h at base n z s hs, e, ← hs .count) y
+
+    pub longs-more : {out a c : List ℤ} {o p q : ℕ} → (s .longs ≡ 0 → ⊥) → Open out o → (suf' : List ℤ) → suf' ≡ extra d b ls j ++ suf
+        → Wrote out o (this .text w n suf') a p → Wrote a p (long-texts d b ls rest w (s .n) (j + 1) suf) c q
+        → Wrote out o (long-texts d b ls (items-at (read-part w) l t k g h at base) w n j suf) c q
+    unfolding long-texts
+    longs-more {out} {a} {c} {o} {p} {q} f i suf' hf x y =
+        let e : is-single this ≡ false = ap (λ (t : Tally). is-none (t .longs)) (sym (hs .unit)) ∙ not-none (s .longs) f in
+        rw (items-is w l t k g h at base n z s hs, e, ← hs .count) (wrote-then (i .room) (rw hf at x) y)
+      where
+        not-none : (x : ℕ) → (x ≡ 0 → ⊥) → is-none x ≡ false
+        not-none zero h = absurd (h refl)
+        not-none (suc x) h = refl
+
+-- ---- a disjunction
+
+longs-empty : (is : List Item) (d : Mode) (b : ℕ) (ls w : List ℤ) (n k : ℕ) (suf : List ℤ) → tallies is .longs ≡ 0 → long-texts d b ls is w n k suf ≡ []
+unfolding long-texts tallies
+longs-empty [] d b ls w n k suf h = refl
+longs-empty (i ∷ is) d b ls w n k suf h =
+    let e : i .unit .longs ≡ 0 = omega arith in
+    rw e (longs-empty is d b ls w (i .count w n) k suf (omega arith))
+
+longs-same : (is : List Item) (d : Mode) (b : ℕ) (ls ls' w : List ℤ) (n k : ℕ) (suf : List ℤ) → ((j : ℕ) → extra d b ls j ≡ extra d b ls' j)
+    → long-texts d b ls is w n k suf ≡ long-texts d b ls' is w n k suf
+unfolding long-texts
+longs-same [] d b ls ls' w n k suf h = refl
+longs-same (i ∷ is) d b ls ls' w n k suf h = rw (h k, longs-same is d b ls ls' w (i .count w n) k suf h, longs-same is d b ls ls' w (i .count w n) (k + 1) suf h)
+
+pool-longs : (x l k : ℕ) → mode-in x l k ≡ Pool → x ≡ 0
+pool-longs zero l k e = refl
+pool-longs (suc zero) zero zero e = absurd (let z : _≡_ {A = ℕ} 0 1 = cc in omega arith)
+pool-longs (suc zero) (suc zero) zero e = absurd (let z : _≡_ {A = ℕ} 0 1 = cc in omega arith)
+pool-longs (suc zero) (suc (suc l)) zero e = absurd (let z : _≡_ {A = ℕ} 0 1 = cc in omega arith)
+pool-longs (suc zero) l (suc k) e = absurd (let z : _≡_ {A = ℕ} 0 1 = cc in omega arith)
+pool-longs (suc (suc zero)) zero zero e = absurd (let z : _≡_ {A = ℕ} 0 1 = cc in omega arith)
+pool-longs (suc (suc zero)) zero (suc k) e = absurd (let z : _≡_ {A = ℕ} 0 1 = cc in omega arith)
+pool-longs (suc (suc zero)) (suc l) k e = absurd (let z : _≡_ {A = ℕ} 0 1 = cc in omega arith)
+pool-longs (suc (suc (suc x))) l k e = absurd (let z : _≡_ {A = ℕ} 0 1 = cc in omega arith)
+
+pass-lits : (x l k : ℕ) → mode-in x l k ≡ Pass → l ≤ 1
+pass-lits x zero k e = omega arith
+pass-lits x (suc zero) k e = omega arith
+pass-lits zero (suc (suc l)) k e = absurd (let z : _≡_ {A = ℕ} 0 1 = cc in omega arith)
+pass-lits (suc zero) (suc (suc l)) zero e = absurd (let z : _≡_ {A = ℕ} 0 1 = cc in omega arith)
+pass-lits (suc zero) (suc (suc l)) (suc k) e = absurd (let z : _≡_ {A = ℕ} 0 1 = cc in omega arith)
+pass-lits (suc (suc zero)) (suc (suc l)) k e = absurd (let z : _≡_ {A = ℕ} 0 1 = cc in omega arith)
+pass-lits (suc (suc (suc x))) (suc (suc l)) k e = absurd (let z : _≡_ {A = ℕ} 0 1 = cc in omega arith)
+
+pub one-lit : (ls one : List ℤ) (r x y k : ℕ) → length ls ≡ y → mode-in x y k ≡ Pass → Wrote (pos 0 ∷ []) 0 ls one r → cond (eqb y 1) (getD one 0 (pos 0) ∷ []) [] ≡ ls
+one-lit [] one r x y k e f w = rw (← e)
+one-lit (a ∷ []) one r x y k e f w = rw (← e, w .words)
+one-lit (a ∷ b ∷ ls) one r x y k e f w = absurd (omega (arith, pass-lits x y k f))
+
+module _ (is : List Item) (w : List ℤ) (n b : ℕ) (suf : List ℤ) (x : Surveyed) (hx : tally (x .longs) (x .lits) (x .cmps) (x .lines) ≡ tallies is) where
+  disj-is : (M : Mode) → mode-in (x .longs) (x .lits) (x .cmps) ≡ M
+      → disj-text is w n b suf ≡ long-texts M b (pools is true w) is w n 0 suf ++ pool-text M b (x .longs) (pools is true w) (x .cmps) (pools is false w) suf
+  unfolding disj-text
+  disj-is M e = rw (← hx, e)
+
+  module _ {out a : List ℤ} {o p : ℕ} where
+    pub disj-pool : mode-in (x .longs) (x .lits) (x .cmps) ≡ Pool → Wrote out o (clause-text (pools is true w) (block b (x .longs) ++ suf) (x .cmps) (pools is false w)) a p → Wrote out o (disj-text is w n b suf) a p
+    disj-pool e y =
+        let z : tallies is .longs ≡ 0 = ap (λ (t : Tally). t .longs) (sym hx) ∙ pool-longs (x .longs) (x .lits) (x .cmps) e in
+        subst (λ (v : List ℤ). Wrote out o v a p)
+        (sym (disj-is Pool e ∙ ap (λ (v : List ℤ). v ++ clause-text (pools is true w) (block b (x .longs) ++ suf) (x .cmps) (pools is false w)) (longs-empty is Pool b (pools is true w) w n 0 suf z))) y
+
+    pub disj-pass : (ls : List ℤ) → mode-in (x .longs) (x .lits) (x .cmps) ≡ Pass → ls ≡ pools is true w → Wrote out o (long-texts Pass b ls is w n 0 suf) a p → Wrote out o (disj-text is w n b suf) a p
+    disj-pass ls e f y = subst (λ (v : List ℤ). Wrote out o v a p) (sym (disj-is Pass e ∙ append-nil _)) (rw f at y)
+
+    pub disj-two : (ls : List ℤ) → mode-in (x .longs) (x .lits) (x .cmps) ≡ Two → Wrote out o (long-texts Two b ls is w n 0 suf) a p → Wrote out o (disj-text is w n b suf) a p
+    disj-two ls e y = subst (λ (v : List ℤ). Wrote out o v a p) (longs-same is Two b ls (pools is true w) w n 0 suf (λ j. refl) ∙ sym (disj-is Two e ∙ append-nil _)) y
+
+    pub disj-each : (ls : List ℤ) → mode-in (x .longs) (x .lits) (x .cmps) ≡ Each → Open out o → {c : List ℤ} {q : ℕ} → Wrote out o (long-texts Each b ls is w n 0 suf) c q
+        → Wrote c q (clause-text (pools is true w) (block b (x .longs) ++ suf) (x .cmps) (pools is false w)) a p → Wrote out o (disj-text is w n b suf) a p
+    disj-each ls e l {c} {q} y v =
+        subst (λ (v : List ℤ). Wrote out o v a p) (sym (disj-is Each e))
+        (wrote-then (l .room) (subst (λ (v : List ℤ). Wrote out o v c q) (longs-same is Each b ls (pools is true w) w n 0 suf (λ j. refl)) y) v)
+
+-- the tally of a survey
+pub tallied : {w : List ℤ} {l : ℕ} {t : Bool} {k : ℕ} {g h : Bool} {at base : ℕ} {x : Surveyed} (n : ℕ) → 5120 ≤ length w → SurveysAll w l t k g h at base n x → Tallied w l t k g h at base x
+tallied {w} n i f = record { unit = f .unit; room = omega (arith, f .room, f .inside, part-length w i) }

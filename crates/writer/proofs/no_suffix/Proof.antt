@@ -1,0 +1,14 @@
+use mathlib.Core.Path.{_≡_, refl}
+use native.Mathlib.Omega.{arith}
+use borrow.Author.Needs.{needs}
+use Rattle.writer.proofs.no_suffix.Statement.{statement}
+use Rattle.writer.proofs.no_suffix.Tie as tie
+
+returns : tie.Need-returns
+returns c = (refl, record { size = refl; room = omega arith; inside = omega arith })
+
+pub no-suffix-spec : {M : Type 1} → statement M
+no-suffix-spec =
+    tie.close
+    (tie.spec
+    returns)

@@ -1,0 +1,245 @@
+-- A legal folded rule, within refusals 9 and 10, stands at a place: its comparisons may be written, and what is written are its clauses.
+use mathlib.Core.Path.{_≡_, refl, sym, ap, _∙_, subst}
+use mathlib.Core.Bool.{Bool, true, false, not, _||_}
+use mathlib.Core.List.{List, [], _∷_, _++_, map}
+use Prim.Native.Nat.{ℕ, suc, _+_, _≤_, _<_, min}
+use native.Mathlib.Omega.{arith}
+use lib.IntN.{ℤ, pos}
+use lib.ListN.{length, take, drop, take-append-drop, length-drop}
+use lib.Seq.{drop-append-le, take-append-le}
+use Rattle.laws.specs.Bools.{or-no-l, or-no-r}
+use Rattle.laws.specs.Lists.{flat}
+use Rattle.laws.specs.Slices.{Has, has-fits, has-front, has-back, has-rest}
+use Rattle.laws.specs.Writes.{Wrote, wrote-to}
+use Rattle.syntax.specs.Syntax.{Domain, IntExpr, encode-op, encode-int, BoolExpr, Const, Var, NVar, And, Or, Not, Xor, Iff, Imp, Cmp, Members, none, more, count-members, encode-bool, encode-members}
+use Rattle.limits.specs.Limits.{heavy-comparison, many-comparison, any-comparison, any-comparison-members}
+use Rattle.sums.specs.LinearSum.{LinearSum}
+use Rattle.clauses.specs.Clause.{negate-if}
+use Rattle.clauses.specs.Log.{Log, next-bool}
+use Rattle.clauses.specs.Split.{normalize-and-register-expr}
+use Rattle.answer.specs.Answer.{clause-words}
+use Rattle.walk.specs.Tree.{Tree, Trees, nil, cons, pair, append, joined, splits, splits-members, crossed, resolve, resolves, tie, both-tied, ties, ties-members}
+use Rattle.walk.specs.Resolve.{rule-trees}
+use Rattle.walk.specs.Item.{limit, bump, State, counts, texts, all-lines, items}
+use Rattle.walk.specs.Grow.{Fit}
+use Rattle.walk.specs.Num.{Numbered}
+use Rattle.walk.specs.Two.{Low}
+use Rattle.walk.specs.Rule.{LegalRule, rule-passes}
+use Rattle.walk.specs.Decode.{decode, read-part}
+use Rattle.walk.specs.Standing.{rule-at, rule-stands}
+use Rattle.writer.specs.Fine.{Sides, Fine, Fines}
+use Rattle.writer.specs.Placed.{RuleWrote}
+
+-- ---- words of a part are words of the whole
+
+has-wider : (xs ys : List ℤ) (at : ℕ) (us : List ℤ) → 0 < length us → Has xs at us → Has (xs ++ ys) at us
+has-wider xs ys at us z h =
+    let i : at + length us ≤ length xs = has-fits xs at us h z in
+    ap (take (length us)) (drop-append-le at xs ys (omega arith)) ∙ take-append-le (length us) (drop at xs) ys (omega (arith, length-drop at xs)) ∙ h
+
+pub has-part : (w : List ℤ) (at : ℕ) (us : List ℤ) → Has (read-part w) at us → Has w at us
+unfolding read-part
+has-part w at [] h = refl
+has-part w at (u ∷ us) h = subst (λ (l : List ℤ). Has l at (u ∷ us)) (take-append-drop 4608 w) (has-wider (take 4608 w) (drop 4608 w) at (u ∷ us) (omega arith) h)
+
+has-two : (w : List ℤ) (at : ℕ) (u v : ℤ) (us : List ℤ) → Has w at (u ∷ v ∷ us) → Has w (at + 2) us
+has-two w at u v us h =
+    let z : at + 1 + 1 ≡ at + 2 = omega arith in
+    subst (λ (n : ℕ). Has w n us) z (has-rest w (at + 1) v us (has-rest w at u (v ∷ us) h))
+
+-- ---- the comparisons of a rule
+
+join-fine : (w : List ℤ) (d : Bool) (ts : Trees) → Fines w ts → Fine w (joined d ts)
+unfolding Fine
+join-fine w false ts h = h
+join-fine w true ts h = h
+
+append-fine : (w : List ℤ) (ts us : Trees) → Fines w ts → Fines w us → Fines w (append ts us)
+unfolding Fine
+append-fine w nil us h k = k
+append-fine w (cons t ts) us h k = (h .0, append-fine w ts us (h .1) k)
+
+cross-fine : (w : List ℤ) (a b : Bool → Tree) (h : Bool) → ((g : Bool) → Fine w (a g)) → ((g : Bool) → Fine w (b g)) → Fine w (crossed a b h)
+unfolding Fine
+cross-fine w a b h p q = ((p false, (q h, tt)), (p true, (q (not h), tt)))
+
+tied-fine : (w : List ℤ) (ts us : Trees) (a b : Tree) → Fines w ts → Fine w a → Fines w us → Fine w b → Fines w (both-tied ts a us b)
+unfolding Fine
+tied-fine w ts us a b h i j k = append-fine w (append ts (cons a nil)) (append us (cons b nil)) (append-fine w ts (cons a nil) h (i, tt)) (append-fine w us (cons b nil) j (k, tt))
+
+module _ (w : List ℤ) (ds : List Domain) (column : IntExpr → Bool) where
+  abbrev H : BoolExpr → Bool
+  H e = any-comparison (heavy-comparison ds) column e
+
+  abbrev M : BoolExpr → Bool
+  M e = any-comparison many-comparison column e
+
+  abbrev HM : Members → Bool
+  HM ms = any-comparison-members (heavy-comparison ds) column ms
+
+  abbrev MM : Members → Bool
+  MM ms = any-comparison-members many-comparison column ms
+
+  -- no comparison is too heavy, none has too many variables
+  abbrev pub Light : BoolExpr → Type 0
+  Light e = (H e ≡ false) × (M e ≡ false)
+
+  abbrev LightMembers : Members → Type 0
+  LightMembers ms = (HM ms ≡ false) × (MM ms ≡ false)
+
+  left-light : (a b c d : Bool) → (a || b ≡ false) × (c || d ≡ false) → (a ≡ false) × (c ≡ false)
+  left-light a b c d h = (or-no-l a b (h .0), or-no-l c d (h .1))
+
+  right-light : (a b c d : Bool) → (a || b ≡ false) × (c || d ≡ false) → (b ≡ false) × (d ≡ false)
+  right-light a b c d h = (or-no-r a b (h .0), or-no-r c d (h .1))
+
+  mutual
+    unfolding resolve encode-bool any-comparison Fine
+
+    resolve-fine : (e : BoolExpr) (t : Bool) (at n : ℕ) (g : Bool) → Has w at (encode-bool e) → Light e → Fine w (resolve e t at n g)
+    resolve-fine (Const b) t at n g h l = join-fine w (not (negate-if g b)) nil tt
+    resolve-fine (Var v) t at n g h l = tt
+    resolve-fine (NVar k) t at n g h l = tt
+    resolve-fine (And ms) t at n g h l = join-fine w g (resolves ms t (at + 2) n g) (resolves-fine ms t (at + 2) n g (has-two w at _ _ (encode-members ms) h) l)
+    resolve-fine (Or ms) t at n g h l = join-fine w (not g) (resolves ms t (at + 2) n g) (resolves-fine ms t (at + 2) n g (has-two w at _ _ (encode-members ms) h) l)
+    resolve-fine (Not e) t at n g h l = resolve-fine e t (at + 1) n (not g) (has-rest w at _ (encode-bool e) h) l
+    resolve-fine (Xor a b) false at n g h l =
+        let d = has-rest w at _ (encode-bool a ++ encode-bool b) h in
+        cross-fine w (resolve a true (at + 1) n) (resolve b true (at + 1 + length (encode-bool a)) (n + splits a true)) g
+        (λ k. resolve-fine a true (at + 1) n k (has-front w (at + 1) (encode-bool a) (encode-bool b) d) (left-light (H a) (H b) (M a) (M b) l))
+        (λ k. resolve-fine b true (at + 1 + length (encode-bool a)) (n + splits a true) k (has-back w (at + 1) (encode-bool a) (encode-bool b) d) (right-light (H a) (H b) (M a) (M b) l))
+    resolve-fine (Xor a b) true at n g h l = ((tt, (tt, tt)), (tt, (tt, tt)))
+    resolve-fine (Iff a b) false at n g h l =
+        let d = has-rest w at _ (encode-bool a ++ encode-bool b) h in
+        cross-fine w (resolve a true (at + 1) n) (resolve b true (at + 1 + length (encode-bool a)) (n + splits a true)) (not g)
+        (λ k. resolve-fine a true (at + 1) n k (has-front w (at + 1) (encode-bool a) (encode-bool b) d) (left-light (H a) (H b) (M a) (M b) l))
+        (λ k. resolve-fine b true (at + 1 + length (encode-bool a)) (n + splits a true) k (has-back w (at + 1) (encode-bool a) (encode-bool b) d) (right-light (H a) (H b) (M a) (M b) l))
+    resolve-fine (Iff a b) true at n g h l = ((tt, (tt, tt)), (tt, (tt, tt)))
+    resolve-fine (Imp a b) t at n g h l =
+        let d = has-rest w at _ (encode-bool a ++ encode-bool b) h in
+        join-fine w (not g) (pair (resolve a t (at + 1) n (not g)) (resolve b t (at + 1 + length (encode-bool a)) (n + splits a t) g)) (
+          resolve-fine a t (at + 1) n (not g) (has-front w (at + 1) (encode-bool a) (encode-bool b) d) (left-light (H a) (H b) (M a) (M b) l),
+          (resolve-fine b t (at + 1 + length (encode-bool a)) (n + splits a t) g (has-back w (at + 1) (encode-bool a) (encode-bool b) d) (right-light (H a) (H b) (M a) (M b) l), tt),
+        )
+    resolve-fine (Cmp o a b) t at n g h l = record { has = has-two w at _ _ (encode-int a ++ encode-int b) h; domains = ds; light = l .0; few = l .1 }
+
+    resolves-fine : (ms : Members) (t : Bool) (at n : ℕ) (g : Bool) → Has w at (encode-members ms) → LightMembers ms → Fines w (resolves ms t at n g)
+    resolves-fine none t at n g h l = tt
+    resolves-fine (more e ms) t at n g h l = (
+      resolve-fine e t at n g (has-front w at (encode-bool e) (encode-members ms) h) (left-light (H e) (HM ms) (M e) (MM ms) l),
+      resolves-fine ms t (at + length (encode-bool e)) (n + splits e t) g (has-back w at (encode-bool e) (encode-members ms) h) (right-light (H e) (HM ms) (M e) (MM ms) l),
+    )
+
+  tie-fine : (v : ℕ) (e : BoolExpr) (at n : ℕ) → Has w at (encode-bool e) → Light e → Fine w (tie v e at n)
+  unfolding Fine
+  tie-fine v e at n h l = (resolve-fine e true at n false h l, resolve-fine e true at n true h l)
+
+  mutual
+    unfolding ties encode-bool any-comparison Fine
+
+    ties-fine : (e : BoolExpr) (t : Bool) (at n : ℕ) → Has w at (encode-bool e) → Light e → Fines w (ties e t at n)
+    ties-fine (Const b) t at n h l = tt
+    ties-fine (Var v) t at n h l = tt
+    ties-fine (NVar k) t at n h l = tt
+    ties-fine (And ms) t at n h l = ties-fines ms t (at + 2) n (has-two w at _ _ (encode-members ms) h) l
+    ties-fine (Or ms) t at n h l = ties-fines ms t (at + 2) n (has-two w at _ _ (encode-members ms) h) l
+    ties-fine (Not e) t at n h l = ties-fine e t (at + 1) n (has-rest w at _ (encode-bool e) h) l
+    ties-fine (Xor a b) false at n h l =
+        let d = has-rest w at _ (encode-bool a ++ encode-bool b) h in
+        let x = has-front w (at + 1) (encode-bool a) (encode-bool b) d in
+        let y = has-back w (at + 1) (encode-bool a) (encode-bool b) d in
+        let l₁ = left-light (H a) (H b) (M a) (M b) l in
+        let l₂ = right-light (H a) (H b) (M a) (M b) l in
+        let p = at + 1 + length (encode-bool a) in
+        append-fine w (ties a true (at + 1) n) (ties b true p (n + splits a true)) (ties-fine a true (at + 1) n x l₁) (ties-fine b true p (n + splits a true) y l₂)
+    ties-fine (Xor a b) true at n h l =
+        let d = has-rest w at _ (encode-bool a ++ encode-bool b) h in
+        let x = has-front w (at + 1) (encode-bool a) (encode-bool b) d in
+        let y = has-back w (at + 1) (encode-bool a) (encode-bool b) d in
+        let l₁ = left-light (H a) (H b) (M a) (M b) l in
+        let l₂ = right-light (H a) (H b) (M a) (M b) l in
+        let p = at + 1 + length (encode-bool a) in
+        tied-fine w (ties a true (at + 1) (suc (suc n))) (ties b true p ((suc (suc n)) + splits a true)) (tie n a (at + 1) (suc (suc n))) (tie (suc n) b p ((suc (suc n)) + splits a true))
+        (ties-fine a true (at + 1) (suc (suc n)) x l₁) (tie-fine n a (at + 1) (suc (suc n)) x l₁) (ties-fine b true p ((suc (suc n)) + splits a true) y l₂) (tie-fine (suc n) b p ((suc (suc n)) + splits a true) y l₂)
+    ties-fine (Iff a b) false at n h l =
+        let d = has-rest w at _ (encode-bool a ++ encode-bool b) h in
+        let x = has-front w (at + 1) (encode-bool a) (encode-bool b) d in
+        let y = has-back w (at + 1) (encode-bool a) (encode-bool b) d in
+        let l₁ = left-light (H a) (H b) (M a) (M b) l in
+        let l₂ = right-light (H a) (H b) (M a) (M b) l in
+        let p = at + 1 + length (encode-bool a) in
+        append-fine w (ties a true (at + 1) n) (ties b true p (n + splits a true)) (ties-fine a true (at + 1) n x l₁) (ties-fine b true p (n + splits a true) y l₂)
+    ties-fine (Iff a b) true at n h l =
+        let d = has-rest w at _ (encode-bool a ++ encode-bool b) h in
+        let x = has-front w (at + 1) (encode-bool a) (encode-bool b) d in
+        let y = has-back w (at + 1) (encode-bool a) (encode-bool b) d in
+        let l₁ = left-light (H a) (H b) (M a) (M b) l in
+        let l₂ = right-light (H a) (H b) (M a) (M b) l in
+        let p = at + 1 + length (encode-bool a) in
+        tied-fine w (ties a true (at + 1) (suc (suc n))) (ties b true p ((suc (suc n)) + splits a true)) (tie n a (at + 1) (suc (suc n))) (tie (suc n) b p ((suc (suc n)) + splits a true))
+        (ties-fine a true (at + 1) (suc (suc n)) x l₁) (tie-fine n a (at + 1) (suc (suc n)) x l₁) (ties-fine b true p ((suc (suc n)) + splits a true) y l₂) (tie-fine (suc n) b p ((suc (suc n)) + splits a true) y l₂)
+    ties-fine (Imp a b) t at n h l =
+        let d = has-rest w at _ (encode-bool a ++ encode-bool b) h in
+        let x = has-front w (at + 1) (encode-bool a) (encode-bool b) d in
+        let y = has-back w (at + 1) (encode-bool a) (encode-bool b) d in
+        let l₁ = left-light (H a) (H b) (M a) (M b) l in
+        let l₂ = right-light (H a) (H b) (M a) (M b) l in
+        let p = at + 1 + length (encode-bool a) in
+        append-fine w (ties a t (at + 1) n) (ties b t p (n + splits a t)) (ties-fine a t (at + 1) n x l₁) (ties-fine b t p (n + splits a t) y l₂)
+    ties-fine (Cmp o a b) t at n h l = tt
+
+    ties-fines : (ms : Members) (t : Bool) (at n : ℕ) → Has w at (encode-members ms) → LightMembers ms → Fines w (ties-members ms t at n)
+    ties-fines none t at n h l = tt
+    ties-fines (more e ms) t at n h l =
+        append-fine w (ties e t at n) (ties-members ms t (at + length (encode-bool e)) (n + splits e t))
+        (ties-fine e t at n (has-front w at (encode-bool e) (encode-members ms) h) (left-light (H e) (HM ms) (M e) (MM ms) l))
+        (ties-fines ms t (at + length (encode-bool e)) (n + splits e t) (has-back w at (encode-bool e) (encode-members ms) h) (right-light (H e) (HM ms) (M e) (MM ms) l))
+
+-- ---- a rule at a place
+
+pub record Writable (w : List ℤ) (at n : ℕ) : Type 0 where
+  pub rule : BoolExpr
+  pub legal : LegalRule rule 64
+  pub has : Has (read-part w) at (encode-bool rule)
+  pub room : n + splits rule false ≤ limit
+  pub domains : List Domain
+  pub light : any-comparison (heavy-comparison domains) (λ e. false) rule ≡ false
+  pub few : any-comparison many-comparison (λ e. false) rule ≡ false
+
+pub writable-fine : (w : List ℤ) (at n : ℕ) → Writable w at n → Fines w (rule-at (read-part w) 64 at n)
+unfolding Fine
+writable-fine w at n h =
+    let e = h .rule in
+    let d = has-part w at (encode-bool e) (h .has) in
+    subst (λ (ts : Trees). Fines w ts) (sym (rule-stands e (read-part w) 64 at n (h .legal) (h .has) (h .room) .trees))
+    (append-fine w (ties e false at n) (cons (resolve e false at n false) nil)
+    (ties-fine w (h .domains) (λ e. false) e false at n d (h .light, h .few))
+    (resolve-fine w (h .domains) (λ e. false) e false at n false d (h .light, h .few), tt))
+
+-- for every legal rule e that stands there, where the numbers before it are those of the log s, and the maps those of a log that is at least
+-- as long: the words written are those of its clauses, and their count, the counter and the place behind it are theirs
+pub record RuleIs (e : BoolExpr) (s : Log) (at : ℕ) (out : List ℤ) (o : ℕ) (out' : List ℤ) (end m k p : ℕ) : Type 0 where
+  pub wrote : Wrote out o (flat (map clause-words (normalize-and-register-expr e s .0))) out' p
+  pub stop : end ≡ at + length (encode-bool e)
+  pub count : m ≡ next-bool (normalize-and-register-expr e s .1)
+  pub lines : k ≡ min (length (normalize-and-register-expr e s .0)) limit
+
+module _ (Column : Log → ℤ → LinearSum → Domain → Type 0) where
+  pub rule-written : (w : List ℤ) (at n : ℕ) (out : List ℤ) (o : ℕ) (out' : List ℤ) (end m k p : ℕ) → RuleWrote w at n out o out' end m k p
+      → (e : BoolExpr) (s : Log) (st : State) → LegalRule e 64 → Has (read-part w) at (encode-bool e) → n + splits e false ≤ limit → st .bools ≡ n → Numbered Column st s → Low (normalize-and-register-expr e s .1) → Fit w (normalize-and-register-expr e s .1)
+      → RuleIs e s at out o out' end m k p
+  rule-written w at n out o out' end m k p r e s st l h room hn num low fit =
+      let i = rule-stands e (read-part w) 64 at n l h room in
+      let q = rule-passes Column e 64 at s st l num low in
+      let b : bump (st .bools) (splits e false) ≡ decode (read-part w) 64 false false at n .next = omega (arith, i .next, hn, room) in
+      let ts : rule-trees e at (st .bools) ≡ rule-at (read-part w) 64 at n = ap (rule-trees e at) hn ∙ sym (i .trees) in
+      let f : texts (items (rule-at (read-part w) 64 at n)) w (decode (read-part w) 64 false false at n .next) [] ≡ flat (map clause-words (normalize-and-register-expr e s .0)) =
+      sym (ap (λ (us : Trees). texts (items us) w (bump (st .bools) (splits e false)) []) ts ∙ ap (λ (x : ℕ). texts (items (rule-at (read-part w) 64 at n)) w x []) b) ∙ q .text w fit in
+      let g : counts (items (rule-at (read-part w) 64 at n)) w (decode (read-part w) 64 false false at n .next) ≡ next-bool (normalize-and-register-expr e s .1) =
+      sym (ap (λ (us : Trees). counts (items us) w (bump (st .bools) (splits e false))) ts ∙ ap (λ (x : ℕ). counts (items (rule-at (read-part w) 64 at n)) w x) b) ∙ q .count w fit in
+      record {
+        wrote = wrote-to f (r .wrote);
+        stop = r .stop ∙ i .end;
+        count = r .count ∙ g;
+        lines = r .lines ∙ sym (ap (λ (us : Trees). all-lines (items us)) ts) ∙ q .lines;
+      }
