@@ -1,9 +1,8 @@
 // The declared domains in a set's words: where each stands, its lowest and highest value, its one value, how many values it has; and a table of all bounds.
 // `d` is the place of the set's first domain.
 ghost use mathlib.Core.Path.{_≡_};
-ghost use mathlib.Core.List.{List, map};
-ghost use Prim.Native.Nat.{ℕ, _+_, _*_, _<_, _≤_};
-ghost use lib.IntN.{ℤ, pos};
+ghost use Prim.Native.Nat.{_+_, _<_};
+ghost use lib.IntN.{pos};
 ghost use lib.ListN.{length, getD};
 ghost use Rattle.laws.specs.Slices.{Has};
 ghost use Rattle.syntax.specs.Syntax.{Domain, encode-domain, lower-bound, upper-bound, num-candidates};

@@ -2,16 +2,17 @@
 -- Assumes nothing.
 use mathlib.Core.Path.{_≡_, refl, sym, ap, _∙_}
 use mathlib.Core.Bool.{Bool, true, false, cond}
-use mathlib.Core.List.{List, []}
-use Prim.Native.Nat.{ℕ, zero, suc, _≤_}
+use mathlib.Core.List.{List, [], map}
+use Prim.Native.Nat.{ℕ, zero, suc, _+_, _≤_}
 use native.Mathlib.Omega.{arith}
 use lib.IntN.{ℤ}
 use lib.Dec.{ltb}
 use lib.ListN.{length}
 use lib.Seq.{sets}
 use borrow.Author.Tests.{ltb-false}
+use Rattle.laws.specs.Lists.{flat}
 use Rattle.syntax.specs.Words.{min-work-words, max-set-words}
-use Rattle.syntax.specs.Syntax.{Problem}
+use Rattle.syntax.specs.Syntax.{Problem, encode-domain}
 use Rattle.words.specs.Parse.{Parsed, ok, refuse}
 use Rattle.read.specs.Read.{read-set}
 use Rattle.read.specs.Exact.{set-sound}
@@ -19,10 +20,10 @@ use Rattle.read.specs.Position.{set-at}
 use Rattle.read.specs.declared.Declared.{Declared}
 use Rattle.read.specs.declared.Set as declared-set
 use Rattle.read.specs.declared.Set.the-variants as set
-use Rattle.domains.specs.Declared.{bounds-words}
+use Rattle.domains.specs.Declared.{bounds-words, Domains}
 use Rattle.limits.specs.Limits.{check}
-use Rattle.limits.specs.Walk.{bounds-place, Bounds}
-use Rattle.limits.specs.Accepted.{Set-of, table-stands, unless-refused, limited, accepted, table-read, table-after}
+use Rattle.limits.specs.Walk.{bounds-place, Bounds, Stmts-at}
+use Rattle.limits.specs.Accepted.{Set-of, domains-stand, stmts-stand, table-stands, unless-refused, limited, accepted, table-read, table-after}
 
 -- a set that 1 to 11 let through, what it says and what it declares
 pub record Taken (n : ℕ) (ws : List ℤ) (d : Declared) : Type 0 where
@@ -88,3 +89,16 @@ module _ (n : ℕ) (ws : List ℤ) (d : Declared) (t : Taken n ws d) where
 
   pub taken-bounds : (work : List ℤ) → length work ≡ n → Bounds (table-after ws work) (t .it .domains)
   taken-bounds work e = rw (taken-table work e) (table-stands ws (t .it) taken-set work (omega (arith, ltb-false n min-work-words (t .enough))))
+
+  -- where its parts stand
+  pub declared-is : d ≡ record { bools = t .it .bools; ints = length (t .it .domains); stmts = length (t .it .stmts); at = 3 + length (flat (map encode-domain (t .it .domains))) }
+  unfolding set-at
+  declared-is = let e = t .declares in cc
+
+  pub taken-domains : Domains ws 2 (t .it .domains)
+  taken-domains = domains-stand ws (t .it) taken-set
+
+  pub taken-stmts : Stmts-at (d .ints) ws (d .at) (d .stmts) (t .it .stmts)
+  taken-stmts =
+      let m : 3 + length (flat (map encode-domain (t .it .domains))) ≡ 2 + length (flat (map encode-domain (t .it .domains))) + 1 = omega arith in
+      rw (declared-is, m) (stmts-stand ws (t .it) taken-set)

@@ -1,11 +1,11 @@
-// Refusals 9, 10 and 11 over a set's words: `m` is the refusal that is tested. `work` holds the table of bounds from 7936 on.
+// Refusals 1 to 11 over a set's words; `m` is the one of 9, 10 and 11 that is tested. `work` holds the table of bounds from 7936 on.
 // A walk that tests what it passes answers with the place behind, or with 0 where the test hits.
 use read::Set;
 ghost use mathlib.Core.Path.{_≡_};
-ghost use mathlib.Core.Bool.{Bool, cond, false};
-ghost use Prim.Native.Nat.{ℕ, _+_, _*_, _<_, _≤_, min, max};
-ghost use lib.IntN.{ℤ, pos, natAbs, _-ℤ_};
-ghost use lib.ListN.{length, getD};
+ghost use mathlib.Core.Bool.{cond};
+ghost use Prim.Native.Nat.{_<_, _≤_, min, max};
+ghost use lib.IntN.{natAbs, _-ℤ_};
+ghost use lib.ListN.{length};
 ghost use Rattle.limits.specs.Total.{cap, joined, product, constant-total, bounds-total};
 ghost use Rattle.limits.specs.Accepted.{Ready-set, Limits-post, accepted, table-after};
 ghost use Rattle.limits.specs.Walk.{Ready-var, Var-post, Ready-int, Ready-terms, Int-post, Terms-post, Behind, Head-post, Writes-post, Either-post, Marked-post, Ready-pair, Pair-post, Ready-column, Column-post, Ready-columns, Columns-post, Ready-bool, Ready-bools, Step-post, Bools-post, Ready-stmt, Stmt-post, Ready-stmts, Stmts-post, Check-post};
