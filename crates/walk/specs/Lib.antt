@@ -13,3 +13,4 @@ pub mod Rule
 pub mod Standing
 pub mod Steps
 pub mod Meets
+pub mod MeetTies

@@ -40,7 +40,7 @@ met-then {f} {g} x y = record { state = y .state ∙ ap g (x .state); part = y .
 pub met-to : {f g : State → State} {w w' : List ℤ} {c d : Counters} → f (state-of w c) ≡ g (state-of w c) → Met f w c w' d → Met g w c w' d
 met-to e x = record { state = x .state ∙ e; part = x .part; size = x .size; low = x .low; low-ints = x .low-ints }
 
-part-short : (w : List ℤ) → length (read-part w) ≤ 4608
+pub part-short : (w : List ℤ) → length (read-part w) ≤ 4608
 unfolding read-part
 part-short w = omega (arith, length-take 4608 w)
 
