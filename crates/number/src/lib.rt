@@ -5,9 +5,10 @@ ghost use mathlib.Core.List.{List};
 ghost use Prim.Native.Nat.{ℕ, _+_, _*_, _-_, _≤_, _<_, min};
 ghost use lib.IntN.{ℤ, pos};
 ghost use lib.ListN.{length, getD, set, take};
-ghost use Rattle.walk.specs.Item.{limit, bump as bump-of, nat, mode-in, fresh-in, lines-in, var-item, fresh as fresh-tally, meet-bool, meet-int-var, meet-int, pass-bools, tallies, mets};
-ghost use Rattle.walk.specs.Decode.{word as word-in, past, below as below-of, int-end as int-end-of, node-of, constant-node, comparison-node, read-part, surveyed, closed-disj, closed-cross, added, Surveys, SurveysAll, int-at, item-at, items-at};
+ghost use Rattle.walk.specs.Item.{limit, bump as bump-of, nat, mode-in, fresh-in, lines-in, var-item, fresh as fresh-tally, meet-bool, meet-int-var, meet-int, pass-bools, tallies, mets, item, items};
+ghost use Rattle.walk.specs.Decode.{word as word-in, past, below as below-of, int-end as int-end-of, node-of, constant-node, comparison-node, read-part, surveyed, closed-disj, closed-cross, added, Surveys, SurveysAll, int-at, item-at, items-at, decode, many-ties, tie-at, cross-ties, ties-at};
 ghost use Rattle.walk.specs.Meets.{Met};
+ghost use Rattle.walk.specs.MeetTies.{meet-rule};
 use walk::Counters;
 use walk::Mode;
 use walk::Node;
@@ -511,4 +512,109 @@ pub fn number(
             pass(work, q, under, true, 2, base, true, !h, p)
         }
     }
+}
+
+// ---- the extras
+
+// A side tied to its number: plain, then negated.
+fn number_tie(
+    work: &mut [i32],
+    v: usize,
+    at: usize,
+    left: usize,
+    base: usize,
+    c: Counters,
+) -> Counters
+    requires { do ⌜ (4608 ≤ (← ⟦work.len()⟧)) × ((at ≤ 4608) × ((base ≤ limit) × ((c .bools ≤ limit) × (c .ints ≤ limit)))) ⌝ }
+    ensures { λ r. ⌜ Met (item (tie-at (decode (read-part (now (work .entry))) left true) v at base) .met) (now (work .entry)) c (now (work .exit)) r ⌝ }
+{
+    let d = number(work, at, left, true, base, false, c);
+    number(work, at, left, true, base, true, d)
+}
+
+// Of so many members.
+pub fn number_each_ties(
+    work: &mut [i32],
+    at: usize,
+    left: usize,
+    t: bool,
+    count: usize,
+    base: usize,
+    c: Counters,
+) -> Counters
+    requires { do ⌜ (4608 ≤ (← ⟦work.len()⟧)) × ((at ≤ 4608) × ((base ≤ limit) × ((c .bools ≤ limit) × (c .ints ≤ limit)))) ⌝ }
+    ensures { λ r. ⌜ Met (mets (items (many-ties (decode (read-part (now (work .entry))) left t) (ties-at (read-part (now (work .entry))) left t) count at base))) (now (work .entry)) c (now (work .exit)) r ⌝ }
+{
+    let mut q = at;
+    let mut b = base;
+    let mut rest = count;
+    let mut d = c;
+    while rest != 0 {
+        d = number_ties(work, q, left, t, b, d);
+        let s = survey(work, q, left, t, b, false, 0);
+        q = s.at;
+        b = s.base;
+        rest = rest - 1;
+    }
+    d
+}
+
+// Of a split Xor or Iff: of each side, its extras and its tie.
+pub fn number_sides(work: &mut [i32], at: usize, left: usize, base: usize, c: Counters) -> Counters
+    requires { do ⌜ (4608 ≤ (← ⟦work.len()⟧)) × ((at ≤ 4608) × ((base ≤ limit) × ((c .bools ≤ limit) × (c .ints ≤ limit)))) ⌝ }
+    ensures { λ r. ⌜ Met (mets (items (cross-ties (decode (read-part (now (work .entry))) left) (ties-at (read-part (now (work .entry))) left) true at base))) (now (work .entry)) c (now (work .exit)) r ⌝ }
+{
+    let n = bump(base, 2);
+    let a = number_ties(work, at, left, true, n, c);
+    let b = number_tie(work, base, at, left, n, a);
+    let s = survey(work, at, left, true, n, false, 0);
+    let q = s.at;
+    let m = s.base;
+    let d = number_ties(work, q, left, true, m, b);
+    number_tie(work, base + 1, q, left, m, d)
+}
+
+// Of the expression at a place.
+pub fn number_ties(
+    work: &mut [i32],
+    at: usize,
+    left: usize,
+    t: bool,
+    base: usize,
+    c: Counters,
+) -> Counters
+    requires { do ⌜ (4608 ≤ (← ⟦work.len()⟧)) × ((at ≤ 4608) × ((base ≤ limit) × ((c .bools ≤ limit) × (c .ints ≤ limit)))) ⌝ }
+    ensures { λ r. ⌜ Met (mets (items (ties-at (read-part (now (work .entry))) left t at base))) (now (work .entry)) c (now (work .exit)) r ⌝ }
+{
+    if left == 0 {
+        return c;
+    }
+    let under = left - 1;
+    match node_at(work, under, false, at) {
+        Node::Var(_, _) => c,
+        Node::Cmp(_, _) => c,
+        Node::Not(q) => number_ties(work, q, under, t, base, c),
+        Node::Join(_, k, _, _, q) => number_each_ties(work, q, under, t, k, base, c),
+        Node::Cross(_, q) => {
+            if t {
+                return number_sides(work, q, under, base, c);
+            }
+            number_each_ties(work, q, under, true, 2, base, c)
+        }
+    }
+}
+
+// The rule at a place: the splitting's numbers first, then its extras and itself.
+pub fn number_rule(work: &mut [i32], at: usize, c: Counters) -> Counters
+    requires { do ⌜ (4608 ≤ (← ⟦work.len()⟧)) × ((at ≤ 4608) × ((c .bools ≤ limit) × (c .ints ≤ limit))) ⌝ }
+    ensures { λ r. ⌜ Met (meet-rule (read-part (now (work .entry))) at) (now (work .entry)) c (now (work .exit)) r ⌝ }
+{
+    let n = c.bools;
+    let s = survey(work, at, 64, false, n, false, 0);
+    let d = Counters {
+        bools: s.base,
+        ints: c.ints,
+    };
+    let e = number_ties(work, at, 64, false, n, d);
+    number(work, at, 64, false, n, false, e)
 }

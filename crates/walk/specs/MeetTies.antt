@@ -79,7 +79,8 @@ module _ (l : ℕ) (t : Bool) (w : List ℤ) (c : Counters) (k at base : ℕ) wh
         size = y .size ∙ x .size;
         low = y .low;
         low-ints = y .low-ints;
-        state = rw (i, j, o) (sym (mets-append (f q b) r (state-of w' d)) ∙ ap (λ (ts : Trees). mets (items ts) (state-of w' d)) (sym (many-ties-more p f rest q b z)) ∙ x .state) }
+        state = rw (i, j, o) (sym (mets-append (f q b) r (state-of w' d)) ∙ ap (λ (ts : Trees). mets (items ts) (state-of w' d)) (sym (many-ties-more p f rest q b z)) ∙ x .state);
+      }
 
   pub ties-done : (w' : List ℤ) (d : Counters) (rest q b : ℕ) → TiesSofar l t w c k at base w' d rest q b → rest ≡ 0 → Met (mets (items (many-ties (decode (read-part w) l t) (ties-at (read-part w) l t) k at base))) w c w' d
   unfolding many-ties items mets
@@ -167,11 +168,12 @@ met-rule w w₁ w₂ c d c₁ c₂ at m s v hd a b =
     let i : state-of w d ≡ record { work = w; bools = decode (read-part w) 64 false false at (c .bools) .next; ints = c .ints } = rw (hd, v .splits) in
     record {
       state = x .state ∙ ap (λ (y : State). item (decode (read-part w) 64 false false at (c .bools) .tree) .met (mets (items (ties-at (read-part w) 64 false at (c .bools))) y)) i
-        ∙ sym (mets-append (ties-at (read-part w) 64 false at (c .bools)) (cons (decode (read-part w) 64 false false at (c .bools) .tree) nil) _);
+          ∙ sym (mets-append (ties-at (read-part w) 64 false at (c .bools)) (cons (decode (read-part w) 64 false false at (c .bools) .tree) nil) _);
       part = x .part;
       size = x .size;
       low = x .low;
-      low-ints = x .low-ints }
+      low-ints = x .low-ints;
+    }
 
 -- where a legal rule stands, that is the numbering of its trees
 pub meet-rule-is : (e : BoolExpr) (ws : List ℤ) (at : ℕ) (s : State) → LegalRule e 64 → Has ws at (encode-bool e) → s .bools + splits e false ≤ limit → meet-rule ws at s ≡ mets (items (rule-trees e at (s .bools))) (pass-bools (splits e false) s)
