@@ -216,8 +216,27 @@ writable-fine w at n h =
     (ties-fine w (h .domains) (λ e. false) e false at n d (h .light, h .few))
     (resolve-fine w (h .domains) (λ e. false) e false at n false d (h .light, h .few), tt))
 
--- for every legal rule e that stands there, where the numbers before it are those of the log s, and the maps those of a log that is at least
--- as long: the words written are those of its clauses, and their count, the counter and the place behind it are theirs
+-- for every legal rule e that stands there: its extras and its tree are written
+pub record RuleText (e : BoolExpr) (w : List ℤ) (at n : ℕ) (out : List ℤ) (o : ℕ) (out' : List ℤ) (end m k p : ℕ) : Type 0 where
+  pub wrote : Wrote out o (texts (items (rule-trees e at n)) w (bump n (splits e false)) []) out' p
+  pub stop : end ≡ at + length (encode-bool e)
+  pub count : m ≡ counts (items (rule-trees e at n)) w (bump n (splits e false))
+  pub lines : k ≡ all-lines (items (rule-trees e at n))
+
+pub rule-text : (w : List ℤ) (at n : ℕ) (out : List ℤ) (o : ℕ) (out' : List ℤ) (end m k p : ℕ) → RuleWrote w at n out o out' end m k p
+    → (e : BoolExpr) → LegalRule e 64 → Has (read-part w) at (encode-bool e) → n + splits e false ≤ limit → RuleText e w at n out o out' end m k p
+rule-text w at n out o out' end m k p r e l h room =
+    let i = rule-stands e (read-part w) 64 at n l h room in
+    let b : decode (read-part w) 64 false false at n .next ≡ bump n (splits e false) = omega (arith, i .next, room) in
+    record {
+      wrote = wrote-to (ap (λ (us : Trees). texts (items us) w (decode (read-part w) 64 false false at n .next) []) (i .trees) ∙ ap (λ (x : ℕ). texts (items (rule-trees e at n)) w x []) b) (r .wrote);
+      stop = r .stop ∙ i .end;
+      count = r .count ∙ ap (λ (us : Trees). counts (items us) w (decode (read-part w) 64 false false at n .next)) (i .trees) ∙ ap (λ (x : ℕ). counts (items (rule-trees e at n)) w x) b;
+      lines = r .lines ∙ ap (λ (us : Trees). all-lines (items us)) (i .trees);
+    }
+
+-- where the numbers before it are those of the log s, and the maps those of a log that is at least as long: the words written are those of
+-- its clauses, and their count, the counter and the place behind it are theirs
 pub record RuleIs (e : BoolExpr) (s : Log) (at : ℕ) (out : List ℤ) (o : ℕ) (out' : List ℤ) (end m k p : ℕ) : Type 0 where
   pub wrote : Wrote out o (flat (map clause-words (normalize-and-register-expr e s .0))) out' p
   pub stop : end ≡ at + length (encode-bool e)
@@ -225,21 +244,15 @@ pub record RuleIs (e : BoolExpr) (s : Log) (at : ℕ) (out : List ℤ) (o : ℕ)
   pub lines : k ≡ min (length (normalize-and-register-expr e s .0)) limit
 
 module _ (Column : Log → ℤ → LinearSum → Domain → Type 0) where
-  pub rule-written : (w : List ℤ) (at n : ℕ) (out : List ℤ) (o : ℕ) (out' : List ℤ) (end m k p : ℕ) → RuleWrote w at n out o out' end m k p
-      → (e : BoolExpr) (s : Log) (st : State) → LegalRule e 64 → Has (read-part w) at (encode-bool e) → n + splits e false ≤ limit → st .bools ≡ n → Numbered Column st s → Low (normalize-and-register-expr e s .1) → Fit w (normalize-and-register-expr e s .1)
+  pub rule-written : (w : List ℤ) (at : ℕ) (out : List ℤ) (o : ℕ) (out' : List ℤ) (end m k p : ℕ) (st : State) → RuleWrote w at (st .bools) out o out' end m k p
+      → (e : BoolExpr) (s : Log) → LegalRule e 64 → Has (read-part w) at (encode-bool e) → st .bools + splits e false ≤ limit → Numbered Column st s → Low (normalize-and-register-expr e s .1) → Fit w (normalize-and-register-expr e s .1)
       → RuleIs e s at out o out' end m k p
-  rule-written w at n out o out' end m k p r e s st l h room hn num low fit =
-      let i = rule-stands e (read-part w) 64 at n l h room in
+  rule-written w at out o out' end m k p st r e s l h room num low fit =
+      let t = rule-text w at (st .bools) out o out' end m k p r e l h room in
       let q = rule-passes Column e 64 at s st l num low in
-      let b : bump (st .bools) (splits e false) ≡ decode (read-part w) 64 false false at n .next = omega (arith, i .next, hn, room) in
-      let ts : rule-trees e at (st .bools) ≡ rule-at (read-part w) 64 at n = ap (rule-trees e at) hn ∙ sym (i .trees) in
-      let f : texts (items (rule-at (read-part w) 64 at n)) w (decode (read-part w) 64 false false at n .next) [] ≡ flat (map clause-words (normalize-and-register-expr e s .0)) =
-      sym (ap (λ (us : Trees). texts (items us) w (bump (st .bools) (splits e false)) []) ts ∙ ap (λ (x : ℕ). texts (items (rule-at (read-part w) 64 at n)) w x []) b) ∙ q .text w fit in
-      let g : counts (items (rule-at (read-part w) 64 at n)) w (decode (read-part w) 64 false false at n .next) ≡ next-bool (normalize-and-register-expr e s .1) =
-      sym (ap (λ (us : Trees). counts (items us) w (bump (st .bools) (splits e false))) ts ∙ ap (λ (x : ℕ). counts (items (rule-at (read-part w) 64 at n)) w x) b) ∙ q .count w fit in
       record {
-        wrote = wrote-to f (r .wrote);
-        stop = r .stop ∙ i .end;
-        count = r .count ∙ g;
-        lines = r .lines ∙ sym (ap (λ (us : Trees). all-lines (items us)) ts) ∙ q .lines;
+        wrote = wrote-to (q .text w fit) (t .wrote);
+        stop = t .stop;
+        count = t .count ∙ q .count w fit;
+        lines = t .lines ∙ q .lines;
       }
