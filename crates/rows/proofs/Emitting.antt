@@ -14,7 +14,6 @@ use borrow.Author.Tests.{ltb-true, le-leb}
 use mir.Syntax.{w32, w64}
 use mir.Val.{Fits, SFits, ofZ, toZ}
 use mir.Facts.{toZ-ofZ, fits-natAbs}
-use Rattle.laws.specs.Ints.{natAbs-add, sfits-natAbs}
 use Rattle.laws.specs.Lists.{all, keep-if, filter, flat, flat-append}
 use Rattle.laws.specs.Writes.{cap, Wrote, wrote-none, wrote-length, wrote-low, wrote-then, wrote-to}
 use Rattle.syntax.specs.Words.{max-value, star-word}
@@ -22,70 +21,14 @@ use Rattle.syntax.specs.Syntax.{Domain, enumerate, domain-of}
 use Rattle.clauses.specs.Clause.{LinearLit, Clause, clause}
 use Rattle.answer.specs.Answer.{linear-words, clause-words}
 use Rattle.tables.specs.Tables.{Row, cell-at, linear-eq, linear-ne, takes, variable, differs, column-clause, column-clauses}
-use Rattle.tables.specs.Domains.{sub-nonNeg}
 use Rattle.tables.specs.Values.{after, whole-yes, whole-no}
 use Rattle.rows.specs.declared.Best.{Best}
 use Rattle.rows.specs.declared.Best.the-variants.{Nothing, Value}
 use Rattle.rows.specs.Rows.{rows-of}
-use Rattle.rows.specs.Columns.{word, size-of, size-from, vars-of, Column}
+use Rattle.rows.specs.Columns.{word, vars-of}
 use Rattle.rows.specs.Next.{next-of, Holds}
 use Rattle.rows.specs.Emit.{comparison, linears-words, clauses-words, Room, Clauses, Starless, group-of}
-use Rattle.rows.proofs.Dropping.{word-later, number-cast}
 use Rattle.rows.proofs.Next.{all-at, all-left, left-none, left-next}
-
--- ---- the size of a domain
-
-pub size-some : (cs : List ℤ) (c k : ℕ) → k ≡ natAbs (word cs (c + 1)) → (k ≡ 0 → ⊥) → k ≡ size-from cs c
-size-some cs c k e h = go (natAbs (word cs (c + 1))) e
-  where
-    go : (j : ℕ) → k ≡ j → k ≡ size-of j (word cs (c + 2)) (word cs (c + 3))
-    go zero e = absurd (h e)
-    go (suc j) e = unfold size-of in e
-
-pub number-zero : (k n : ℕ) → k ≡ n → k ≡ 0 → n ≡ 0
-number-zero k n e z = sym e ∙ z
-
-natAbs-negℤ : (z : ℤ) → natAbs (negℤ z) ≡ natAbs z
-natAbs-negℤ (pos zero) = refl
-natAbs-negℤ (pos (suc n)) = refl
-natAbs-negℤ (negsuc n) = refl
-
-nonneg-next : (z : ℤ) → T (nonNeg z) → T (nonNeg (z +ℤ pos 1))
-nonneg-next (pos n) t = tt
-nonneg-next (negsuc n) t = absurd t
-
-leZ-of : (z : ℤ) → T (nonNeg z) → leZ (pos 0) z ≡ true
-leZ-of (pos n) t = le-leb 0 n (omega arith)
-leZ-of (negsuc n) t = absurd t
-
-module _ (x y : ℤ) (fx : SFits w32 x) (fy : SFits w32 y) (hx : natAbs x ≤ max-value) (hy : natAbs y ≤ max-value) where
-  gap-small : natAbs (y -ℤ x) ≤ natAbs x + natAbs y
-  gap-small = let q = natAbs-add y (negℤ x) in let e = natAbs-negℤ x in omega arith
-
-  gap-fits : SFits w32 (y -ℤ x)
-  gap-fits = sfits-natAbs w32 (y -ℤ x) (omega (arith, gap-small))
-
-  pub range-sub : SFits w32 (toZ w32 (ofZ w32 y) -ℤ toZ w32 (ofZ w32 x))
-  range-sub = rw (toZ-ofZ fy, toZ-ofZ fx) gap-fits
-
-  gap-is : toZ w32 (ofZ w32 (toZ w32 (ofZ w32 y) -ℤ toZ w32 (ofZ w32 x))) ≡ y -ℤ x
-  gap-is = toZ-ofZ range-sub ∙ rw (toZ-ofZ fy, toZ-ofZ fx) refl
-
-  next-fits : SFits w32 ((y -ℤ x) +ℤ pos 1)
-  next-fits = sfits-natAbs w32 ((y -ℤ x) +ℤ pos 1) (omega (arith, gap-small, natAbs-add (y -ℤ x) (pos 1)))
-
-  pub range-add : SFits w32 (toZ w32 (ofZ w32 (toZ w32 (ofZ w32 y) -ℤ toZ w32 (ofZ w32 x))) +ℤ pos 1)
-  range-add = rw gap-is next-fits
-
-  pub range-cast : leZ x y ≡ true → T (nonNeg (toZ w32 (ofZ w32 (toZ w32 (ofZ w32 (toZ w32 (ofZ w32 y) -ℤ toZ w32 (ofZ w32 x))) +ℤ pos 1)))) × Fits w64 (natAbs (toZ w32 (ofZ w32 (toZ w32 (ofZ w32 (toZ w32 (ofZ w32 y) -ℤ toZ w32 (ofZ w32 x))) +ℤ pos 1))))
-  range-cast h = rw (gap-is, toZ-ofZ next-fits) (number-cast ((y -ℤ x) +ℤ pos 1) (next-low h) next-fits)
-    where
-      next-low : leZ x y ≡ true → leZ (pos 0) ((y -ℤ x) +ℤ pos 1) ≡ true
-      next-low h = leZ-of ((y -ℤ x) +ℤ pos 1) (nonneg-next (y -ℤ x) (sub-nonNeg x y h))
-
-  pub range-size : (cs : List ℤ) (c k : ℕ) → k ≡ natAbs (word cs (c + 1)) → k ≡ 0 → x ≡ word cs (c + 2) → y ≡ word cs (c + 3) → natAbs (toZ w32 (ofZ w32 (toZ w32 (ofZ w32 (toZ w32 (ofZ w32 y) -ℤ toZ w32 (ofZ w32 x))) +ℤ pos 1))) ≡ size-from cs c
-  unfolding size-of
-  range-size cs c k e z ex ey = rw (gap-is, toZ-ofZ next-fits, ← e, z, ← ex, ← ey) refl
 
 -- ---- one comparison
 
@@ -124,14 +67,14 @@ five o a b c d r s s1 s2 s3 s4 s5 w1 w2 w3 w4 w5 u1 u2 u3 u4 u5 l p1 p2 p3 p4 p5
 
 -- ---- the prefix
 
-pub var-is : (n : ℕ) (cs : List ℤ) (i : ℕ) → i < n → getD (vars-of n cs) i 0 ≡ natAbs (word cs (4 * i))
+pub var-is : (n : ℕ) (cs : List ℤ) (i : ℕ) → i < n → getD (vars-of n cs) i 0 ≡ natAbs (word cs (3 * i))
 unfolding vars-of
 var-is zero cs i h = absurd (omega arith)
 var-is (suc n) cs zero h = refl
-var-is (suc n) cs (suc i) h = var-is n (drop 4 cs) i (omega arith) ∙ ap natAbs (later cs i)
+var-is (suc n) cs (suc i) h = var-is n (drop 3 cs) i (omega arith) ∙ ap natAbs (later cs i)
   where
-    later : (cs : List ℤ) (i : ℕ) → word (drop 4 cs) (4 * i) ≡ word cs (4 * suc i)
-    later cs i = getD-drop 4 cs (4 * i) (pos 0) ∙ ap (λ (m : ℕ). getD cs m (pos 0)) (omega arith)
+    later : (cs : List ℤ) (i : ℕ) → word (drop 3 cs) (3 * i) ≡ word cs (3 * suc i)
+    later cs i = getD-drop 3 cs (3 * i) (pos 0) ∙ ap (λ (m : ℕ). getD cs m (pos 0)) (omega arith)
 
 map-append : (as₁ bs : List LinearLit) → map linear-words (as₁ ++ bs) ≡ map linear-words as₁ ++ map linear-words bs
 map-append [] bs = refl
@@ -150,7 +93,7 @@ pub prefix-start : (out : List ℤ) (o : ℕ) (t cs : List ℤ) (p : ℕ) → Ro
 prefix-start out o t cs p r = record { few = omega arith; room = r; same = refl; words = λ n ds h. unfold differs in wrote-none out o (r .place) }
 
 pub prefix-next : (out₀ : List ℤ) (o : ℕ) (t cs : List ℤ) (p : ℕ) (out : List ℤ) (q j : ℕ) (out' : List ℤ) (q' k : ℕ) (op x : ℤ) → length out₀ ≤ cap → j < p → Prefix out₀ o t cs p out q j
-    → k ≡ natAbs (word cs (4 * j)) → op ≡ pos 1 → x ≡ getD t j (pos 0) → Wrote out q (comparison op k x) out' q' → Prefix out₀ o t cs p out' q' (j + 1)
+    → k ≡ natAbs (word cs (3 * j)) → op ≡ pos 1 → x ≡ getD t j (pos 0) → Wrote out q (comparison op k x) out' q' → Prefix out₀ o t cs p out' q' (j + 1)
 unfolding differs
 prefix-next out₀ o t cs p out q j out' q' k op x l h v ek eo ex w = record {
   few = omega arith;
@@ -226,7 +169,7 @@ module _ (cs : List ℤ) (ds : List Domain) (n m p i : ℕ) (t : List ℤ) (l : 
   E = filter (takes i (rows-of n m t)) (enumerate (domain-of ds i))
 
   abbrev v : ℕ
-  v = natAbs (word cs (4 * i))
+  v = natAbs (word cs (3 * i))
 
   clause-is : column-clause vs ds p i (group-of n m t) ≡ clause [] (differs vs ds p t ++ map (linear-eq v) E)
   unfolding column-clause

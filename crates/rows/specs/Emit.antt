@@ -49,14 +49,14 @@ pub record Part (t : List ℤ) (n m p : ℕ) (cs : List ℤ) : Type 0 where
   pub narrow : n ≤ max-count
   pub words : length t ≡ m * n
   pub prefix : p ≤ n
-  pub columns : 4 * n ≤ length cs
+  pub columns : 3 * n ≤ length cs
   pub each : EachColumn n cs
   pub starless : Starless t
 
 -- the domains have the rows' values, and the columns' words say their sizes
 pub record Fitted (ds : List Domain) (cs : List ℤ) (n : ℕ) (rows : List Row) : Type 0 where
   pub holds : (i : ℕ) → i < n → Holds (enumerate (domain-of ds i)) i rows
-  pub sized : (i : ℕ) → i < n → length (enumerate (domain-of ds i)) ≡ size-from cs (4 * i)
+  pub sized : (i : ℕ) → i < n → length (enumerate (domain-of ds i)) ≡ size-from cs (3 * i)
 
 -- the clauses that F gives for whatever domains fit
 pub record Emits (out : List ℤ) (o c : ℕ) (F : List Domain → List Clause) (Fit : List Domain → Type 0) (out' : List ℤ) (o' c' : ℕ) : Type 0 where
@@ -70,7 +70,7 @@ group-of n m t = (take n t, rows-of n m t)
 
 -- of one column
 abbrev pub Fits : List ℤ → ℕ → List Row → List Domain → Type 0
-Fits cs i rows ds = Holds (enumerate (domain-of ds i)) i rows × (length (enumerate (domain-of ds i)) ≡ size-from cs (4 * i))
+Fits cs i rows ds = Holds (enumerate (domain-of ds i)) i rows × (length (enumerate (domain-of ds i)) ≡ size-from cs (3 * i))
 
 -- a place behind c clauses, not too far
 pub record Behind (out : List ℤ) (o c : ℕ) : Type 0 where
@@ -82,7 +82,7 @@ pub record Kept (s : List ℤ) (at n m cols : ℕ) : Type 0 where
   pub few : m ≤ max-count
   pub narrow : n ≤ max-count
   pub within : at + m * n ≤ length s
-  pub fits : cols + 4 * n ≤ length s
+  pub fits : cols + 3 * n ≤ length s
   pub each : EachColumn n (drop cols s)
   pub starless : Starless (take (m * n) (drop at s))
 
@@ -91,7 +91,7 @@ pub record Table (work set : List ℤ) (at n k cols : ℕ) : Type 0 where
   pub few : k ≤ max-count
   pub narrow : n ≤ max-count
   pub under : at + k * n ≤ cols
-  pub fits : cols + 4 * n ≤ length work
+  pub fits : cols + 3 * n ≤ length work
   pub columns : Columns set n (drop cols work)
   pub starless : Starless (take (k * n) (drop at work))
 
