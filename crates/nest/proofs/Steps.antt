@@ -1,8 +1,8 @@
 -- What the code does at each of its returns and turns, over plain lists and numbers. Assumes nothing.
 use mathlib.Core.Path.{_≡_, refl, sym, ap, _∙_}
-use mathlib.Core.Bool.{Bool, true, false, _||_}
+use mathlib.Core.Bool.{true, false, _||_}
 use mathlib.Core.List.{List, [], _∷_, _++_, map}
-use Prim.Native.Nat.{ℕ, zero, suc, _+_, _-_, _*_, _<_, _≤_, _^_, zero-le}
+use Prim.Native.Nat.{ℕ, zero, suc, _+_, _-_, _*_, _<_, _≤_, _^_}
 use native.Mathlib.Nat.{mul-le-mul-left}
 use native.Mathlib.Omega.{arith}
 use lib.Dec.{T, ltb}
@@ -16,18 +16,18 @@ use Rattle.laws.specs.Bools.{or-no-l, or-no-r}
 use Rattle.laws.specs.Lists.{different}
 use Rattle.laws.specs.Slices.{Has, has-fits, has-front, has-back, has-word, has-rest}
 use Rattle.syntax.specs.Words.{max-weight}
-use Rattle.syntax.specs.Syntax.{Domain, IntExpr, IConst, IVar, Linear as Total, Terms, tnil, tmore, count-terms, encode-int, encode-terms}
+use Rattle.syntax.specs.Syntax.{IntExpr, IConst, IVar, Linear as Total, Terms, tnil, tmore, count-terms, encode-int, encode-terms}
 use Rattle.syntax.specs.Unique.{int-unique}
 use Rattle.limits.specs.Limits.{weight, terms-weight, heavy, heavy-terms, heavy-comparison, many-comparison, written, written-terms}
-use Rattle.sums.specs.LinearSum.{Term, term, LinearSum, linear-sum, constant, singleton, add-sum, mul-sum, sub-sum}
-use Rattle.sums.specs.Rising.{terms-of, constant-of, Rises, constant-proper, add-sum-proper, Each, constant-each, singleton-each, add-sum-each, mul-sum-each, sub-sum-each, Among, among-left, among-right}
-use Rattle.sums.specs.Linear.{linear-of, linear-terms, linear-of-proper, linear-of-among}
+use Rattle.sums.specs.LinearSum.{LinearSum, constant, singleton, add-sum, mul-sum, sub-sum}
+use Rattle.sums.specs.Rising.{terms-of, constant-proper, add-sum-proper, Each, constant-each, singleton-each, add-sum-each, mul-sum-each, sub-sum-each, Among, among-left, among-right}
+use Rattle.sums.specs.Linear.{linear-of, linear-terms, linear-of-among}
 use Rattle.sums.specs.Norm.{load, constant-load, add-sum-load, mul-sum-load}
 use Rattle.sums.specs.Bounds.{size, heavy-weight, linear-of-size, Room, room-among, comparison-room}
 use Rattle.sums.specs.Rising.{different-map}
-use Rattle.sums.specs.Struct.{terms, sum-of, Is, Stands}
+use Rattle.sums.specs.Struct.{terms, sum-of, Stands}
 use Rattle.sums.specs.declared.LinearSum.{LinearSum as Sum}
-use Rattle.sums.proofs.Laws.{is-to, is-own, stands-sum, stands-to}
+use Rattle.sums.proofs.Laws.{is-own, stands-sum, stands-to}
 use Rattle.nest.specs.Numbers.{count-of, number-at}
 use Rattle.nest.specs.Nest.{Ready, Word, Linear, Ready-comparison, Difference, Going}
 

@@ -1,6 +1,6 @@
 -- A column's sum: its bounds stay in i32 where the emitted integers' bounds are the declared ones, and its domain is the definition's.
-use mathlib.Core.Path.{_≡_, refl, sym, ap, _∙_}
-use mathlib.Core.Bool.{true, false}
+use mathlib.Core.Path.{_≡_, sym, ap, _∙_}
+use mathlib.Core.Bool.{false}
 use mathlib.Core.List.{List}
 use Prim.Native.Nat.{ℕ, _+_, _*_, _<_, _≤_, _^_}
 use native.Mathlib.Nat.{le-trans}
@@ -8,7 +8,7 @@ use native.Mathlib.Omega.{arith}
 use lib.IntN.{ℤ, pos, negsuc, natAbs}
 use lib.ListN.{getD}
 use borrow.Author.Tests.{ltb-false}
-use Rattle.syntax.specs.Words.{max-weight, max-span}
+use Rattle.syntax.specs.Words.{max-span}
 use Rattle.syntax.specs.Syntax.{Domain, lower-bound, upper-bound, num-candidates, domain-of, IntExpr}
 use Rattle.limits.specs.Limits.{domain-weight, heavy, written, span, many-column, wide-column}
 use Rattle.sums.specs.LinearSum.{Term, LinearSum, linear-sum, singleton, mul-sum, get-domain-linear-sum}

@@ -3,14 +3,14 @@ use mathlib.Core.Path.{_≡_}
 use mathlib.Core.Bool.{false}
 use mathlib.Core.List.{List, _++_, map}
 use Prim.Native.Nat.{ℕ, _+_, _≤_, _<_}
-use lib.IntN.{ℤ, pos}
+use lib.IntN.{ℤ}
 use lib.ListN.{length}
 use Rattle.laws.specs.Lists.{different}
 use Rattle.laws.specs.Slices.{Has}
 use Rattle.syntax.specs.Words.{max-weight}
 use Rattle.syntax.specs.Syntax.{Domain, IntExpr, Terms, count-terms, encode-int, encode-terms}
 use Rattle.limits.specs.Limits.{heavy, heavy-terms, heavy-comparison, many-comparison, terms-weight, written, written-terms}
-use Rattle.sums.specs.LinearSum.{LinearSum, sub-sum}
+use Rattle.sums.specs.LinearSum.{sub-sum}
 use Rattle.sums.specs.Rising.{Rises, Each, Among}
 use Rattle.sums.specs.Linear.{linear-of, linear-terms}
 use Rattle.sums.specs.Bounds.{size}

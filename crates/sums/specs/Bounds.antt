@@ -1,12 +1,12 @@
 -- Within refusal 9 every sum, partial sum and coefficient that the Rust computes stays in i32; within refusal 10 there is room for its terms.
-use mathlib.Core.Path.{_≡_, refl, sym, ap, _∙_}
-use mathlib.Core.Bool.{Bool, true, false, _||_, cond}
+use mathlib.Core.Path.{_≡_, refl}
+use mathlib.Core.Bool.{false, _||_}
 use mathlib.Core.List.{List, [], _∷_, _++_, map}
-use Prim.Native.Nat.{ℕ, zero, suc, _+_, _*_, _≤_, _<_, _^_, max, zero-le}
+use Prim.Native.Nat.{ℕ, suc, _+_, _*_, _≤_, max}
 use native.Mathlib.Nat.{mul-le-mul-left, le-trans}
 use native.Mathlib.Omega.{arith}
 use lib.Dec.{eqb, ltb}
-use lib.IntN.{ℤ, pos, negsuc, natAbs, _+ℤ_, _*ℤ_}
+use lib.IntN.{ℤ, pos, negsuc, natAbs, _+ℤ_}
 use lib.ListN.{length, take}
 use borrow.Author.Tests.{eq-eqb, ltb-false}
 use Rattle.laws.specs.Bools.{or-l, or-no-l, or-no-r}
@@ -15,7 +15,7 @@ use Rattle.laws.specs.Lists.{different}
 use Rattle.syntax.specs.Words.{max-weight, max-comparison-vars, max-column-vars}
 use Rattle.syntax.specs.Syntax.{Domain, Range, Enumerative, lower-bound, upper-bound, last-or, domain-of, IntExpr, IConst, IVar, Linear, Terms, tnil, tmore}
 use Rattle.limits.specs.Limits.{largest, domain-weight, weight, terms-weight, heavy, heavy-terms, heavy-comparison, written, written-terms, many-comparison, many-column}
-use Rattle.sums.specs.LinearSum.{Term, term, LinearSum, linear-sum, constant, singleton, add-coef, add-terms, add-sum, mul-sum, sub-sum, lowest, highest}
+use Rattle.sums.specs.LinearSum.{Term, term, LinearSum, linear-sum, constant, singleton, add-coef, add-sum, mul-sum, lowest, highest}
 use Rattle.sums.specs.Rising.{terms-of, constant-of, Rises, add-coef-rises, Each, each-map, add-coef-each, mul-sum-each, singleton-each, Among, among-left, among-right, few-terms, different-cons, different-map}
 use Rattle.sums.specs.Linear.{linear-of, linear-terms, linear-of-proper, linear-of-among}
 use Rattle.sums.specs.Norm.{norm, load, constant-load, singleton-load, add-coef-norm, add-sum-load, mul-sum-load, take-norm}

@@ -4,9 +4,8 @@ use mathlib.Core.Bool.{Bool, true, false, _&&_, _||_}
 use mathlib.Core.List.{List, [], _∷_}
 use Prim.Native.Nat.{ℕ, suc, _+_, _*_, _≤_}
 use native.Mathlib.Omega.{arith}
-use lib.IntN.{ℤ, pos, negsuc, negℤ, natAbs, _+ℤ_, _-ℤ_, _*ℤ_, +ℤ-idl, +ℤ-idr, +ℤ-assoc, +ℤ-comm, +ℤ-invr, +ℤ-invl, -ℤ-+ℤ-cancel, +ℤ-negℤ-cancel}
+use lib.IntN.{ℤ, pos, negsuc, negℤ, natAbs, _+ℤ_, _-ℤ_, _*ℤ_, +ℤ-idr, +ℤ-assoc, +ℤ-comm, +ℤ-invr, +ℤ-invl, -ℤ-+ℤ-cancel, +ℤ-negℤ-cancel}
 use lib.Signed.{leZ, ltZ}
-use lib.ListN.{length}
 use lib.Dec.{eqb}
 use borrow.Author.Tests.{eq-eqb}
 use native.Mathlib.Nat.{mul-le-mul-left}
@@ -18,7 +17,7 @@ use Rattle.syntax.specs.Syntax.{Domain, Range, Enumerative, last-or, lower-boun
 use Rattle.syntax.specs.Satisfies.{IVal}
 use Rattle.limits.specs.Limits.{written, written-terms, interval, terms-interval, span}
 use Rattle.sums.specs.LinearSum.{Term, term, LinearSum, linear-sum, constant, add-sum, mul-sum, lowest, highest, get-domain-linear-sum, sum-terms-value, sum-value}
-use Rattle.sums.specs.Rising.{terms-of, Each, each-map, Among, among-left, among-right}
+use Rattle.sums.specs.Rising.{terms-of, Each, Among, among-left, among-right}
 use Rattle.sums.specs.Linear.{linear-of, linear-terms, linear-of-each}
 use Rattle.sums.specs.Norm.{norm, add-sum-norm, mul-sum-norm}
 

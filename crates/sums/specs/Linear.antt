@@ -1,22 +1,17 @@
 -- The linear sum of an integer expression where the numbers of the declared variables are given: its value, its shape, its variables.
 use mathlib.Core.Path.{_≡_, refl, sym, ap, _∙_}
-use mathlib.Core.Bool.{Bool, true, _||_}
-use mathlib.Core.List.{List, [], _∷_, _++_, map}
-use Prim.Native.Nat.{ℕ, suc, _≤_}
-use native.Mathlib.Nat.{le-trans}
-use native.Mathlib.Omega.{arith}
+use mathlib.Core.List.{List, map}
+use Prim.Native.Nat.{ℕ}
 use lib.Dec.{eqb}
-use lib.IntN.{ℤ, pos, negsuc, _+ℤ_, _*ℤ_, +ℤ-idl, +ℤ-idr, +ℤ-assoc}
-use lib.ListN.{length}
+use lib.IntN.{ℤ, pos, _+ℤ_, _*ℤ_, +ℤ-idl, +ℤ-idr, +ℤ-assoc}
 use borrow.Author.Tests.{eq-eqb}
-use Rattle.laws.specs.Bools.{or-l, or-r}
-use Rattle.laws.specs.Lists.{any, any-append, different}
+use Rattle.laws.specs.Bools.{or-l}
 use Rattle.syntax.specs.Syntax.{IntExpr, IConst, IVar, Linear, Terms, tnil, tmore}
 use Rattle.syntax.specs.Satisfies.{IVal, int-value, terms-value}
 use Rattle.limits.specs.Limits.{written, written-terms}
-use Rattle.sums.specs.LinearSum.{Term, term, LinearSum, linear-sum, constant, singleton, add-sum, mul-sum, sub-sum, sum-value}
+use Rattle.sums.specs.LinearSum.{LinearSum, constant, singleton, add-sum, mul-sum, sum-value}
 use Rattle.sums.specs.Value.{constant-value, singleton-value, add-sum-value, mul-sum-value}
-use Rattle.sums.specs.Rising.{terms-of, Proper, constant-proper, singleton-proper, add-sum-proper, mul-sum-proper, sub-sum-proper, Each, constant-each, singleton-each, add-sum-each, mul-sum-each, sub-sum-each, each-map, Among, among-left, among-right, among-map, few-terms, different-map}
+use Rattle.sums.specs.Rising.{terms-of, Proper, constant-proper, singleton-proper, add-sum-proper, Each, constant-each, singleton-each, add-sum-each, mul-sum-each, Among, among-left, among-right, among-map}
 
 -- number: the emitted number of each declared variable
 module _ (number : ℕ → ℕ) where

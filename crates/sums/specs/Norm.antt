@@ -1,19 +1,17 @@
 -- Sizes of linear sums: the total of |coefficient| × weight of its variable, with the constant's size; no operation makes more than it is given.
-use mathlib.Core.Path.{_≡_, refl, sym, ap, _∙_}
+use mathlib.Core.Path.{_≡_, refl}
 use mathlib.Core.Bool.{Bool, true, false, cond}
 use mathlib.Core.List.{List, [], _∷_}
 use Prim.Native.Nat.{ℕ, zero, suc, _+_, _*_, _≤_, zero-le}
-use native.Mathlib.Nat.{mul-le-mul-right, mul-le-mul-left, mul-comm, mul-assoc, add-mul}
+use native.Mathlib.Nat.{mul-le-mul-right, mul-comm, mul-assoc, add-mul}
 use native.Mathlib.Omega.{arith}
 use lib.Dec.{eqb, ltb}
 use lib.IntN.{ℤ, pos, negsuc, natAbs, _+ℤ_, _*ℤ_}
 use lib.ListN.{take}
 use borrow.Author.Tests.{eqb-true}
 use Rattle.laws.specs.Ints.{is-zero, natAbs-add, natAbs-mul}
-use Rattle.syntax.specs.Syntax.{IntExpr, IConst, IVar, Linear, Terms, tnil, tmore}
-use Rattle.limits.specs.Limits.{written, written-terms}
 use Rattle.sums.specs.LinearSum.{Term, term, LinearSum, linear-sum, constant, singleton, place, insert-coef, add-coef, add-terms, add-sum, mul-terms, mul-sum, sub-sum}
-use Rattle.sums.specs.Rising.{terms-of, constant-of, Among, among-left, among-right}
+use Rattle.sums.specs.Rising.{terms-of}
 
 -- w: the weight of each emitted number
 module _ (w : ℕ → ℕ) where

@@ -10,7 +10,7 @@ use Rattle.laws.specs.Ints.{is-zero, is-zero-true, +ℤ-swap, *ℤ-dist, *ℤ-a
 use Rattle.laws.specs.Order.{eqZ-shift, leZ-shift, ltZ-shift}
 use Rattle.syntax.specs.Syntax.{CmpOp, Eq, Ne, Le, Lt, Ge, Gt}
 use Rattle.syntax.specs.Satisfies.{IVal, compare}
-use Rattle.sums.specs.LinearSum.{Term, term, LinearSum, linear-sum, constant, singleton, unless-zero, place, insert-coef, add-coef, add-terms, add-sum, mul-terms, mul-sum, sub-sum, sum-terms-value, sum-value}
+use Rattle.sums.specs.LinearSum.{Term, term, LinearSum, linear-sum, constant, singleton, place, insert-coef, add-coef, add-terms, add-sum, mul-terms, mul-sum, sub-sum, sum-terms-value, sum-value}
 
 ruleset sums = (+ℤ-assoc, +ℤ-comm, +ℤ-swap)
 

@@ -1,9 +1,8 @@
-use mathlib.Core.Path.{_≡_, refl, sym, ap, _∙_}
-use Prim.Native.Nat.{ℕ, _+_, _*_, _<_, _≤_, _^_}
-use borrow.Author.Needs.{needs}
+-- The multiple, then the sum.
+use mathlib.Core.Path.{_≡_, ap}
 use native.Mathlib.Omega.{arith}
 use mir.Facts.{toZ-ofZ}
-use Rattle.sums.specs.LinearSum.{LinearSum, add-sum, mul-sum}
+use Rattle.sums.specs.LinearSum.{add-sum, mul-sum}
 use Rattle.sums.specs.Norm.{mul-sum-load}
 use Rattle.sums.specs.Bounds.{size}
 use Rattle.sums.specs.Struct.{sum-of, Stands}

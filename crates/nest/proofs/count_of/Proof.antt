@@ -1,12 +1,10 @@
-use mathlib.Core.Path.{_≡_}
+-- A negative word counts as 0.
 use native.Mathlib.Omega.{arith}
-use lib.IntN.{pos, natAbs}
-use lib.Signed.{ltZ, nonNeg, mag, natAbs-le}
+use lib.IntN.{pos}
+use lib.Signed.{ltZ, nonNeg}
 use lib.Dec.{T}
-use mir.Syntax.{w32}
 use mir.Facts.{toZ-ofZ, fits-natAbs}
 use Rattle.laws.specs.Signed.{test-of, not-neg}
-use Rattle.nest.specs.Numbers.{count-of}
 use Rattle.nest.proofs.Steps.{negative-count, plain-count, plain-word}
 use Rattle.nest.proofs.count_of.Statement.{statement}
 use Rattle.nest.proofs.count_of.Tie as tie

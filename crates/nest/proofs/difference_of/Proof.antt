@@ -1,3 +1,4 @@
+-- The two calls and the difference, by the laws of Steps.
 use denote.Ref.{now}
 use Rattle.nest.proofs.Steps.{left-ready, right-ready, difference-asks, difference}
 use Rattle.nest.proofs.difference_of.Statement.{statement}

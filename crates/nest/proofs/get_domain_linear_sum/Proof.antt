@@ -1,11 +1,12 @@
-use mathlib.Core.Path.{_≡_, refl, sym, ap, _∙_}
+-- The highest value is the lowest with the bounds exchanged.
+use mathlib.Core.Path.{ap}
 use borrow.Author.Needs.{needs}
 use mir.Syntax.{w32}
 use mir.Val.{SFits}
 use mir.Facts.{toZ-ofZ}
 use denote.Ref.{now}
 use Rattle.syntax.specs.Syntax.{Range}
-use Rattle.sums.specs.LinearSum.{lowest, highest, get-domain-linear-sum}
+use Rattle.sums.specs.LinearSum.{lowest, get-domain-linear-sum}
 use Rattle.sums.specs.Struct.{terms}
 use Rattle.nest.specs.Ranges.{domain-at, exchanged, bounded-exchanged}
 use Rattle.nest.proofs.get_domain_linear_sum.Statement.{statement}

@@ -1,5 +1,6 @@
-use mathlib.Core.Path.{_≡_, refl, sym, ap, _∙_}
-use Prim.Native.Nat.{ℕ, _+_, _<_, _≤_}
+-- Two returns: a constant, a variable.
+use mathlib.Core.Path.{_≡_, ap, _∙_}
+use Prim.Native.Nat.{_+_, _≤_}
 use borrow.Author.Needs.{needs}
 use native.Mathlib.Omega.{arith}
 use lib.IntN.{ℤ, pos}
@@ -10,7 +11,6 @@ use mir.Facts.{toZ-ofZ}
 use denote.Ref.{now}
 use Rattle.laws.specs.Signed.{value-is}
 use Rattle.sums.specs.LinearSum.{constant}
-use Rattle.sums.specs.Struct.{Stands}
 use Rattle.sums.proofs.Laws.{stands-to}
 use Rattle.nest.specs.Numbers.{count-of, number-at}
 use Rattle.nest.proofs.Steps.{ready-long, leaf-constant, leaf-var, bits-not}

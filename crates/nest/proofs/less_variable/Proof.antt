@@ -1,9 +1,8 @@
-use mathlib.Core.Path.{_≡_, refl, sym, ap, _∙_}
-use Prim.Native.Nat.{ℕ, _+_, _<_, _≤_, _^_}
+-- The difference with one term.
+use mathlib.Core.Path.{_≡_, ap, _∙_}
 use borrow.Author.Needs.{needs}
 use native.Mathlib.Omega.{arith}
-use lib.IntN.{negsuc}
-use Rattle.sums.specs.LinearSum.{LinearSum, singleton, mul-sum, sub-sum}
+use Rattle.sums.specs.LinearSum.{singleton, sub-sum}
 use Rattle.sums.specs.Norm.{singleton-load}
 use Rattle.sums.specs.Bounds.{size}
 use Rattle.sums.specs.Struct.{sum-of}

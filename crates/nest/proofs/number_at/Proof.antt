@@ -1,14 +1,13 @@
-use mathlib.Core.Path.{_≡_, refl, sym, ap, _∙_}
-use Prim.Native.Nat.{ℕ, _-_, _<_, _≤_}
+-- Three returns: behind the map, an entry 0, an entry above 0.
+use mathlib.Core.Path.{_≡_, ap, _∙_}
 use borrow.Author.Needs.{needs}
 use native.Mathlib.Omega.{arith}
-use lib.IntN.{ℤ, pos}
-use lib.ListN.{length, getD}
+use lib.IntN.{pos}
+use lib.ListN.{getD}
 use mir.Syntax.{w32}
-use mir.Val.{toZ, ofZ}
 use mir.Facts.{toZ-ofZ}
 use denote.Ref.{now}
-use Rattle.nest.specs.Numbers.{count-of, number-at}
+use Rattle.nest.specs.Numbers.{count-of}
 use Rattle.nest.proofs.Steps.{number-past, number-none, number-some}
 use Rattle.nest.proofs.number_at.Statement.{statement}
 use Rattle.nest.proofs.number_at.Tie as tie

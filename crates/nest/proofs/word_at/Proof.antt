@@ -1,4 +1,5 @@
-use mathlib.Core.Path.{_≡_, sym}
+-- Behind the end a word is 0.
+use mathlib.Core.Path.{sym}
 use borrow.Author.Needs.{needs}
 use denote.Ref.{now}
 use Rattle.nest.proofs.Steps.{getD-past}
