@@ -1,0 +1,30 @@
+// For stations and tests: refusals 1 to 11 of a set, by number, with the work slice zeroed.
+use read::Set;
+ghost use mathlib.Core.Path.{_≡_};
+ghost use lib.ListN.{length};
+ghost use Rattle.limits.specs.Accepted.{accepted};
+ghost use Rattle.refuse.specs.Refuse.{refusal-of, zeros};
+
+// Every word becomes 0.
+pub fn clear(s: &mut [i32])
+    ensures { λ _. ⌜ now (s .exit) ≡ zeros (length (now (s .entry))) ⌝ }
+{
+    let mut i = 0;
+    while i < s.len() {
+        s[i] = 0;
+        i += 1;
+    }
+}
+
+// The refusal, or 0.
+#[no_mangle]
+pub extern "C" fn refuse_set(set: &[i32], work: &mut [i32]) -> usize
+    ensures { λ r. ⌜ (r ≡ refusal-of (accepted (length (now (work .entry))) (now (set .entry)))) × (now (work .exit) ≡ zeros (length (now (work .entry)))) ⌝ }
+{
+    let answer = limits::accept(set, work);
+    clear(work);
+    match answer {
+        Set::Ok(_) => 0,
+        Set::Refused(k) => k,
+    }
+}

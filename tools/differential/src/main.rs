@@ -1,0 +1,78 @@
+//! Refusals 1 to 11 of the port against the reference: every limit case, and damaged sets.
+//! `differential refusals SEED COUNT`; status 1 on the first difference.
+
+use reference::generate;
+
+extern "C" {
+    fn refuse_set(set: *const i32, set_len: usize, work: *mut i32, work_len: usize) -> usize;
+}
+
+/// The port's refusal, or 0. The work slice is lent full of noise and must come back zero.
+fn port(set: &[i32], work_len: usize) -> Result<usize, String> {
+    let mut work = vec![-7; work_len];
+    let k = unsafe { refuse_set(set.as_ptr(), set.len(), work.as_mut_ptr(), work.len()) };
+    match work.iter().position(|&w| w != 0) {
+        Some(i) => Err(format!("work word {i} is {}", work[i])),
+        None => Ok(k),
+    }
+}
+
+/// The reference's refusal among 1 to 11, or 0.
+fn expected(set: &[i32], work_len: usize) -> usize {
+    match reference::refuse::accept(set, work_len) {
+        Ok(_) => 0,
+        Err(k) => k as usize,
+    }
+}
+
+fn compare(set: &[i32], work_len: usize) -> Result<usize, String> {
+    let want = expected(set, work_len);
+    let got = port(set, work_len)?;
+    if want == got {
+        Ok(got)
+    } else {
+        Err(format!("refusal {got}, the reference gives {want}"))
+    }
+}
+
+fn refusals(seed: u64, count: u64) -> Result<(), String> {
+    let mut seen = [0u64; 12];
+    let mut check = |set: &[i32], work_len: usize| -> Result<(), String> {
+        let k = compare(set, work_len).map_err(|e| format!("{e}\nwork {work_len}, set {set:?}"))?;
+        seen[k] += 1;
+        Ok(())
+    };
+    let limits = generate::limits::all();
+    for limit in &limits {
+        check(&limit.case.set, 16384)?;
+        check(&limit.case.set, 16383)?;
+    }
+    let good = ["rules", "chains", "comparisons", "tables", "mixed", "limits", "lengths"];
+    for index in 0..count {
+        let case = generate::case("damaged", seed, index).ok_or("no case")?;
+        check(&case.set, case.work_len)?;
+        let family = good[(index % good.len() as u64) as usize];
+        if index % 10 == 0 {
+            let case = generate::case(family, seed, index).ok_or("no case")?;
+            check(&case.set, case.work_len)?;
+        }
+    }
+    println!("{} limit cases, {count} damaged sets, {} undamaged: no difference", limits.len(), count.div_ceil(10));
+    for (k, n) in seen.iter().enumerate() {
+        println!("refusal {k}: {n}");
+    }
+    Ok(())
+}
+
+fn main() {
+    let args: Vec<String> = std::env::args().skip(1).collect();
+    let number = |i: usize| args.get(i).and_then(|a| a.parse::<u64>().ok());
+    let result = match (args.first().map(String::as_str), number(1), number(2)) {
+        (Some("refusals"), Some(seed), Some(count)) => refusals(seed, count),
+        _ => Err("usage: differential refusals SEED COUNT".into()),
+    };
+    if let Err(e) = result {
+        eprintln!("{e}");
+        std::process::exit(1);
+    }
+}
