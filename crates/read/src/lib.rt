@@ -57,6 +57,7 @@ fn read_rest(set: &[i32], c: Cursor, bools: usize, ints: usize) -> Set
     }
 }
 
+// What the set declares, or the refusal of its first offending word.
 pub fn read_set(set: &[i32]) -> Set
     ensures { λ r. ⌜ r ≡ set-at (read-set-words (now (set .entry))) ⌝ }
 {
