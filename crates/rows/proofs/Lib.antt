@@ -5,3 +5,4 @@ pub mod Emitting
 pub mod Looping
 pub mod Grouping
 pub mod Whole
+pub mod Counting

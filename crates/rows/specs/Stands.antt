@@ -1,7 +1,7 @@
 -- A table's cells as words: what stands as the words of cells is the rows of their values, has no star's word but the stars, and is starless without stars.
 -- Cells are taken to hold values, as reading has it.
 use mathlib.Core.Path.{_≡_, refl, sym, ap, _∙_}
-use mathlib.Core.Bool.{Bool, true, false, _&&_, _||_}
+use mathlib.Core.Bool.{Bool, true, false, not, _&&_, _||_}
 use mathlib.Core.List.{List, [], _∷_, _++_, map}
 use Prim.Native.Nat.{ℕ, zero, suc, _+_, _*_, _≤_, _<_}
 use native.Mathlib.Omega.{arith}
@@ -15,7 +15,7 @@ use borrow.Author.Tests.{leb-true, lt-ltb, ne-eqb}
 use Rattle.laws.specs.Bools.{never, and-l, and-r, and-i, or-no-l, or-no-r}
 use Rattle.laws.specs.Ints.{eqZ}
 use Rattle.laws.specs.Order.{eqZ-refl}
-use Rattle.laws.specs.Lists.{any, all, flat, any-append, all-append}
+use Rattle.laws.specs.Lists.{any, all, keep-if, filter, flat, any-append, all-append}
 use Rattle.laws.specs.Slices.{Has, has-front, has-back}
 use Rattle.syntax.specs.Words.{max-value, star-word}
 use Rattle.syntax.specs.Syntax.{Cell, star, value, encode-cell}
@@ -23,6 +23,7 @@ use Rattle.tables.specs.Tables.{Row, is-star, cell-value}
 use Rattle.tables.specs.Agree.{wide, wide-is}
 use Rattle.rows.specs.Rows.{rows-of}
 use Rattle.rows.specs.Emit.{Starless}
+use Rattle.rows.specs.Stars.{values-in}
 
 -- a value, as reading has it
 abbrev pub small : Cell → Bool
@@ -86,3 +87,14 @@ starless-stand [] h s = refl
 starless-stand (cs ∷ rows) h s =
     all-append (ltZ star-word) (map encode-cell cs) (cells-words rows)
     ∙ and-i (all (ltZ star-word) (map encode-cell cs)) _ (starless-row cs (and-l (all small cs) (all (all small) rows) h) (or-no-l (any is-star cs) (any (any is-star) rows) s)) (starless-stand rows (and-r (all small cs) (all (all small) rows) h) (or-no-r (any is-star cs) (any (any is-star) rows) s))
+
+-- ---- how many values a row has
+
+pub values-stand : (cs : List Cell) → all small cs ≡ true → values-in (map encode-cell cs) ≡ length (filter (λ c. not (is-star c)) cs)
+unfolding values-in
+values-stand [] h = refl
+values-stand (c ∷ cs) h = go (is-star c) (star-cell c (and-l (small c) (all small cs) h)) (values-stand cs (and-r (small c) (all small cs) h))
+  where
+    go : (t : Bool) → eqZ (encode-cell c) star-word ≡ t → values-in (map encode-cell cs) ≡ length (filter (λ c. not (is-star c)) cs) → values-in (map encode-cell (c ∷ cs)) ≡ length (keep-if (not t) c (filter (λ c. not (is-star c)) cs))
+    go true e q = rw e q
+    go false e q = rw e (ap suc q)
