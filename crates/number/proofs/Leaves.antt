@@ -4,11 +4,11 @@ use mathlib.Core.Bool.{Bool, true, false, not, cond}
 use mathlib.Core.List.{List, [], _∷_}
 use Prim.Native.Nat.{ℕ, zero, suc, _+_, _-_, _≤_, _<_, min}
 use native.Mathlib.Omega.{arith}
-use native.Mathlib.Numerals.{sub-one}
-use lib.IntN.{ℤ, pos, negsuc, natAbs}
+use native.Mathlib.Numerals.{sub-one, add-one}
+use lib.IntN.{ℤ, pos, negsuc, negℤ, natAbs, _-ℤ_, +ℤ-idl}
 use lib.ListN.{length, getD, set, take, length-take, List·getD-eq-default}
 use mir.Syntax.{w32}
-use mir.Val.{SFits, toZ}
+use mir.Val.{SFits, ofZ, toZ}
 use mir.Facts.{toZ-ofZ}
 use lib.Seq.{getD-take}
 use lib.Signed.{ltZ, nonNeg}
@@ -223,3 +223,16 @@ pos-is x h = toZ-ofZ (pos-fits x h)
 
 pub at-in : (w : List ℤ) (at : ℕ) → 4608 ≤ length w → at ≤ 4608 → at ≤ length (read-part w)
 at-in w at h k = omega (arith, read-length w h)
+
+-- a place as a negative word
+minus-is : (x : ℕ) → x ≤ limit → pos 0 -ℤ toZ w32 x ≡ negℤ (pos x)
+minus-is x h = rw (pos-is x h) (+ℤ-idl (negℤ (pos x)))
+
+place-neg : (p : ℕ) → negℤ (pos (p + 1)) ≡ negsuc p
+place-neg p = ap (λ (n : ℕ). negℤ (pos n)) (add-one p)
+
+pub place-fits : (p : ℕ) → p ≤ 4608 → SFits w32 (pos 0 -ℤ toZ w32 (p + 1))
+place-fits p h = rw (minus-is (p + 1) (omega arith), place-neg p) (record { sfits = omega arith })
+
+pub place-is : (p : ℕ) → p ≤ 4608 → toZ w32 (ofZ w32 (pos 0 -ℤ toZ w32 (p + 1))) ≡ negsuc p
+place-is p h = toZ-ofZ (place-fits p h) ∙ minus-is (p + 1) (omega arith) ∙ place-neg p

@@ -3,12 +3,13 @@ ghost use mathlib.Core.Path.{_≡_};
 ghost use mathlib.Core.Bool.{Bool, true, false, not};
 ghost use mathlib.Core.List.{List};
 ghost use Prim.Native.Nat.{ℕ, _+_, _*_, _-_, _≤_, _<_, min};
-ghost use lib.IntN.{ℤ, pos};
+ghost use lib.IntN.{ℤ, pos, negsuc};
 ghost use lib.ListN.{length, getD, set, take};
 ghost use Rattle.walk.specs.Item.{limit, bump as bump-of, nat, mode-in, fresh-in, lines-in, var-item, fresh as fresh-tally, meet-bool, meet-int-var, meet-int, pass-bools, tallies, mets, item, items};
 ghost use Rattle.walk.specs.Decode.{word as word-in, past, below as below-of, int-end as int-end-of, node-of, constant-node, comparison-node, read-part, surveyed, closed-disj, closed-cross, added, Surveys, SurveysAll, int-at, item-at, items-at, decode, many-ties, tie-at, cross-ties, ties-at};
 ghost use Rattle.walk.specs.Meets.{Met};
 ghost use Rattle.walk.specs.MeetTies.{meet-rule};
+ghost use Rattle.walk.specs.MeetColumns.{new-column, meet-column-at, meet-columns-at};
 use walk::Counters;
 use walk::Mode;
 use walk::Node;
@@ -617,4 +618,60 @@ pub fn number_rule(work: &mut [i32], at: usize, c: Counters) -> Counters
     };
     let e = number_ties(work, at, 64, false, n, d);
     number(work, at, 64, false, n, false, e)
+}
+
+// ---- the columns of a table
+
+// A place stored as the record of a column: negative, so that it is no index.
+fn store_place(work: &mut [i32], i: usize, p: usize)
+    requires { ⌜ p ≤ 4608 ⌝ }
+    ensures { λ r. ⌜ (now (work .exit) ≡ set (now (work .entry)) i (negsuc p)) × (length (now (work .exit)) ≡ length (now (work .entry))) ⌝ }
+{
+    if i < work.len() {
+        let w = (p + 1) as i32;
+        work[i] = 0 - w;
+    }
+}
+
+// A new number for the column at a place, kept there, and its place in its record.
+fn number_new(work: &mut [i32], p: usize, c: Counters) -> Counters
+    requires { ⌜ (p ≤ 4608) × ((c .bools ≤ limit) × (c .ints ≤ limit)) ⌝ }
+    ensures { λ r. ⌜ Met (new-column p) (now (work .entry)) c (now (work .exit)) r ⌝ }
+{
+    let k = bump(c.ints, 1);
+    store(work, 7424 + p, k);
+    store_place(work, 5376 + c.ints, p);
+    Counters {
+        bools: c.bools,
+        ints: k,
+    }
+}
+
+// The column at a place: its integers, then its own number unless it is a declared variable.
+pub fn number_column(work: &mut [i32], at: usize, c: Counters) -> Counters
+    requires { do ⌜ (4608 ≤ (← ⟦work.len()⟧)) × ((at ≤ 4608) × ((c .bools ≤ limit) × (c .ints ≤ limit))) ⌝ }
+    ensures { λ r. ⌜ Met (meet-column-at (read-part (now (work .entry))) at) (now (work .entry)) c (now (work .exit)) r ⌝ }
+{
+    let d = number_int(work, at, 64, c);
+    if word(work, at) == 21 {
+        return d;
+    }
+    number_new(work, at, d)
+}
+
+// So many columns from a place on.
+pub fn number_columns(work: &mut [i32], at: usize, count: usize, c: Counters) -> Counters
+    requires { do ⌜ (4608 ≤ (← ⟦work.len()⟧)) × ((at ≤ 4608) × ((c .bools ≤ limit) × (c .ints ≤ limit))) ⌝ }
+    ensures { λ r. ⌜ Met (meet-columns-at (read-part (now (work .entry))) count at) (now (work .entry)) c (now (work .exit)) r ⌝ }
+{
+    let mut q = at;
+    let mut rest = count;
+    let mut d = c;
+    while rest != 0 {
+        let p = q;
+        d = number_column(work, p, d);
+        q = int_end(work, p, 64);
+        rest = rest - 1;
+    }
+    d
 }

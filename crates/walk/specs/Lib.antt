@@ -14,3 +14,4 @@ pub mod Standing
 pub mod Steps
 pub mod Meets
 pub mod MeetTies
+pub mod MeetColumns

@@ -46,7 +46,7 @@ part-short w = omega (arith, length-take 4608 w)
 
 -- ---- stores
 
-part-set : (w : List ℤ) (p : ℕ) (x : ℤ) → 4608 ≤ p → read-part (set w p x) ≡ read-part w
+pub part-set : (w : List ℤ) (p : ℕ) (x : ℤ) → 4608 ≤ p → read-part (set w p x) ≡ read-part w
 unfolding read-part
 part-set w p x h = take-set-le 4608 w p x h
 
