@@ -3,7 +3,7 @@ use mathlib.Core.Path.{_≡_}
 use mathlib.Core.Bool.{false, _||_, cond}
 use mathlib.Core.List.{List, [], _++_}
 use Prim.Native.Nat.{ℕ, zero, suc, _-_}
-use lib.IntN.{ℤ, pos}
+use lib.IntN.{ℤ, pos, negℤ}
 use lib.Dec.{ltb}
 use lib.ListN.{length, replicate}
 use Rattle.syntax.specs.Words.{max-set-words, min-work-words, max-answer-words}
@@ -17,6 +17,12 @@ pub data Result : Type 0 where
   compiled : List ℤ → Result
   contradiction : Result
   refused : ℕ → Result
+
+-- the number a station gets: the words written, the refusal's number negated, or -100 for a contradiction
+unfoldable pub returned : Result → ℤ
+returned (compiled ws) = pos (length ws)
+returned contradiction = negℤ (pos 100)
+returned (refused k) = negℤ (pos k)
 
 -- a set that 2 to 11 let through, and what it says
 pub record Accepted (set : List ℤ) (p : Problem) : Type 0 where
