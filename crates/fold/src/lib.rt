@@ -75,33 +75,33 @@ pub fn shift(work: &mut [i32], from: usize, end: usize, to: usize) -> usize
 // ---- the table
 
 const ACTIONS: [usize; 27] = [
-    0,
-    1,
-    4,
-    1,
-    0,
-    5,
-    2,
-    3,
-    6,
-    1,
-    0,
-    5,
-    0,
-    1,
-    4,
-    3,
-    2,
-    6,
-    1,
-    1,
-    1,
-    0,
-    1,
-    4,
-    3,
-    1,
-    6,
+    0, // Xor false, false: false
+    1, // Xor false, true: true
+    4, // Xor false, unknown: right
+    1, // Xor true, false: true
+    0, // Xor true, true: false
+    5, // Xor true, unknown: not right
+    2, // Xor unknown, false: left
+    3, // Xor unknown, true: not left
+    6, // Xor unknown, unknown: keep
+    1, // Iff false, false: true
+    0, // Iff false, true: false
+    5, // Iff false, unknown: not right
+    0, // Iff true, false: false
+    1, // Iff true, true: true
+    4, // Iff true, unknown: right
+    3, // Iff unknown, false: not left
+    2, // Iff unknown, true: left
+    6, // Iff unknown, unknown: keep
+    1, // Imp false, false: true
+    1, // Imp false, true: true
+    1, // Imp false, unknown: true
+    0, // Imp true, false: false
+    1, // Imp true, true: true
+    4, // Imp true, unknown: right
+    3, // Imp unknown, false: not left
+    1, // Imp unknown, true: true
+    6, // Imp unknown, unknown: keep
 ];
 
 pub fn action(op: usize, a: usize, b: usize) -> usize
