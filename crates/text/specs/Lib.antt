@@ -4,3 +4,4 @@ pub mod ReadText
 pub mod Listing
 pub mod Cases
 pub mod Input
+pub mod Output

@@ -94,7 +94,7 @@ print-clauses ws =
 -- the two emitted counts, the domains, the clauses
 unfoldable pub print-emitted : List ℤ → List ℕ
 print-emitted ws =
-    let ds = times print-domain (count-word (drop 1 ws)) (drop 1 (drop 1 ws)) in
+    let ds = times print-domain (count-word (drop 1 ws)) (drop 2 ws) in
     print-line emitted-key (take 2 ws) ++ (ds .text ++ print-clauses (ds .rest))
 
 -- b, i: the counts of declared Boolean and integer variables

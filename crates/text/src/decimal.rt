@@ -1,11 +1,13 @@
-// Decimal numbers: read from bytes.
+// Decimal numbers: read from bytes and printed.
 use super::Natural;
 use super::Number;
 ghost use mathlib.Core.Path.{_≡_};
+ghost use mathlib.Core.List.{[], _∷_};
 ghost use Prim.Native.Nat.{_≤_};
 ghost use lib.ListN.{length, drop};
-ghost use Rattle.text.specs.Decimal.{read-digits as digits, read-natural as natural, read-number as number};
+ghost use Rattle.text.specs.Decimal.{read-digits as digits, read-natural as natural, read-number as number, print-natural, print-number};
 ghost use Rattle.text.specs.Input.{limited, natural-of, number-of};
+ghost use Rattle.text.specs.Output.{Puts};
 
 // The digits from a place on.
 fn read_digits(part: &[u8], from: usize) -> Natural
@@ -82,4 +84,36 @@ pub fn read_number(part: &[u8]) -> Number
             }
         }
     }
+}
+
+// A byte at a place, and the place after it; at the end neither changes.
+pub fn put_byte(out: &mut [u8], at: usize, b: u8) -> usize
+    ensures { λ r. ⌜ Puts (now (out .entry)) at (b ∷ []) (now (out .exit)) r ⌝ }
+{
+    if at < out.len() {
+        out[at] = b;
+        return at + 1;
+    }
+    at
+}
+
+pub fn put_natural(out: &mut [u8], at: usize, n: u64) -> usize
+    ensures { λ r. ⌜ Puts (now (out .entry)) at (print-natural n) (now (out .exit)) r ⌝ }
+{
+    if n < 10 {
+        return put_byte(out, at, 48 + n as u8);
+    }
+    let o = put_natural(out, at, n / 10);
+    put_byte(out, o, 48 + (n % 10) as u8)
+}
+
+pub fn put_number(out: &mut [u8], at: usize, z: i32) -> usize
+    ensures { λ r. ⌜ Puts (now (out .entry)) at (print-number z) (now (out .exit)) r ⌝ }
+{
+    if z < 0 {
+        let m = -1 - z;
+        let o = put_byte(out, at, b'-');
+        return put_natural(out, o, m as u64 + 1);
+    }
+    put_natural(out, at, z as u64)
 }

@@ -2,8 +2,10 @@
 pub mod keys; // keys.rt: the fixed bytes
 pub mod decimal; // decimal.rt: decimal numbers
 pub mod input; // input.rt: the words of the input text
+pub mod listing; // listing.rt: the bytes printed for an answer
 
 pub use input::words_of_text;
+pub use listing::text_of_answer;
 
 // What the listing says of a text.
 pub enum Answer {
@@ -40,4 +42,17 @@ pub enum Line {
 pub enum Step {
     At(usize, usize),
     Unread,
+}
+
+// Where the next byte goes, and the next word to show.
+pub struct Place {
+    pub at: usize,
+    pub next: usize,
+}
+
+// The same, with the number of literals shown.
+pub struct Clauses {
+    pub at: usize,
+    pub next: usize,
+    pub literals: usize,
 }
