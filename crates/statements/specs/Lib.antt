@@ -8,3 +8,4 @@ pub mod Emitted
 pub mod Settled
 pub mod Whole
 pub mod Records
+pub mod Ready

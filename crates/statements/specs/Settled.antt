@@ -31,7 +31,7 @@ module _ (nb ni : ℕ) where
   mutual
     unfolding WellInt depth-int
 
-    int-depth : (l : ℕ) (e : IntExpr) → WellInt ni l e → depth-int e ≤ l
+    pub int-depth : (l : ℕ) (e : IntExpr) → WellInt ni l e → depth-int e ≤ l
     int-depth l (IConst c) h = omega (arith, h .0)
     int-depth l (IVar v) h = omega (arith, h .0)
     int-depth l (Linear ts) h = omega (arith, h .0, terms-depth (l - 1) ts (h .2))
@@ -64,7 +64,7 @@ module _ (nb ni : ℕ) where
 mutual
   unfolding LegalInt EveryInt depth-int
 
-  int-legal : (e : IntExpr) (l : ℕ) → EveryInt (λ v. v < 256) e → depth-int e ≤ l → LegalInt e l
+  pub int-legal : (e : IntExpr) (l : ℕ) → EveryInt (λ v. v < 256) e → depth-int e ≤ l → LegalInt e l
   int-legal (IConst c) l v d = omega arith
   int-legal (IVar v) l h d = (omega arith, h)
   int-legal (Linear ts) l v d = (omega arith, terms-legal ts (l - 1) v (omega arith))
