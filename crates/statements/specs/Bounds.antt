@@ -247,7 +247,7 @@ unfolding encode-stmt
 stmt-words (Rule e) = omega arith
 stmt-words (Table es rows) = omega arith
 
-stmt-low : (F : List ℤ) (ds : List Domain) (t : Stmt) (s : Log) → LegalStmt t → FewRows t → next-bool (normalize-stmt ds t s .1) ≤ next-bool s + 4110 * length (encode-stmt t)
+stmt-low : (F : List ℤ) (ds : List Domain) (t : Stmt) (s : Log) → LegalStmt ds t → FewRows t → next-bool (normalize-stmt ds t s .1) ≤ next-bool s + 4110 * length (encode-stmt t)
 unfolding normalize-stmt normalize-table
 stmt-low F ds (Rule e) s x h = let n : length (encode-stmt (Rule e)) ≡ suc (length (encode-bool e)) = unfold encode-stmt in refl in omega (arith, rule-low e s x)
 stmt-low F ds (Table es rows) s x h = omega (arith, supports-low ds (equivalent-int-vars ds es s .vars) rows (equivalent-int-vars ds es s .log), columns-bools F ds es s, stmt-words (Table es rows))

@@ -8,10 +8,12 @@ use native.Mathlib.Omega.{arith}
 use lib.IntN.{ℤ, pos, negsuc}
 use lib.ListN.{length, getD, set, length-set, length-append}
 use lib.Seq.{getD-set-same, getD-set-other}
-use Rattle.laws.specs.Lists.{flat}
+use Rattle.laws.specs.Bools.{or-no-l, or-no-r}
+use Rattle.laws.specs.Lists.{any, flat}
 use Rattle.laws.specs.Slices.{Has, has-front, has-back}
 use Rattle.syntax.specs.Syntax.{Domain, domain-of, CmpOp, Eq, IntExpr, IConst, IVar, Linear, encode-int}
 use Rattle.syntax.specs.Written.{EveryInt, EveryColumn}
+use Rattle.limits.specs.Limits.{heavy, many-column}
 use Rattle.sums.specs.LinearSum.{LinearSum, singleton, sub-sum, get-domain-linear-sum}
 use Rattle.sums.specs.Linear.{linear-of}
 use Rattle.clauses.specs.Clause.{Clause, clause, linear}
@@ -30,13 +32,15 @@ use Rattle.statements.specs.Kept.{Kept, kept-same, kept-then, int-var-ke
 abbrev pub column-map : ℕ
 column-map = 7424
 
--- what is known of the record of a column: its place in F, its expression, its sum and domain
+-- what is known of the record of a column: its place in F, its expression (within refusals 9 and 10), its sum and domain
 pub record ColumnRecord (F : List ℤ) (ds : List Domain) (s : Log) (word : ℤ) (l : LinearSum) (d : Domain) : Type 0 where
   pub place : ℕ
   pub record-word : word ≡ negsuc place
   pub expr : IntExpr
   pub before : Log
   pub stands : Has F place (encode-int expr)
+  pub light : heavy ds expr ≡ false
+  pub few : many-column expr ≡ false
   pub made : normalize-int-expr expr before ≡ (l, s)
   pub domain : d ≡ get-domain-linear-sum (domain-of (emitted-domains ds s)) l
 
@@ -196,15 +200,15 @@ module _ (F : List ℤ) (ds : List Domain) where
     pub placed : PlacedOne (meet-column p e st .work) p e s
     pub grown : Grown p (st .work) (meet-column p e st .work)
 
-  new-met : (p : ℕ) (e : IntExpr) (st : State) (s : Log) → 512 ≤ p → p < bool-map → Has F p (encode-int e) → EveryInt (λ v. v < 256) e → Numbered CR st s → suc (next-int (normalize-int-expr e s .1)) < max-emitted
+  new-met : (p : ℕ) (e : IntExpr) (st : State) (s : Log) → 512 ≤ p → p < bool-map → Has F p (encode-int e) → EveryInt (λ v. v < 256) e → heavy ds e ≡ false → many-column e ≡ false → Numbered CR st s → suc (next-int (normalize-int-expr e s .1)) < max-emitted
       → Numbered CR (number-column p (meet-int e st)) (new-column ds (normalize-int-expr e s) .log)
       × ((getD (number-column p (meet-int e st) .work) (column-map + p) (pos 0) ≡ pos (suc (next-int (normalize-int-expr e s .1))))
       × Grown p (st .work) (number-column p (meet-int e st) .work))
   unfolding new-column
-  new-met p e st s l h f v n r =
+  new-met p e st s l h f v y z n r =
       let x = normalize-int-expr e s in
       let m : Numbered CR (meet-int e st) (x .1) = expr-num CR e v st s n (omega arith) in
-      let c : CR (x .1) (negsuc p) (x .0) (get-domain-linear-sum (domain-of (emitted-domains ds (x .1))) (x .0)) = record { place = p; record-word = refl; expr = e; before = s; stands = f; made = refl; domain = refl } in (
+      let c : CR (x .1) (negsuc p) (x .0) (get-domain-linear-sum (domain-of (emitted-domains ds (x .1))) (x .0)) = record { place = p; record-word = refl; expr = e; before = s; stands = f; light = y; few = z; made = refl; domain = refl } in (
         new-numbered p (meet-int e st) (x .1) l h m (omega arith) (x .0) _ c,
         (new-placed p (meet-int e st) (x .1) l h m (omega arith), grown-then p p _ _ _ (omega arith) (kept-grown p (expr-kept CR e v st s n (omega arith))) (new-grown p (meet-int e st) (x .1) l h m (omega arith))),
       )
@@ -228,16 +232,16 @@ module _ (F : List ℤ) (ds : List Domain) where
   columns-grow [] s = same
   columns-grow (e ∷ es) s = then (column-grows e s) (columns-grow es (equivalent-int-var ds e s .log))
 
-  column-met : (p : ℕ) (e : IntExpr) (st : State) (s : Log) → 512 ≤ p → p < bool-map → Has F p (encode-int e) → EveryInt (λ v. v < 256) e → Numbered CR st s → next-int (equivalent-int-var ds e s .log) < max-emitted → Met p e st s
+  column-met : (p : ℕ) (e : IntExpr) (st : State) (s : Log) → 512 ≤ p → p < bool-map → Has F p (encode-int e) → EveryInt (λ v. v < 256) e → heavy ds e ≡ false → many-column e ≡ false → Numbered CR st s → next-int (equivalent-int-var ds e s .log) < max-emitted → Met p e st s
   unfolding equivalent-int-var old-column new-column meet-column EveryInt
-  column-met p (IConst c) st s l h f v n r = let x = new-met p (IConst c) st s l h f v n r in record { numbered = unfold new-column in x .0; placed = x .1 .0; grown = x .1 .1 }
-  column-met p (IVar v) st s l h f k n r =
+  column-met p (IConst c) st s l h f v y z n r = let x = new-met p (IConst c) st s l h f v y z n r in record { numbered = unfold new-column in x .0; placed = x .1 .0; grown = x .1 .1 }
+  column-met p (IVar v) st s l h f k y z n r =
       record {
         numbered = unfold convert-int-var in int-num CR v st s (get-int-var v s) refl k n (omega (arith, r));
         placed = tt;
         grown = kept-grown p (int-var-kept v st k (omega (arith, n .ints, column-grows (IVar v) s .ints)));
       }
-  column-met p (Linear ts) st s l h f v n r = let x = new-met p (Linear ts) st s l h f v n r in record { numbered = unfold new-column in x .0; placed = x .1 .0; grown = x .1 .1 }
+  column-met p (Linear ts) st s l h f v y z n r = let x = new-met p (Linear ts) st s l h f v y z n r in record { numbered = unfold new-column in x .0; placed = x .1 .0; grown = x .1 .1 }
 
   -- ---- all columns
 
@@ -246,15 +250,16 @@ module _ (F : List ℤ) (ds : List Domain) where
     pub placed : Placed (meet-columns p es st .work) p es s
     pub grown : Grown p (st .work) (meet-columns p es st .work)
 
-  pub columns-met : (p : ℕ) (es : List IntExpr) (st : State) (s : Log) → 512 ≤ p → p + length (words-of es) ≤ bool-map → Has F p (words-of es) → EveryColumn (λ v. v < 256) es → Numbered CR st s → next-int (equivalent-int-vars ds es s .log) < max-emitted → MetAll p es st s
+  pub columns-met : (p : ℕ) (es : List IntExpr) (st : State) (s : Log) → 512 ≤ p → p + length (words-of es) ≤ bool-map → Has F p (words-of es) → EveryColumn (λ v. v < 256) es
+      → any (heavy ds) es ≡ false → any many-column es ≡ false → Numbered CR st s → next-int (equivalent-int-vars ds es s .log) < max-emitted → MetAll p es st s
   unfolding equivalent-int-vars meet-columns Placed EveryColumn
-  columns-met p [] st s l h f v n r = record { numbered = n; placed = tt; grown = grown-same p (st .work) }
-  columns-met p (e ∷ es) st s l h f v n r =
+  columns-met p [] st s l h f v y z n r = record { numbered = n; placed = tt; grown = grown-same p (st .work) }
+  columns-met p (e ∷ es) st s l h f v y z n r =
       let q : ℕ = p + length (encode-int e) in
       let t : Log = equivalent-int-var ds e s .log in
       let k : length (words-of (e ∷ es)) ≡ length (encode-int e) + length (words-of es) = length-append (encode-int e) (words-of es) in
-      let a = column-met p e st s l (omega (arith, int-words e)) (has-front F p (encode-int e) (words-of es) f) (v .0) n (omega (arith, columns-grow es t .ints)) in
-      let b = columns-met q es (meet-column p e st) t (omega arith) (omega arith) (has-back F p (encode-int e) (words-of es) f) (v .1) (a .numbered) r in
+      let a = column-met p e st s l (omega (arith, int-words e)) (has-front F p (encode-int e) (words-of es) f) (v .0) (or-no-l (heavy ds e) _ y) (or-no-l (many-column e) _ z) n (omega (arith, columns-grow es t .ints)) in
+      let b = columns-met q es (meet-column p e st) t (omega arith) (omega arith) (has-back F p (encode-int e) (words-of es) f) (v .1) (or-no-r (heavy ds e) _ y) (or-no-r (many-column e) _ z) (a .numbered) r in
       record {
         numbered = b .numbered;
         placed = (one-keeps _ _ p e s l (grown-less (p + 1) q (omega (arith, int-words e)) (b .grown)) (a .placed), b .placed);

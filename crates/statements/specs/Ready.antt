@@ -1,13 +1,12 @@
 -- What every later pass may take for granted: a set that was accepted and settled, what is known of its folded statements,
 -- and the work slice before and after numbering.
 use mathlib.Core.Path.{_≡_, refl, sym, ap, _∙_}
-use mathlib.Core.Bool.{Bool, true, false, _||_, cond}
+use mathlib.Core.Bool.{Bool, true, false, _||_}
 use mathlib.Core.List.{List, [], _∷_, _++_, map, append-assoc}
 use Prim.Native.Nat.{ℕ, zero, suc, _+_, _*_, _≤_, _<_}
 use native.Mathlib.Omega.{arith}
 use lib.IntN.{ℤ, pos}
 use lib.ListN.{length, getD, length-append, length-map}
-use Rattle.laws.specs.Bools.{or-no-l, or-no-r}
 use Rattle.laws.specs.Lists.{any, flat, below, counted}
 use Rattle.laws.specs.Slices.{Has}
 use Rattle.syntax.specs.Words.{max-count, max-set-words}
@@ -20,7 +19,6 @@ use Rattle.fold.specs.Fold.{Fixed, constant-folding-int as fold-int, constant-f
 use Rattle.fold.specs.Optimize.{settled, optimize}
 use Rattle.fold.specs.Ends.{optimize-rests}
 use Rattle.fold.specs.Kept.{fold-int-depth, fold-stmts-size}
-use Rattle.folded.specs.Folded.{fold-stmt-light, fold-stmt-few}
 use Rattle.clauses.specs.Clause.{Clause}
 use Rattle.clauses.specs.Log.{Log, next-bool, get-bool-var, get-int-var}
 use Rattle.clauses.specs.Disjunction.{Out}
@@ -36,7 +34,7 @@ use Rattle.walk.specs.Num.{Numbered}
 use Rattle.walk.specs.declared.Counters.{Counters}
 use Rattle.statements.specs.Columns.{ColumnRecord}
 use Rattle.statements.specs.Statements.{LegalStmt, LegalStmts, AllInPlace}
-use Rattle.statements.specs.Settled.{int-depth, int-legal, settled-declared, settled-legal}
+use Rattle.statements.specs.Settled.{int-depth, int-legal, Light, settled-declared, settled-light, settled-legal}
 use Rattle.statements.specs.Whole.{Empty}
 
 abbrev pub stmts-words : List Stmt → List ℤ
@@ -86,48 +84,30 @@ module _ (ds : List Domain) (f : Fixed) (nb : ℕ) (small : length ds ≤ 256) w
     columns-legal es (w .1) (d .1),
   )
 
-  folded-facts : (F : List ℤ) (ss : List Stmt) → Each (WellStmt nb (length ds)) ss
-      → any (any-part (heavy-comparison ds) (heavy ds)) ss ≡ false → any (any-part many-comparison many-column) ss ≡ false
-      → EveryStmts (λ v. v < nb) (λ v. v < length ds) (map (fold-stmt ds f) ss) → LegalStmts F ds (map (fold-stmt ds f) ss)
+  stmts-facts : (F : List ℤ) (ss : List Stmt) → Each (WellStmt nb (length ds)) ss
+      → EveryStmts (λ v. v < nb) (λ v. v < length ds) (map (fold-stmt ds f) ss) → LegalStmts F ds (map (fold-stmt ds f) ss) → Each (Light ds) (map (fold-stmt ds f) ss)
       → Each (StmtFacts ds) (map (fold-stmt ds f) ss)
   unfolding fold-stmt EveryStmts EveryStmt any-part
-  folded-facts F [] w h k d l = tt
-  folded-facts F (Rule e ∷ ss) w h k d l =
-      let x = fold-stmt-light ds f (Rule e) (or-no-l (any-part (heavy-comparison ds) (heavy ds) (Rule e)) _ h) in
-      let y = fold-stmt-few ds f (Rule e) (or-no-l (any-part many-comparison many-column (Rule e)) _ k) in (
-        record { legal = l .0; light = x; few = y },
-        folded-facts F ss (w .1) (or-no-r (any-part (heavy-comparison ds) (heavy ds) (Rule e)) _ h) (or-no-r (any-part many-comparison many-column (Rule e)) _ k) (d .1) (l .1),
-      )
-  folded-facts F (Table es rows ∷ ss) w h k d l =
-      let x = fold-stmt-light ds f (Table es rows) (or-no-l (any-part (heavy-comparison ds) (heavy ds) (Table es rows)) _ h) in
-      let y = fold-stmt-few ds f (Table es rows) (or-no-l (any-part many-comparison many-column (Table es rows)) _ k) in
+  stmts-facts F [] w d l k = tt
+  stmts-facts F (Rule e ∷ ss) w d l k = (record { legal = l .0; light = k .0 .weight; few = k .0 .variables }, stmts-facts F ss (w .1) (d .1) (l .1) (k .1))
+  stmts-facts F (Table es rows ∷ ss) w d l k =
       let n : length (map (fold-int ds) es) ≡ length es = length-map es (fold-int ds) in (
         record {
           columns-few = omega (arith, n, w .0 .0);
           rows-few = w .0 .1;
           legal = columns-legal es (w .0 .2) (d .0);
           declared = d .0;
-          light = x;
-          few = y;
+          light = k .0 .weight;
+          few = k .0 .variables;
           cells = rw n (w .0 .3);
         },
-        folded-facts F ss (w .1) (or-no-r (any-part (heavy-comparison ds) (heavy ds) (Table es rows)) _ h) (or-no-r (any-part many-comparison many-column (Table es rows)) _ k) (d .1) (l .1),
+        stmts-facts F ss (w .1) (d .1) (l .1) (k .1),
       )
 
 domains-words : (ds : List Domain) → Each WellDomain ds → 3 * length ds ≤ length (flat (map encode-domain ds))
 domains-words [] w = omega arith
 domains-words (Range low high ∷ ds) w = omega (arith, domains-words ds (w .1))
 domains-words (Enumerative xs ∷ ds) w = omega (arith, domains-words ds (w .1), w .0 .0, length-append xs (flat (map encode-domain ds)))
-
--- a set that `check` lets through is within refusals 9 and 10
-within : (p : Problem) → check p ≡ 0 → (any (any-part (heavy-comparison (p .domains)) (heavy (p .domains))) (p .stmts) ≡ false) × (any (any-part many-comparison many-column) (p .stmts) ≡ false)
-unfolding check
-within p h = go (any (any-part (heavy-comparison (p .domains)) (heavy (p .domains))) (p .stmts)) (any (any-part many-comparison many-column) (p .stmts)) _ h
-  where
-    go : (a b : Bool) (n : ℕ) → cond a 9 (cond b 10 n) ≡ 0 → (a ≡ false) × (b ≡ false)
-    go true b n h = absurd (omega (arith, h))
-    go false true n h = absurd (omega (arith, h))
-    go false false n h = (refl, refl)
 
 module _ (p : Problem) (f : Fixed) (ss : List Stmt) (s : Settled p f ss) where
   abbrev origin : ss ≡ map (fold-stmt (p .domains) f) (p .stmts)
@@ -137,9 +117,9 @@ module _ (p : Problem) (f : Fixed) (ss : List Stmt) (s : Settled p f ss) where
   settled-facts =
       let o = origin in
       let d = settled-declared p (s .well) f ss (s .ends) in
-      let l = settled-legal p (s .well) f ss (s .ends) [] in
-      let w = within p (s .unrefused) in
-      rw o (folded-facts (p .domains) f (p .bools) (omega (arith, s .well .few-ints)) [] (p .stmts) (s .well .stmts-well) (w .0) (w .1) (rw o at d) (rw o at l))
+      let l = settled-legal p (s .well) f ss (s .ends) (s .unrefused) [] in
+      let k = settled-light p (s .well) f ss (s .ends) (s .unrefused) in
+      rw o (stmts-facts (p .domains) f (p .bools) (omega (arith, s .well .few-ints)) [] (p .stmts) (s .well .stmts-well) (rw o at d) (rw o at l) (rw o at k))
 
   -- how many words the folded statements take, beside three for each domain
   pub settled-short : 3 * length (p .domains) + length (stmts-words ss) + 3 ≤ max-set-words

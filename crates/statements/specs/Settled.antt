@@ -1,23 +1,26 @@
 -- What the passes leave of an accepted set is legal for the walk: folded rules within 64 levels, columns of declared variables, few rows.
 use mathlib.Core.Path.{_≡_, refl, sym, ap, _∙_}
-use mathlib.Core.Bool.{Bool, true, false, false≢true}
+use mathlib.Core.Bool.{Bool, true, false, cond, false≢true}
 use mathlib.Core.Option.{Option, none as nothing, some}
 use mathlib.Core.List.{List, [], _∷_, _++_, map}
 use Prim.Native.Nat.{ℕ, zero, suc, _+_, _-_, _*_, _≤_, _<_, max}
 use native.Mathlib.Omega.{arith}
 use lib.IntN.{ℤ}
 use lib.ListN.{length}
-use Rattle.laws.specs.Lists.{flat}
+use Rattle.laws.specs.Bools.{or-no-l, or-no-r}
+use Rattle.laws.specs.Lists.{any, flat}
 use Rattle.syntax.specs.Syntax.{Domain, IntExpr, IConst, IVar, Linear, Terms, tnil, tmore, BoolExpr, Const, Var, NVar, And, Or, Not, Xor, Iff, Imp, Cmp, Members, none, more, count-members, Stmt, Rule, Table, encode-stmt, Problem}
 use Rattle.syntax.specs.Depth.{depth-int, depth-terms, depth, depth-members}
 use Rattle.syntax.specs.Written.{EveryInt, EveryTerm, EveryColumn, Every, EveryMember, EveryStmt, EveryStmts, every-stmts-map}
 use Rattle.words.specs.Exact.{Each}
 use Rattle.read.specs.WellFormed.{WellInt, WellTerms, WellBool, WellMembers, WellStmt, WellFormed}
+use Rattle.limits.specs.Limits.{any-part, heavy, heavy-comparison, many-comparison, many-column, check}
 use Rattle.fold.specs.Fold.{Fixed, is-const, constant-folding-bool as fold, constant-folding-stmt as fold-stmt}
 use Rattle.fold.specs.Optimize.{settled, optimize}
 use Rattle.fold.specs.Ends.{optimize-rests}
 use Rattle.fold.specs.Shape.{Solid, SolidMembers, SettledStmts, settled-shape}
 use Rattle.fold.specs.Kept.{fold-depth, fold-stmts-every}
+use Rattle.folded.specs.Folded.{fold-stmt-light, fold-stmt-few}
 use Rattle.clauses.specs.Bounds.{expr-bound, members-bound}
 use Rattle.call.specs.Ready.{well-declared, Plain, folded-plain}
 use Rattle.walk.specs.Legal.{LegalInt, LegalTerms, Legal, LegalMembers}
@@ -119,11 +122,16 @@ module _ (ds : List Domain) where
   Shallow (Rule e) = depth e ≤ 64
   Shallow (Table es rows) = Unit {0}
 
-  stmts-legal : (F : List ℤ) (ss : List Stmt) → SettledStmts ds ss → EveryStmts (λ v. v < 512) (λ v. v < 256) ss → Each Plain ss → Each Shallow ss → LegalStmts F ds ss
-  unfolding SettledStmts EveryStmts EveryStmt
-  stmts-legal F [] s v n d = tt
-  stmts-legal F (Rule e ∷ ss) s v n d = (root-legal e (s .0) (v .0) (n .0) (d .0), stmts-legal F ss (s .1) (v .1) (n .1) (d .1))
-  stmts-legal F (Table es rows ∷ ss) s v n d = (v .0, stmts-legal F ss (s .1) (v .1) (n .1) (d .1))
+  -- refusals 9 and 10 of a statement
+  pub record Light (t : Stmt) : Type 0 where
+    pub weight : any-part (heavy-comparison ds) (heavy ds) t ≡ false
+    pub variables : any-part many-comparison many-column t ≡ false
+
+  stmts-legal : (F : List ℤ) (ss : List Stmt) → SettledStmts ds ss → EveryStmts (λ v. v < 512) (λ v. v < 256) ss → Each Plain ss → Each Shallow ss → Each Light ss → LegalStmts F ds ss
+  unfolding SettledStmts EveryStmts EveryStmt any-part
+  stmts-legal F [] s v n d l = tt
+  stmts-legal F (Rule e ∷ ss) s v n d l = (root-legal e (s .0) (v .0) (n .0) (d .0), stmts-legal F ss (s .1) (v .1) (n .1) (d .1) (l .1))
+  stmts-legal F (Table es rows ∷ ss) s v n d l = ((v .0, l .0 .weight, l .0 .variables), stmts-legal F ss (s .1) (v .1) (n .1) (d .1) (l .1))
 
   -- ---- after folding
 
@@ -133,6 +141,16 @@ module _ (ds : List Domain) where
   folded-shallow f nb ni (Rule e ∷ ss) h = (omega (arith, fold-depth ds f e, bool-depth nb ni 64 e (h .0)), folded-shallow f nb ni ss (h .1))
   folded-shallow f nb ni (Table es rows ∷ ss) h = (tt, folded-shallow f nb ni ss (h .1))
 
+  folded-light : (f : Fixed) (ss : List Stmt) → any (any-part (heavy-comparison ds) (heavy ds)) ss ≡ false → any (any-part many-comparison many-column) ss ≡ false → Each Light (map (fold-stmt ds f) ss)
+  folded-light f [] h k = tt
+  folded-light f (t ∷ ss) h k = (
+    record {
+      weight = fold-stmt-light ds f t (or-no-l (any-part (heavy-comparison ds) (heavy ds) t) _ h);
+      variables = fold-stmt-few ds f t (or-no-l (any-part many-comparison many-column t) _ k);
+    },
+    folded-light f ss (or-no-r (any-part (heavy-comparison ds) (heavy ds) t) _ h) (or-no-r (any-part many-comparison many-column t) _ k),
+  )
+
   folded-few : (f : Fixed) (nb ni : ℕ) (ss : List Stmt) → Each (WellStmt nb ni) ss → Each FewRows (map (fold-stmt ds f) ss)
   unfolding fold-stmt
   folded-few f nb ni [] h = tt
@@ -140,6 +158,16 @@ module _ (ds : List Domain) where
   folded-few f nb ni (Table es rows ∷ ss) h = (h .0 .1, folded-few f nb ni ss (h .1))
 
 -- ---- of an accepted set
+
+-- a set that `check` lets through is within refusals 9 and 10
+within : (p : Problem) → check p ≡ 0 → (any (any-part (heavy-comparison (p .domains)) (heavy (p .domains))) (p .stmts) ≡ false) × (any (any-part many-comparison many-column) (p .stmts) ≡ false)
+unfolding check
+within p h = go (any (any-part (heavy-comparison (p .domains)) (heavy (p .domains))) (p .stmts)) (any (any-part many-comparison many-column) (p .stmts)) _ h
+  where
+    go : (a b : Bool) (n : ℕ) → cond a 9 (cond b 10 n) ≡ 0 → (a ≡ false) × (b ≡ false)
+    go true b n h = absurd (omega (arith, h))
+    go false true n h = absurd (omega (arith, h))
+    go false false n h = (refl, refl)
 
 module _ (p : Problem) (well : WellFormed p) (f : Fixed) (ss : List Stmt) (end : optimize p ≡ settled f ss) where
   origin : ss ≡ map (fold-stmt (p .domains) f) (p .stmts)
@@ -154,10 +182,14 @@ module _ (p : Problem) (well : WellFormed p) (f : Fixed) (ss : List Stmt) (end :
   pub settled-few : Each FewRows ss
   settled-few = rw origin (folded-few (p .domains) f (p .bools) (length (p .domains)) (p .stmts) (well .stmts-well))
 
-  pub settled-legal : (F : List ℤ) → LegalStmts F (p .domains) ss
-  settled-legal F =
+  pub settled-light : check p ≡ 0 → Each (Light (p .domains)) ss
+  settled-light h = rw origin (folded-light (p .domains) f (p .stmts) (within p h .0) (within p h .1))
+
+  pub settled-legal : check p ≡ 0 → (F : List ℤ) → LegalStmts F (p .domains) ss
+  settled-legal h F =
       stmts-legal (p .domains) F ss
       (settled-shape (p .domains) (p .stmts) f ss (optimize-rests p (well-declared p well) f ss end))
       (every-stmts-map (λ v. v < p .bools) (λ v. v < length (p .domains)) (λ v. v < 512) (λ v. v < 256) (λ v h. omega (arith, well .few-bools)) (λ v h. omega (arith, well .few-ints)) ss settled-declared)
       settled-plain
       (rw origin (folded-shallow (p .domains) f (p .bools) (length (p .domains)) (p .stmts) (well .stmts-well)))
+      (settled-light h)

@@ -7,11 +7,12 @@ use Prim.Native.Nat.{ℕ, zero, suc, _+_, _-_, _≤_, _<_, min}
 use native.Mathlib.Omega.{arith}
 use lib.IntN.{ℤ, pos, negsuc}
 use lib.ListN.{length, getD, length-append}
-use Rattle.laws.specs.Lists.{flat}
+use Rattle.laws.specs.Lists.{any, flat}
 use Rattle.laws.specs.Slices.{Has, has-front, has-back, has-rest}
 use Rattle.syntax.specs.Syntax.{Domain, domain-of, IntExpr, encode-int, BoolExpr, encode-bool, Cell, encode-cell, Stmt, Rule, Table, encode-stmt}
 use Rattle.syntax.specs.Satisfies.{Val, IVal}
 use Rattle.syntax.specs.Written.{EveryColumn, EveryStmts}
+use Rattle.limits.specs.Limits.{heavy, many-column}
 use Rattle.words.specs.Exact.{Each}
 use Rattle.sums.specs.LinearSum.{LinearSum}
 use Rattle.clauses.specs.Clause.{Clause}
@@ -62,9 +63,10 @@ stmts-text w dom at (t ∷ ts) n = stmt-text w dom at t n ++ stmts-text w dom (a
 
 -- ---- what a statement has to be
 
-abbrev pub LegalStmt : Stmt → Type 0
-LegalStmt (Rule e) = LegalRule e 64
-LegalStmt (Table es rows) = EveryColumn (λ v. v < 256) es
+-- the columns of a table are within refusals 9 and 10
+abbrev pub LegalStmt : List Domain → Stmt → Type 0
+LegalStmt ds (Rule e) = LegalRule e 64
+LegalStmt ds (Table es rows) = EveryColumn (λ v. v < 256) es × (any (heavy ds) es ≡ false) × (any many-column es ≡ false)
 
 -- the words of the statement lie in the region of the folded words
 abbrev Inside : ℕ → Stmt → Type 0
@@ -155,10 +157,10 @@ module _ (F : List ℤ) (ds : List Domain) where
   unfolding encode-stmt
   table-length es rows = omega (arith, length-append (flat (map encode-int es)) (flat (map (map encode-cell) rows)))
 
-  table-stmt : (at : ℕ) (es : List IntExpr) (rows : List (List Cell)) (st : State) (s : Log) → Inside at (Table es rows) → Has F at (encode-stmt (Table es rows)) → EveryColumn (λ v. v < 256) es → Numbered CR st s → Low (normalize-table ds es rows s .1) → next-int (normalize-table ds es rows s .1) < max-emitted → StmtPasses at (Table es rows) st s
+  table-stmt : (at : ℕ) (es : List IntExpr) (rows : List (List Cell)) (st : State) (s : Log) → Inside at (Table es rows) → Has F at (encode-stmt (Table es rows)) → LegalStmt ds (Table es rows) → Numbered CR st s → Low (normalize-table ds es rows s .1) → next-int (normalize-table ds es rows s .1) < max-emitted → StmtPasses at (Table es rows) st s
   unfolding meet-stmt stmt-text stmt-count normalize-stmt
   table-stmt at es rows st s i f v h l r =
-      let t = table-passes F ds (at + 3) es rows st s (omega arith) (omega (arith, table-length es rows)) (table-words at es rows f) v h l r in
+      let t = table-passes F ds (at + 3) es rows st s (omega arith) (omega (arith, table-length es rows)) (table-words at es rows f) (v .0) (v .1) (v .2) h l r in
       record {
         numbered = t .numbered;
         placed = t .placed;
@@ -171,17 +173,17 @@ module _ (F : List ℤ) (ds : List Domain) where
 
   abbrev pub LegalStmts : List Stmt → Type 0
   LegalStmts [] = Unit {0}
-  LegalStmts (t ∷ ts) = LegalStmt t × LegalStmts ts
+  LegalStmts (t ∷ ts) = LegalStmt ds t × LegalStmts ts
 
   unfoldable pub AllInPlace : List ℤ → ℕ → List Stmt → Log → Type 0
   AllInPlace w at [] s = Unit {0}
   AllInPlace w at (t ∷ ts) s = InPlace w at t s × AllInPlace w (at + length (encode-stmt t)) ts (normalize-stmt ds t s .1)
 
-  pub stmt-passes : (at : ℕ) (t : Stmt) (st : State) (s : Log) → Inside at t → Has F at (encode-stmt t) → LegalStmt t → Numbered CR st s → Low (normalize-stmt ds t s .1) → next-int (normalize-stmt ds t s .1) < max-emitted → StmtPasses at t st s
+  pub stmt-passes : (at : ℕ) (t : Stmt) (st : State) (s : Log) → Inside at t → Has F at (encode-stmt t) → LegalStmt ds t → Numbered CR st s → Low (normalize-stmt ds t s .1) → next-int (normalize-stmt ds t s .1) < max-emitted → StmtPasses at t st s
   stmt-passes at (Rule e) st s i f x h l r = rule-stmt at e st s x h (unfold normalize-stmt in l) (unfold normalize-stmt in r)
   stmt-passes at (Table es rows) st s i f x h l r = table-stmt at es rows st s i f x h (unfold normalize-stmt in l) (unfold normalize-stmt in r)
 
-  stmt-grows : (t : Stmt) (s : Log) → LegalStmt t → Grows s (normalize-stmt ds t s .1)
+  stmt-grows : (t : Stmt) (s : Log) → LegalStmt ds t → Grows s (normalize-stmt ds t s .1)
   unfolding normalize-stmt
   stmt-grows (Rule e) s x = rule-grows e s
   stmt-grows (Table es rows) s x = table-grows F ds es rows s

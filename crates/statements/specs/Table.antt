@@ -12,6 +12,7 @@ use Rattle.laws.specs.Lists.{any, flat, flat-append, any-cong}
 use Rattle.laws.specs.Slices.{Has, has-front, has-back, has-rest}
 use Rattle.syntax.specs.Syntax.{Domain, domain-of, IntExpr, IConst, IVar, Linear, encode-int, Cell, star, value, encode-cell}
 use Rattle.syntax.specs.Written.{EveryColumn}
+use Rattle.limits.specs.Limits.{heavy, many-column}
 use Rattle.sums.specs.LinearSum.{LinearSum}
 use Rattle.clauses.specs.Clause.{Clause}
 use Rattle.clauses.specs.Log.{Log, column, next-bool, next-int, get-int-var, convert-int-var}
@@ -287,12 +288,12 @@ module _ (F : List ℤ) (ds : List Domain) where
   words-append (c ∷ cs) es = ap (λ (l : List ℤ). clause-words c ++ l) (words-append cs es) ∙ sym (append-assoc (clause-words c) (flat (map clause-words cs)) (flat (map clause-words es)))
 
   pub table-passes : (p : ℕ) (es : List IntExpr) (rows : List (List Cell)) (st : State) (s : Log) → 512 ≤ p → p + length (flat (map encode-int es)) ≤ bool-map → Has F p (flat (map encode-int es))
-      → EveryColumn (λ v. v < 256) es → Numbered CR st s → Low (normalize-table ds es rows s .1) → next-int (normalize-table ds es rows s .1) < max-emitted → TablePasses p es rows st s
+      → EveryColumn (λ v. v < 256) es → any (heavy ds) es ≡ false → any many-column es ≡ false → Numbered CR st s → Low (normalize-table ds es rows s .1) → next-int (normalize-table ds es rows s .1) < max-emitted → TablePasses p es rows st s
   unfolding normalize-table meet-table table-text pass-bools
-  table-passes p es rows st s l k f v h low room =
+  table-passes p es rows st s l k f v y z h low room =
       let c : Columns = equivalent-int-vars ds es s in
       let g : Grows (c .log) (normalize-extension-supports ds (c .vars) rows (c .log) .1) = supports-grow (c .vars) rows (c .log) in
-      let m : MetAll F ds p es st s = columns-met F ds p es st s l k f v h (omega (arith, g .ints)) in
+      let m : MetAll F ds p es st s = columns-met F ds p es st s l k f v y z h (omega (arith, g .ints)) in
       let n : Numbered CR (pass-bools (table-fresh (length (c .vars)) rows) (meet-columns p es st)) (normalize-extension-supports ds (c .vars) rows (c .log) .1) = rows-numbered (c .vars) rows (meet-columns p es st) (c .log) (m .numbered) (low .bools) in
       record {
         numbered = rw (columns-count es s) at n;

@@ -17,6 +17,7 @@ use Rattle.syntax.specs.Satisfies.{IVal}
 use Rattle.syntax.specs.Written.{EveryStmts, every-stmts-map}
 use Rattle.words.specs.Exact.{Each}
 use Rattle.read.specs.WellFormed.{WellDomain, WellFormed}
+use Rattle.limits.specs.Limits.{check}
 use Rattle.fold.specs.Fold.{Fixed}
 use Rattle.fold.specs.Optimize.{settled, optimize}
 use Rattle.sums.specs.Domain.{ordered}
@@ -81,7 +82,7 @@ entries : (entry : ℕ → ℕ) (look : ℕ → Option ℕ) (i n : ℕ) → ((v 
 entries entry look i zero h = refl
 entries entry look i (suc n) h = rw (map-code (look i), sym (h i (omega arith)), entries entry look (suc i) n (λ v k. h v (omega arith))) refl
 
-module _ (p : Problem) (well : WellFormed p) (f : Fixed) (ss : List Stmt) (end : optimize p ≡ settled f ss)
+module _ (p : Problem) (well : WellFormed p) (f : Fixed) (ss : List Stmt) (end : optimize p ≡ settled f ss) (unrefused : check p ≡ 0)
     (F : List ℤ) (stands : Has F 512 (flat (map encode-stmt ss))) (short : length (flat (map encode-stmt ss)) ≤ 4096) (few : 2 * length (p .domains) + length (flat (map encode-stmt ss)) ≤ 4608)
     (w : List ℤ) (empty : Empty w) where
   abbrev ds : List Domain
@@ -108,10 +109,10 @@ module _ (p : Problem) (well : WellFormed p) (f : Fixed) (ss : List Stmt) (end :
   roomy = omega (arith, emitted-few ds (p .bools) (length ds) (lowest ds) ss grown declared)
 
   low : Low (out .1)
-  low = record { bools = omega (arith, stmts-low F ds ss [] (settled-legal p well f ss end F) (settled-few p well f ss end)); ints = omega (arith, roomy) }
+  low = record { bools = omega (arith, stmts-low F ds ss [] (settled-legal p well f ss end unrefused F) (settled-few p well f ss end)); ints = omega (arith, roomy) }
 
   pub passes : StmtsPasses F ds 512 ss (start w) []
-  passes = stmts-passes F ds (lowest ds) 512 ss (start w) [] (omega arith) (omega arith) stands (settled-legal p well f ss end F) (settled-plain p well f ss end) standing (start-numbered F ds w empty) low roomy
+  passes = stmts-passes F ds (lowest ds) 512 ss (start w) [] (omega arith) (omega arith) stands (settled-legal p well f ss end unrefused F) (settled-plain p well f ss end) standing (start-numbered F ds w empty) low roomy
 
   -- the answer's words: the fixed values, the entries of the maps, the counters and domains, the count and the words of the clauses
   pub answer-words : (dom : ℕ → Domain) → Stable ds dom (out .1)
