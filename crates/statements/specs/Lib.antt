@@ -9,3 +9,4 @@ pub mod Settled
 pub mod Whole
 pub mod Records
 pub mod Ready
+pub mod NumberColumns

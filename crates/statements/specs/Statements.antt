@@ -188,7 +188,7 @@ module _ (F : List ℤ) (ds : List Domain) where
   stmt-grows (Rule e) s x = rule-grows e s
   stmt-grows (Table es rows) s x = table-grows F ds es rows s
 
-  stmts-grow : (ts : List Stmt) (s : Log) → LegalStmts ts → Grows s (normalize-stmts ds ts s .1)
+  pub stmts-grow : (ts : List Stmt) (s : Log) → LegalStmts ts → Grows s (normalize-stmts ds ts s .1)
   unfolding normalize-stmts
   stmts-grow [] s x = same
   stmts-grow (t ∷ ts) s x = then (stmt-grows t s (x .0)) (stmts-grow ts (normalize-stmt ds t s .1) (x .1))

@@ -48,7 +48,7 @@ pub record Empty (w : List ℤ) : Type 0 where
 abbrev pub start : List ℤ → State
 start w = record { work = w; bools = 0; ints = 0 }
 
-start-numbered : (F : List ℤ) (ds : List Domain) (w : List ℤ) → Empty w → Numbered (ColumnRecord F ds) (start w) []
+pub start-numbered : (F : List ℤ) (ds : List Domain) (w : List ℤ) → Empty w → Numbered (ColumnRecord F ds) (start w) []
 unfolding get-bool-var get-int-var Recorded
 start-numbered F ds w h = record {
   map = λ v k. h .bools v k;
@@ -105,10 +105,10 @@ module _ (p : Problem) (well : WellFormed p) (f : Fixed) (ss : List Stmt) (end :
   declared : Declared (p .bools) (length ds) (out .1)
   declared = stmts-declared (p .bools) (length ds) ds ss (settled-declared p well f ss end) [] tt
 
-  roomy : next-int (out .1) < max-emitted
+  pub roomy : next-int (out .1) < max-emitted
   roomy = omega (arith, emitted-few ds (p .bools) (length ds) (lowest ds) ss grown declared)
 
-  low : Low (out .1)
+  pub low : Low (out .1)
   low = record { bools = omega (arith, stmts-low F ds ss [] (settled-legal p well f ss end unrefused F) (settled-few p well f ss end)); ints = omega (arith, roomy) }
 
   pub passes : StmtsPasses F ds 512 ss (start w) []

@@ -1,0 +1,1 @@
+// The numbering pass over all folded statements.
