@@ -10,3 +10,5 @@ pub mod Whole
 pub mod Records
 pub mod Ready
 pub mod NumberColumns
+pub mod Along
+pub mod Saved

@@ -69,7 +69,7 @@ LegalStmt ds (Rule e) = LegalRule e 64
 LegalStmt ds (Table es rows) = EveryColumn (λ v. v < 256) es × (any (heavy ds) es ≡ false) × (any many-column es ≡ false)
 
 -- the words of the statement lie in the region of the folded words
-abbrev Inside : ℕ → Stmt → Type 0
+abbrev pub Inside : ℕ → Stmt → Type 0
 Inside at t = (512 ≤ at) × (at + length (encode-stmt t) ≤ bool-map)
 
 -- domains of emitted numbers that are those of the log
@@ -81,7 +81,7 @@ unfolding emitted-domains newest
 auxed-domains ds here = (refl, refl)
 auxed-domains ds (above a) = auxed-domains ds a
 
-supports-stable : (ds : List Domain) (dom : ℕ → Domain) (vs : List ℕ) (rows : List (List Cell)) (z : Log) → Stable ds dom (normalize-extension-supports ds vs rows z .1) → Stable ds dom z
+pub supports-stable : (ds : List Domain) (dom : ℕ → Domain) (vs : List ℕ) (rows : List (List Cell)) (z : Log) → Stable ds dom (normalize-extension-supports ds vs rows z .1) → Stable ds dom z
 unfolding normalize-extension-supports
 supports-stable ds dom vs rows z = go (starred rows)
   where
@@ -149,11 +149,11 @@ module _ (F : List ℤ) (ds : List Domain) where
 
   -- ---- a table
 
-  table-words : (at : ℕ) (es : List IntExpr) (rows : List (List Cell)) → Has F at (encode-stmt (Table es rows)) → Has F (at + 3) (flat (map encode-int es))
+  pub table-words : (at : ℕ) (es : List IntExpr) (rows : List (List Cell)) → Has F at (encode-stmt (Table es rows)) → Has F (at + 3) (flat (map encode-int es))
   unfolding encode-stmt
   table-words at es rows h = has-front F (at + 3) (flat (map encode-int es)) (flat (map (map encode-cell) rows)) (has-back F at (pos 2 ∷ pos (length es) ∷ pos (length rows) ∷ []) _ h)
 
-  table-length : (es : List IntExpr) (rows : List (List Cell)) → 3 + length (flat (map encode-int es)) ≤ length (encode-stmt (Table es rows))
+  pub table-length : (es : List IntExpr) (rows : List (List Cell)) → 3 + length (flat (map encode-int es)) ≤ length (encode-stmt (Table es rows))
   unfolding encode-stmt
   table-length es rows = omega (arith, length-append (flat (map encode-int es)) (flat (map (map encode-cell) rows)))
 
@@ -198,7 +198,7 @@ module _ (F : List ℤ) (ds : List Domain) where
   in-place-keeps w w' at (Table es rows) s l g h = placed-keeps F ds w w' (at + 3) es s (omega arith) (grown-less F ds _ (at + length (encode-stmt (Table es rows))) (omega (arith, table-length es rows)) g) h
 
   -- what is stable behind the later statements is stable in front of them
-  stable-back : (dom : ℕ → Domain) (ε : IVal) (ts : List Stmt) (s : Log) → Each Plain ts → EveryStmts (λ v. Unit {0}) (Standing ds ε) ts → Stable ds dom (normalize-stmts ds ts s .1) → Stable ds dom s
+  pub stable-back : (dom : ℕ → Domain) (ε : IVal) (ts : List Stmt) (s : Log) → Each Plain ts → EveryStmts (λ v. Unit {0}) (Standing ds ε) ts → Stable ds dom (normalize-stmts ds ts s .1) → Stable ds dom s
   stable-back dom ε ts s p q d v h =
       let g : GrowsFrom ε s (normalize-stmts ds ts s .1) = stmts-mean (λ n. false) ε (λ n. false) ε ds ts s p q .grows in
       let l : next-int s ≤ next-int (normalize-stmts ds ts s .1) = grows-int g in

@@ -129,7 +129,7 @@ free-row (v ∷ vs) [] = refl
 free-row (v ∷ vs) (star ∷ cs) = free-row vs cs
 free-row (v ∷ vs) (value x ∷ cs) = refl
 
-free-is : (vs : List ℕ) (rows : List (List Cell)) → free-rows (length vs) rows ≡ any-free vs rows
+pub free-is : (vs : List ℕ) (rows : List (List Cell)) → free-rows (length vs) rows ≡ any-free vs rows
 free-is vs rows = any-cong (λ cs. is-zero (values (length vs) cs)) (no-equality vs) rows (free-row vs)
 
 abbrev pub starred : List (List Cell) → Bool
@@ -209,7 +209,7 @@ module _ (F : List ℤ) (ds : List Domain) where
 
   -- ---- the columns' variables have numbers, and columns take no Boolean
 
-  abbrev Below : ℕ → List ℕ → Type 0
+  abbrev pub Below : ℕ → List ℕ → Type 0
   Below n [] = Unit {0}
   Below n (v ∷ vs) = (v < n) × Below n vs
 
@@ -227,7 +227,7 @@ module _ (F : List ℤ) (ds : List Domain) where
   column-below (IVar v) s = (int-below (convert-int-var v s .1) v (convert-int-var v s .0) (var-found v s), tt)
   column-below (Linear ts) s = (omega arith, tt)
 
-  columns-below : (es : List IntExpr) (s : Log) → Below (next-int (equivalent-int-vars ds es s .log)) (equivalent-int-vars ds es s .vars)
+  pub columns-below : (es : List IntExpr) (s : Log) → Below (next-int (equivalent-int-vars ds es s .log)) (equivalent-int-vars ds es s .vars)
   unfolding equivalent-int-vars
   columns-below [] s = tt
   columns-below (e ∷ es) s =
@@ -251,12 +251,12 @@ module _ (F : List ℤ) (ds : List Domain) where
   column-count (IVar v) s = refl
   column-count (Linear ts) s = refl
 
-  columns-count : (es : List IntExpr) (s : Log) → length (equivalent-int-vars ds es s .vars) ≡ length es
+  pub columns-count : (es : List IntExpr) (s : Log) → length (equivalent-int-vars ds es s .vars) ≡ length es
   unfolding equivalent-int-vars
   columns-count [] s = refl
   columns-count (e ∷ es) s = omega (arith, length-append (equivalent-int-var ds e s .vars) (equivalent-int-vars ds es (equivalent-int-var ds e s .log) .vars), column-count e s, columns-count es (equivalent-int-var ds e s .log))
 
-  domains-agree : (dom : ℕ → Domain) (z : Log) (vs : List ℕ) → Below (next-int z) vs → ((v : ℕ) → v < next-int z → dom v ≡ domain-of (emitted-domains ds z) v) → map dom vs ≡ map (domain-of (emitted-domains ds z)) vs
+  pub domains-agree : (dom : ℕ → Domain) (z : Log) (vs : List ℕ) → Below (next-int z) vs → ((v : ℕ) → v < next-int z → dom v ≡ domain-of (emitted-domains ds z) v) → map dom vs ≡ map (domain-of (emitted-domains ds z)) vs
   domains-agree dom z [] h d = refl
   domains-agree dom z (v ∷ vs) h d = rw (d v (h .0), domains-agree dom z vs (h .1) d) refl
 
@@ -271,7 +271,7 @@ module _ (F : List ℤ) (ds : List Domain) where
         → ((v : ℕ) → v < next-int (equivalent-int-vars ds es s .log) → dom v ≡ domain-of (emitted-domains ds (equivalent-int-vars ds es s .log)) v)
         → table-text w dom p es rows (st .bools) ≡ flat (map clause-words (normalize-table ds es rows s .0))
 
-  supports-grow : (vs : List ℕ) (rows : List (List Cell)) (z : Log) → Grows z (normalize-extension-supports ds vs rows z .1)
+  pub supports-grow : (vs : List ℕ) (rows : List (List Cell)) (z : Log) → Grows z (normalize-extension-supports ds vs rows z .1)
   unfolding normalize-extension-supports
   supports-grow vs rows z = go (starred rows)
     where

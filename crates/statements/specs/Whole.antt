@@ -63,7 +63,7 @@ start-numbered F ds w h = record {
 
 -- ---- the assignment of lowest values is within the domains
 
-abbrev lowest : List Domain → IVal
+abbrev pub lowest : List Domain → IVal
 lowest ds v = lower-bound (domain-of ds v)
 
 lowest-in : (d : Domain) → ordered d ≡ true → in-domain (lower-bound d) d ≡ true
@@ -94,7 +94,7 @@ module _ (p : Problem) (well : WellFormed p) (f : Fixed) (ss : List Stmt) (end :
   abbrev st : State
   st = meet-stmts 512 ss (start w)
 
-  standing : EveryStmts (λ v. Unit {0}) (Standing ds (lowest ds)) ss
+  pub standing : EveryStmts (λ v. Unit {0}) (Standing ds (lowest ds)) ss
   standing =
       every-stmts-map (λ v. v < p .bools) (λ v. v < length ds) (λ v. Unit {0}) (Standing ds (lowest ds)) (λ v h. tt)
       (λ v h. let o = domains-ordered ds (well .domains-well) v h in (o, lowest-in (domain-of ds v) o)) ss (settled-declared p well f ss end)

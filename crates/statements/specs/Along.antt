@@ -1,0 +1,159 @@
+-- The statements of a settled set taken one by one: what is known of the next one and of those behind it.
+-- F: the folded words as numbering left them; w: the work slice with the maps and the columns' numbers of the whole log.
+use mathlib.Core.Path.{_≡_, refl, sym, ap, _∙_, subst}
+use mathlib.Core.Bool.{Bool, true, false}
+use mathlib.Core.List.{List, [], _∷_, _++_, map, append-assoc}
+use Prim.Native.Nat.{ℕ, zero, suc, _+_, _*_, _≤_, _<_}
+use native.Mathlib.Omega.{arith}
+use lib.IntN.{ℤ, pos}
+use lib.ListN.{length, getD, replicate, length-replicate, getD-replicate, length-append}
+use Rattle.laws.specs.Lists.{flat}
+use Rattle.laws.specs.Slices.{Has, has-front, has-back}
+use Rattle.syntax.specs.Syntax.{Domain, domain-of, Stmt, Rule, Table, encode-stmt, Problem, encode}
+use Rattle.syntax.specs.Satisfies.{IVal}
+use Rattle.syntax.specs.Written.{EveryStmts}
+use Rattle.words.specs.Exact.{Each}
+use Rattle.fold.specs.Fold.{Fixed}
+use Rattle.clauses.specs.Clause.{Clause}
+use Rattle.clauses.specs.Log.{Log, next-bool, next-int}
+use Rattle.clauses.specs.Disjunction.{Out}
+use Rattle.tables.specs.Tables.{emitted-domains}
+use Rattle.tables.specs.ColumnMeaning.{Standing}
+use Rattle.answer.specs.Answer.{normalize-stmt, normalize-stmts}
+use Rattle.call.specs.Ready.{Plain}
+use Rattle.walk.specs.Item.{bool-map, bool-entry, int-entry, nat, State}
+use Rattle.walk.specs.Grow.{Grows}
+use Rattle.walk.specs.Num.{max-emitted, Numbered}
+use Rattle.walk.specs.Two.{Low, low-back}
+use Rattle.statements.specs.Columns.{ColumnRecord}
+use Rattle.statements.specs.Statements.{LegalStmt, LegalStmts, Stable, InPlace, AllInPlace, meet-stmt, stmts-grow, stable-back, stmt-passes}
+use Rattle.statements.specs.Settled.{settled-legal, settled-plain}
+use Rattle.statements.specs.Whole.{Empty, start, start-numbered, lowest, standing, low, roomy}
+use Rattle.statements.specs.Ready.{stmts-words, Settled, clauses-of, log-of, StmtFacts, settled-facts, settled-short}
+
+-- ---- a work slice of zeros, from which the numbering of a set may start
+
+abbrev zeros : List ℤ
+zeros = replicate 16384 (pos 0)
+
+zeros-empty : Empty zeros
+unfolding bool-entry int-entry nat
+zeros-empty = record {
+  bools = λ v h. ap nat (getD-replicate 16384 (4608 + v) (pos 0) (pos 0) (omega arith));
+  ints = λ v h. ap nat (getD-replicate 16384 (5120 + v) (pos 0) (pos 0) (omega arith));
+  size = omega (arith, length-replicate 16384 (pos 0));
+}
+
+-- ---- one statement t at q, s the log before it, L the log of all
+
+pub record StmtAt (ds : List Domain) (F w : List ℤ) (L : Log) (q : ℕ) (t : Stmt) (s : Log) (st : State) : Type 0 where
+  pub facts : StmtFacts ds t
+  pub legal : LegalStmt t
+  pub plain : Plain t
+  pub stands : Has F q (encode-stmt t)
+  pub behind : 512 ≤ q
+  pub inside : q + length (encode-stmt t) ≤ bool-map
+  pub numbered : Numbered (ColumnRecord F ds) st s
+  pub placed : InPlace F ds w q t s
+  pub grows : Grows (normalize-stmt ds t s .1) L
+  pub stable : Stable ds (domain-of (emitted-domains ds L)) (normalize-stmt ds t s .1)
+
+-- ---- the statements that are left, behind clauses cs
+
+pub record Rest (p : Problem) (ss : List Stmt) (F w : List ℤ) (q : ℕ) (rest : List Stmt) (s : Log) (st : State) (cs : List Clause) : Type 0 where
+  pub joins : cs ++ normalize-stmts (p .domains) rest s .0 ≡ clauses-of p ss
+  pub ends : normalize-stmts (p .domains) rest s .1 ≡ log-of p ss
+  pub stands : Has F q (stmts-words rest)
+  pub behind : 512 ≤ q
+  pub place : q + length (stmts-words rest) ≡ 512 + length (stmts-words ss)
+  pub facts : Each (StmtFacts (p .domains)) rest
+  pub legal : LegalStmts F (p .domains) rest
+  pub plain : Each Plain rest
+  pub standing : EveryStmts (λ v. Unit {0}) (Standing (p .domains) (lowest (p .domains))) rest
+  pub numbered : Numbered (ColumnRecord F (p .domains)) st s
+  pub placed : AllInPlace F (p .domains) w q rest s
+
+module _ (p : Problem) (f : Fixed) (ss : List Stmt) (set : Settled p f ss) (F w : List ℤ) (stands : Has F 512 (stmts-words ss)) where
+  abbrev ds : List Domain
+  ds = p .domains
+
+  short : length (stmts-words ss) ≤ 4096
+  short = omega (arith, settled-short p f ss set)
+
+  few : 2 * length ds + length (stmts-words ss) ≤ 4608
+  few = omega (arith, settled-short p f ss set)
+
+  -- the numbers of the set are few
+  pub log-low : Low (log-of p ss)
+  log-low = low p (set .well) f ss (set .ends) F stands short few zeros zeros-empty
+
+  pub log-few : next-int (log-of p ss) < max-emitted
+  log-few = roomy p (set .well) f ss (set .ends) F stands short few zeros zeros-empty
+
+  pub rest-start : AllInPlace F ds w 512 ss [] → Rest p ss F w 512 ss [] (start zeros) []
+  rest-start h = record {
+    joins = refl;
+    ends = refl;
+    stands = stands;
+    behind = omega arith;
+    place = refl;
+    facts = settled-facts p f ss set;
+    legal = settled-legal p (set .well) f ss (set .ends) F;
+    plain = settled-plain p (set .well) f ss (set .ends);
+    standing = standing p (set .well) f ss (set .ends) F stands short few zeros zeros-empty;
+    numbered = start-numbered F ds zeros zeros-empty;
+    placed = h;
+  }
+
+  module _ (q : ℕ) (t : Stmt) (ts : List Stmt) (s : Log) (st : State) (cs : List Clause) (r : Rest p ss F w q (t ∷ ts) s st cs) where
+    abbrev here : Out
+    here = normalize-stmt ds t s
+
+    words : length (stmts-words (t ∷ ts)) ≡ length (encode-stmt t) + length (stmts-words ts)
+    words = length-append (encode-stmt t) (stmts-words ts)
+
+    room : q + length (encode-stmt t) ≤ bool-map
+    room = omega (arith, words, r .place, short)
+
+    later : normalize-stmts ds ts (here .1) .1 ≡ log-of p ss
+    unfolding normalize-stmts
+    later = r .ends
+
+    grows : Grows (here .1) (log-of p ss)
+    grows = subst (λ (l : Log). Grows (here .1) l) later (stmts-grow F ds ts (here .1) (r .legal .1))
+
+    pub rest-first : StmtAt ds F w (log-of p ss) q t s st
+    unfolding AllInPlace EveryStmts
+    rest-first =
+        let whole : Stable ds (domain-of (emitted-domains ds (log-of p ss))) (normalize-stmts ds ts (here .1) .1) = λ v h. ap (λ (l : Log). domain-of (emitted-domains ds l) v) (sym later) in
+        record {
+          facts = r .facts .0;
+          legal = r .legal .0;
+          plain = r .plain .0;
+          stands = has-front F q (encode-stmt t) (stmts-words ts) (r .stands);
+          behind = r .behind;
+          inside = room;
+          numbered = r .numbered;
+          placed = r .placed .0;
+          grows = grows;
+          stable = stable-back F ds (domain-of (emitted-domains ds (log-of p ss))) (lowest ds) ts (here .1) (r .plain .1) (r .standing .1) whole;
+        }
+
+    pub rest-next : Rest p ss F w (q + length (encode-stmt t)) ts (here .1) (meet-stmt q t st) (cs ++ here .0)
+    unfolding AllInPlace EveryStmts normalize-stmts
+    rest-next =
+        let has = has-front F q (encode-stmt t) (stmts-words ts) (r .stands) in
+        let fewer : next-int (here .1) < max-emitted = omega (arith, grows .ints, log-few) in
+        record {
+          joins = append-assoc cs (here .0) (normalize-stmts ds ts (here .1) .0) ∙ r .joins;
+          ends = r .ends;
+          stands = has-back F q (encode-stmt t) (stmts-words ts) (r .stands);
+          behind = omega (arith, r .behind);
+          place = omega (arith, words, r .place);
+          facts = r .facts .1;
+          legal = r .legal .1;
+          plain = r .plain .1;
+          standing = r .standing .1;
+          numbered = stmt-passes F ds q t st s (r .behind, room) has (r .legal .0) (r .numbered) (low-back grows log-low) fewer .numbered;
+          placed = r .placed .1;
+        }
