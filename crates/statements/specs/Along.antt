@@ -48,7 +48,7 @@ zeros-empty = record {
 
 pub record StmtAt (ds : List Domain) (F w : List ℤ) (L : Log) (q : ℕ) (t : Stmt) (s : Log) (st : State) : Type 0 where
   pub facts : StmtFacts ds t
-  pub legal : LegalStmt t
+  pub legal : LegalStmt ds t
   pub plain : Plain t
   pub stands : Has F q (encode-stmt t)
   pub behind : 512 ≤ q
@@ -85,10 +85,10 @@ module _ (p : Problem) (f : Fixed) (ss : List Stmt) (set : Settled p f ss) (F w 
 
   -- the numbers of the set are few
   pub log-low : Low (log-of p ss)
-  log-low = low p (set .well) f ss (set .ends) F stands short few zeros zeros-empty
+  log-low = low p (set .well) f ss (set .ends) (set .unrefused) F stands short few zeros zeros-empty
 
   pub log-few : next-int (log-of p ss) < max-emitted
-  log-few = roomy p (set .well) f ss (set .ends) F stands short few zeros zeros-empty
+  log-few = roomy p (set .well) f ss (set .ends) (set .unrefused) F stands short few zeros zeros-empty
 
   pub rest-start : AllInPlace F ds w 512 ss [] → Rest p ss F w 512 ss [] (start zeros) []
   rest-start h = record {
@@ -98,9 +98,9 @@ module _ (p : Problem) (f : Fixed) (ss : List Stmt) (set : Settled p f ss) (F w 
     behind = omega arith;
     place = refl;
     facts = settled-facts p f ss set;
-    legal = settled-legal p (set .well) f ss (set .ends) F;
+    legal = settled-legal p (set .well) f ss (set .ends) (set .unrefused) F;
     plain = settled-plain p (set .well) f ss (set .ends);
-    standing = standing p (set .well) f ss (set .ends) F stands short few zeros zeros-empty;
+    standing = standing p (set .well) f ss (set .ends) (set .unrefused) F stands short few zeros zeros-empty;
     numbered = start-numbered F ds zeros zeros-empty;
     placed = h;
   }
