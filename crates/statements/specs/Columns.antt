@@ -162,7 +162,7 @@ module _ (F : List ℤ) (ds : List Domain) where
 
   -- ---- the columns from p on: numbered as in the log, each new one's number at its place
 
-  abbrev PlacedOne : List ℤ → ℕ → IntExpr → Log → Type 0
+  abbrev pub PlacedOne : List ℤ → ℕ → IntExpr → Log → Type 0
   PlacedOne w p (IConst c) s = getD w (column-map + p) (pos 0) ≡ pos (suc (next-int (normalize-int-expr (IConst c) s .1)))
   PlacedOne w p (IVar v) s = Unit {0}
   PlacedOne w p (Linear ts) s = getD w (column-map + p) (pos 0) ≡ pos (suc (next-int (normalize-int-expr (Linear ts) s .1)))

@@ -12,3 +12,5 @@ pub mod Ready
 pub mod NumberColumns
 pub mod Along
 pub mod Saved
+pub mod ReadyEntry
+pub mod ReadyKeeps

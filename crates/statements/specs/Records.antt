@@ -1,29 +1,34 @@
 -- The records of the emitted integers tell their domains: a declared variable's is its own, a column's is that of its sum.
 use mathlib.Core.Path.{_≡_, refl, sym, ap, _∙_, subst}
-use mathlib.Core.Bool.{Bool, true, false}
+use mathlib.Core.Bool.{Bool, true, false, _||_}
+use mathlib.Core.Option.{some}
 use mathlib.Core.List.{List, [], _∷_, _++_, map}
 use Prim.Native.Nat.{ℕ, zero, suc, _+_, _≤_, _<_, max}
 use native.Mathlib.Omega.{arith}
 use lib.IntN.{ℤ, pos, negsuc, _+ℤ_}
-use lib.Dec.{ltb}
-use borrow.Author.Tests.{ltb-true, ltb-false}
+use lib.Dec.{eqb, ltb}
+use borrow.Author.Tests.{eqb-true, ltb-true, ltb-false}
 use lib.ListN.{length, getD}
+use Rattle.laws.specs.Bools.{never}
+use Rattle.laws.specs.Lists.{any, any-append}
 use Rattle.laws.specs.Slices.{Has}
 use Rattle.laws.specs.Ints.{times-low, times-high}
-use Rattle.syntax.specs.Syntax.{Domain, Range, lower-bound, upper-bound, domain-of, IntExpr, encode-int}
+use Rattle.syntax.specs.Syntax.{Domain, Range, lower-bound, upper-bound, domain-of, IntExpr, IConst, IVar, Linear, Terms, tnil, tmore, encode-int}
 use Rattle.syntax.specs.Satisfies.{IVal}
-use Rattle.sums.specs.LinearSum.{Term, term, LinearSum, linear-sum, lowest, highest, get-domain-linear-sum}
+use Rattle.limits.specs.Limits.{heavy, many-column, written, written-terms}
+use Rattle.sums.specs.LinearSum.{Term, term, LinearSum, linear-sum, constant, add-sum, mul-sum, lowest, highest, get-domain-linear-sum}
 use Rattle.sums.specs.Linear.{linear-of}
-use Rattle.clauses.specs.Log.{declared, aux, side, declared-int, column, Log, next-int}
-use Rattle.clauses.specs.Normalize.{IntOut, normalize-int-expr}
+use Rattle.sums.specs.Rising.{Among}
+use Rattle.clauses.specs.Log.{declared, aux, side, declared-int, column, Log, next-int, get-int-var, convert-int-var}
+use Rattle.clauses.specs.Normalize.{IntOut, normalize-int-var, normalize-term, normalize-int-expr, normalize-terms}
 use Rattle.clauses.specs.Bounds.{terms-bound, sum-bound}
-use Rattle.clauses.specs.Grow.{Grows as GrowsFrom, same, grow, grows-trans, grows-bool, grows-int, grows-get-bool, grows-get-int}
+use Rattle.clauses.specs.Grow.{Grows as GrowsFrom, same, grow, grows-trans, grows-bool, grows-int, grows-get-bool, grows-get-int, get-int-below}
 use Rattle.tables.specs.Tables.{emitted-domains}
-use Rattle.tables.specs.Emitted.{new-int-domain, new-column-domain, domain-stays}
+use Rattle.tables.specs.Emitted.{new-int-domain, new-column-domain, domain-stays, int-var-domain}
 use Rattle.answer.specs.Declared.{Declared}
 use Rattle.walk.specs.Item.{emitted-ints, int-number}
 use Rattle.walk.specs.Grow.{Grows, Fit, back}
-use Rattle.walk.specs.Ints.{int-linear}
+use Rattle.walk.specs.Ints.{var-found, terms-grow, int-linear}
 use Rattle.walk.specs.Num.{Recorded}
 use Rattle.statements.specs.Columns.{ColumnRecord}
 
@@ -48,6 +53,45 @@ least : {X : Type 0} (i v : ℕ) (t : Bool) → ltb i v ≡ t → i ≤ v → (i
 least i v true q l f g = f (ltb-true i v q)
 least i v false q l f g = g (omega (arith, ltb-false i v q))
 
+-- ---- the variables that an expression writes have numbers behind it
+
+record Found (s : Log) (v : ℕ) : Type 0 where
+  pub number : ℕ
+  pub is : get-int-var v s ≡ some number
+
+found-later : {s t : Log} (v : ℕ) → Grows s t → Found s v → Found t v
+found-later v g h = record { number = h .number; is = g .keep-int v (h .number) (h .is) }
+
+-- a variable of one of two lists
+either : (X : Type 0) (v : ℕ) (us ws : List ℕ) → Among (us ++ ws) v → (Among us v → X) → (Among ws v → X) → X
+either X v us ws h f g = go (any (eqb v) us) refl (sym (any-append (eqb v) us ws) ∙ h)
+  where
+    go : (t : Bool) → any (eqb v) us ≡ t → t || any (eqb v) ws ≡ true → X
+    go true e h = f e
+    go false e h = g h
+
+single : (v u : ℕ) → Among (u ∷ []) v → v ≡ u
+single v u h = go (eqb v u) refl h
+  where
+    go : (t : Bool) → eqb v u ≡ t → t || false ≡ true → v ≡ u
+    go true e h = eqb-true v u e
+    go false e h = never h
+
+mutual
+  unfolding normalize-int-expr normalize-int-var normalize-term written
+
+  written-found : (e : IntExpr) (s : Log) (v : ℕ) → Among (written e) v → Found (normalize-int-expr e s .1) v
+  written-found (IConst c) s v h = never h
+  written-found (IVar u) s v h = rw (single v u h) (record { number = convert-int-var u s .0; is = var-found u s })
+  written-found (Linear ts) s v h = terms-found ts (constant (pos 0)) s v h
+
+  terms-found : (ts : Terms) (sum : LinearSum) (s : Log) (v : ℕ) → Among (written-terms ts) v → Found (normalize-terms ts sum s .1) v
+  terms-found tnil sum s v h = never h
+  terms-found (tmore k e ts) sum s v h =
+      let a = normalize-int-expr e s in
+      let x = add-sum sum (mul-sum k (a .0)) in
+      either (Found (normalize-terms ts x (a .1) .1) v) v (written e) (written-terms ts) h (λ m. found-later v (terms-grow ts x (a .1)) (written-found e s v m)) (λ m. terms-found ts x (a .1) v m)
+
 -- ---- the entry of each emitted number. w: the work slice after numbering; L: the log
 
 module _ (F : List ℤ) (ds : List Domain) (b i : ℕ) (w : List ℤ) (L : Log) where
@@ -62,6 +106,10 @@ module _ (F : List ℤ) (ds : List Domain) (b i : ℕ) (w : List ℤ) (L : Log) 
     pub expr : IntExpr
     pub word : record-at n ≡ negsuc place
     pub stands : Has F place (encode-int expr)
+    pub light : heavy ds expr ≡ false
+    pub few : many-column expr ≡ false
+    -- the variables that it writes have earlier numbers, of their declared domains
+    pub known : (v : ℕ) → Among (written expr) v → (int-number w v < n) × (domain-at (int-number w v) ≡ domain-of ds v)
     pub bound : sum-bound (linear-of (int-number w) expr) ≤ n
     pub domain : domain-at n ≡ get-domain-linear-sum domain-at (linear-of (int-number w) expr)
 
@@ -87,11 +135,18 @@ module _ (F : List ℤ) (ds : List Domain) (b i : ℕ) (w : List ℤ) (L : Log) 
           expr = c .expr;
           word = c .record-word;
           stands = c .stands;
+          light = c .light;
+          few = c .few;
+          known = λ v m.
+              let x : Found t v = subst (λ (o : IntOut). Found (o .1) v) (c .made) (written-found (c .expr) (c .before) v m) in
+              let b : x .number < n = get-int-below t v (x .number) (x .is) in
+              let i : x .number ≡ int-number w v = omega (arith, f .agree-int v (x .number) (grows-get-int k v (x .number) (x .is))) in
+              (omega arith, ap domain-at (sym i) ∙ int-var-domain ds L v (x .number) (grows-get-int k v (x .number) (x .is)));
           bound = rw (← e) h;
           domain = a ∙ c .domain ∙ q ∙ ap (get-domain-linear-sum domain-at) e;
         })
 
-    entry-at : {s : Log} → GrowsFrom ε [] s → GrowsFrom ε s L → Recorded (ColumnRecord F ds) w s → Declared b i s → Fit w L → (n : ℕ) → n < next-int s → Entry n
+    pub entry-at : {s : Log} → GrowsFrom ε [] s → GrowsFrom ε s L → Recorded (ColumnRecord F ds) w s → Declared b i s → Fit w L → (n : ℕ) → n < next-int s → Entry n
     unfolding Recorded
     entry-at same g r d f n h = absurd (omega arith)
     entry-at (grow {t} (declared v) l k) g r d f n h = entry-at k (grows-trans (grow (declared v) l same) g) r (d .1) f n h

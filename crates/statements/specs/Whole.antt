@@ -78,54 +78,71 @@ map-code nothing = refl
 map-code (some n) = refl
 
 -- the words of a map, from its entries
-entries : (entry : ℕ → ℕ) (look : ℕ → Option ℕ) (i n : ℕ) → ((v : ℕ) → v < i + n → entry v ≡ code (look v)) → map map-word (map look (from i n)) ≡ map (λ v. pos (entry v)) (from i n)
+pub entries : (entry : ℕ → ℕ) (look : ℕ → Option ℕ) (i n : ℕ) → ((v : ℕ) → v < i + n → entry v ≡ code (look v)) → map map-word (map look (from i n)) ≡ map (λ v. pos (entry v)) (from i n)
 entries entry look i zero h = refl
 entries entry look i (suc n) h = rw (map-code (look i), sym (h i (omega arith)), entries entry look (suc i) n (λ v k. h v (omega arith))) refl
+
+-- the log of such a set, from its lowest values: legal, of declared variables, and its numbers are low
+module _ (p : Problem) (well : WellFormed p) (f : Fixed) (ss : List Stmt) (end : optimize p ≡ settled f ss) where
+  abbrev ds : List Domain
+  ds = p .domains
+
+  abbrev log : Log
+  log = normalize-stmts ds ss [] .1
+
+  pub log-standing : EveryStmts (λ v. Unit {0}) (Standing ds (lowest ds)) ss
+  log-standing =
+      every-stmts-map (λ v. v < p .bools) (λ v. v < length ds) (λ v. Unit {0}) (Standing ds (lowest ds)) (λ v h. tt)
+      (λ v h. let o = domains-ordered ds (well .domains-well) v h in (o, lowest-in (domain-of ds v) o)) ss (settled-declared p well f ss end)
+
+  pub grown : GrowsFrom (lowest ds) [] log
+  grown = stmts-mean (λ n. false) (lowest ds) (λ n. false) (lowest ds) ds ss [] (settled-plain p well f ss end) log-standing .grows
+
+  pub declared : Declared (p .bools) (length ds) log
+  declared = stmts-declared (p .bools) (length ds) ds ss (settled-declared p well f ss end) [] tt
+
+  pub emitted : 2 * next-int log ≤ 2 * length ds + length (flat (map encode-stmt ss))
+  emitted = emitted-few ds (p .bools) (length ds) (lowest ds) ss grown declared
+
+  pub log-roomy : 2 * length ds + length (flat (map encode-stmt ss)) ≤ 4608 → next-int log < max-emitted
+  log-roomy few = omega (arith, emitted)
+
+  pub log-low : check p ≡ 0 → length (flat (map encode-stmt ss)) ≤ 4096 → 2 * length ds + length (flat (map encode-stmt ss)) ≤ 4608 → Low log
+  log-low unrefused short few = record { bools = omega (arith, stmts-low [] ds ss [] (settled-legal p well f ss end unrefused []) (settled-few p well f ss end)); ints = omega (arith, log-roomy few) }
 
 module _ (p : Problem) (well : WellFormed p) (f : Fixed) (ss : List Stmt) (end : optimize p ≡ settled f ss) (unrefused : check p ≡ 0)
     (F : List ℤ) (stands : Has F 512 (flat (map encode-stmt ss))) (short : length (flat (map encode-stmt ss)) ≤ 4096) (few : 2 * length (p .domains) + length (flat (map encode-stmt ss)) ≤ 4608)
     (w : List ℤ) (empty : Empty w) where
-  abbrev ds : List Domain
-  ds = p .domains
-
   abbrev out : Out
-  out = normalize-stmts ds ss []
+  out = normalize-stmts (p .domains) ss []
 
   abbrev st : State
   st = meet-stmts 512 ss (start w)
 
-  pub standing : EveryStmts (λ v. Unit {0}) (Standing ds (lowest ds)) ss
-  standing =
-      every-stmts-map (λ v. v < p .bools) (λ v. v < length ds) (λ v. Unit {0}) (Standing ds (lowest ds)) (λ v h. tt)
-      (λ v h. let o = domains-ordered ds (well .domains-well) v h in (o, lowest-in (domain-of ds v) o)) ss (settled-declared p well f ss end)
-
-  grown : GrowsFrom (lowest ds) [] (out .1)
-  grown = stmts-mean (λ n. false) (lowest ds) (λ n. false) (lowest ds) ds ss [] (settled-plain p well f ss end) standing .grows
-
-  declared : Declared (p .bools) (length ds) (out .1)
-  declared = stmts-declared (p .bools) (length ds) ds ss (settled-declared p well f ss end) [] tt
+  pub standing : EveryStmts (λ v. Unit {0}) (Standing (p .domains) (lowest (p .domains))) ss
+  standing = log-standing p well f ss end
 
   pub roomy : next-int (out .1) < max-emitted
-  roomy = omega (arith, emitted-few ds (p .bools) (length ds) (lowest ds) ss grown declared)
+  roomy = log-roomy p well f ss end few
 
   pub low : Low (out .1)
-  low = record { bools = omega (arith, stmts-low F ds ss [] (settled-legal p well f ss end unrefused F) (settled-few p well f ss end)); ints = omega (arith, roomy) }
+  low = log-low p well f ss end unrefused short few
 
-  pub passes : StmtsPasses F ds 512 ss (start w) []
-  passes = stmts-passes F ds (lowest ds) 512 ss (start w) [] (omega arith) (omega arith) stands (settled-legal p well f ss end unrefused F) (settled-plain p well f ss end) standing (start-numbered F ds w empty) low roomy
+  pub passes : StmtsPasses F (p .domains) 512 ss (start w) []
+  passes = stmts-passes F (p .domains) (lowest (p .domains)) 512 ss (start w) [] (omega arith) (omega arith) stands (settled-legal p well f ss end unrefused F) (settled-plain p well f ss end) standing (start-numbered F (p .domains) w empty) low roomy
 
   -- the answer's words: the fixed values, the entries of the maps, the counters and domains, the count and the words of the clauses
-  pub answer-words : (dom : ℕ → Domain) → Stable ds dom (out .1)
+  pub answer-words : (dom : ℕ → Domain) → Stable (p .domains) dom (out .1)
       → layout (normalize p f ss)
       ≡ map fixed-word (map f (below (p .bools)))
       ++ (map (λ v. pos (bool-entry (st .work) v)) (below (p .bools))
-      ++ (map (λ v. pos (int-entry (st .work) v)) (below (length ds))
-      ++ (pos (st .bools) ∷ (counted domain-words (emitted-domains ds (out .1)) ++ (pos (length (out .0)) ∷ stmts-text (st .work) dom 512 ss 0)))))
+      ++ (map (λ v. pos (int-entry (st .work) v)) (below (length (p .domains)))
+      ++ (pos (st .bools) ∷ (counted domain-words (emitted-domains (p .domains) (out .1)) ++ (pos (length (out .0)) ∷ stmts-text (st .work) dom 512 ss 0)))))
   unfolding layout normalize answer-of
   answer-words dom d =
       let n = passes .numbered in
-      let fit = numbered-fit (ColumnRecord F ds) st (out .1) n (low .bools) in
+      let fit = numbered-fit (ColumnRecord F (p .domains)) st (out .1) n (low .bools) in
       let b : map map-word (map (λ v. get-bool-var v (out .1)) (below (p .bools))) ≡ map (λ v. pos (bool-entry (st .work) v)) (below (p .bools)) = entries (bool-entry (st .work)) (λ v. get-bool-var v (out .1)) 0 (p .bools) (λ v k. n .map v (omega (arith, well .few-bools))) in
-      let i : map map-word (map (λ v. get-int-var v (out .1)) (below (length ds))) ≡ map (λ v. pos (int-entry (st .work) v)) (below (length ds)) = entries (int-entry (st .work)) (λ v. get-int-var v (out .1)) 0 (length ds) (λ v k. n .map-int v (omega (arith, well .few-ints))) in
+      let i : map map-word (map (λ v. get-int-var v (out .1)) (below (length (p .domains)))) ≡ map (λ v. pos (int-entry (st .work) v)) (below (length (p .domains))) = entries (int-entry (st .work)) (λ v. get-int-var v (out .1)) 0 (length (p .domains)) (λ v k. n .map-int v (omega (arith, well .few-ints))) in
       let t : stmts-text (st .work) dom 512 ss 0 ≡ flat (map clause-words (out .0)) = passes .text (st .work) dom fit (passes .placed) d in
       rw (b, i, n .bools, t) refl
