@@ -46,6 +46,11 @@ fn run(set: &Set, out_len: usize) -> Outcome {
     Outcome::Compiled(answer)
 }
 
+/// The Rust's own work on a set that was read, for timing: its problem is built, optimized, normalized and written out.
+pub fn timed(set: &Set) -> Option<Vec<i32>> {
+    rust::optimized(set).map(|csp| rust::answer(set, csp))
+}
+
 /// The answer's length as `size` counts it; nothing for a set refused by 1 to 11 or found contradictory.
 pub fn counted(set: &[i32]) -> Option<u64> {
     let set = accept(set, usize::MAX).ok()?;

@@ -116,7 +116,7 @@ fn domain_words(domain: &Domain, out: &mut Vec<i32>) {
     }
 }
 
-fn statement_words(statement: &Statement, out: &mut Vec<i32>) {
+pub fn statement_words(statement: &Statement, out: &mut Vec<i32>) {
     match statement {
         Statement::Rule(rule) => {
             out.push(1);
