@@ -1,4 +1,1 @@
-pub mod Digits
-pub mod Lines
-pub mod Whole
 pub mod Writing

@@ -1,0 +1,3 @@
+pub mod ReadText
+pub mod Input
+pub mod Cases
