@@ -1,17 +1,17 @@
 -- The new Boolean numbers of a table, from the counts of its rows' words. Cells are taken to hold values, as reading has it.
 use mathlib.Core.Path.{_≡_, refl, sym, ap, _∙_}
-use mathlib.Core.Bool.{Bool, true, false, not, _&&_, _||_, cond}
-use mathlib.Core.List.{List, [], _∷_, _++_, map}
-use Prim.Native.Nat.{ℕ, zero, suc, _+_, _*_, _≤_, _<_}
+use mathlib.Core.Bool.{Bool, true, false, not, _||_, cond}
+use mathlib.Core.List.{List, [], _∷_, map}
+use Prim.Native.Nat.{ℕ, zero, suc, _+_, _*_}
 use native.Mathlib.Omega.{arith}
-use lib.IntN.{ℤ, pos, natAbs}
-use lib.Dec.{eqb, leb}
+use lib.IntN.{ℤ, natAbs}
+use lib.Dec.{leb}
 use lib.ListN.{length, take, drop, length-map}
 use lib.Seq.{drop-drop}
 use borrow.Author.Tests.{eq-eqb, le-leb}
 use Rattle.laws.specs.Bools.{and-i}
 use Rattle.laws.specs.Ints.{eqZ}
-use Rattle.laws.specs.Lists.{any, all, keep-if, filter, flat}
+use Rattle.laws.specs.Lists.{any, all, keep-if, filter}
 use Rattle.laws.specs.Slices.{Has, has-front, has-back}
 use Rattle.syntax.specs.Words.{max-value, star-word}
 use Rattle.syntax.specs.Syntax.{Cell, star, value, encode-cell}
@@ -30,6 +30,10 @@ pub record RowsStand (w : List ℤ) (at n k : ℕ) (rows : List (List Cell)) : T
   pub stands : Has w at (cells-words rows)
   pub count : k ≡ length rows
   pub well : Each (WellRow n) rows
+
+-- r: the new Boolean numbers of whatever rows stand there
+abbrev pub Freshens : List ℤ → ℕ → ℕ → ℕ → ℕ → Type 0
+Freshens w at n k r = (rows : List (List Cell)) → RowsStand w at n k rows → r ≡ table-fresh n rows
 
 -- ---- well-formed rows by tests
 

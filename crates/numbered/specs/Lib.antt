@@ -1,1 +1,3 @@
 pub mod Fresh
+pub mod Stands
+pub mod Numbered

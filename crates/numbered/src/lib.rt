@@ -1,1 +1,99 @@
-// The numbering pass over all folded statements.
+// The numbering pass over all folded statements of the work slice.
+ghost use mathlib.Core.Path.{_≡_};
+ghost use Prim.Native.Nat.{_+_, _*_, _≤_};
+ghost use lib.ListN.{length};
+ghost use Rattle.walk.specs.Item.{limit};
+ghost use Rattle.walk.specs.Decode.{read-part};
+ghost use Rattle.statements.specs.NumberColumns.{columns-end};
+ghost use Rattle.statements.specs.Ready.{SomeFolded};
+ghost use Rattle.numbered.specs.Fresh.{Freshens};
+ghost use Rattle.numbered.specs.Stands.{SomeStmt, SomeTable, StmtEnds, StmtMet, TableMet};
+ghost use Rattle.numbered.specs.Numbered.{NumberedAll};
+use walk::Counters;
+
+// Where so many columns from a place on end.
+pub fn columns_end(work: &[i32], at: usize, count: usize) -> usize
+    requires { do ⌜ (4608 ≤ (← ⟦work.len()⟧)) × (at ≤ 4608) ⌝ }
+    ensures { λ r. ⌜ (r ≡ columns-end (read-part (now (work .entry))) count at) × (r ≤ 4608) ⌝ }
+{
+    let mut q = at;
+    let mut rest = count;
+    while rest != 0 {
+        let p = q;
+        q = number::int_end(work, p, 64);
+        rest = rest - 1;
+    }
+    q
+}
+
+// The new Boolean numbers of a table with k rows of n cells at a place.
+pub fn table_fresh(work: &[i32], at: usize, n: usize, k: usize) -> usize
+    requires { ⌜ at + k * n ≤ length (now work) ⌝ }
+    ensures { λ r. ⌜ Freshens (now (work .entry)) at n k r ⌝ }
+{
+    if rows::has_star(work, at, k * n) {
+        let s = rows::count_stars(work, at, n, k);
+        if s.free != 0 {
+            return 0;
+        }
+        return number::fresh(s.longer, 0, s.single);
+    }
+    0
+}
+
+// The table at a place: its columns, then the new numbers of its rows.
+fn number_table(work: &mut [i32], at: usize, c: Counters) -> Counters
+    requires { ⌜ SomeTable (now work) at (c .bools) × ((4608 ≤ length (now work)) × ((c .bools ≤ limit) × (c .ints ≤ limit))) ⌝ }
+    ensures { λ r. ⌜ TableMet (now (work .entry)) at c (now (work .exit)) r ⌝ }
+{
+    let n = number::word(work, at + 1);
+    let k = number::word(work, at + 2);
+    let d = number::number_columns(work, at + 3, n, c);
+    let p = columns_end(work, at + 3, n);
+    let f = table_fresh(work, p, n, k);
+    Counters {
+        bools: number::bump(d.bools, f),
+        ints: d.ints,
+    }
+}
+
+// The statement at a place.
+fn number_statement(work: &mut [i32], at: usize, c: Counters) -> Counters
+    requires { ⌜ SomeStmt (now work) at (c .bools) × ((4608 ≤ length (now work)) × ((c .bools ≤ limit) × (c .ints ≤ limit))) ⌝ }
+    ensures { λ r. ⌜ StmtMet (now (work .entry)) at c (now (work .exit)) r ⌝ }
+{
+    if number::word(work, at) == 1 {
+        return number::number_rule(work, at + 1, c);
+    }
+    number_table(work, at, c)
+}
+
+// Where the statement at a place ends.
+pub fn statement_end(work: &[i32], at: usize) -> usize
+    requires { ⌜ SomeStmt (now work) at 0 × (4608 ≤ length (now work)) ⌝ }
+    ensures { λ r. ⌜ StmtEnds (now (work .entry)) at r ⌝ }
+{
+    if number::word(work, at) == 1 {
+        let s = number::survey(work, at + 1, 64, false, 0, false, 0);
+        return s.at;
+    }
+    let n = number::word(work, at + 1);
+    let k = number::word(work, at + 2);
+    let p = columns_end(work, at + 3, n);
+    p + k * n
+}
+
+// All statements from 512 to `end`, in order: every emitted number, kept in the maps, the records and at the columns' places.
+pub fn number_statements(work: &mut [i32], end: usize) -> Counters
+    requires { ⌜ SomeFolded (now work) end ⌝ }
+    ensures { λ r. ⌜ NumberedAll (now (work .entry)) end (now (work .exit)) r ⌝ }
+{
+    let mut q = 512;
+    let mut c = Counters { bools: 0, ints: 0 };
+    while q < end {
+        let next = statement_end(work, q);
+        c = number_statement(work, q, c);
+        q = next;
+    }
+    c
+}

@@ -1,17 +1,17 @@
 -- Columns read from words: where they stand, numbering so many of them from a place on is numbering their list, and they end behind its words.
-use mathlib.Core.Path.{_≡_, refl, sym, ap, _∙_}
-use mathlib.Core.List.{List, [], _∷_, _++_, map}
-use Prim.Native.Nat.{ℕ, zero, suc, _+_, _-_, _≤_, _<_}
+use mathlib.Core.Path.{_≡_, refl, ap, _∙_}
+use mathlib.Core.List.{List, [], _∷_, map}
+use Prim.Native.Nat.{ℕ, zero, suc, _+_, _-_}
 use native.Mathlib.Omega.{arith}
 use lib.IntN.{ℤ, pos}
-use lib.ListN.{length, getD, length-append}
+use lib.ListN.{length, length-append}
 use Rattle.laws.specs.Lists.{flat}
 use Rattle.laws.specs.Slices.{Has, has-front, has-back, has-word}
 use Rattle.syntax.specs.Syntax.{IntExpr, IConst, IVar, Linear, count-terms, encode-int, encode-terms}
 use Rattle.words.specs.Exact.{Each}
 use Rattle.walk.specs.Item.{nat, State, meet-int}
 use Rattle.walk.specs.Legal.{LegalInt}
-use Rattle.walk.specs.Decode.{word, int-at, int-end}
+use Rattle.walk.specs.Decode.{word, int-end}
 use Rattle.walk.specs.Standing.{int-is}
 use Rattle.walk.specs.MeetColumns.{meet-column-at, meet-columns-at}
 use Rattle.statements.specs.Columns.{meet-column, meet-columns}

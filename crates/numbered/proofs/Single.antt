@@ -1,0 +1,96 @@
+-- Laws for the code of one statement: a rule or a table by its first word, its numbering and its end.
+use mathlib.Core.Path.{_≡_, refl, ap, _∙_}
+use mathlib.Core.Bool.{false}
+use mathlib.Core.List.{List}
+use Prim.Native.Nat.{ℕ, suc, _+_, _*_, _≤_, _<_}
+use native.Mathlib.Omega.{arith}
+use lib.IntN.{ℤ, pos}
+use lib.ListN.{length}
+use Rattle.laws.specs.Slices.{Has, has-fits, has-word, has-rest}
+use Rattle.syntax.specs.Syntax.{IntExpr, BoolExpr, encode-bool, Cell, Stmt, Rule, Table, encode-stmt}
+use Rattle.walk.specs.Tree.{splits}
+use Rattle.walk.specs.Resolve.{rule-trees}
+use Rattle.walk.specs.Item.{nat, State, pass-bools, mets, items}
+use Rattle.walk.specs.Decode.{word, read-part, Surveys}
+use Rattle.walk.specs.Standing.{rule-stands}
+use Rattle.walk.specs.Meets.{state-of, Met, met-to, part-short}
+use Rattle.walk.specs.MeetTies.{meet-rule, meet-rule-is}
+use Rattle.walk.specs.declared.Counters.{Counters}
+use Rattle.walk.specs.declared.Surveyed.{Surveyed}
+use Rattle.statements.specs.NumberColumns.{columns-end}
+use Rattle.statements.specs.Table.{meet-table}
+use Rattle.statements.specs.Statements.{meet-stmt}
+use Rattle.numbered.specs.Stands.{Stands, SomeStmt, SomeTable, StmtEnds, StmtMet, TableMet}
+use Rattle.numbered.proofs.Tables.{table-words, table-stop}
+
+pub some-word : (t : Stmt) → 0 < length (encode-stmt t)
+unfolding encode-stmt
+some-word (Rule e) = omega arith
+some-word (Table es rows) = omega arith
+
+module _ (w : List ℤ) (at b : ℕ) where
+  rule-code : (e : BoolExpr) → Stands w at b (Rule e) → word (read-part w) at ≡ 1
+  unfolding encode-stmt word nat
+  rule-code e h = ap nat (has-word (read-part w) at (pos 1) (encode-bool e) (pos 0) (h .words))
+
+  rule-words : (e : BoolExpr) → Stands w at b (Rule e) → Has (read-part w) (at + 1) (encode-bool e)
+  unfolding encode-stmt
+  rule-words e h = has-rest (read-part w) at (pos 1) (encode-bool e) (h .words)
+
+  pub stmt-inside : SomeStmt w at b → at + 1 ≤ 4608
+  stmt-inside s =
+      let z = some-word (s .stmt) in
+      omega (arith, z, has-fits (read-part w) at (encode-stmt (s .stmt)) (s .stands .words) z, part-short w)
+
+  -- ---- by the first word k
+
+  module _ (k : ℕ) (hk : k ≡ word (read-part w) at) where
+    not-rule : {X : Type 0} (e : BoolExpr) → (k ≡ 1 → ⊥) → Stands w at b (Rule e) → X
+    not-rule e z h = absurd (z (hk ∙ rule-code e h))
+
+    not-table : {X : Type 0} (es : List IntExpr) (rows : List (List Cell)) → k ≡ 1 → Stands w at b (Table es rows) → X
+    not-table es rows z h = absurd (omega (arith, hk, z, table-words w at b es rows h .code))
+
+    pub some-table : SomeStmt w at b → (k ≡ 1 → ⊥) → SomeTable w at b
+    some-table s z = go (s .stmt) (s .stands)
+      where
+        go : (t : Stmt) → Stands w at b t → SomeTable w at b
+        go (Rule e) h = not-rule e z h
+        go (Table es rows) h = record { columns = es; rows = rows; stands = h }
+
+-- ---- the numbering
+
+stmt-rule : (at : ℕ) (e : BoolExpr) (s : State) → mets (items (rule-trees e (at + 1) (s .bools))) (pass-bools (splits e false) s) ≡ meet-stmt at (Rule e) s
+unfolding meet-stmt
+stmt-rule at e s = refl
+
+stmt-table : (at : ℕ) (es : List IntExpr) (rows : List (List Cell)) (s : State) → meet-table (at + 3) es rows s ≡ meet-stmt at (Table es rows) s
+unfolding meet-stmt
+stmt-table at es rows s = refl
+
+pub rule-met : (w w' : List ℤ) (at k : ℕ) (c r : Counters) → k ≡ word (read-part w) at → k ≡ 1 → Met (meet-rule (read-part w) (at + 1)) w c w' r → StmtMet w at c w' r
+rule-met w w' at k c r hk z x = record { met = go; size = x .size }
+  where
+    go : (t : Stmt) → Stands w at (c .bools) t → Met (meet-stmt at t) w c w' r
+    go (Rule e) h = met-to (meet-rule-is e (read-part w) (at + 1) (state-of w c) (h .numerable .0) (rule-words w at (c .bools) e h) (h .numerable .1) ∙ stmt-rule at e (state-of w c)) x
+    go (Table es rows) h = not-table w at (c .bools) k hk es rows z h
+
+pub stmt-table-met : (w w' : List ℤ) (at k : ℕ) (c r : Counters) → k ≡ word (read-part w) at → (k ≡ 1 → ⊥) → TableMet w at c w' r → StmtMet w at c w' r
+stmt-table-met w w' at k c r hk z x = record { met = go; size = x .size }
+  where
+    go : (t : Stmt) → Stands w at (c .bools) t → Met (meet-stmt at t) w c w' r
+    go (Rule e) h = not-rule w at (c .bools) k hk e z h
+    go (Table es rows) h = met-to (stmt-table at es rows (state-of w c)) (x .met es rows h)
+
+-- ---- the end
+
+pub rule-ends : (w : List ℤ) (at k m : ℕ) (s : Surveyed) → k ≡ word (read-part w) at → k ≡ 1 → Surveys w 64 false false (at + 1) 0 m s → StmtEnds w at (s .at)
+rule-ends w at k m s hk z v (Rule e) h =
+    let r = rule-stands e (read-part w) 64 (at + 1) 0 (h .numerable .0) (rule-words w at 0 e h) (h .numerable .1) in
+    let l : length (encode-stmt (Rule e)) ≡ suc (length (encode-bool e)) = unfold encode-stmt in refl in
+    omega (arith, v .end, r .end, l)
+rule-ends w at k m s hk z v (Table es rows) h = not-table w at 0 k hk es rows z h
+
+pub table-ends : (w : List ℤ) (at k n m p : ℕ) → k ≡ word (read-part w) at → (k ≡ 1 → ⊥) → n ≡ word (read-part w) (at + 1) → m ≡ word (read-part w) (at + 2) → p ≡ columns-end (read-part w) n (at + 3) → StmtEnds w at (p + m * n)
+table-ends w at k n m p hk z hn hm hp (Rule e) h = not-rule w at 0 k hk e z h
+table-ends w at k n m p hk z hn hm hp (Table es rows) h = table-stop w at 0 es rows h n m p w hn hm refl hp

@@ -1,0 +1,50 @@
+use Prim.Native.Nat.{_-_}
+use native.Mathlib.Omega.{arith}
+use Rattle.numbered.proofs.All.{Sofar, all-start, stmt-here, stmt-here-0, moved, all-again, all-done}
+use Rattle.numbered.proofs.number_statements.Statement.{statement}
+use Rattle.numbered.proofs.number_statements.Tie as tie
+use Rattle.numbered.proofs.number_statements.Reads as reads
+use Rattle.numbered.proofs.number_statements.Lts as lts
+use Rattle.numbered.proofs.number_statement.Reads as number-statement-reads
+use Rattle.numbered.proofs.statement_end.Reads as statement-end-reads
+
+abbrev Inv-loop : tie.InvT-loop
+Inv-loop work₀ end q₀ c₀ work q c = Sofar work₀ end work c q
+
+abbrev μ-loop : tie.MeasureT-loop
+μ-loop work₀ end q₀ c₀ work q c = end - q
+
+loop-holds : tie.Need-loop-holds Inv-loop μ-loop
+loop-holds c = all-start _ _
+
+statement-end-requires : tie.Need-statement-end-requires Inv-loop μ-loop
+statement-end-requires c κs = let i = c .before .before .loop .inv in (stmt-here-0 _ _ (c .before .before .before .pre) _ _ _ i (c .before .loop-test .taken), omega (arith, i .size, c .before .before .before .pre .folded .empty .size))
+
+number-statement-requires : tie.Need-number-statement-requires Inv-loop μ-loop
+number-statement-requires c κs = let i = c .before .before .before .before .loop .inv in (stmt-here _ _ (c .before .before .before .before .before .pre) _ _ _ i (c .before .before .before .loop-test .taken), (omega (arith, i .size, c .before .before .before .before .before .pre .folded .empty .size), (i .low-bools, i .low-ints)))
+
+loop-less : tie.Need-loop-less Inv-loop μ-loop
+loop-less c = omega (arith, c .before .before .before .before .before .loop-test .taken, moved _ _ (c .before .before .before .before .before .before .before .pre) _ _ _ (c .before .before .before .before .before .before .loop .inv) _ (c .before .before .before .before .before .loop-test .taken) (c .before .before .before .statement-end .ensures))
+
+loop-again : tie.Need-loop-again Inv-loop μ-loop
+loop-again c = all-again _ _ (c .before .before .before .before .before .before .before .pre) _ _ _ (c .before .before .before .before .before .before .loop .inv) _ _ _ (c .before .before .before .before .before .loop-test .taken) (c .before .before .before .statement-end .ensures) (c .before .number-statement .ensures)
+
+same-length : tie.Need-same-length Inv-loop μ-loop
+same-length c = c .before .loop .inv .size
+
+returns : tie.Need-returns Inv-loop μ-loop
+returns c = all-done _ _ _ _ _ (c .before .loop .inv) (omega (arith, c .loop-test .left))
+
+pub number-statements-spec : {M : Type 1} → statement M
+number-statements-spec =
+    tie.close
+    (tie.spec
+    Inv-loop
+    μ-loop
+    loop-holds
+    statement-end-requires
+    number-statement-requires
+    loop-less
+    loop-again
+    same-length
+    returns)

@@ -1,0 +1,74 @@
+use borrow.Author.Needs.{needs}
+use mathlib.Core.Path.{refl}
+use native.Mathlib.Omega.{arith}
+use Rattle.numbered.specs.Stands.{SomeTable}
+use Rattle.numbered.proofs.Tables.{table-inside, table-room}
+use Rattle.numbered.proofs.Single.{stmt-inside, some-table, rule-ends, table-ends}
+use Rattle.numbered.proofs.statement_end.Statement.{statement}
+use Rattle.numbered.proofs.statement_end.Tie as tie
+use Rattle.numbered.proofs.statement_end.Reads as reads
+use Rattle.numbered.proofs.statement_end.Lts as lts
+use Rattle.number.proofs.survey.Reads as survey-reads
+use Rattle.number.proofs.word.Reads as word-reads
+use Rattle.numbered.proofs.columns_end.Reads as columns-end-reads
+
+word-requires : tie.Need-word-requires
+word-requires c κs = search needs
+
+add-survey : tie.Need-add-survey
+add-survey c = omega (arith, stmt-inside _ _ _ (c .before .before .pre .0))
+
+survey-requires : tie.Need-survey-requires
+survey-requires c κs = let s = c .before .before in (s .pre .1, (stmt-inside _ _ _ (s .pre .0), (omega arith, omega arith)))
+
+returns : tie.Need-returns
+returns c = rule-ends _ _ _ _ _ (c .before .before .word .ensures) (c .before .if1 .taken) (c .survey .ensures)
+
+add-word : tie.Need-add-word
+add-word c = omega (arith, table-inside _ _ _ (some-table _ _ _ _ (c .before .word .ensures) (c .before .before .pre .0) (c .if1 .left)))
+
+word-requires-2 : tie.Need-word-requires-2
+word-requires-2 c κs = search needs
+
+add-word-2 : tie.Need-add-word-2
+add-word-2 c = omega (arith, table-inside _ _ _ (some-table _ _ _ _ (c .before .before .word .ensures) (c .before .before .before .pre .0) (c .before .if1 .left)))
+
+word-requires-3 : tie.Need-word-requires-3
+word-requires-3 c κs = search needs
+
+add-columns-end : tie.Need-add-columns-end
+add-columns-end c = omega (arith, table-inside _ _ _ (some-table _ _ _ _ (c .before .before .before .word .ensures) (c .before .before .before .before .pre .0) (c .before .before .if1 .left)))
+
+columns-end-requires : tie.Need-columns-end-requires
+columns-end-requires c κs = (c .before .before .before .before .pre .1, table-inside _ _ _ (some-table _ _ _ _ (c .before .before .before .word .ensures) (c .before .before .before .before .pre .0) (c .before .before .if1 .left)))
+
+mul-result : tie.Need-mul-result
+mul-result c =
+    let t : SomeTable _ _ _ = some-table _ _ _ _ (c .before .before .before .before .word .ensures) (c .before .before .before .before .before .pre .0) (c .before .before .before .if1 .left) in
+    omega (arith, table-room _ _ _ (t .columns) (t .rows) (t .stands) _ _ _ _ (c .before .before .word2 .ensures) (c .before .word3 .ensures) refl (c .columns-end .ensures .0))
+
+add-result : tie.Need-add-result
+add-result c =
+    let t : SomeTable _ _ _ = some-table _ _ _ _ (c .before .before .before .before .word .ensures) (c .before .before .before .before .before .pre .0) (c .before .before .before .if1 .left) in
+    omega (arith, table-room _ _ _ (t .columns) (t .rows) (t .stands) _ _ _ _ (c .before .before .word2 .ensures) (c .before .word3 .ensures) refl (c .columns-end .ensures .0))
+
+returns-2 : tie.Need-returns-2
+returns-2 c = table-ends _ _ _ _ _ _ (c .before .before .before .before .word .ensures) (c .before .before .before .if1 .left) (c .before .before .word2 .ensures) (c .before .word3 .ensures) (c .columns-end .ensures .0)
+
+pub statement-end-spec : {M : Type 1} → statement M
+statement-end-spec =
+    tie.close
+    (tie.spec
+    word-requires
+    add-survey
+    survey-requires
+    returns
+    add-word
+    word-requires-2
+    add-word-2
+    word-requires-3
+    add-columns-end
+    columns-end-requires
+    mul-result
+    add-result
+    returns-2)
