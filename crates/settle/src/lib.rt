@@ -1,0 +1,49 @@
+// Refusals 1 to 11, then folding and propagation: what a set's words give before its clauses.
+use read::Set;
+ghost use mathlib.Core.Path.{_≡_};
+ghost use Rattle.settle.specs.Settle.{Some-taken, Fold-post, Settle-post};
+
+// Where the folded statements end, and how many variables the set declares.
+pub struct Places {
+    pub end: usize,
+    pub bools: usize,
+    pub ints: usize,
+}
+
+pub enum Settling {
+    Refused(usize),
+    Contradiction,
+    Folded(Places),
+}
+
+// Of an accepted set. A contradiction leaves zeros.
+fn fold_taken(set: &[i32], work: &mut [i32], bools: usize, ints: usize) -> Settling
+    requires { ⌜ Some-taken (now set) (now work) bools ints ⌝ }
+    ensures { λ r. ⌜ Fold-post (now (set .entry)) (now (work .entry)) bools ints (now (work .exit)) r ⌝ }
+{
+    let o = passes::optimize(set, work);
+    let status = o.status;
+    if status != 0 {
+        refuse::clear(work);
+        return Settling::Contradiction;
+    }
+    Settling::Folded(Places {
+        end: o.end,
+        bools: bools,
+        ints: ints,
+    })
+}
+
+// Of any words, whatever the work slice holds. A refusal or a contradiction leaves zeros.
+pub fn settle(set: &[i32], work: &mut [i32]) -> Settling
+    ensures { λ r. ⌜ Settle-post (now (set .entry)) (now (work .entry)) (now (work .exit)) r ⌝ }
+{
+    refuse::clear(work);
+    match limits::accept(set, work) {
+        Set::Refused(k) => {
+            refuse::clear(work);
+            Settling::Refused(k)
+        }
+        Set::Ok(d) => fold_taken(set, work, d.bools, d.ints),
+    }
+}
