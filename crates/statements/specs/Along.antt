@@ -11,7 +11,7 @@ use Rattle.laws.specs.Lists.{flat}
 use Rattle.laws.specs.Slices.{Has, has-front, has-back}
 use Rattle.syntax.specs.Syntax.{Domain, domain-of, Stmt, Rule, Table, encode-stmt, Problem, encode}
 use Rattle.syntax.specs.Satisfies.{IVal}
-use Rattle.syntax.specs.Written.{EveryStmts}
+use Rattle.syntax.specs.Written.{EveryStmt, EveryStmts}
 use Rattle.words.specs.Exact.{Each}
 use Rattle.fold.specs.Fold.{Fixed}
 use Rattle.clauses.specs.Clause.{Clause}
@@ -33,7 +33,7 @@ use Rattle.statements.specs.Ready.{stmts-words, Settled, clauses-of, log
 
 -- ---- a work slice of zeros, from which the numbering of a set may start
 
-abbrev zeros : List ℤ
+abbrev pub zeros : List ℤ
 zeros = replicate 16384 (pos 0)
 
 zeros-empty : Empty zeros
@@ -50,6 +50,7 @@ pub record StmtAt (ds : List Domain) (F w : List ℤ) (L : Log) (q : ℕ) (t : S
   pub facts : StmtFacts ds t
   pub legal : LegalStmt ds t
   pub plain : Plain t
+  pub standing : EveryStmt (λ v. Unit {0}) (Standing ds (lowest ds)) t
   pub stands : Has F q (encode-stmt t)
   pub behind : 512 ≤ q
   pub inside : q + length (encode-stmt t) ≤ bool-map
@@ -130,6 +131,7 @@ module _ (p : Problem) (f : Fixed) (ss : List Stmt) (set : Settled p f ss) (F w 
           facts = r .facts .0;
           legal = r .legal .0;
           plain = r .plain .0;
+          standing = r .standing .0;
           stands = has-front F q (encode-stmt t) (stmts-words ts) (r .stands);
           behind = r .behind;
           inside = room;

@@ -213,7 +213,7 @@ module _ (F : List ℤ) (ds : List Domain) where
         (new-placed p (meet-int e st) (x .1) l h m (omega arith), grown-then p p _ _ _ (omega arith) (kept-grown p (expr-kept CR e v st s n (omega arith))) (new-grown p (meet-int e st) (x .1) l h m (omega arith))),
       )
 
-  grow-column : (l : LinearSum) (d : Domain) (s : Log) → Grows s (column l d ∷ s)
+  pub grow-column : (l : LinearSum) (d : Domain) (s : Log) → Grows s (column l d ∷ s)
   unfolding get-bool-var get-int-var
   grow-column l d s = record { bools = omega arith; ints = omega arith; keep = λ v n h. h; keep-int = λ v n h. h }
 

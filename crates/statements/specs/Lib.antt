@@ -14,3 +14,4 @@ pub mod Along
 pub mod Saved
 pub mod ReadyEntry
 pub mod ReadyKeeps
+pub mod ColumnRanges

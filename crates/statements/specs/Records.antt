@@ -55,7 +55,7 @@ least i v false q l f g = g (omega (arith, ltb-false i v q))
 
 -- ---- the variables that an expression writes have numbers behind it
 
-record Found (s : Log) (v : ℕ) : Type 0 where
+pub record Found (s : Log) (v : ℕ) : Type 0 where
   pub number : ℕ
   pub is : get-int-var v s ≡ some number
 
@@ -63,14 +63,14 @@ found-later : {s t : Log} (v : ℕ) → Grows s t → Found s v → Found t v
 found-later v g h = record { number = h .number; is = g .keep-int v (h .number) (h .is) }
 
 -- a variable of one of two lists
-either : (X : Type 0) (v : ℕ) (us ws : List ℕ) → Among (us ++ ws) v → (Among us v → X) → (Among ws v → X) → X
+pub either : (X : Type 0) (v : ℕ) (us ws : List ℕ) → Among (us ++ ws) v → (Among us v → X) → (Among ws v → X) → X
 either X v us ws h f g = go (any (eqb v) us) refl (sym (any-append (eqb v) us ws) ∙ h)
   where
     go : (t : Bool) → any (eqb v) us ≡ t → t || any (eqb v) ws ≡ true → X
     go true e h = f e
     go false e h = g h
 
-single : (v u : ℕ) → Among (u ∷ []) v → v ≡ u
+pub single : (v u : ℕ) → Among (u ∷ []) v → v ≡ u
 single v u h = go (eqb v u) refl h
   where
     go : (t : Bool) → eqb v u ≡ t → t || false ≡ true → v ≡ u
@@ -80,7 +80,7 @@ single v u h = go (eqb v u) refl h
 mutual
   unfolding normalize-int-expr normalize-int-var normalize-term written
 
-  written-found : (e : IntExpr) (s : Log) (v : ℕ) → Among (written e) v → Found (normalize-int-expr e s .1) v
+  pub written-found : (e : IntExpr) (s : Log) (v : ℕ) → Among (written e) v → Found (normalize-int-expr e s .1) v
   written-found (IConst c) s v h = never h
   written-found (IVar u) s v h = rw (single v u h) (record { number = convert-int-var u s .0; is = var-found u s })
   written-found (Linear ts) s v h = terms-found ts (constant (pos 0)) s v h

@@ -55,7 +55,7 @@ saved-above {e} {w} {w'} h l = record {
 
 -- ---- words that stand
 
-has-cells : (ws ws' : List ℤ) (at : ℕ) (us : List ℤ) → length ws' ≡ length ws → ((i : ℕ) → i < length us → getD ws' (at + i) (pos 0) ≡ getD ws (at + i) (pos 0)) → Has ws at us → Has ws' at us
+pub has-cells : (ws ws' : List ℤ) (at : ℕ) (us : List ℤ) → length ws' ≡ length ws → ((i : ℕ) → i < length us → getD ws' (at + i) (pos 0) ≡ getD ws (at + i) (pos 0)) → Has ws at us → Has ws' at us
 has-cells ws ws' at [] l c h = refl
 has-cells ws ws' at (u ∷ us) l c h =
     let n : at + length (u ∷ us) ≤ length ws = has-fits ws at (u ∷ us) h (omega arith) in

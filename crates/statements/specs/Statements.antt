@@ -183,7 +183,7 @@ module _ (F : List ℤ) (ds : List Domain) where
   stmt-passes at (Rule e) st s i f x h l r = rule-stmt at e st s x h (unfold normalize-stmt in l) (unfold normalize-stmt in r)
   stmt-passes at (Table es rows) st s i f x h l r = table-stmt at es rows st s i f x h (unfold normalize-stmt in l) (unfold normalize-stmt in r)
 
-  stmt-grows : (t : Stmt) (s : Log) → LegalStmt ds t → Grows s (normalize-stmt ds t s .1)
+  pub stmt-grows : (t : Stmt) (s : Log) → LegalStmt ds t → Grows s (normalize-stmt ds t s .1)
   unfolding normalize-stmt
   stmt-grows (Rule e) s x = rule-grows e s
   stmt-grows (Table es rows) s x = table-grows F ds es rows s

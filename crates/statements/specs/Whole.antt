@@ -66,7 +66,7 @@ start-numbered F ds w h = record {
 abbrev pub lowest : List Domain → IVal
 lowest ds v = lower-bound (domain-of ds v)
 
-lowest-in : (d : Domain) → ordered d ≡ true → in-domain (lower-bound d) d ≡ true
+pub lowest-in : (d : Domain) → ordered d ≡ true → in-domain (lower-bound d) d ≡ true
 lowest-in (Range low high) h = rw (leZ-refl low) h
 lowest-in (Enumerative []) h = absurd (false≢true h)
 lowest-in (Enumerative (x ∷ xs)) h = or-l (eqZ x x) (any (eqZ x) xs) (eqZ-refl x)
