@@ -80,7 +80,8 @@ pub fn statement_end(work: &[i32], at: usize) -> usize
     let n = number::word(work, at + 1);
     let k = number::word(work, at + 2);
     let p = columns_end(work, at + 3, n);
-    p + k * n
+    let cells = k * n;
+    p + cells
 }
 
 // All statements from 512 to `end`, in order: every emitted number, kept in the maps, the records and at the columns' places.

@@ -42,8 +42,8 @@ add-columns-end c = omega (arith, table-inside _ _ _ (some-table _ _ _ _ (c .bef
 columns-end-requires : tie.Need-columns-end-requires
 columns-end-requires c κs = (c .before .before .before .before .pre .1, table-inside _ _ _ (some-table _ _ _ _ (c .before .before .before .word .ensures) (c .before .before .before .before .pre .0) (c .before .before .if1 .left)))
 
-mul-result : tie.Need-mul-result
-mul-result c =
+mul-cells : tie.Need-mul-cells
+mul-cells c =
     let t : SomeTable _ _ _ = some-table _ _ _ _ (c .before .before .before .before .word .ensures) (c .before .before .before .before .before .pre .0) (c .before .before .before .if1 .left) in
     omega (arith, table-room _ _ _ (t .columns) (t .rows) (t .stands) _ _ _ _ (c .before .before .word2 .ensures) (c .before .word3 .ensures) refl (c .columns-end .ensures .0))
 
@@ -69,6 +69,6 @@ statement-end-spec =
     word-requires-3
     add-columns-end
     columns-end-requires
-    mul-result
+    mul-cells
     add-result
     returns-2)
