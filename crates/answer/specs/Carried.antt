@@ -1,31 +1,30 @@
 -- What passing an answer says of the log it was made from: the fixed values, the numbers of the declared variables, the columns' ranges, the clauses.
 use mathlib.Core.Path.{_≡_, refl, sym, ap, _∙_}
-use mathlib.Core.Bool.{Bool, true, false, not, _&&_, _||_, Bool·beq, cond, false≢true}
+use mathlib.Core.Bool.{Bool, true, false, not, _||_, cond, false≢true}
 use mathlib.Core.Option.{Option, none as nothing, some}
-use mathlib.Core.List.{List, [], _∷_, _++_, map}
+use mathlib.Core.List.{List, [], _∷_, map}
 use Prim.Native.Nat.{ℕ, zero, suc, _+_, _≤_, _<_}
 use native.Mathlib.Omega.{arith}
-use lib.IntN.{ℤ, pos, negsuc}
-use lib.Signed.{leZ}
-use lib.Dec.{eqb, eqb→eq, ltb}
-use borrow.Author.Tests.{ltb-true, ltb-false, eqb-true, eq-eqb}
+use lib.IntN.{ℤ, pos}
+use lib.Dec.{eqb, ltb}
+use borrow.Author.Tests.{eqb-true, eq-eqb}
 use lib.ListN.{length, getD, length-map}
-use Rattle.laws.specs.Bools.{and-l, and-r, and-i, beq-eq, or-l, or-r, or-pick}
+use Rattle.laws.specs.Bools.{and-l, and-r, and-i, beq-eq, or-l, or-r, or-pick, beq-same}
 use Rattle.laws.specs.Ints.{eqZ}
 use Rattle.laws.specs.Order.{eqZ-is, is-eqZ}
-use Rattle.laws.specs.Lists.{any, all, from, below, all-below, below-all}
+use Rattle.laws.specs.Lists.{any, all, from, below, all-below, below-all, least}
 use Rattle.syntax.specs.Syntax.{Domain, Range, lower-bound, upper-bound, in-domain, domain-of, Problem}
 use Rattle.syntax.specs.Satisfies.{Val, IVal}
 use Rattle.fold.specs.Fold.{Fixed}
 use Rattle.clauses.specs.Clause.{clause-true}
-use Rattle.clauses.specs.Log.{Made, declared, aux, side, declared-int, column, Log, next-bool, next-int, get-bool-var, get-int-var}
+use Rattle.clauses.specs.Log.{declared, aux, side, declared-int, column, Log, next-bool, next-int, get-bool-var, get-int-var}
 use Rattle.clauses.specs.Disjunction.{Out}
 use Rattle.clauses.specs.Valuation.{AgreesInts, Agrees}
 use Rattle.clauses.specs.Grow.{Grows, same, grow, grows-get-int, get-int-below, agrees-bool, agrees-int, InColumns, bools-agree, ints-agree}
 use Rattle.tables.specs.Tables.{newest, emitted-domains}
 use Rattle.tables.specs.Emitted.{length-emitted, domain-step, new-column-domain}
-use Rattle.answer.specs.Answer.{Answer, answer-of, fixed-word, map-word}
-use Rattle.answer.specs.Passes.{Decoded, word-of, fixed-agrees, carries-bool, carries-int, is-declared, between, bounds-at, passes-decoded}
+use Rattle.answer.specs.Answer.{answer-of, fixed-word, map-word}
+use Rattle.answer.specs.Passes.{word-of, fixed-agrees, carries-bool, carries-int, is-declared, between, passes-decoded}
 use Rattle.answer.specs.ReadBack.{hull, view-of}
 use Rattle.answer.specs.Declared.{Declared}
 
@@ -43,10 +42,6 @@ getD-below f h n v e k = getD-from f h 0 n v e k ∙ ap (λ m. f (h m)) (omega a
 from-any : {X : Type 0} (f : ℤ → Bool) (g : Option ℕ → ℤ) (h : ℕ → Option ℕ) (i n : ℕ) → any f (map g (map h (from i n))) ≡ true → ((v : ℕ) → f (g (h v)) ≡ true → X) → X
 from-any f g h i zero e go = absurd (false≢true e)
 from-any f g h i (suc n) e go = or-pick (f (g (h i))) (any f (map g (map h (from (suc i) n)))) e (go i) (λ r. from-any f g h (suc i) n r go)
-
-least : {X : Type 0} (i v : ℕ) (b : Bool) → ltb i v ≡ b → i ≤ v → (i < v → X) → (i ≡ v → X) → X
-least i v true q l f g = f (ltb-true i v q)
-least i v false q l f g = g (omega (arith, ltb-false i v q))
 
 any-from : (f : ℤ → Bool) (g : Option ℕ → ℤ) (h : ℕ → Option ℕ) (i n v : ℕ) → i ≤ v → v < i + n → f (g (h v)) ≡ true → any f (map g (map h (from i n))) ≡ true
 any-from f g h i zero v l k e = absurd (omega arith)
@@ -75,10 +70,6 @@ is-fixed nothing x h = refl
 carries-is : (o : Option ℕ) (x : Bool) (ρ : Val) (n : ℕ) → carries-bool (map-word o) x ρ ≡ true → o ≡ some n → ρ n ≡ x
 carries-is (some m) x ρ n h e = let z : m ≡ n = cc in rw (← z) (beq-eq (ρ m) x h)
 carries-is nothing x ρ n h e = let z : _≡_ {A = ℕ} 0 1 = cc in absurd (omega arith)
-
-beq-same : (x : Bool) → Bool·beq x x ≡ true
-beq-same true = refl
-beq-same false = refl
 
 is-carried : (o : Option ℕ) (x : Bool) (ρ : Val) → ((n : ℕ) → o ≡ some n → ρ n ≡ x) → carries-bool (map-word o) x ρ ≡ true
 is-carried (some m) x ρ h = rw (h m refl) (beq-same x)

@@ -2,17 +2,16 @@
 use mathlib.Core.Path.{_≡_, refl}
 use mathlib.Core.Bool.{Bool, true, false, not, cond}
 use mathlib.Core.Option.{Option, none as nothing, some}
-use mathlib.Core.List.{List, [], _∷_, _++_, map}
+use mathlib.Core.List.{List, [], _∷_, _++_}
 use Prim.Native.Nat.{ℕ, suc, _<_}
-use lib.IntN.{ℤ}
 use Rattle.laws.specs.Lists.{any}
-use Rattle.syntax.specs.Syntax.{Domain, Range, lower-bound, upper-bound, domain-of, IntExpr, IConst, IVar, Linear, Terms, tnil, tmore, BoolExpr, Const, Var, NVar, And, Or, Not, Xor, Iff, Imp, Cmp, Members, none, more, Cell, Stmt, Rule, Table}
-use Rattle.syntax.specs.Written.{EveryInt, EveryTerm, EveryColumn, Every, EveryMember, EveryStmt, EveryStmts}
+use Rattle.syntax.specs.Syntax.{Domain, Range, lower-bound, upper-bound, IntExpr, IConst, IVar, Linear, Terms, tnil, tmore, BoolExpr, Const, Var, NVar, And, Or, Not, Xor, Iff, Imp, Cmp, Members, none, more, Cell, Stmt, Rule, Table}
+use Rattle.syntax.specs.Written.{EveryInt, EveryTerm, EveryColumn, Every, EveryMember, EveryStmt, EveryStmts, EveryOf}
 use Rattle.sums.specs.LinearSum.{LinearSum, linear-sum, get-domain-linear-sum}
 use Rattle.clauses.specs.Clause.{BoolLit, LinearLit, Clause}
 use Rattle.clauses.specs.Log.{declared, aux, side, declared-int, column, Log, next-bool, get-bool-var, get-int-var, bool-var-at, convert-bool-var, int-var-at, convert-int-var}
 use Rattle.clauses.specs.Disjunction.{Sorted, satisfied, pool, sorted, Out, each-longer, finish-disjunction, finish-sorted, normalize-disjunction}
-use Rattle.clauses.specs.Normalize.{IntOut, normalize-int-var, normalize-term, normalize-int-expr, normalize-terms, Run, Runs, no-run, run-then, normalize-conjunction, disjunction-of, cross, normalize-var, normalize-comparison, normalize-bool-expr, normalize-members}
+use Rattle.clauses.specs.Normalize.{normalize-int-var, normalize-term, normalize-int-expr, normalize-terms, Run, Runs, no-run, run-then, normalize-conjunction, disjunction-of, cross, normalize-var, normalize-comparison, normalize-bool-expr, normalize-members}
 use Rattle.clauses.specs.Split.{Split, Splits, unsplit, split-not, split-members, split-two, split-sides, split-more, tseitin-transformation-bool, tseitin-transformation-members, normalize-each, normalize-and-register-expr}
 use Rattle.tables.specs.Tables.{new-column, old-column, equivalent-int-var, equivalent-int-vars, star-table, is-star, normalize-extension-supports, normalize-table}
 use Rattle.answer.specs.Answer.{normalize-stmt, normalize-stmts}
@@ -129,7 +128,7 @@ module _ (b i : ℕ) where
   cross-declared p q h j s k = disjunction-declared _ _ (disjunction-declared _ _ (j (p s .1) (h s k)))
 
   mutual
-    unfolding normalize-bool-expr normalize-var normalize-comparison no-run Every
+    unfolding normalize-bool-expr normalize-var normalize-comparison no-run EveryOf
 
     bool-declared : (e : BoolExpr) (g : Bool) → DeclaredExpr e → Keeps (normalize-bool-expr e g)
     bool-declared (Const c) g h = λ s k. k
@@ -182,7 +181,7 @@ module _ (b i : ℕ) where
 
   sides-split-declared : (f : BoolExpr → BoolExpr → BoolExpr) → ((x y : BoolExpr) → DeclaredExpr x → DeclaredExpr y → DeclaredExpr (f x y)) → (u v : BoolExpr) (p q : Log → Split)
       → ((s : Log) → Declared s → SplitDeclared (p s)) → ((s : Log) → Declared s → SplitDeclared (q s)) → (s : Log) → Declared s → SplitDeclared (split-sides f u v p q s)
-  unfolding split-sides Every
+  unfolding split-sides EveryOf
   sides-split-declared f hf u v p q hp hq s k =
       let c : Split = p (side v ∷ side u ∷ s) in
       let d : Split = q (c .log) in
@@ -198,7 +197,7 @@ module _ (b i : ℕ) where
       }
 
   mutual
-    unfolding tseitin-transformation-bool unsplit split-not split-members split-more Every
+    unfolding tseitin-transformation-bool unsplit split-not split-members split-more EveryOf
 
     split-declared : (e : BoolExpr) (t : Bool) → DeclaredExpr e → (s : Log) → Declared s → SplitDeclared (tseitin-transformation-bool e t s)
     split-declared (Const c) t h = λ s k. record { rules = h; extras = tt; logs = k }

@@ -4,7 +4,7 @@ use mathlib.Core.Bool.{Bool, true, false, not, _&&_, _||_, Bool·beq}
 use mathlib.Core.List.{List, [], _∷_, _++_}
 use Prim.Native.Nat.{ℕ, suc, _≤_, max}
 use native.Mathlib.Omega.{arith}
-use Rattle.laws.specs.Bools.{and-l, and-r, and-i, beq-eq, eq1}
+use Rattle.laws.specs.Bools.{and-l, and-r, and-i, beq-eq, beq-same}
 use Rattle.laws.specs.Lists.{all, all-append}
 use Rattle.syntax.specs.Syntax.{BoolExpr, Const, Var, NVar, And, Or, Not, Xor, Iff, Imp, Cmp, Members, none, more}
 use Rattle.syntax.specs.Satisfies.{Val, IVal, holds, holds-all, holds-any}
@@ -13,9 +13,6 @@ use Rattle.clauses.specs.Split.{Split, Splits, unsplit, split-not, split
 use Rattle.clauses.specs.Bounds.{expr-bound, members-bound, exprs-bound, exprs-bound-le}
 use Rattle.clauses.specs.Valuation.{Fits}
 use Rattle.clauses.specs.Grow.{Grows, same, grow, grows-trans, grows-bool, fits-back}
-
-beq-same : (x : Bool) → Bool·beq x x ≡ true
-beq-same = eq1 _ _ refl
 
 -- a connective of two sides
 data Connective : (BoolExpr → BoolExpr → BoolExpr) → (Bool → Bool → Bool) → Type 0 where

@@ -9,7 +9,7 @@ use lib.IntN.{ℤ, pos, negsuc, natAbs, sucℤ, _+ℤ_, _-ℤ_, +ℤ-one}
 use lib.ListN.{length, getD, set, length-append, length-set}
 use mir.Syntax.{w32}
 use mir.Val.{SFits}
-use Rattle.laws.specs.Ints.{eqZ, sfits-natAbs}
+use Rattle.laws.specs.Ints.{eqZ, sfits-natAbs, pos-eq}
 use Rattle.laws.specs.Order.{is-eqZ, not-eqZ}
 use Rattle.laws.specs.Lists.{flat}
 use Rattle.laws.specs.Slices.{Has, has-fits, has-front, has-back, has-word, has-rest, has-nth}
@@ -27,9 +27,6 @@ domain-long (Enumerative xs) = omega arith
 kind-word : (ws : List ℤ) (at : ℕ) (dm : Domain) → Has ws at (encode-domain dm) → getD ws at (pos 0) ≡ pos (kind dm)
 kind-word ws at (Range low high) h = has-word ws at _ _ (pos 0) h
 kind-word ws at (Enumerative xs) h = has-word ws at _ _ (pos 0) h
-
-pos-eq : (z : ℤ) (m n : ℕ) → z ≡ pos m → z ≡ pos n → m ≡ n
-pos-eq z m n p q = cc
 
 module _ (ws : List ℤ) (at : ℕ) where
   fits : (dm : Domain) → Has ws at (encode-domain dm) → at + length (encode-domain dm) ≤ length ws

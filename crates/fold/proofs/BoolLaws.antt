@@ -10,13 +10,14 @@ use lib.IntN.{ℤ, pos}
 use lib.ListN.{length, take, drop, getD, length-append}
 use lib.Seq.{slice, getD-take}
 use Rattle.laws.specs.Slices.{Has, has-fits, has-front, has-back, has-word, has-rest, Pushed, pushed-below, pushed-slice, pushed-then, pushed-over, pushed-none, Stored, drop-up}
+use Rattle.laws.specs.Ints.{pos-eq}
 use Rattle.syntax.specs.Words.{max-bools}
 use Rattle.syntax.specs.Syntax.{CmpOp, encode-op, IntExpr, BoolExpr, Const, Var, NVar, And, Or, Not, Xor, Iff, Imp, Cmp, Members, none, more, count-members, encode-int, encode-bool, encode-members}
+use Rattle.syntax.specs.Written.{EveryOf, None}
 use Rattle.fold.specs.Fold.{is-const, Op, op-xor, op-iff, op-imp, expr-of, action, act, fold-binary, has-const, keep-member, kept, fold-not, not-of, fold-var, constant-folding-int, constant-folding-bool, constant-folding-members}
 use Rattle.fold.specs.Table.{op-num, action-num, bit, state-num, op-small, bit-small, state-small}
-use Rattle.fold.specs.Forms.{list-of, fold-list, list-folding, binary-folding, list-words, binary-words, bit-word, op-word, op-word-is, Declared, Declared-members, declared-list, declared-binary, bool-long, members-long}
-use Rattle.fold.specs.Size.{fold-declared, kept-size, fold-list-size, not-size, binary-size}
-use Rattle.fold.specs.Kept.{fold-int-size, fold-size, fold-members-size}
+use Rattle.fold.specs.Forms.{list-of, fold-list, list-folding, binary-folding, list-words, binary-words, bit-word, op-word, op-word-is, Declared, declared-list, declared-binary, bool-long, members-long}
+use Rattle.fold.specs.Kept.{fold-int-size, fold-size, fold-members-size, fold-every, kept-size, fold-list-size, not-size, binary-size}
 use Rattle.domains.specs.Declared.{Plain}
 use Rattle.fold.specs.Steps.{state-of, fixed-of, fixed-in, var-step, not-step, not-state, list-step, list-state, binary-step, binary-state, Reads-int, Ready-int, Int-post, Reads, Reads-members, Ready, Ready-members, Fold-post, Members-post, var-words, not-words, not-state-is, bit-state, fold-list-words, fold-list-state, act-words, fold-binary-state, hit-one, count-one, kept-fewer, members-count}
 
@@ -111,7 +112,7 @@ module _ {X : Type 0} where
 
 module _ (nb ni : ℕ) (ws : List ℤ) (at : ℕ) where
   pub first-word : (e : BoolExpr) → Declared nb ni e → Has ws at (encode-bool e) → getD ws at (pos 0) ≡ pos (tag e)
-  unfolding encode-bool Declared
+  unfolding encode-bool EveryOf
   first-word (Const b) v h = has-word ws at _ _ (pos 0) h
   first-word (Var i) v h = has-word ws at _ _ (pos 0) h
   first-word (NVar n) v h = absurd v
@@ -150,7 +151,7 @@ second-word ws at (Imp a b) k l h = absurd (let z = l (omega arith) in omega ari
 second-word ws at (Cmp o a b) k l h = has-word ws (at + 1) _ _ (pos 0) (has-rest ws at _ _ h) ∙ op-word-is o
 
 pub tag-low : (nb ni : ℕ) (e : BoolExpr) → Declared nb ni e → 10 ≤ tag e
-unfolding Declared
+unfolding EveryOf
 tag-low nb ni (Const b) h = omega arith
 tag-low nb ni (Var i) h = omega arith
 tag-low nb ni (NVar n) h = absurd h
@@ -162,9 +163,6 @@ tag-low nb ni (Iff a b) h = omega arith
 tag-low nb ni (Imp a b) h = omega arith
 tag-low nb ni (Cmp o a b) h = omega arith
 
-pos-eq : (z : ℤ) (m n : ℕ) → z ≡ pos m → z ≡ pos n → m ≡ n
-pos-eq z m n p q = cc
-
 -- ---- the parts stand where they are looked for
 
 module _ (ni : ℕ) (ws : List ℤ) (at : ℕ) where
@@ -175,7 +173,7 @@ module _ (ni : ℕ) (ws : List ℤ) (at : ℕ) where
   reads-long e r = bool-long max-bools ni e (r .vars)
 
   pub reads-not : (x : BoolExpr) → Reads ni ws at (Not x) → Reads ni ws (at + 1) x
-  unfolding encode-bool Declared
+  unfolding encode-bool EveryOf
   reads-not x r = record { words = has-rest ws at _ _ (r .words); vars = r .vars }
 
   pub reads-list : (b : Bool) (ms : Members) → Reads ni ws at (list-of b ms) → Reads-members ni ws (at + 2) (count-members ms) ms
@@ -191,15 +189,15 @@ module _ (ni : ℕ) (ws : List ℤ) (at : ℕ) where
   reads-right o a b r = record { words = has-back ws (at + 1) (encode-bool a) (encode-bool b) (sides o a b r); vars = declared-binary max-bools ni o a b (r .vars) .1 }
 
   pub reads-first : (n : ℕ) (e : BoolExpr) (ms : Members) → Reads-members ni ws at n (more e ms) → Reads ni ws at e
-  unfolding encode-members Declared-members
+  unfolding encode-members EveryOf
   reads-first n e ms r = record { words = has-front ws at (encode-bool e) (encode-members ms) (r .words); vars = r .vars .0 }
 
   pub reads-rest : (n : ℕ) (e : BoolExpr) (ms : Members) → Reads-members ni ws at n (more e ms) → Reads-members ni ws (at + length (encode-bool e)) (n - 1) ms
-  unfolding encode-members Declared-members
+  unfolding encode-members EveryOf
   reads-rest n e ms r = record { words = has-back ws at (encode-bool e) (encode-members ms) (r .words); vars = r .vars .1; size = let z : n ≡ suc (count-members ms) = r .size in omega arith }
 
   pub reads-sides : (o : CmpOp) (a b : IntExpr) → Reads ni ws at (Cmp o a b) → Reads-int ni ws (at + 2) a × Reads-int ni ws (at + 2 + length (encode-int a)) b
-  unfolding encode-bool Declared
+  unfolding encode-bool EveryOf
   reads-sides o a b r =
       let h = has-back ws at (pos 18 ∷ encode-op o ∷ []) (encode-int a ++ encode-int b) (r .words) in
       (record { words = has-front ws (at + 2) (encode-int a) (encode-int b) h; vars = r .vars .0 }, record { words = has-back ws (at + 2) (encode-int a) (encode-int b) h; vars = r .vars .1 })
@@ -268,7 +266,7 @@ module _ (ws : List ℤ) (d at : ℕ) (out : List ℤ) (o w : ℕ) (hw : getD ws
         rw q (record { nexts = refl; states = sym z ∙ bit-state b; pushed = rw (bit-word b, z) (s .pushed); above = two-above out' end _ refl s })
 
     pub var-below : Ready ws d at out o → w < 12 → (w ≡ 10 → ⊥) → v < max-bools
-    unfolding second Declared
+    unfolding second EveryOf
     var-below r h n =
         let t = tag-is _ (r .it) (r .reads) in
         let m = low-tag r in
@@ -358,7 +356,7 @@ module _ (ws : List ℤ) (d at : ℕ) (out : List ℤ) (o w : ℕ) (hw : getD ws
         let e : end ≡ o + 1 + length (encode-bool y) = f .pushed .end in
         let z : o + suc (length (encode-bool x)) ≤ length out = rw q at (r .room) in
         let s : state ≡ state-num (is-const y) = f .states in
-        (omega (arith, bool-long max-bools _ y (fold-declared max-bools _ (r .ds) (fixed-in out) x (rd .vars))), omega (arith, fold-size (r .ds) (fixed-in out) x), omega (arith, state-small (is-const y)))
+        (omega (arith, bool-long max-bools _ y (fold-every None (λ v. v < max-bools) (λ v. v < length (r .ds)) (r .ds) (fixed-in out) x (rd .vars))), omega (arith, fold-size (r .ds) (fixed-in out) x), omega (arith, state-small (is-const y)))
 
     pub not-folds : (out' : List ℤ) (next' end' state' : ℕ) → Ready ws d at out o → w ≡ 14 → next' ≡ next → state' ≡ not-state state → Stored mid o (not-step state (slice (o + 1) end mid)) out' end'
         → Fold-post ws d at out o out' next' end' state'
@@ -371,13 +369,12 @@ module _ (ws : List ℤ) (d at : ℕ) (out : List ℤ) (o w : ℕ) (hw : getD ws
         let l : o + 1 ≤ length out = omega (arith, ready-inside ws d at out o rd .1) in
         let c : slice (o + 1) end mid ≡ encode-bool y = pushed-slice out (o + 1) (encode-bool y) mid end (f .pushed) l in
         let ww : Pushed mid o (encode-bool (not-of (is-const y) y)) out' end' = rw (← not-words (is-const y) y, ← c, ← f .states) (st .pushed) in
-        let yd = fold-declared max-bools _ ds (fixed-in out) x (rx .vars) in
         rw q (record {
           nexts = hn ∙ f .nexts ∙ omega arith;
           states = hs ∙ ap not-state (f .states) ∙ not-state-is (is-const y) y;
           pushed = pushed-over out (o + 1) (encode-bool y) mid end o _ out' end' (f .pushed) (omega arith) l ww;
           above = above-both (o + suc (length (encode-bool x))) out mid out' (o + 1 + length (encode-bool x)) end' (f .above) (st .above) (omega arith)
-              (let k : end' ≡ o + length (encode-bool (not-of (is-const y) y)) = ww .end in omega (arith, not-size max-bools _ (is-const y) y yd, fold-size ds (fixed-in out) x));
+              (let k : end' ≡ o + length (encode-bool (not-of (is-const y) y)) = ww .end in omega (arith, not-size y, fold-size ds (fixed-in out) x));
         })
 
   -- ---- And, Or
@@ -483,7 +480,7 @@ module _ (ws : List ℤ) (d at : ℕ) (out : List ℤ) (o w : ℕ) (hw : getD ws
             let e' : end' ≡ end + length (encode-bool B) = g .pushed .end in
             let s : state ≡ state-num (is-const A) = f .states in
             let s' : state' ≡ state-num (is-const B) = g .states in (
-              omega (arith, bool-long max-bools _ A (fold-declared max-bools _ (r .ds) (fixed-in out) a (ra .vars))),
+              omega (arith, bool-long max-bools _ A (fold-every None (λ v. v < max-bools) (λ v. v < length (r .ds)) (r .ds) (fixed-in out) a (ra .vars))),
               omega arith,
               omega (arith, binary-length y a b, fold-size (r .ds) (fixed-in out) a, fold-size (r .ds) (fixed-in mid) b),
               omega (arith, op-small y),
@@ -519,8 +516,6 @@ module _ (ws : List ℤ) (d at : ℕ) (out : List ℤ) (o w : ℕ) (hw : getD ws
             let ww : Pushed mid' o (encode-bool T) out' end″ = rw (← act-words (action y (is-const A) (is-const B)) y A B, ← cl, ← cr, ← ka, ← oy) (st .pushed) in
             let po : Pushed out o (encode-bool T) out' end″ = pushed-over out (o + 1) (encode-bool A ++ encode-bool B) mid' end' o _ out' end″ (pushed-then out (o + 1) (encode-bool A) mid end (encode-bool B) mid' end' (f .pushed) wb) (omega arith) lo ww in
             let ss : state″ ≡ state-num (is-const T) = hs ∙ ap binary-state ka ∙ fold-binary-state y A B in
-            let Ad = fold-declared max-bools _ ds (fixed-in out) a (ra .vars) in
-            let Bd = fold-declared max-bools _ ds (fixed-in out) b (rb .vars) in
             rw q (record {
               nexts = omega (arith, binary-length y a b);
               states = ss ∙ ap (λ x. state-num (is-const x)) (sym bf);
@@ -528,7 +523,7 @@ module _ (ws : List ℤ) (d at : ℕ) (out : List ℤ) (o w : ℕ) (hw : getD ws
               above = above-both (o + length (encode-bool (expr-of y a b))) out mid' out' (o + 1 + length (encode-bool a) + length (encode-bool b)) end″
                   (drop-up (end + length (encode-bool b)) (o + 1 + length (encode-bool a) + length (encode-bool b)) mid' mid (g .above) (omega (arith, fold-size ds (fixed-in out) a)) ∙ drop-up (o + 1 + length (encode-bool a)) (o + 1 + length (encode-bool a) + length (encode-bool b)) mid out (f .above) (omega arith))
                   (st .above) (omega (arith, binary-length y a b))
-                  (let k : end″ ≡ o + length (encode-bool T) = ww .end in omega (arith, binary-length y a b, binary-size max-bools _ y A B Ad Bd, fold-size ds (fixed-in out) a, fold-size ds (fixed-in out) b));
+                  (let k : end″ ≡ o + length (encode-bool T) = ww .end in omega (arith, binary-length y a b, binary-size y A B, fold-size ds (fixed-in out) a, fold-size ds (fixed-in out) b));
             })
 
 -- ---- members

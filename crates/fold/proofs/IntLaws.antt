@@ -10,61 +10,48 @@ use borrow.Author.Tests.{eq-eqb, eqb-true}
 use lib.IntN.{ℤ, pos}
 use lib.ListN.{length, drop, getD, set, length-append, length-set}
 use lib.Seq.{slice-empty}
-use Rattle.laws.specs.Ints.{eqZ}
-use Rattle.laws.specs.Slices.{Has, has-fits, has-front, has-back, has-word, has-rest, Pushed, pushed-then, pushed-none, Stored, stored-two, heads-one, drop-up}
+use Rattle.laws.specs.Ints.{eqZ, pos-eq}
+use Rattle.laws.specs.Slices.{has-fits, has-front, has-back, has-word, has-rest, Pushed, pushed-then, pushed-none, Stored, stored-two, heads-one, drop-up}
 use Rattle.syntax.specs.Syntax.{Domain, as-constant, domain-of, IntExpr, IConst, IVar, Linear, Terms, tnil, tmore, count-terms, encode-int, encode-terms}
+use Rattle.syntax.specs.Lengths.{int-tag, int-tag-word, int-long, int-fits}
+use Rattle.syntax.specs.Written.{EveryInt}
 use Rattle.fold.specs.Fold.{fold-int-var, fold-sum, constant-folding-int, constant-folding-terms}
-use Rattle.fold.specs.Forms.{Declared-int, Declared-terms, int-long}
 use Rattle.fold.specs.Kept.{fold-int-size}
 use Rattle.domains.specs.Declared.{Plain, Domain-below}
 use Rattle.fold.specs.Steps.{single-of, Int-var-post, Reads-int, Reads-terms, Ready-int, Ready-terms, Folds-int, Int-post, Terms-post}
 
 -- ---- the form, from the first word
 
-abbrev tag : IntExpr → ℕ
-tag (IConst c) = 20
-tag (IVar v) = 21
-tag (Linear ts) = 22
-
 module _ {X : Type 0} where
-  const-inv : (e : IntExpr) → tag e ≡ 20 → ((c : ℤ) → e ≡ IConst c → X) → X
+  const-inv : (e : IntExpr) → int-tag e ≡ 20 → ((c : ℤ) → e ≡ IConst c → X) → X
   const-inv (IConst c) h go = go c refl
   const-inv (IVar v) h go = absurd (omega arith)
   const-inv (Linear ts) h go = absurd (omega arith)
 
-  var-inv : (e : IntExpr) → tag e ≡ 21 → ((v : ℕ) → e ≡ IVar v → X) → X
+  var-inv : (e : IntExpr) → int-tag e ≡ 21 → ((v : ℕ) → e ≡ IVar v → X) → X
   var-inv (IConst c) h go = absurd (omega arith)
   var-inv (IVar v) h go = go v refl
   var-inv (Linear ts) h go = absurd (omega arith)
 
-  sum-inv : (e : IntExpr) → (tag e ≡ 20 → ⊥) → (tag e ≡ 21 → ⊥) → ((ts : Terms) → e ≡ Linear ts → X) → X
+  sum-inv : (e : IntExpr) → (int-tag e ≡ 20 → ⊥) → (int-tag e ≡ 21 → ⊥) → ((ts : Terms) → e ≡ Linear ts → X) → X
   sum-inv (IConst c) h k go = absurd (h refl)
   sum-inv (IVar v) h k go = absurd (k refl)
   sum-inv (Linear ts) h k go = go ts refl
 
-first-word : (ws : List ℤ) (at : ℕ) (e : IntExpr) → Has ws at (encode-int e) → getD ws at (pos 0) ≡ pos (tag e)
-unfolding encode-int
-first-word ws at (IConst c) h = has-word ws at _ _ (pos 0) h
-first-word ws at (IVar v) h = has-word ws at _ _ (pos 0) h
-first-word ws at (Linear ts) h = has-word ws at _ _ (pos 0) h
-
-pos-eq : (z : ℤ) (m n : ℕ) → z ≡ pos m → z ≡ pos n → m ≡ n
-pos-eq z m n p q = cc
-
 module _ (ni : ℕ) (ws : List ℤ) (at : ℕ) where
   pub inside : (e : IntExpr) → Reads-int ni ws at e → at + length (encode-int e) ≤ length ws
-  inside e r = has-fits ws at (encode-int e) (r .words) (omega (arith, int-long e))
+  inside e r = int-fits ws at e (r .words)
 
   sum-words : (ts : Terms) → Reads-int ni ws at (Linear ts) → Reads-terms ni ws (at + 2) (count-terms ts) ts
-  unfolding encode-int Declared-int
+  unfolding encode-int EveryInt
   sum-words ts r = record { words = has-back ws at (pos 22 ∷ pos (count-terms ts) ∷ []) (encode-terms ts) (r .words); vars = r .vars; size = refl }
 
   term-first : (n : ℕ) (c : ℤ) (e : IntExpr) (ts : Terms) → Reads-terms ni ws at n (tmore c e ts) → Reads-int ni ws (at + 1) e
-  unfolding encode-terms Declared-terms
+  unfolding encode-terms EveryInt
   term-first n c e ts r = record { words = has-front ws (at + 1) (encode-int e) (encode-terms ts) (has-rest ws at _ _ (r .words)); vars = r .vars .0 }
 
   term-rest : (n : ℕ) (c : ℤ) (e : IntExpr) (ts : Terms) → Reads-terms ni ws at n (tmore c e ts) → Reads-terms ni ws (at + 1 + length (encode-int e)) (n - 1) ts
-  unfolding encode-terms Declared-terms
+  unfolding encode-terms EveryInt
   term-rest n c e ts r = record { words = has-back ws (at + 1) (encode-int e) (encode-terms ts) (has-rest ws at _ _ (r .words)); vars = r .vars .1; size = let z : n ≡ suc (count-terms ts) = r .size in omega arith }
 
   term-coefficient : (n : ℕ) (c : ℤ) (e : IntExpr) (ts : Terms) → Reads-terms ni ws at n (tmore c e ts) → getD ws at (pos 0) ≡ c
@@ -76,15 +63,15 @@ module _ (ws : List ℤ) (d at : ℕ) (out : List ℤ) (o : ℕ) where
   int-inside r = (omega (arith, inside (length (r .ds)) ws at (r .it) (r .reads), int-long (r .it)), omega (arith, r .room, int-long (r .it)))
 
   pub int-first : Ready-int ws d at out o → Plain ws at
-  int-first r = record { inside = omega (arith, int-inside r .0); value = tag (r .it); is = first-word ws at (r .it) (r .reads .words) }
+  int-first r = record { inside = omega (arith, int-inside r .0); value = int-tag (r .it); is = int-tag-word ws at (r .it) (r .reads .words) }
 
   -- two words written at o
   two-above : (out' : List ℤ) (end : ℕ) (us : List ℤ) → length us ≡ 2 → Stored out o us out' end → drop (o + 2) out' ≡ drop (o + 2) out
   two-above out' end us l s = let e : end ≡ o + length us = s .pushed .end in let f : o + 2 ≡ end = omega arith in ap (λ n. drop n out') f ∙ s .above ∙ ap (λ n. drop n out) (sym f)
 
   module _ (w : ℕ) (hw : getD ws at (pos 0) ≡ pos w) where
-    tag-is : (ni : ℕ) (e : IntExpr) → Reads-int ni ws at e → tag e ≡ w
-    tag-is ni e r = pos-eq _ _ _ (first-word ws at e (r .words)) hw
+    tag-is : (ni : ℕ) (e : IntExpr) → Reads-int ni ws at e → int-tag e ≡ w
+    tag-is ni e r = pos-eq _ _ _ (int-tag-word ws at e (r .words)) hw
 
     pub int-second : Ready-int ws d at out o → (w ≡ 20 → ⊥) → Plain ws (at + 1)
     unfolding encode-int
@@ -106,7 +93,7 @@ module _ (ws : List ℤ) (d at : ℕ) (out : List ℤ) (o : ℕ) where
 
     module _ (v : ℕ) (hv : getD ws (at + 1) (pos 0) ≡ pos v) where
       pub var-below : Ready-int ws d at out o → w ≡ 21 → Domain-below ws d v
-      unfolding encode-int Declared-int
+      unfolding encode-int EveryInt
       var-below r h =
           var-inv (r .it) (tag-is _ (r .it) (r .reads) ∙ h) λ i q.
           let g = rw q at (r .reads) in
@@ -123,7 +110,7 @@ module _ (ws : List ℤ) (d at : ℕ) (out : List ℤ) (o : ℕ) where
           go (some c) = refl
 
       pub var-folds : (out' : List ℤ) (end : ℕ) → w ≡ 21 → Int-var-post ws d out o v out' end → Int-post ws d at out o out' (at + 2) end
-      unfolding encode-int constant-folding-int Declared-int
+      unfolding encode-int constant-folding-int EveryInt
       var-folds out' end h p ds e hd r =
           var-inv e (tag-is _ e r ∙ h) λ i q.
           let g = rw q at r in

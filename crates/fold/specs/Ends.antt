@@ -11,7 +11,7 @@ use lib.ListN.{length}
 use borrow.Author.Tests.{eqb-true, eqb-false}
 use Rattle.laws.specs.Bools.{or-no-l, or-no-r, never}
 use Rattle.syntax.specs.Syntax.{Domain, BoolExpr, Const, Var, NVar, And, Or, Not, Xor, Iff, Imp, Cmp, Members, none, more, Stmt, Rule, Table, Problem}
-use Rattle.syntax.specs.Written.{Every, EveryMember, EveryStmt, EveryStmts, AllDeclared, any-stmts}
+use Rattle.syntax.specs.Written.{Every, EveryMember, EveryStmt, EveryStmts, AllDeclared, any-stmts, EveryOf}
 use Rattle.fold.specs.Fold.{Fixed, constant-folding-stmt as fold-stmt}
 use Rattle.fold.specs.Optimize.{Status, unsatisfiable, updated, fix, set-infeasible, worst, and-then, constant-prop-bool as prop, constant-prop-members as prop-members, constant-prop-stmts as prop-stmts, Outcome, inconsistent, settled, next-pass, passes, optimize}
 use Rattle.fold.specs.Refold.{Extends, refold-stmts}
@@ -47,7 +47,7 @@ module _ (P Q : ℕ → Type 0) (R : Fixed → Bool → Fixed → Type 0) (steps
   var-after (some b) v want f h p = same-after (Bool·beq b want) f
 
   mutual
-    unfolding prop Every
+    unfolding prop EveryOf
 
     prop-after : (e : BoolExpr) (want : Bool) (f : Fixed) → Every P Q e → After R f (prop e want f)
     prop-after (Const c) want = λ f h. same-after (Bool·beq c want) f

@@ -1,7 +1,7 @@
 -- Folding keeps the assignments: an assignment that has the fixed values, and gives every integer written a value of its domain,
 -- satisfies a folded expression or statement exactly if it satisfies the original.
 use mathlib.Core.Path.{_≡_, refl, sym, ap, _∙_}
-use mathlib.Core.Bool.{Bool, true, false, not, _&&_, _||_, Bool·beq, cond, false≢true, and-true, or-false}
+use mathlib.Core.Bool.{Bool, true, false, not, _&&_, _||_, Bool·beq, cond, and-true, or-false}
 use mathlib.Core.Option.{Option, none as nothing, some}
 use mathlib.Core.List.{List, [], _∷_, map}
 use Prim.Native.Nat.{ℕ}
@@ -12,8 +12,8 @@ use Rattle.laws.specs.Ints.{eqZ}
 use Rattle.laws.specs.Order.{eqZ-is, leZ-antisym}
 use Rattle.laws.specs.Lists.{any, all}
 use Rattle.syntax.specs.Syntax.{Domain, Range, Enumerative, as-constant, in-domain, domain-of, IntExpr, IConst, IVar, Linear, Terms, tnil, tmore, BoolExpr, Const, Var, NVar, And, Or, Not, Xor, Iff, Imp, Cmp, Members, none, more, Cell, Stmt, Rule, Table}
-use Rattle.syntax.specs.Satisfies.{Val, IVal, compare, permits, int-value, terms-value, row-holds, holds, holds-all, holds-any, stmt-holds}
-use Rattle.syntax.specs.Written.{EveryInt, EveryTerm, EveryColumn, Every, EveryMember, EveryStmt, EveryStmts, Within}
+use Rattle.syntax.specs.Satisfies.{Val, IVal, int-value, terms-value, row-holds, holds, holds-all, holds-any, stmt-holds}
+use Rattle.syntax.specs.Written.{EveryInt, EveryTerm, EveryColumn, Every, EveryMember, EveryStmt, EveryStmts, Within, EveryOf}
 use Rattle.fold.specs.Fold.{Fixed, is-const, Op, op-xor, op-iff, op-imp, Action, be-false, be-true, left, not-left, right, not-right, keep, action, act, fold-binary, is-value, has-const, keep-member, kept, join-and, join-or, fold-and, fold-or, not-of, fold-not, fold-var, fold-int-var, fold-sum, constant-folding-int as fold-int, constant-folding-terms as fold-terms, constant-folding-bool as fold, constant-folding-members as fold-members, constant-folding-stmt as fold-stmt}
 use Rattle.fold.specs.Refold.{const-or}
 
@@ -233,7 +233,7 @@ module _ (ds : List Domain) (f : Fixed) (δ : Val) (ε : IVal) (ρ : Val) (agree
 
   module _ (P : ℕ → Type 0) where
     mutual
-      unfolding fold holds fold-not Every
+      unfolding fold holds fold-not EveryOf
 
       pub fold-holds : (e : BoolExpr) → Every P (Within ds ε) e → holds δ ε ρ (fold ds f e) ≡ holds δ ε ρ e
       fold-holds (Const b) w = refl

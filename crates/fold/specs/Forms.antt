@@ -7,7 +7,8 @@ use mathlib.Core.List.{List, _∷_, _++_}
 use native.Mathlib.Omega.{arith}
 use lib.IntN.{pos}
 use lib.ListN.{length, length-append}
-use Rattle.syntax.specs.Syntax.{Domain, CmpOp, Eq, Ne, Le, Lt, Ge, Gt, encode-op, IntExpr, IConst, IVar, Linear, Terms, tnil, tmore, BoolExpr, Const, Var, NVar, And, Or, Not, Xor, Iff, Imp, Cmp, Members, none, more, count-members, encode-int, encode-bool, encode-members, encode-bit}
+use Rattle.syntax.specs.Syntax.{Domain, CmpOp, Eq, Ne, Le, Lt, Ge, Gt, encode-op, IntExpr, Terms, BoolExpr, Const, Var, NVar, And, Or, Not, Xor, Iff, Imp, Cmp, Members, none, more, count-members, encode-bool, encode-members, encode-bit}
+use Rattle.syntax.specs.Written.{EveryInt, EveryTerm, EveryOf, EveryMemberOf, None}
 use Rattle.fold.specs.Fold.{Fixed, Op, op-xor, op-iff, op-imp, expr-of, fold-binary, has-const, kept, join-and, join-or, fold-and, fold-or, constant-folding-bool, constant-folding-members}
 use Rattle.fold.specs.Table.{op-num, bit}
 
@@ -81,54 +82,33 @@ op-word-is Gt = refl
 
 -- ---- declared
 
-unfoldable mutual
-  pub Declared-int : ℕ → IntExpr → Type 0
-  Declared-int ni (IConst c) = Unit {0}
-  Declared-int ni (IVar v) = v < ni
-  Declared-int ni (Linear ts) = Declared-terms ni ts
+abbrev pub Declared-int : ℕ → IntExpr → Type 0
+Declared-int ni e = EveryInt (λ v. v < ni) e
 
-  pub Declared-terms : ℕ → Terms → Type 0
-  Declared-terms ni tnil = Unit {0}
-  Declared-terms ni (tmore k e ts) = Declared-int ni e × Declared-terms ni ts
+abbrev pub Declared-terms : ℕ → Terms → Type 0
+Declared-terms ni ts = EveryTerm (λ v. v < ni) ts
 
-unfoldable mutual
-  pub Declared : ℕ → ℕ → BoolExpr → Type 0
-  Declared nb ni (Const b) = Unit {0}
-  Declared nb ni (Var v) = v < nb
-  Declared nb ni (NVar n) = ⊥
-  Declared nb ni (And ms) = Declared-members nb ni ms
-  Declared nb ni (Or ms) = Declared-members nb ni ms
-  Declared nb ni (Not e) = Declared nb ni e
-  Declared nb ni (Xor a b) = Declared nb ni a × Declared nb ni b
-  Declared nb ni (Iff a b) = Declared nb ni a × Declared nb ni b
-  Declared nb ni (Imp a b) = Declared nb ni a × Declared nb ni b
-  Declared nb ni (Cmp o a b) = Declared-int ni a × Declared-int ni b
+abbrev pub Declared : ℕ → ℕ → BoolExpr → Type 0
+Declared nb ni e = EveryOf None (λ v. v < nb) (λ v. v < ni) e
 
-  pub Declared-members : ℕ → ℕ → Members → Type 0
-  Declared-members nb ni none = Unit {0}
-  Declared-members nb ni (more e ms) = Declared nb ni e × Declared-members nb ni ms
+abbrev pub Declared-members : ℕ → ℕ → Members → Type 0
+Declared-members nb ni ms = EveryMemberOf None (λ v. v < nb) (λ v. v < ni) ms
 
 pub declared-list : (nb ni : ℕ) (b : Bool) (ms : Members) → Declared nb ni (list-of b ms) → Declared-members nb ni ms
-unfolding Declared
+unfolding EveryOf
 declared-list nb ni false ms h = h
 declared-list nb ni true ms h = h
 
 pub declared-binary : (nb ni : ℕ) (o : Op) (a b : BoolExpr) → Declared nb ni (expr-of o a b) → Declared nb ni a × Declared nb ni b
-unfolding Declared
+unfolding EveryOf
 declared-binary nb ni op-xor a b h = h
 declared-binary nb ni op-iff a b h = h
 declared-binary nb ni op-imp a b h = h
 
 -- ---- lengths
 
-pub int-long : (e : IntExpr) → 2 ≤ length (encode-int e)
-unfolding encode-int
-int-long (IConst c) = omega arith
-int-long (IVar v) = omega arith
-int-long (Linear ts) = omega arith
-
 mutual
-  unfolding encode-bool Declared
+  unfolding encode-bool EveryOf
 
   pub bool-long : (nb ni : ℕ) (e : BoolExpr) → Declared nb ni e → 2 ≤ length (encode-bool e)
   bool-long nb ni (Const b) h = omega arith

@@ -1,19 +1,20 @@
 -- What folding keeps: it writes no variable that was not written, no more words, and no deeper levels. Assumes nothing.
-use mathlib.Core.Path.{_≡_, refl, sym, ap, _∙_}
+use mathlib.Core.Path.{_≡_, refl, ap}
 use mathlib.Core.Bool.{Bool, true, false, cond}
 use mathlib.Core.Option.{Option, none as nothing, some}
-use mathlib.Core.List.{List, [], _∷_, _++_, map}
+use mathlib.Core.List.{List, [], _∷_, map}
 use Prim.Native.Nat.{ℕ, suc, _+_, _≤_, max}
 use native.Mathlib.Omega.{arith}
 use lib.IntN.{ℤ, pos}
 use lib.ListN.{length, length-append}
 use Rattle.laws.specs.Ints.{eqZ}
 use Rattle.laws.specs.Lists.{flat}
-use Rattle.syntax.specs.Syntax.{Domain, as-constant, domain-of, IntExpr, IConst, IVar, Linear, Terms, tnil, tmore, BoolExpr, Const, Var, NVar, And, Or, Not, Xor, Iff, Imp, Cmp, Members, none, more, Cell, Stmt, Rule, Table, encode-int, encode-terms, encode-bool, encode-members, encode-cell, encode-stmt}
-use Rattle.syntax.specs.Written.{EveryInt, EveryTerm, EveryColumn, Every, EveryMember, EveryStmt, EveryStmts}
+use Rattle.syntax.specs.Syntax.{Domain, as-constant, domain-of, IntExpr, IConst, IVar, Linear, Terms, tnil, tmore, BoolExpr, Const, Var, NVar, And, Or, Not, Xor, Iff, Imp, Cmp, Members, none, more, Stmt, Rule, Table, encode-int, encode-terms, encode-bool, encode-members, encode-cell, encode-stmt}
+use Rattle.syntax.specs.Written.{EveryInt, EveryTerm, EveryColumn, EveryStmt, EveryStmts, EveryOf, EveryMemberOf, Any}
 use Rattle.syntax.specs.Depth.{depth-int, depth-terms, depth, depth-members}
-use Rattle.fold.specs.Fold.{Fixed, is-const, Op, op-xor, op-iff, op-imp, Action, be-false, be-true, left, not-left, right, not-right, keep, action, expr-of, act, fold-binary, has-const, keep-member, kept, join-and, join-or, fold-and, fold-or, not-of, fold-not, fold-var, fold-int-var, fold-sum, constant-folding-int as fold-int, constant-folding-terms as fold-terms, constant-folding-bool as fold, constant-folding-members as fold-members, constant-folding-stmt as fold-stmt}
+use Rattle.fold.specs.Fold.{Fixed, is-const, Op, op-xor, op-iff, op-imp, Action, be-false, be-true, left, not-left, right, not-right, keep, action, act, fold-binary, has-const, keep-member, kept, join-and, join-or, fold-and, fold-or, not-of, fold-not, fold-var, fold-int-var, fold-sum, constant-folding-int as fold-int, constant-folding-terms as fold-terms, constant-folding-bool as fold, constant-folding-members as fold-members, constant-folding-stmt as fold-stmt}
 use Rattle.fold.specs.Refold.{const-or}
+use Rattle.fold.specs.Forms.{join, fold-list, list-folding, list-words}
 
 -- ---- variables
 
@@ -50,9 +51,9 @@ module _ (Q : ℕ → Type 0) (ds : List Domain) where
   fold-columns-every [] h = tt
   fold-columns-every (e ∷ es) h = (fold-int-every e (h .0), fold-columns-every es (h .1))
 
-module _ (P Q : ℕ → Type 0) where
-  act-every : (k : Action) (o : Op) (a b : BoolExpr) → Every P Q a → Every P Q b → Every P Q (act k o a b)
-  unfolding Every
+module _ (N P Q : ℕ → Type 0) where
+  act-every : (k : Action) (o : Op) (a b : BoolExpr) → EveryOf N P Q a → EveryOf N P Q b → EveryOf N P Q (act k o a b)
+  unfolding EveryOf
   act-every be-false o a b h g = tt
   act-every be-true o a b h g = tt
   act-every left o a b h g = h
@@ -63,66 +64,66 @@ module _ (P Q : ℕ → Type 0) where
   act-every keep op-iff a b h g = (h, g)
   act-every keep op-imp a b h g = (h, g)
 
-  pub binary-every : (o : Op) (a b : BoolExpr) → Every P Q a → Every P Q b → Every P Q (fold-binary o a b)
+  pub binary-every : (o : Op) (a b : BoolExpr) → EveryOf N P Q a → EveryOf N P Q b → EveryOf N P Q (fold-binary o a b)
   unfolding fold-binary
   binary-every o a b h g = act-every (action o (is-const a) (is-const b)) o a b h g
 
-  keep-every : (k : Option Bool) (e : BoolExpr) (ms : Members) → Every P Q e → EveryMember P Q ms → EveryMember P Q (keep-member k e ms)
-  unfolding Every
+  keep-every : (k : Option Bool) (e : BoolExpr) (ms : Members) → EveryOf N P Q e → EveryMemberOf N P Q ms → EveryMemberOf N P Q (keep-member k e ms)
+  unfolding EveryOf
   keep-every nothing e ms h g = (h, g)
   keep-every (some b) e ms h g = g
 
-  kept-every : (ms : Members) → EveryMember P Q ms → EveryMember P Q (kept ms)
-  unfolding kept Every
+  kept-every : (ms : Members) → EveryMemberOf N P Q ms → EveryMemberOf N P Q (kept ms)
+  unfolding kept EveryOf
   kept-every none h = tt
   kept-every (more e ms) h = keep-every (is-const e) e (kept ms) (h .0) (kept-every ms (h .1))
 
-  join-and-every : (ms : Members) → EveryMember P Q ms → Every P Q (join-and ms)
-  unfolding Every
+  join-and-every : (ms : Members) → EveryMemberOf N P Q ms → EveryOf N P Q (join-and ms)
+  unfolding EveryOf
   join-and-every none h = tt
   join-and-every (more e none) h = h .0
   join-and-every (more e (more e' ms)) h = h
 
-  join-or-every : (ms : Members) → EveryMember P Q ms → Every P Q (join-or ms)
-  unfolding Every
+  join-or-every : (ms : Members) → EveryMemberOf N P Q ms → EveryOf N P Q (join-or ms)
+  unfolding EveryOf
   join-or-every none h = tt
   join-or-every (more e none) h = h .0
   join-or-every (more e (more e' ms)) h = h
 
-  pub and-every : (ms : Members) → EveryMember P Q ms → Every P Q (fold-and ms)
-  unfolding fold-and Every
+  pub and-every : (ms : Members) → EveryMemberOf N P Q ms → EveryOf N P Q (fold-and ms)
+  unfolding fold-and EveryOf
   and-every ms h = go (has-const false ms)
     where
-      go : (t : Bool) → Every P Q (cond t (Const false) (join-and (kept ms)))
+      go : (t : Bool) → EveryOf N P Q (cond t (Const false) (join-and (kept ms)))
       go true = tt
       go false = join-and-every (kept ms) (kept-every ms h)
 
-  pub or-every : (ms : Members) → EveryMember P Q ms → Every P Q (fold-or ms)
-  unfolding fold-or Every
+  pub or-every : (ms : Members) → EveryMemberOf N P Q ms → EveryOf N P Q (fold-or ms)
+  unfolding fold-or EveryOf
   or-every ms h = go (has-const true ms)
     where
-      go : (t : Bool) → Every P Q (cond t (Const true) (join-or (kept ms)))
+      go : (t : Bool) → EveryOf N P Q (cond t (Const true) (join-or (kept ms)))
       go true = tt
       go false = join-or-every (kept ms) (kept-every ms h)
 
-  pub not-every : (k : Option Bool) (e : BoolExpr) → Every P Q e → Every P Q (not-of k e)
-  unfolding Every
+  pub not-every : (k : Option Bool) (e : BoolExpr) → EveryOf N P Q e → EveryOf N P Q (not-of k e)
+  unfolding EveryOf
   not-every nothing e h = h
   not-every (some b) e h = tt
 
-  var-every : (k : Option Bool) (v : ℕ) → P v → Every P Q (fold-var k v)
-  unfolding Every
+  var-every : (k : Option Bool) (v : ℕ) → P v → EveryOf N P Q (fold-var k v)
+  unfolding EveryOf
   var-every nothing v h = h
   var-every (some b) v h = tt
 
   module _ (ds : List Domain) (f : Fixed) where
     mutual
-      unfolding Every fold fold-not
+      unfolding EveryOf fold fold-not
 
-      pub fold-every : (e : BoolExpr) → Every P Q e → Every P Q (fold ds f e)
+      pub fold-every : (e : BoolExpr) → EveryOf N P Q e → EveryOf N P Q (fold ds f e)
       fold-every (Const b) h = tt
       fold-every (Var v) h = var-every (f v) v h
-      fold-every (NVar n) h = tt
+      fold-every (NVar n) h = h
       fold-every (And ms) h = and-every (fold-members ds f ms) (fold-members-every ms h)
       fold-every (Or ms) h = or-every (fold-members ds f ms) (fold-members-every ms h)
       fold-every (Not e) h = not-every (is-const (fold ds f e)) (fold ds f e) (fold-every e h)
@@ -131,13 +132,15 @@ module _ (P Q : ℕ → Type 0) where
       fold-every (Imp a b) h = binary-every op-imp (fold ds f a) (fold ds f b) (fold-every a (h .0)) (fold-every b (h .1))
       fold-every (Cmp o a b) h = (fold-int-every Q ds a (h .0), fold-int-every Q ds b (h .1))
 
-      pub fold-members-every : (ms : Members) → EveryMember P Q ms → EveryMember P Q (fold-members ds f ms)
+      pub fold-members-every : (ms : Members) → EveryMemberOf N P Q ms → EveryMemberOf N P Q (fold-members ds f ms)
       fold-members-every none h = tt
       fold-members-every (more e ms) h = (fold-every e (h .0), fold-members-every ms (h .1))
 
+module _ (P Q : ℕ → Type 0) where
+  module _ (ds : List Domain) (f : Fixed) where
     pub fold-stmt-every : (s : Stmt) → EveryStmt P Q s → EveryStmt P Q (fold-stmt ds f s)
     unfolding EveryStmt fold-stmt
-    fold-stmt-every (Rule e) h = fold-every e h
+    fold-stmt-every (Rule e) h = fold-every Any P Q ds f e h
     fold-stmt-every (Table es rows) h = fold-columns-every Q ds es h
 
     pub fold-stmts-every : (ss : List Stmt) → EveryStmts P Q ss → EveryStmts P Q (map (fold-stmt ds f) ss)
@@ -184,41 +187,27 @@ unfolding encode-bool
 keep-size nothing e ms = omega (arith, length-append (encode-bool e) (encode-members ms))
 keep-size (some b) e ms = omega arith
 
-kept-size : (ms : Members) → length (encode-members (kept ms)) ≤ length (encode-members ms)
+pub kept-size : (ms : Members) → length (encode-members (kept ms)) ≤ length (encode-members ms)
 unfolding kept encode-bool
 kept-size none = omega arith
 kept-size (more e ms) = omega (arith, keep-size (is-const e) e (kept ms), kept-size ms, length-append (encode-bool e) (encode-members ms))
 
-join-and-size : (ms : Members) → length (encode-bool (join-and ms)) ≤ 2 + length (encode-members ms)
+join-size : (b : Bool) (ms : Members) → length (encode-bool (join b ms)) ≤ 2 + length (encode-members ms)
 unfolding encode-bool
-join-and-size none = omega arith
-join-and-size (more e none) = omega (arith, length-append (encode-bool e) [])
-join-and-size (more e (more e' ms)) = omega arith
+join-size b none = omega arith
+join-size b (more e none) = omega (arith, length-append (encode-bool e) [])
+join-size b (more e (more f ms)) = omega (arith, ap length (list-words b (more e (more f ms))))
 
-join-or-size : (ms : Members) → length (encode-bool (join-or ms)) ≤ 2 + length (encode-members ms)
+pub fold-list-size : (b : Bool) (ms : Members) → length (encode-bool (fold-list b ms)) ≤ 2 + length (encode-members ms)
+unfolding fold-list encode-bool
+fold-list-size b ms = go (has-const b ms)
+  where
+    go : (c : Bool) → length (encode-bool (cond c (Const b) (join b (kept ms)))) ≤ 2 + length (encode-members ms)
+    go true = omega arith
+    go false = omega (arith, join-size b (kept ms), kept-size ms)
+
+pub not-size : (e : BoolExpr) → length (encode-bool (not-of (is-const e) e)) ≤ suc (length (encode-bool e))
 unfolding encode-bool
-join-or-size none = omega arith
-join-or-size (more e none) = omega (arith, length-append (encode-bool e) [])
-join-or-size (more e (more e' ms)) = omega arith
-
-and-size : (ms : Members) → length (encode-bool (fold-and ms)) ≤ 2 + length (encode-members ms)
-unfolding fold-and encode-bool
-and-size ms = go (has-const false ms)
-  where
-    go : (t : Bool) → length (encode-bool (cond t (Const false) (join-and (kept ms)))) ≤ 2 + length (encode-members ms)
-    go true = omega arith
-    go false = omega (arith, join-and-size (kept ms), kept-size ms)
-
-or-size : (ms : Members) → length (encode-bool (fold-or ms)) ≤ 2 + length (encode-members ms)
-unfolding fold-or encode-bool
-or-size ms = go (has-const true ms)
-  where
-    go : (t : Bool) → length (encode-bool (cond t (Const true) (join-or (kept ms)))) ≤ 2 + length (encode-members ms)
-    go true = omega arith
-    go false = omega (arith, join-or-size (kept ms), kept-size ms)
-
-not-size : (e : BoolExpr) → length (encode-bool (fold-not e)) ≤ suc (length (encode-bool e))
-unfolding fold-not encode-bool
 not-size e = const-or e (λ b q. rw q (omega arith)) (λ q. rw q (omega arith))
 
 -- a constant has two words, and stands for two sides only where one of them is a constant
@@ -244,7 +233,7 @@ const-size : (e : BoolExpr) (b : Bool) → e ≡ Const b → length (encode-bool
 unfolding encode-bool
 const-size e b h = rw h refl
 
-binary-size : (o : Op) (a b : BoolExpr) → length (encode-bool (fold-binary o a b)) ≤ suc (length (encode-bool a) + length (encode-bool b))
+pub binary-size : (o : Op) (a b : BoolExpr) → length (encode-bool (fold-binary o a b)) ≤ suc (length (encode-bool a) + length (encode-bool b))
 unfolding fold-binary
 binary-size o a b = const-or a (λ c q. at (omega (arith, const-size a c q))) (λ p. const-or b (λ d q. at (omega (arith, const-size b d q))) (λ q. rw (p, q) (unknown-size o a b)))
   where
@@ -258,14 +247,14 @@ var-size (some b) v = omega arith
 
 module _ (ds : List Domain) (f : Fixed) where
   mutual
-    unfolding encode-bool fold
+    unfolding encode-bool fold fold-not
 
     pub fold-size : (e : BoolExpr) → length (encode-bool (fold ds f e)) ≤ length (encode-bool e)
     fold-size (Const b) = omega arith
     fold-size (Var v) = omega (arith, var-size (f v) v)
     fold-size (NVar n) = omega arith
-    fold-size (And ms) = omega (arith, and-size (fold-members ds f ms), fold-members-size ms)
-    fold-size (Or ms) = omega (arith, or-size (fold-members ds f ms), fold-members-size ms)
+    fold-size (And ms) = rw (list-folding ds f false ms) (omega (arith, fold-list-size false (fold-members ds f ms), fold-members-size ms))
+    fold-size (Or ms) = rw (list-folding ds f true ms) (omega (arith, fold-list-size true (fold-members ds f ms), fold-members-size ms))
     fold-size (Not e) = omega (arith, not-size (fold ds f e), fold-size e)
     fold-size (Xor a b) = omega (arith, binary-size op-xor (fold ds f a) (fold ds f b), fold-size a, fold-size b, length-append (encode-bool a) (encode-bool b))
     fold-size (Iff a b) = omega (arith, binary-size op-iff (fold ds f a) (fold ds f b), fold-size a, fold-size b, length-append (encode-bool a) (encode-bool b))

@@ -10,5 +10,4 @@ pub mod Shape
 pub mod Meaning
 pub mod Table
 pub mod Forms
-pub mod Size
 pub mod Steps

@@ -1,17 +1,16 @@
 -- The shape of a folded rule: a constant stands only at its root, And and Or have two members at least.
 -- Where the passes settle, a root constant is true, and a comparison's sides and a table's columns are folded.
-use mathlib.Core.Path.{_≡_, refl, sym, ap, _∙_}
-use mathlib.Core.Bool.{Bool, true, false, not, cond}
+use mathlib.Core.Path.{_≡_, refl}
+use mathlib.Core.Bool.{Bool, true, false, cond}
 use mathlib.Core.Option.{Option, none as nothing, some}
 use mathlib.Core.List.{List, [], _∷_, map}
 use Prim.Native.Nat.{ℕ, _≤_, _<_}
 use lib.IntN.{ℤ}
 use lib.ListN.{length}
 use native.Mathlib.Omega.{arith}
-use Rattle.laws.specs.Bools.{never}
 use Rattle.syntax.specs.Syntax.{Domain, as-constant, domain-of, IntExpr, IConst, IVar, Linear, Terms, tnil, tmore, BoolExpr, Const, Var, NVar, And, Or, Not, Xor, Iff, Imp, Cmp, Members, none, more, count-members, Stmt, Rule, Table, Problem}
-use Rattle.syntax.specs.Written.{EveryInt, EveryTerm, EveryColumn, Every, EveryMember, EveryStmt, EveryStmts, AllDeclared}
-use Rattle.fold.specs.Fold.{Fixed, is-const, Op, op-xor, op-iff, op-imp, Action, be-false, be-true, left, not-left, right, not-right, keep, action, act, fold-binary, has-const, keep-member, kept, join-and, join-or, fold-and, fold-or, not-of, fold-not, fold-var, fold-int-var, constant-folding-int as fold-int, constant-folding-terms as fold-terms, constant-folding-bool as fold, constant-folding-members as fold-members, constant-folding-stmt as fold-stmt}
+use Rattle.syntax.specs.Written.{EveryInt, EveryTerm, EveryColumn, Every, EveryMember, EveryStmt, EveryStmts, AllDeclared, EveryOf, Any}
+use Rattle.fold.specs.Fold.{Fixed, is-const, Op, op-xor, op-iff, op-imp, action, act, fold-binary, has-const, kept, join-and, join-or, fold-and, fold-or, fold-not, fold-var, fold-int-var, constant-folding-int as fold-int, constant-folding-terms as fold-terms, constant-folding-bool as fold, constant-folding-members as fold-members, constant-folding-stmt as fold-stmt}
 use Rattle.fold.specs.Optimize.{Status, unsatisfiable, updated, worst, and-then, constant-prop-bool as prop, constant-prop-stmts as prop-stmts, settled, optimize}
 use Rattle.fold.specs.Refold.{const-or, refold-int, refold-columns}
 use Rattle.fold.specs.Kept.{sum-every, binary-every, and-every, or-every, not-every, fold-stmts-every}
@@ -245,23 +244,23 @@ module _ (ds : List Domain) where
 
   module _ (f : Fixed) where
     var-open : (k : Option Bool) (v : ℕ) → f v ≡ k → Every (Open f) Several (fold-var k v)
-    unfolding Every
+    unfolding EveryOf
     var-open nothing v h = h
     var-open (some b) v h = tt
 
     mutual
-      unfolding fold Every fold-not
+      unfolding fold EveryOf fold-not
 
       pub fold-open : (e : BoolExpr) → Every (Open f) Several (fold ds f e)
       fold-open (Const b) = tt
       fold-open (Var v) = var-open (f v) v refl
       fold-open (NVar n) = tt
-      fold-open (And ms) = and-every (Open f) Several (fold-members ds f ms) (fold-members-open ms)
-      fold-open (Or ms) = or-every (Open f) Several (fold-members ds f ms) (fold-members-open ms)
-      fold-open (Not e) = not-every (Open f) Several (is-const (fold ds f e)) (fold ds f e) (fold-open e)
-      fold-open (Xor a b) = binary-every (Open f) Several op-xor (fold ds f a) (fold ds f b) (fold-open a) (fold-open b)
-      fold-open (Iff a b) = binary-every (Open f) Several op-iff (fold ds f a) (fold ds f b) (fold-open a) (fold-open b)
-      fold-open (Imp a b) = binary-every (Open f) Several op-imp (fold ds f a) (fold ds f b) (fold-open a) (fold-open b)
+      fold-open (And ms) = and-every Any (Open f) Several (fold-members ds f ms) (fold-members-open ms)
+      fold-open (Or ms) = or-every Any (Open f) Several (fold-members ds f ms) (fold-members-open ms)
+      fold-open (Not e) = not-every Any (Open f) Several (is-const (fold ds f e)) (fold ds f e) (fold-open e)
+      fold-open (Xor a b) = binary-every Any (Open f) Several op-xor (fold ds f a) (fold ds f b) (fold-open a) (fold-open b)
+      fold-open (Iff a b) = binary-every Any (Open f) Several op-iff (fold ds f a) (fold ds f b) (fold-open a) (fold-open b)
+      fold-open (Imp a b) = binary-every Any (Open f) Several op-imp (fold ds f a) (fold ds f b) (fold-open a) (fold-open b)
       fold-open (Cmp o a b) = (fold-int-several a, fold-int-several b)
 
       fold-members-open : (ms : Members) → EveryMember (Open f) Several (fold-members ds f ms)

@@ -117,6 +117,9 @@ and-swap = eq3 _ _ refl
 pub never : {X : Type 0} → _≡_ {A = Bool} false true → X
 never e = absurd (false≢true e)
 
+pub beq-same : (x : Bool) → Bool·beq x x ≡ true
+beq-same = eq1 _ _ refl
+
 pub or-l : (a b : Bool) → a ≡ true → a || b ≡ true
 or-l a b h = rw h refl
 

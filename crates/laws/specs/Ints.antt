@@ -1,12 +1,12 @@
 -- Integers: tests and products with an interval, and the laws of ℤ that the library lacks. Assumes nothing.
 use mathlib.Core.Path.{_≡_, refl, sym, ap, _∙_}
 use mathlib.Core.Bool.{Bool, true, false}
-use Prim.Native.Nat.{ℕ, zero, suc, _+_, _-_, _*_, _<_, _≤_, _^_}
-use native.Mathlib.Nat.{mul-comm, mul-assoc, le-refl, mul-le-mul-right, lt-of-le-of-lt}
+use Prim.Native.Nat.{ℕ, zero, suc, _+_, _*_, _<_, _≤_, _^_}
+use native.Mathlib.Nat.{mul-le-mul-right, lt-of-le-of-lt}
 use native.Mathlib.Omega.{arith}
 use lib.Dec.{ltb, eqb}
 use borrow.Author.Tests.{ltb-true, ltb-false, eqb-true, eq-eqb, ne-eqb}
-use lib.IntN.{ℤ, pos, negsuc, negℤ, natAbs, subℕ, _+ℤ_, _-ℤ_, _*ℤ_, ℤ-ind, one, *ℤ-one, *ℤ-comm, zero-*ℤ, *ℤ-zero, sucℤ, predℤ, suc-pred, sucℤ-*ℤ, predℤ-*ℤ, +ℤ-assoc, +ℤ-comm, +ℤ-idl, +ℤ-idr, +ℤ-one, +ℤ-invr, +ℤ-invl, sucℤ-+ℤ, predℤ-+ℤ, negℤ-negℤ}
+use lib.IntN.{ℤ, pos, negsuc, negℤ, natAbs, subℕ, _+ℤ_, _*ℤ_, *ℤ-comm, zero-*ℤ, sucℤ, predℤ, sucℤ-*ℤ, predℤ-*ℤ, +ℤ-assoc, +ℤ-comm, +ℤ-idl, sucℤ-+ℤ, predℤ-+ℤ, negℤ-negℤ}
 use lib.Signed.{mag}
 use mir.Syntax.{Width, w32}
 use mir.Val.{SFits, hbits, ofZ}
@@ -28,6 +28,14 @@ times-low (negsuc k) low high = negsuc k *ℤ high
 abbrev pub times-high : ℤ → ℤ → ℤ → ℤ
 times-high (pos k) low high = pos k *ℤ high
 times-high (negsuc k) low high = negsuc k *ℤ low
+
+-- the number that an integer is, is one
+pub pos-eq : (z : ℤ) (m n : ℕ) → z ≡ pos m → z ≡ pos n → m ≡ n
+pos-eq z m n p q = cc
+
+-- 0 is not 1
+pub apart : {X : Type 0} → _≡_ {A = ℕ} 0 1 → X
+apart z = absurd (omega arith)
 
 -- ---- sizes
 

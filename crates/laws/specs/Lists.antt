@@ -2,12 +2,12 @@
 use lib.ListN.{length, take, drop}
 use mathlib.Core.Path.{_≡_, refl, sym, ap, _∙_}
 use mathlib.Core.Bool.{Bool, true, false, _&&_, _||_, cond}
-use mathlib.Core.List.{List, [], _∷_, _++_, map, append-assoc, append-nil}
+use mathlib.Core.List.{List, [], _∷_, _++_, map, append-assoc}
 use Prim.Native.Nat.{ℕ, zero, suc, _+_, _≤_, _<_}
 use native.Mathlib.Omega.{arith}
-use borrow.Author.Tests.{eqb-true, eqb-false}
+use borrow.Author.Tests.{eqb-true, eqb-false, ltb-true, ltb-false}
 use lib.IntN.{ℤ, pos}
-use lib.Dec.{eqb}
+use lib.Dec.{eqb, ltb}
 use Rattle.laws.specs.Bools.{and-l, and-r, and-i, or-assoc, and-assoc, or-l, or-r}
 
 module _ {A : Type 0} where
@@ -115,6 +115,11 @@ module _ {A : Type 0} where
   all-drop f (suc k) (x ∷ xs) h = all-drop f k xs (and-r (f x) (all f xs) h)
 
 -- ---- every number of a run
+
+-- the first number of a run from i on that holds v, or a later one
+pub least : {X : Type 0} (i v : ℕ) (t : Bool) → ltb i v ≡ t → i ≤ v → (i < v → X) → (i ≡ v → X) → X
+least i v true q l f g = f (ltb-true i v q)
+least i v false q l f g = g (omega (arith, ltb-false i v q))
 
 pub all-from : (f : ℕ → Bool) (i n v : ℕ) → all f (from i n) ≡ true → i ≤ v → v < i + n → f v ≡ true
 all-from f i zero v h a b = absurd (omega arith)

@@ -2,19 +2,34 @@
 -- Assumes nothing.
 use mathlib.Core.Path.{_≡_, refl, sym, ap, _∙_}
 use mathlib.Core.Bool.{Bool, true, false}
-use Prim.Native.Nat.{ℕ, suc, _≤_, _<_}
+use Prim.Native.Nat.{ℕ, suc, _<_}
 use native.Mathlib.Omega.{arith}
 use lib.IntN.{ℤ, pos, negsuc, natAbs}
 use lib.Signed.{ltZ, nonNeg}
 use lib.Dec.{T, leb}
 use borrow.Author.Tests.{ltb-true, ltb-false, le-leb, lt-leb}
-use mir.Syntax.{Width, w32}
-use mir.Val.{SFits, ofZ, toZ}
-use mir.Facts.{toZ-ofZ}
+use mir.Syntax.{Width, w32, w64}
+use mir.Val.{Fits, SFits, ofZ, toZ}
+use mir.Facts.{toZ-ofZ, fits-natAbs}
+use Rattle.laws.specs.Bools.{never}
+use Rattle.laws.specs.Ints.{apart}
 
 -- the value from its bits: at a literal the right side computes, `toZ w32 10` to `pos 10` and `toZ w32 4294967295` to `negsuc 0`
 pub value-is : {z : ℤ} {k : ℕ} → SFits w32 z → ofZ w32 z ≡ k → z ≡ toZ w32 k
 value-is f e = sym (toZ-ofZ f) ∙ ap (toZ w32) e
+
+-- two words with the same bits are the same
+pub same-value : {y z : ℤ} → SFits w32 y → SFits w32 z → ofZ w32 y ≡ ofZ w32 z → y ≡ z
+same-value f g e = sym (toZ-ofZ f) ∙ ap (toZ w32) e ∙ toZ-ofZ g
+
+-- a word that is a number, cast to usize
+pub number-cast : (z : ℤ) (n : ℕ) → z ≡ pos n → SFits w32 z → T (nonNeg z) × Fits w64 (natAbs z)
+number-cast (pos m) n e f = (tt, fits-natAbs tt f)
+number-cast (negsuc m) n e f = apart (cc)
+
+pub number-is : (z : ℤ) (n : ℕ) → z ≡ pos n → SFits w32 z → (z ≡ pos (natAbs z)) × (natAbs z < 2147483648)
+number-is (pos m) n e f = (refl, f .sfits)
+number-is (negsuc m) n e f = apart (cc)
 
 -- an order test
 pub test-of : {w : Width} {z : ℤ} (t : ℤ → Bool) {b : Bool} → SFits w z → t (toZ w (ofZ w z)) ≡ b → t z ≡ b
@@ -22,9 +37,6 @@ test-of t f h = sym (ap t (toZ-ofZ f)) ∙ h
 
 pub tests-of : {w : Width} {y z : ℤ} (t : ℤ → ℤ → Bool) {b : Bool} → SFits w y → SFits w z → t (toZ w (ofZ w y)) (toZ w (ofZ w z)) ≡ b → t y z ≡ b
 tests-of t f g h = sym (rw (toZ-ofZ f, toZ-ofZ g) refl) ∙ h
-
-never : {X : Type 0} → _≡_ {A = Bool} false true → X
-never e = absurd (let z : _≡_ {A = ℕ} 0 1 = cc in omega arith)
 
 pub not-neg : (z : ℤ) → ltZ z (pos 0) ≡ false → T (nonNeg z)
 not-neg (pos n) h = tt

@@ -6,18 +6,19 @@ use mathlib.Core.List.{List, [], _∷_, _++_, append-assoc, append-nil}
 use native.Mathlib.Omega.{arith}
 use native.Mathlib.Numerals.{add-one}
 use lib.IntN.{ℤ, pos}
-use lib.ListN.{length, getD, take, drop, length-append}
+use lib.ListN.{length, getD, take, drop}
 use lib.Seq.{drop-cons}
 use lib.Dec.{eqb}
 use Rattle.laws.specs.Bools.{or-assoc}
 use Rattle.laws.specs.Lists.{any-append}
 use Rattle.laws.specs.Slices.{Has, has-fits, has-front, has-rest}
 use Rattle.syntax.specs.Syntax.{IntExpr, IConst, IVar, Linear, Terms, tnil, tmore, count-terms, encode-int, encode-terms}
+use Rattle.syntax.specs.Lengths.{int-long, int-fits, terms-long}
 use Rattle.domains.specs.Declared.{Plain}
 use Rattle.limits.specs.Limits.{written, written-terms}
 use Rattle.limits.specs.Count.{among, either, marked}
 use Rattle.limits.specs.Walk.{Behind, is-var, inner, Head-post, Writes-post, Either-post, Marked-post}
-use Rattle.limits.proofs.Laws.{int-plain, int-fits, int-long, const-inv, second-plain, var-inv, sum-inv}
+use Rattle.limits.proofs.Laws.{int-plain, const-inv, second-plain, var-inv, sum-inv}
 
 -- ---- `int_head`
 
@@ -157,12 +158,6 @@ module _ (ws : List ℤ) (q rest v : ℕ) where
           let o : r ≡ among (written-terms (inner e)) v || among (written-terms us) v = p (join-terms (inner e) us) j (omega (arith, count-join (inner e) us, hp e g .1)) ∙ among-join v (inner e) us in
           rw t (o ∙ sym (any-append (eqb v) (written e) (written-terms us) ∙ rw (among-inner v e, x) refl))
 
--- at most as many expressions pending as words
-pub pending-few : (ts : Terms) → count-terms ts ≤ length (encode-terms ts)
-unfolding encode-terms
-pending-few tnil = omega arith
-pending-few (tmore k e ts) = omega (arith, pending-few ts, length-append (encode-int e) (encode-terms ts))
-
 -- ---- `writes_either`, `different`
 
 module _ (ws : List ℤ) (a b v : ℕ) where
@@ -218,7 +213,7 @@ pending-room ws q rest p = go (p .them) (p .words) (p .size)
   where
     go : (ts : Terms) → Has ws q (encode-terms ts) → rest ≡ count-terms ts → rest ≤ length ws
     go tnil h s = omega arith
-    go (tmore k e ts) h s = omega (arith, pending-few (tmore k e ts), has-fits ws q (encode-terms (tmore k e ts)) h (omega arith))
+    go (tmore k e ts) h s = omega (arith, terms-long (tmore k e ts), has-fits ws q (encode-terms (tmore k e ts)) h (omega arith))
 
 pub marked-all : (ws : List ℤ) (a b v n count : ℕ) → Marked-post ws a b v count → v ≡ n → Marked-post ws a b n count
 marked-all ws a b v n count p e x y ha hb = p x y ha hb ∙ ap (marked (either x y)) e

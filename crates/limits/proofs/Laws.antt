@@ -6,9 +6,11 @@ use mathlib.Core.List.{List, _++_}
 use native.Mathlib.Omega.{arith}
 use lib.IntN.{ℤ, pos, natAbs}
 use lib.ListN.{length, getD, length-append}
-use Rattle.laws.specs.Slices.{Has, has-fits, has-front, has-back, has-word, has-rest}
+use Rattle.laws.specs.Slices.{Has, has-front, has-back, has-word, has-rest}
+use Rattle.laws.specs.Ints.{pos-eq}
 use Rattle.syntax.specs.Syntax.{IntExpr, IConst, IVar, Linear, Terms, tnil, tmore, count-terms, encode-int, encode-terms}
 use Rattle.syntax.specs.Written.{EveryInt, EveryTerm}
+use Rattle.syntax.specs.Lengths.{int-tag, int-tag-word, int-long, int-fits}
 use Rattle.domains.specs.Declared.{Plain, bound-inside, low-at, high-at}
 use Rattle.limits.specs.Total.{total, terms-total, joined, product, constant-total, bounds-total, joined-assoc, joined-none, joined-cap, terms-total-cap, total-cap, cap}
 use Rattle.limits.specs.Walk.{bounds-place, Int-at, Terms-at, Ready-var, Var-post, Ready-int, Ready-terms, Int-post, Terms-post}
@@ -24,36 +26,13 @@ var-post work weigh v r low high hl hh e ds b l = rw (hl ∙ low-at work bounds-
 
 -- ---- an integer expression, by its first word
 
-abbrev tag : IntExpr → ℕ
-tag (IConst c) = 20
-tag (IVar v) = 21
-tag (Linear ts) = 22
-
-pub pos-eq : (z : ℤ) (m n : ℕ) → z ≡ pos m → z ≡ pos n → m ≡ n
-pos-eq z m n p q = cc
-
-pub int-long : (e : IntExpr) → 2 ≤ length (encode-int e)
-unfolding encode-int
-int-long (IConst c) = omega arith
-int-long (IVar v) = omega arith
-int-long (Linear ts) = omega arith
-
-tag-word : (ws : List ℤ) (at : ℕ) (e : IntExpr) → Has ws at (encode-int e) → getD ws at (pos 0) ≡ pos (tag e)
-unfolding encode-int
-tag-word ws at (IConst c) h = has-word ws at _ _ (pos 0) h
-tag-word ws at (IVar v) h = has-word ws at _ _ (pos 0) h
-tag-word ws at (Linear ts) h = has-word ws at _ _ (pos 0) h
-
-pub int-fits : (ws : List ℤ) (at : ℕ) (e : IntExpr) → Has ws at (encode-int e) → at + length (encode-int e) ≤ length ws
-int-fits ws at e h = has-fits ws at (encode-int e) h (omega (arith, int-long e))
-
 module _ (ws : List ℤ) (at : ℕ) where
   pub int-plain : (e : IntExpr) → Has ws at (encode-int e) → Plain ws at
-  int-plain e h = record { inside = omega (arith, int-fits ws at e h, int-long e); value = tag e; is = tag-word ws at e h }
+  int-plain e h = record { inside = omega (arith, int-fits ws at e h, int-long e); value = int-tag e; is = int-tag-word ws at e h }
 
   module _ (w : ℕ) (hw : getD ws at (pos 0) ≡ pos w) where
-    tag-is : (e : IntExpr) → Has ws at (encode-int e) → tag e ≡ w
-    tag-is e h = pos-eq _ _ _ (tag-word ws at e h) hw
+    tag-is : (e : IntExpr) → Has ws at (encode-int e) → int-tag e ≡ w
+    tag-is e h = pos-eq _ _ _ (int-tag-word ws at e h) hw
 
     pub const-inv : {X : Type 0} (e : IntExpr) → Has ws at (encode-int e) → w ≡ 20 → ((c : ℤ) → e ≡ IConst c → getD ws (at + 1) (pos 0) ≡ c → X) → X
     unfolding encode-int

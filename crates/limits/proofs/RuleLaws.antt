@@ -1,19 +1,20 @@
 -- What the walk over a rule's pending expressions asks and gives at each step, over variables. Assumes nothing.
 use Prim.Native.Nat.{ℕ, suc, _+_, _-_, _≤_, _<_}
 use mathlib.Core.Path.{_≡_, refl, sym, ap, _∙_, subst}
-use mathlib.Core.Bool.{Bool, true, false, _||_, cond}
+use mathlib.Core.Bool.{Bool, true, _||_, cond}
 use mathlib.Core.List.{List, [], _∷_, _++_, map, append-assoc, append-nil}
 use native.Mathlib.Omega.{arith}
 use lib.IntN.{ℤ, pos}
 use lib.ListN.{length, getD, length-append}
 use Rattle.laws.specs.Lists.{any, any-append, flat}
 use Rattle.laws.specs.Slices.{Has, has-fits, has-front, has-back, has-word, has-rest}
+use Rattle.laws.specs.Ints.{pos-eq}
 use Rattle.syntax.specs.Syntax.{IntExpr, encode-int, CmpOp, BoolExpr, Const, Var, NVar, And, Or, Not, Xor, Iff, Imp, Cmp, Members, none, more, count-members, encode-bit, encode-op, encode-bool, encode-members}
+use Rattle.syntax.specs.Written.{EveryOf}
 use Rattle.domains.specs.Declared.{Plain}
 use Rattle.limits.specs.Limits.{any-comparison, any-comparison-members}
 use Rattle.limits.specs.Walk.{Int-at, test-comparison, test-column, Ready-pair, Pair-post, Usable, Usable-members, Usable-all, listed, parts, head-length, own-test, Bool-at, Bools-at, Ready-bool, Ready-bools, Step-post, Bools-post}
 use Rattle.limits.proofs.TestLaws.{hit-of, miss-of, or-false}
-use Rattle.limits.proofs.Laws.{pos-eq}
 
 -- ---- an expression's own words, and those of its parts
 
@@ -75,7 +76,7 @@ own-length (Imp a b) = refl
 own-length (Cmp o a b) = omega (arith, length-append (encode-int a) (encode-int b))
 
 head-some : (ni : ℕ) (e : BoolExpr) → Usable ni e → 0 < head-length e
-unfolding Usable
+unfolding EveryOf
 head-some ni (Const b) u = omega arith
 head-some ni (Var v) u = omega arith
 head-some ni (NVar n) u = absurd u
@@ -111,12 +112,12 @@ module _ (f : IntExpr → IntExpr → Bool) (g : IntExpr → Bool) where
 
 module _ (ni : ℕ) where
   listed-usable : (ms : Members) → Usable-members ni ms → Usable-all ni (listed ms)
-  unfolding Usable Usable-all
+  unfolding EveryOf Usable-all
   listed-usable none u = tt
   listed-usable (more e ms) u = (u .0, listed-usable ms (u .1))
 
   parts-usable : (e : BoolExpr) → Usable ni e → Usable-all ni (parts e)
-  unfolding Usable Usable-all
+  unfolding EveryOf Usable-all
   parts-usable (Const b) u = tt
   parts-usable (Var v) u = tt
   parts-usable (NVar n) u = tt
@@ -145,7 +146,7 @@ flat-map (e ∷ es) us = ap (λ l. encode-bool e ++ l) (flat-map es us) ∙ sym 
 -- ---- `rule_step`
 
 tag-word : (ni : ℕ) (ws : List ℤ) (at : ℕ) (e : BoolExpr) → Bool-at ni ws at e → getD ws at (pos 0) ≡ pos (tag e)
-unfolding encode-bool Usable
+unfolding encode-bool EveryOf
 tag-word ni ws at (Const b) r = has-word ws at _ _ (pos 0) (r .words)
 tag-word ni ws at (Var v) r = has-word ws at _ _ (pos 0) (r .words)
 tag-word ni ws at (NVar n) r = absurd (r .usable)
@@ -173,7 +174,7 @@ module _ (ws work : List ℤ) (at ni m : ℕ) where
     tag-is e r = pos-eq _ _ _ (tag-word ni ws at e r) hw
 
     pub step-leaf : w < 12 → Step-post ws work at ni m (at + 2) 0
-    unfolding Usable
+    unfolding EveryOf
     step-leaf l ds e b q r = go e (tag-is e r) r
       where
         go : (e : BoolExpr) → tag e ≡ w → Bool-at ni ws at e → (at + 2 ≡ cond (own-test (test-comparison m ds) e) 0 (at + head-length e)) × (0 ≡ length (parts e))
@@ -189,7 +190,7 @@ module _ (ws work : List ℤ) (at ni m : ℕ) where
         go (Cmp o a b) t r = absurd (omega arith)
 
     pub list-plain : (w < 12 → ⊥) → w < 14 → Ready-bool ws work at ni → Plain ws (at + 1)
-    unfolding encode-bool Usable
+    unfolding encode-bool EveryOf
     list-plain l k y = go (y .it) (tag-is (y .it) (y .reads)) (y .reads)
       where
         go : (e : BoolExpr) → tag e ≡ w → Bool-at ni ws at e → Plain ws (at + 1)
@@ -205,7 +206,7 @@ module _ (ws work : List ℤ) (at ni m : ℕ) where
         go (Cmp o a b) t r = absurd (omega arith)
 
     pub step-list : (w < 12 → ⊥) → w < 14 → (n : ℕ) → getD ws (at + 1) (pos 0) ≡ pos n → Step-post ws work at ni m (at + 2) n
-    unfolding encode-bool Usable
+    unfolding encode-bool EveryOf
     step-list l k n hn ds e b q r = go e (tag-is e r) r
       where
         go : (e : BoolExpr) → tag e ≡ w → Bool-at ni ws at e → (at + 2 ≡ cond (own-test (test-comparison m ds) e) 0 (at + head-length e)) × (n ≡ length (parts e))
@@ -221,7 +222,7 @@ module _ (ws work : List ℤ) (at ni m : ℕ) where
         go (Cmp o a b) t r = absurd (omega arith)
 
     pub step-not : w ≡ 14 → Step-post ws work at ni m (at + 1) 1
-    unfolding Usable
+    unfolding EveryOf
     step-not z ds e b q r = go e (tag-is e r) r
       where
         go : (e : BoolExpr) → tag e ≡ w → Bool-at ni ws at e → (at + 1 ≡ cond (own-test (test-comparison m ds) e) 0 (at + head-length e)) × (1 ≡ length (parts e))
@@ -237,7 +238,7 @@ module _ (ws work : List ℤ) (at ni m : ℕ) where
         go (Cmp o a b) t r = absurd (omega arith)
 
     pub step-two : (w < 14 → ⊥) → (w ≡ 14 → ⊥) → w < 18 → Step-post ws work at ni m (at + 1) 2
-    unfolding Usable
+    unfolding EveryOf
     step-two l z k ds e b q r = go e (tag-is e r) r
       where
         go : (e : BoolExpr) → tag e ≡ w → Bool-at ni ws at e → (at + 1 ≡ cond (own-test (test-comparison m ds) e) 0 (at + head-length e)) × (2 ≡ length (parts e))
@@ -254,14 +255,14 @@ module _ (ws work : List ℤ) (at ni m : ℕ) where
 
     -- the two sides of a comparison
     sides : (o : CmpOp) (a b : IntExpr) → Bool-at ni ws at (Cmp o a b) → Int-at ni ws (at + 2) a × Int-at ni ws (at + 2 + length (encode-int a)) b
-    unfolding encode-bool Usable
+    unfolding encode-bool EveryOf
     sides o a b r =
         let k : at + 2 ≡ at + 1 + 1 = omega arith in
         let h : Has ws (at + 2) (encode-int a ++ encode-int b) = rw k (has-rest ws (at + 1) _ _ (has-rest ws at _ _ (r .words))) in
         (record { words = has-front ws (at + 2) (encode-int a) (encode-int b) h; vars = r .usable .0 }, record { words = has-back ws (at + 2) (encode-int a) (encode-int b) h; vars = r .usable .1 })
 
     pub cmp-ready : (w < 18 → ⊥) → Ready-bool ws work at ni → Ready-pair ws work (at + 2) ni
-    unfolding Usable
+    unfolding EveryOf
     cmp-ready l y = go (y .it) (tag-is (y .it) (y .reads)) (y .reads)
       where
         go : (e : BoolExpr) → tag e ≡ w → Bool-at ni ws at e → Ready-pair ws work (at + 2) ni
@@ -277,7 +278,7 @@ module _ (ws work : List ℤ) (at ni m : ℕ) where
         go (Cmp o a b) t r = let s = sides o a b r in record { ds = y .ds; bounds = y .bounds; few = y .few; left = a; right = b; left-at = s .0; right-at = s .1; behind = omega arith }
 
     pub step-cmp : (w < 18 → ⊥) → (x : ℕ) → Pair-post ws work (at + 2) ni m x → Step-post ws work at ni m x 0
-    unfolding Usable
+    unfolding EveryOf
     step-cmp l x p ds e bs q r = go e (tag-is e r) r
       where
         go : (e : BoolExpr) → tag e ≡ w → Bool-at ni ws at e → (x ≡ cond (own-test (test-comparison m ds) e) 0 (at + head-length e)) × (0 ≡ length (parts e))

@@ -7,6 +7,7 @@ use lib.IntN.{ℤ, pos}
 use lib.ListN.{length, getD}
 use lib.Seq.{sets}
 use Rattle.laws.specs.Lists.{flat}
+use Rattle.laws.specs.Ints.{pos-eq}
 use Rattle.syntax.specs.Syntax.{encode-domain, Problem}
 use Rattle.domains.specs.Declared.{Plain, bounds-words, Bounds-room, Bounds-post}
 use Rattle.limits.specs.Limits.{check}
@@ -21,7 +22,6 @@ use Rattle.read.specs.declared.Set as declared-set
 use Rattle.read.specs.declared.Set.the-variants as set
 use borrow.Author.Tests.{lt-ltb, le-ltb}
 use Rattle.limits.specs.Accepted.{unless-refused, limited, accepted, table-read, table-after, Set-of, Ready-set, Limits-post, ints-word, domains-stand, stmts-word, stmts-inside, stmts-stand, table-stands, check-is}
-use Rattle.limits.proofs.Laws.{pos-eq}
 
 module _ (ws work : List ℤ) (r : Ready-set ws work) where
   pub ints-plain : Plain ws 1

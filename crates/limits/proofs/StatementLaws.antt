@@ -1,20 +1,20 @@
 -- What the walk over the statements asks and gives at each step, over variables. Assumes nothing.
 use Prim.Native.Nat.{ℕ, suc, _+_, _-_, _*_, _≤_, _<_}
 use mathlib.Core.Path.{_≡_, refl, sym, ap, _∙_, subst}
-use mathlib.Core.Bool.{Bool, true, false, _||_, cond}
+use mathlib.Core.Bool.{Bool, true, false, cond}
 use mathlib.Core.List.{List, [], _∷_, _++_, map, append-nil}
 use native.Mathlib.Omega.{arith}
-use native.Mathlib.Nat.{mul-comm}
 use lib.IntN.{ℤ, pos}
-use lib.ListN.{length, getD, length-append, length-map}
+use lib.ListN.{length, getD, length-append}
 use Rattle.laws.specs.Lists.{any, flat}
 use Rattle.laws.specs.Slices.{Has, has-fits, has-front, has-back, has-word, has-rest}
+use Rattle.laws.specs.Ints.{pos-eq}
 use Rattle.syntax.specs.Syntax.{Domain, IntExpr, encode-int, BoolExpr, encode-bool, Cell, encode-cell, Stmt, Rule, Table, encode-stmt}
+use Rattle.syntax.specs.Lengths.{rows-length}
 use Rattle.domains.specs.Declared.{Plain}
 use Rattle.limits.specs.Limits.{any-comparison, any-part}
-use Rattle.limits.specs.Walk.{Bounds, test-comparison, test-column, Columns-at, Ready-columns, Columns-post, Usable-all, Bools-at, Ready-bools, Bools-post, Wide, Usable-stmt, Usable-stmts, Stmt-at, Stmts-at, Ready-stmt, Ready-stmts, test-stmt, Stmt-post, Stmts-post, check-stmts, Check-post}
+use Rattle.limits.specs.Walk.{Bounds, test-comparison, test-column, Columns-at, Ready-columns, Columns-post, Usable-all, Bools-at, Ready-bools, Bools-post, Usable-stmt, Usable-stmts, Stmt-at, Stmts-at, Ready-stmt, Ready-stmts, test-stmt, Stmt-post, Stmts-post, check-stmts, Check-post}
 use Rattle.limits.proofs.TestLaws.{hit-of, miss-of, or-false}
-use Rattle.limits.proofs.Laws.{pos-eq}
 
 -- ---- `statement`
 
@@ -31,10 +31,6 @@ stmt-some : (s : Stmt) → 0 < length (encode-stmt s)
 unfolding encode-stmt
 stmt-some (Rule e) = omega arith
 stmt-some (Table es rows) = omega arith
-
-rows-length : (n : ℕ) (rows : List (List Cell)) → Wide n rows → length (flat (map (map encode-cell) rows)) ≡ n * length rows
-rows-length n [] w = omega arith
-rows-length n (r ∷ rows) w = omega (arith, length-append (map encode-cell r) (flat (map (map encode-cell) rows)), length-map r encode-cell, w .0, rows-length n rows (w .1), mul-comm n (suc (length rows)), mul-comm n (length rows))
 
 module _ (ws work : List ℤ) (at ni m : ℕ) where
   pub stmt-inside : Ready-stmt ws work at ni → at < length ws

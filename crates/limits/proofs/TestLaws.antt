@@ -4,7 +4,7 @@ use mathlib.Core.Path.{_≡_, refl, ap, _∙_, subst}
 use mathlib.Core.Bool.{Bool, true, false, _||_, cond}
 use mathlib.Core.List.{List, [], _∷_, map}
 use native.Mathlib.Omega.{arith}
-use lib.IntN.{ℤ, pos}
+use lib.IntN.{ℤ}
 use lib.ListN.{length, length-append}
 use lib.Dec.{eqb, ltb}
 use borrow.Author.Tests.{eq-eqb, ne-eqb}
@@ -12,10 +12,10 @@ use Rattle.laws.specs.Lists.{any, flat}
 use Rattle.laws.specs.Slices.{has-front, has-back}
 use Rattle.syntax.specs.Syntax.{Domain, IntExpr, encode-int}
 use Rattle.syntax.specs.Written.{EveryColumn}
+use Rattle.syntax.specs.Lengths.{int-long}
 use Rattle.limits.specs.Total.{total, cap, total-cap, heavy-total, heavy-comparison-total, wide-total}
 use Rattle.limits.specs.Count.{either, marked, many-comparison-marked, many-column-marked, few-comparison, few-column}
 use Rattle.limits.specs.Walk.{Bounds, Int-at, Ready-int, Int-post, Behind, Marked-post, test-comparison, test-column, Ready-pair, Pair-post, Ready-column, Column-post, Columns-at, Ready-columns, Columns-post}
-use Rattle.limits.proofs.Laws.{int-long}
 
 -- ---- an answer that is 0 where the test hits
 

@@ -3,7 +3,7 @@
 use mathlib.Core.Path.{_≡_, refl, ap, _∙_}
 use mathlib.Core.Bool.{true, cond}
 use mathlib.Core.List.{List, [], _∷_, _++_, map}
-use Prim.Native.Nat.{ℕ, zero, suc, _+_, _-_, _≤_, _<_, max}
+use Prim.Native.Nat.{ℕ, zero, suc, _+_, _≤_, _<_, max}
 use native.Mathlib.Omega.{arith}
 use lib.IntN.{ℤ, pos, negsuc, natAbs}
 use lib.Signed.{ltZ, leZ}
@@ -16,19 +16,20 @@ use Rattle.laws.specs.Lists.{flat}
 use Rattle.laws.specs.Order.{leZ-refl, leZ-lt, leZ-trans}
 use Rattle.laws.specs.Slices.{Has, has-fits, has-front, has-back, has-word, has-rest, has-sets}
 use Rattle.syntax.specs.Words.{min-work-words, max-set-words}
-use Rattle.syntax.specs.Syntax.{Domain, Range, Enumerative, lower-bound, upper-bound, last-or, domain-of, encode-domain, IntExpr, IConst, IVar, Linear, Terms, tnil, tmore, BoolExpr, Const, Var, NVar, And, Or, Not, Xor, Iff, Imp, Cmp, Members, none, more, Cell, Stmt, Rule, Table, encode-stmt, Problem, encode}
-use Rattle.syntax.specs.Written.{EveryInt, EveryTerm, EveryColumn}
+use Rattle.syntax.specs.Syntax.{Domain, Range, Enumerative, lower-bound, upper-bound, last-or, domain-of, encode-domain, Stmt, Rule, Table, encode-stmt, Problem, encode}
+use Rattle.syntax.specs.Written.{every-map, None, Any}
 use Rattle.words.specs.Exact.{Each}
 use Rattle.words.specs.Parse.{Parsed, ok, refuse}
 use Rattle.read.specs.Read.{read-set}
 use Rattle.read.specs.Position.{set-at}
 use Rattle.read.specs.declared.Set as declared-set
 use Rattle.read.specs.declared.Set.the-variants as set
-use Rattle.read.specs.WellFormed.{RisingFrom, WellDomain, WellInt, WellTerms, WellBool, WellMembers, WellRow, WellStmt, WellFormed}
+use Rattle.read.specs.WellFormed.{RisingFrom, WellDomain, WellStmt, WellFormed}
+use Rattle.read.specs.Vars.{columns-vars, bool-vars, rows-wide}
 use Rattle.domains.specs.Declared.{Domains, bounds-words, bounds-length}
 use Rattle.limits.specs.Limits.{largest, domain-weight, check}
 use Rattle.limits.specs.Total.{Bounded}
-use Rattle.limits.specs.Walk.{bounds-place, Bounds, Usable, Usable-members, Wide, Usable-stmt, Usable-stmts, Stmts-at, test-comparison, test-column, check-stmts}
+use Rattle.limits.specs.Walk.{bounds-place, Bounds, Usable-stmt, Usable-stmts, Stmts-at, test-comparison, test-column, check-stmts}
 
 -- ---- domains
 
@@ -71,52 +72,11 @@ well-bounded ds h = record {
 
 -- ---- expressions
 
-module _ (ni : ℕ) where
-  mutual
-    unfolding WellInt EveryInt
-
-    int-declared : (left : ℕ) (e : IntExpr) → WellInt ni left e → EveryInt (λ v. v < ni) e
-    int-declared left (IConst c) h = tt
-    int-declared left (IVar v) h = h .1
-    int-declared left (Linear ts) h = terms-declared (left - 1) ts (h .2)
-
-    terms-declared : (left : ℕ) (ts : Terms) → WellTerms ni left ts → EveryTerm (λ v. v < ni) ts
-    terms-declared left tnil h = tt
-    terms-declared left (tmore k e ts) h = (int-declared left e (h .1), terms-declared left ts (h .2))
-
-  columns-declared : (left : ℕ) (es : List IntExpr) → Each (WellInt ni left) es → EveryColumn (λ v. v < ni) es
-  unfolding EveryColumn
-  columns-declared left [] h = tt
-  columns-declared left (e ∷ es) h = (int-declared left e (h .0), columns-declared left es (h .1))
-
 module _ (nb ni : ℕ) where
-  mutual
-    unfolding WellBool Usable
-
-    bool-usable : (left : ℕ) (e : BoolExpr) → WellBool nb ni left e → Usable ni e
-    bool-usable left (Const b) h = tt
-    bool-usable left (Var v) h = tt
-    bool-usable left (NVar n) h = h
-    bool-usable left (And ms) h = members-usable (left - 1) ms (h .2)
-    bool-usable left (Or ms) h = members-usable (left - 1) ms (h .2)
-    bool-usable left (Not e) h = bool-usable (left - 1) e (h .1)
-    bool-usable left (Xor a b) h = (bool-usable (left - 1) a (h .1), bool-usable (left - 1) b (h .2))
-    bool-usable left (Iff a b) h = (bool-usable (left - 1) a (h .1), bool-usable (left - 1) b (h .2))
-    bool-usable left (Imp a b) h = (bool-usable (left - 1) a (h .1), bool-usable (left - 1) b (h .2))
-    bool-usable left (Cmp o a b) h = (int-declared ni (left - 1) a (h .1), int-declared ni (left - 1) b (h .2))
-
-    members-usable : (left : ℕ) (ms : Members) → WellMembers nb ni left ms → Usable-members ni ms
-    members-usable left none h = tt
-    members-usable left (more e ms) h = (bool-usable left e (h .0), members-usable left ms (h .1))
-
-  rows-wide : (n : ℕ) (rows : List (List Cell)) → Each (WellRow n) rows → Wide n rows
-  rows-wide n [] h = tt
-  rows-wide n (r ∷ rows) h = (h .0 .0, rows-wide n rows (h .1))
-
   stmt-usable : (s : Stmt) → WellStmt nb ni s → Usable-stmt ni s
   unfolding Usable-stmt
-  stmt-usable (Rule e) h = bool-usable 64 e h
-  stmt-usable (Table es rows) h = (columns-declared ni 64 es (h .2), rows-wide (length es) rows (h .3))
+  stmt-usable (Rule e) h = every-map None (λ v. v < nb) (λ v. v < ni) None Any (λ v. v < ni) (λ n k. k) (λ v k. tt) (λ v k. k) e (bool-vars nb ni 64 e h)
+  stmt-usable (Table es rows) h = (columns-vars ni 64 es (h .2), rows-wide (length es) rows (h .3))
 
   stmts-usable : (ss : List Stmt) → Each (WellStmt nb ni) ss → Usable-stmts ni ss
   unfolding Usable-stmts

@@ -3,7 +3,7 @@
 use mathlib.Core.Path.{_≡_, refl, sym, ap, _∙_}
 use mathlib.Core.Bool.{Bool, true, false, cond}
 use mathlib.Core.List.{List, [], map}
-use Prim.Native.Nat.{ℕ, zero, suc, _+_, _≤_}
+use Prim.Native.Nat.{ℕ, zero, suc, _+_}
 use native.Mathlib.Omega.{arith}
 use lib.IntN.{ℤ}
 use lib.Dec.{ltb}
@@ -11,6 +11,7 @@ use lib.ListN.{length}
 use lib.Seq.{sets}
 use borrow.Author.Tests.{ltb-false}
 use Rattle.laws.specs.Lists.{flat}
+use Rattle.laws.specs.Ints.{apart}
 use Rattle.syntax.specs.Words.{min-work-words, max-set-words}
 use Rattle.syntax.specs.Syntax.{Problem, encode-domain}
 use Rattle.words.specs.Parse.{Parsed, ok, refuse}
@@ -33,9 +34,6 @@ pub record Taken (n : ℕ) (ws : List ℤ) (d : Declared) : Type 0 where
   pub says : read-set ws ≡ ok it []
   pub unrefused : check it ≡ 0
   pub declares : set-at (ok it []) ≡ set.Ok d
-
-apart : {X : Type 0} → _≡_ {A = ℕ} 0 1 → X
-apart z = absurd (omega arith)
 
 module _ (n : ℕ) (ws : List ℤ) where
   pub accepted-ok : (d : Declared) → accepted n ws ≡ set.Ok d → Taken n ws d

@@ -4,13 +4,14 @@ use mathlib.Core.Path.{_≡_}
 use mathlib.Core.Bool.{Bool, false, cond}
 use mathlib.Core.List.{List, [], _∷_, map}
 use Prim.Native.Nat.{ℕ, _+_, _<_}
-use lib.IntN.{ℤ, pos}
+use lib.IntN.{ℤ}
 use lib.ListN.{length}
 use lib.Dec.{eqb}
 use Rattle.laws.specs.Lists.{any, flat}
 use Rattle.laws.specs.Slices.{Has}
-use Rattle.syntax.specs.Syntax.{Domain, lower-bound, upper-bound, domain-of, IntExpr, IConst, IVar, Linear, Terms, tnil, count-terms, encode-int, encode-terms, BoolExpr, Const, Var, NVar, And, Or, Not, Xor, Iff, Imp, Cmp, Members, none, more, encode-bool, Cell, Stmt, Rule, Table, encode-stmt}
-use Rattle.syntax.specs.Written.{EveryInt, EveryTerm, EveryColumn}
+use Rattle.syntax.specs.Syntax.{Domain, lower-bound, upper-bound, domain-of, IntExpr, IConst, IVar, Linear, Terms, tnil, count-terms, encode-int, encode-terms, BoolExpr, Const, Var, NVar, And, Or, Not, Xor, Iff, Imp, Cmp, Members, none, more, encode-bool, Stmt, Rule, Table, encode-stmt}
+use Rattle.syntax.specs.Written.{EveryInt, EveryTerm, EveryColumn, EveryOf, EveryMemberOf, Any, None}
+use Rattle.syntax.specs.Lengths.{Wide}
 use Rattle.domains.specs.Declared.{bounds-words}
 use Rattle.limits.specs.Limits.{any-comparison, any-part, heavy, heavy-comparison, many-comparison, many-column, wide-column}
 use Rattle.limits.specs.Total.{Bounded, total, terms-total, joined, bounds-total}
@@ -152,23 +153,13 @@ Columns-post ws work at n ni m r =
 
 -- ---- Boolean expressions that reading makes, with declared variables
 
+-- (their Boolean variables do not matter here)
 module _ (ni : ℕ) where
-  unfoldable mutual
-    pub Usable : BoolExpr → Type 0
-    Usable (Const b) = Unit {0}
-    Usable (Var v) = Unit {0}
-    Usable (NVar n) = ⊥
-    Usable (And ms) = Usable-members ms
-    Usable (Or ms) = Usable-members ms
-    Usable (Not e) = Usable e
-    Usable (Xor a b) = Usable a × Usable b
-    Usable (Iff a b) = Usable a × Usable b
-    Usable (Imp a b) = Usable a × Usable b
-    Usable (Cmp o a b) = EveryInt (λ v. v < ni) a × EveryInt (λ v. v < ni) b
+  abbrev pub Usable : BoolExpr → Type 0
+  Usable e = EveryOf None Any (λ v. v < ni) e
 
-    pub Usable-members : Members → Type 0
-    Usable-members none = Unit {0}
-    Usable-members (more e ms) = Usable e × Usable-members ms
+  abbrev pub Usable-members : Members → Type 0
+  Usable-members ms = EveryMemberOf None Any (λ v. v < ni) ms
 
   unfoldable pub Usable-all : List BoolExpr → Type 0
   Usable-all [] = Unit {0}
@@ -251,11 +242,6 @@ Bools-post ws work at n ni m r =
     → r ≡ cond (any (any-comparison (test-comparison m ds) (test-column m ds)) es) 0 (at + length (flat (map encode-bool es)))
 
 -- ---- statements
-
--- every row has n cells
-abbrev pub Wide : ℕ → List (List Cell) → Type 0
-Wide n [] = Unit {0}
-Wide n (r ∷ rows) = (length r ≡ n) × Wide n rows
 
 unfoldable pub Usable-stmt : ℕ → Stmt → Type 0
 Usable-stmt ni (Rule e) = Usable ni e

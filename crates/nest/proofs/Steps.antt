@@ -14,10 +14,11 @@ use mir.Syntax.{w32}
 use mir.Val.{SFits, ofZ}
 use Rattle.laws.specs.Bools.{or-no-l, or-no-r}
 use Rattle.laws.specs.Lists.{different}
-use Rattle.laws.specs.Slices.{Has, has-fits, has-front, has-back, has-word, has-rest}
+use Rattle.laws.specs.Slices.{Has, has-front, has-back, has-word, has-rest}
 use Rattle.syntax.specs.Words.{max-weight}
 use Rattle.syntax.specs.Syntax.{IntExpr, IConst, IVar, Linear as Total, Terms, tnil, tmore, count-terms, encode-int, encode-terms}
 use Rattle.syntax.specs.Unique.{int-unique}
+use Rattle.syntax.specs.Lengths.{int-long, int-fits}
 use Rattle.limits.specs.Limits.{weight, terms-weight, heavy, heavy-terms, heavy-comparison, many-comparison, written, written-terms}
 use Rattle.sums.specs.LinearSum.{LinearSum, constant, singleton, add-sum, mul-sum, sub-sum}
 use Rattle.sums.specs.Rising.{terms-of, constant-proper, add-sum-proper, Each, constant-each, singleton-each, add-sum-each, mul-sum-each, sub-sum-each, Among, among-left, among-right}
@@ -68,17 +69,8 @@ bits-not z n h e = h (ap (ofZ w32) e)
 
 -- ---- the words of an expression
 
-pub int-long : (e : IntExpr) → 2 ≤ length (encode-int e)
-unfolding encode-int
-int-long (IConst c) = omega arith
-int-long (IVar v) = omega arith
-int-long (Total ts) = omega arith
-
-pub has-long : (ws : List ℤ) (at : ℕ) (e : IntExpr) → Has ws at (encode-int e) → at + length (encode-int e) ≤ length ws
-has-long ws at e h = has-fits ws at (encode-int e) h (omega (arith, int-long e))
-
 pub ready-long : (ws : List ℤ) (at : ℕ) → Ready ws at → at + 2 ≤ length ws
-ready-long ws at r = omega (arith, has-long ws at (r .tree) (r .has), int-long (r .tree))
+ready-long ws at r = omega (arith, int-fits ws at (r .tree) (r .has), int-long (r .tree))
 
 -- two codes are not the same
 differ : {X : Type 0} (z : ℤ) (m n : ℕ) → z ≡ pos m → z ≡ pos n → (m ≡ n → ⊥) → X
@@ -209,7 +201,7 @@ module _ (ws numbers : List ℤ) (at rest p : ℕ) (s : Sum) (g : Going ws numbe
 
 module _ (ws numbers : List ℤ) (at rest p : ℕ) (s : Sum) (g : Going ws numbers at rest p s) (t : Turn ws numbers at rest p s g) where
   pub turn-long : p + 3 ≤ length ws
-  turn-long = omega (arith, has-long ws (p + 1) (t .expr) (t .has-expr), int-long (t .expr))
+  turn-long = omega (arith, int-fits ws (p + 1) (t .expr) (t .has-expr), int-long (t .expr))
 
   pub turn-ready : Ready ws (p + 1)
   turn-ready = record { tree = t .expr; has = t .has-expr; domains = g .domains; light = t .light-expr; vars = g .vars; few = g .few; among = t .among-expr }

@@ -1,28 +1,27 @@
 -- Laws of the small functions: words, modes, ends of integer expressions, nodes.
 use mathlib.Core.Path.{_≡_, refl, sym, ap, _∙_}
 use mathlib.Core.Bool.{Bool, true, false, not, cond}
-use mathlib.Core.List.{List, [], _∷_}
+use mathlib.Core.List.{List}
 use Prim.Native.Nat.{ℕ, zero, suc, _+_, _-_, _≤_, _<_, min}
 use native.Mathlib.Omega.{arith}
 use native.Mathlib.Numerals.{sub-one, add-one}
 use lib.IntN.{ℤ, pos, negsuc, negℤ, natAbs, _-ℤ_, +ℤ-idl}
-use lib.ListN.{length, getD, set, take, length-take, List·getD-eq-default}
+use lib.ListN.{length, getD, length-take, List·getD-eq-default}
 use mir.Syntax.{w32}
 use mir.Val.{SFits, ofZ, toZ}
 use mir.Facts.{toZ-ofZ}
 use lib.Seq.{getD-take}
 use lib.Signed.{ltZ, nonNeg}
 use lib.Dec.{T, eqb}
-use borrow.Author.Tests.{ltb-true, eq-eqb, ne-eqb}
+use borrow.Author.Tests.{ltb-true, ne-eqb}
 use Rattle.syntax.specs.Syntax.{IntExpr}
 use Rattle.clauses.specs.Clause.{negate-if}
 use Rattle.walk.specs.Item.{limit, nat, bump, is-none, mode-in}
 use Rattle.walk.specs.Decode.{word, past, below, terms, int-step, int-at, int-end, constant-node, comparison-node, node-of, read-part, surveyed, fresh-of, lines-in-of, closed-disj}
-use Rattle.walk.specs.declared.Mode.{Mode}
-use Rattle.walk.specs.declared.Mode.the-variants.{Pool, Pass, Two, Each}
+use Rattle.walk.specs.declared.Mode.the-variants.{Pass, Each}
 use Rattle.walk.specs.declared.Surveyed.{Surveyed}
 use Rattle.walk.specs.declared.Node.{Node}
-use Rattle.walk.specs.declared.Node.the-variants.{Var, Cmp, Not, Join, Cross}
+use Rattle.walk.specs.declared.Node.the-variants.{Var, Not, Join, Cross}
 
 -- ---- words
 
@@ -215,7 +214,7 @@ join-is e f = cc
 
 -- ---- stores
 
-pos-fits : (x : ℕ) → x ≤ limit → SFits w32 (pos x)
+pub pos-fits : (x : ℕ) → x ≤ limit → SFits w32 (pos x)
 pos-fits x h = record { sfits = omega arith }
 
 pub pos-is : (x : ℕ) → x ≤ limit → toZ w32 x ≡ pos x
@@ -225,7 +224,7 @@ pub at-in : (w : List ℤ) (at : ℕ) → 4608 ≤ length w → at ≤ 4608 → 
 at-in w at h k = omega (arith, read-length w h)
 
 -- a place as a negative word
-minus-is : (x : ℕ) → x ≤ limit → pos 0 -ℤ toZ w32 x ≡ negℤ (pos x)
+pub minus-is : (x : ℕ) → x ≤ limit → pos 0 -ℤ toZ w32 x ≡ negℤ (pos x)
 minus-is x h = rw (pos-is x h) (+ℤ-idl (negℤ (pos x)))
 
 place-neg : (p : ℕ) → negℤ (pos (p + 1)) ≡ negsuc p

@@ -9,7 +9,7 @@ ghost use Rattle.walk.specs.Item.{limit, bump as bump-of, nat, mode-in, fresh-i
 ghost use Rattle.walk.specs.Decode.{word as word-in, past, below as below-of, int-end as int-end-of, node-of, constant-node, comparison-node, read-part, surveyed, closed-disj, closed-cross, added, Surveys, SurveysAll, int-at, item-at, items-at, decode, many-ties, tie-at, cross-ties, ties-at};
 ghost use Rattle.walk.specs.Meets.{Met};
 ghost use Rattle.walk.specs.MeetTies.{meet-rule};
-ghost use Rattle.walk.specs.MeetColumns.{new-column, meet-column-at, meet-columns-at};
+ghost use Rattle.walk.specs.MeetColumns.{number-column, meet-column-at, meet-columns-at};
 use walk::Counters;
 use walk::Mode;
 use walk::Node;
@@ -636,7 +636,7 @@ fn store_place(work: &mut [i32], i: usize, p: usize)
 // A new number for the column at a place, kept there, and its place in its record.
 fn number_new(work: &mut [i32], p: usize, c: Counters) -> Counters
     requires { ⌜ (p ≤ 4608) × ((c .bools ≤ limit) × (c .ints ≤ limit)) ⌝ }
-    ensures { λ r. ⌜ Met (new-column p) (now (work .entry)) c (now (work .exit)) r ⌝ }
+    ensures { λ r. ⌜ Met (number-column p) (now (work .entry)) c (now (work .exit)) r ⌝ }
 {
     let k = bump(c.ints, 1);
     store(work, 7424 + p, k);

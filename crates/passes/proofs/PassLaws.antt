@@ -2,7 +2,7 @@
 use Prim.Native.Nat.{ℕ, zero, suc, _+_, _-_, _≤_, _<_}
 use mathlib.Core.Path.{_≡_, refl, sym, ap, _∙_}
 use mathlib.Core.Bool.{Bool, true, false, cond}
-use mathlib.Core.Option.{Option, none as nothing, some}
+use mathlib.Core.Option.{none as nothing}
 use mathlib.Core.List.{List, [], _∷_, _++_, map}
 use native.Mathlib.Omega.{arith}
 use lib.Dec.{eqb, ltb}
@@ -12,6 +12,7 @@ use lib.ListN.{length, take, drop, getD, set, length-append, length-set}
 use lib.Seq.{take-all, drop-set-lt, getD-take, getD-set-same, getD-set-other}
 use Rattle.laws.specs.Lists.{flat}
 use Rattle.laws.specs.Slices.{Has, has-fits, has-front, has-back, has-word, has-rest, Pushed, pushed-below, pushed-has, drop-up}
+use Rattle.laws.specs.Ints.{pos-eq}
 use Rattle.syntax.specs.Words.{max-bools, max-set-words, min-work-words}
 use Rattle.syntax.specs.Syntax.{Domain, Stmt, Problem, encode-domain, encode-stmt, encode}
 use Rattle.read.specs.WellFormed.{WellFormed}
@@ -19,7 +20,6 @@ use Rattle.fold.specs.Fold.{Fixed, constant-folding-stmt}
 use Rattle.fold.specs.Optimize.{Status, unsatisfiable, updated, constant-prop-stmts, Outcome, passes, optimize}
 use Rattle.fold.specs.Ends.{optimize-more}
 use Rattle.fold.specs.Kept.{fold-stmts-size}
-use Rattle.fold.specs.Table.{state-num}
 use Rattle.domains.specs.Declared.{Plain, Domains, Domain-at}
 use Rattle.fold.specs.Steps.{state-of, fixed-of, fixed-in}
 use Rattle.fold.proofs.BoolLaws.{fixed-at}
@@ -28,20 +28,12 @@ use Rattle.passes.specs.Statements.{Declared-stmts, Reads-stmts, Stmts-p
 use Rattle.passes.specs.Passes.{stmts-every, stmts-kept, stmts-length, open-count, open-most, open-fewer, pass-unsatisfiable, pass-settled, pass-again}
 use Rattle.passes.specs.Optimized.{Some-domains, Domains-end-post, Opened, Ready-passes, Settles, Passes-post}
 use Rattle.passes.specs.WellDeclared.{well-stmts}
-
-pos-eq : (z : ℤ) (m n : ℕ) → z ≡ pos m → z ≡ pos n → m ≡ n
-pos-eq z m n p q = cc
+use Rattle.passes.proofs.PropLaws.{state-back}
 
 -- ---- the fixed values as a function
 
 fun-ext : (f g : Fixed) → ((v : ℕ) → f v ≡ g v) → f ≡ g
 fun-ext f g h = λ i. λ v. h v i
-
-state-back : (k : Option Bool) → state-of (pos (state-num k)) ≡ k
-unfolding state-of
-state-back nothing = refl
-state-back (some false) = refl
-state-back (some true) = refl
 
 getD-out : (n : ℕ) (l : List ℤ) (v : ℕ) (d : ℤ) → n ≤ v → getD (take n l) v d ≡ d
 getD-out zero l v d h = refl

@@ -11,20 +11,19 @@ use lib.IntN.{ℤ, pos}
 use lib.ListN.{length, drop, getD, set, length-append}
 use lib.Seq.{drop-set-lt, getD-set-same, getD-set-other}
 use Rattle.laws.specs.Slices.{Has, drop-up}
+use Rattle.laws.specs.Ints.{pos-eq}
 use Rattle.syntax.specs.Words.{max-bools}
 use Rattle.syntax.specs.Syntax.{CmpOp, IntExpr, BoolExpr, Const, Var, Cmp, Members, none, more, count-members, encode-int, encode-bool, encode-members}
+use Rattle.syntax.specs.Written.{EveryOf}
 use Rattle.fold.specs.Fold.{Fixed, Op, expr-of}
 use Rattle.fold.specs.Optimize.{Status, unsatisfiable, updated, fix, worst, and-then, constant-prop-bool, constant-prop-members}
 use Rattle.fold.specs.Table.{op-num, bit, state-num}
-use Rattle.fold.specs.Forms.{list-of, list-words, binary-words, Declared}
+use Rattle.fold.specs.Forms.{list-of, list-words, binary-words}
 use Rattle.domains.specs.Declared.{Plain}
 use Rattle.fold.specs.Steps.{state-of, Reads, Reads-members}
 use Rattle.fold.proofs.BoolLaws.{tag, const-inv, var-inv, cmp-inv, not-inv, list-inv, binary-inv, first-word, second, second-word, tag-low, inside, reads-long, reads-not, reads-list, reads-left, reads-right, reads-first, reads-rest, reads-sides}
 use Rattle.passes.specs.Want.{prop-want, members-want, flip, pass-list, left-want, right-want, want-not, want-list, want-binary, want-more, status-num, worst-num, clash-num, set-status, set-words, flip-num, pass-num, left-num, right-num, flip-is, pass-is, left-is, right-is, status-small, worst-two, worst-is, Values, Propagates}
 use Rattle.passes.specs.Contracts.{Some-int, Skip-post, Stands, Stand-members, Comparison-post, Prop-post, Members-post}
-
-pos-eq : (z : ℤ) (m n : ℕ) → z ≡ pos m → z ≡ pos n → m ≡ n
-pos-eq z m n p q = cc
 
 -- ---- statuses
 
@@ -93,7 +92,7 @@ want-of (suc (suc (suc w))) h go = absurd (omega arith)
 
 -- ---- leaves
 
-state-back : (k : Option Bool) → state-of (pos (state-num k)) ≡ k
+pub state-back : (k : Option Bool) → state-of (pos (state-num k)) ≡ k
 unfolding state-of
 state-back nothing = refl
 state-back (some false) = refl
@@ -162,7 +161,7 @@ module _ (out : List ℤ) (at w : ℕ) (hw : getD out at (pos 0) ≡ pos w) wher
         go false (some false) = agrees out f vs true
 
     leaf-var : (ni : ℕ) (e : BoolExpr) → Reads ni out at e → w < 12 → (w ≡ 10 → ⊥) → (e ≡ Var v) × (v < max-bools)
-    unfolding second Declared
+    unfolding second EveryOf
     leaf-var ni e r h n =
         let t = tag-is ni e r in
         let m = tag-low max-bools ni e (r .vars) in

@@ -8,6 +8,7 @@ use native.Mathlib.Omega.{arith}
 use lib.IntN.{ℤ, pos}
 use lib.ListN.{length, drop, getD, length-append}
 use Rattle.laws.specs.Lists.{flat}
+use Rattle.laws.specs.Ints.{pos-eq}
 use Rattle.syntax.specs.Words.{max-bools}
 use Rattle.syntax.specs.Syntax.{Stmt, encode-int, encode-cell, encode-stmt}
 use Rattle.fold.specs.Optimize.{constant-prop-stmts}
@@ -17,9 +18,6 @@ use Rattle.passes.specs.Contracts.{Some-int, Skip-post, Stands, Prop-pos
 use Rattle.passes.specs.Statements.{Reads-stmt, Reads-stmts, prop-stmt, prop-stmts-more, Stands-stmt, Stand-stmts, Prop-stmt-post, Prop-stmts-post, Some-columns, Skip-columns-post, Skip-table-post}
 use Rattle.passes.proofs.StmtLaws.{columns-inv, stmt-inside, stmt-length, stmt-plain, rule-inv, table-inv, stmts-inv}
 use Rattle.passes.proofs.PropLaws.{still, then-props, as-status, worst-assoc, worst-none, worst-zero, has-up}
-
-pos-eq : (z : ℤ) (m n : ℕ) → z ≡ pos m → z ≡ pos n → m ≡ n
-pos-eq z m n p q = cc
 
 -- ---- `skip_columns`
 

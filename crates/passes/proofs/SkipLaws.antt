@@ -7,26 +7,13 @@ use lib.IntN.{ℤ, pos}
 use lib.ListN.{length, take, drop, getD, length-append}
 use lib.Seq.{take-add, drop-drop}
 use Rattle.laws.specs.Slices.{Has, has-fits, has-front, has-back, has-word, has-rest}
+use Rattle.laws.specs.Ints.{pos-eq}
 use Rattle.syntax.specs.Syntax.{IntExpr, IConst, IVar, Linear, Terms, tnil, tmore, count-terms, encode-int, encode-terms}
-use Rattle.fold.specs.Forms.{int-long}
+use Rattle.syntax.specs.Lengths.{int-tag, int-tag-word, int-long, terms-long}
 use Rattle.domains.specs.Declared.{Plain}
 use Rattle.passes.specs.Contracts.{Int-at, Terms-at, Some-int, Some-terms, body, Count-post, Skip-post, Skip-terms-post}
 
-abbrev tag : IntExpr → ℕ
-tag (IConst c) = 20
-tag (IVar v) = 21
-tag (Linear ts) = 22
-
-pos-eq : (z : ℤ) (m n : ℕ) → z ≡ pos m → z ≡ pos n → m ≡ n
-pos-eq z m n p q = cc
-
 module _ (ws : List ℤ) (at : ℕ) where
-  first-word : (e : IntExpr) → Int-at ws at e → getD ws at (pos 0) ≡ pos (tag e)
-  unfolding encode-int
-  first-word (IConst c) h = has-word ws at _ _ (pos 0) (h .words)
-  first-word (IVar v) h = has-word ws at _ _ (pos 0) (h .words)
-  first-word (Linear ts) h = has-word ws at _ _ (pos 0) (h .words)
-
   -- two words, then the terms
   head-words : (e : IntExpr) → Int-at ws at e → Has ws (at + 2) (encode-terms (body e)) × (length (encode-int e) ≡ 2 + length (encode-terms (body e)))
   unfolding encode-int
@@ -38,11 +25,11 @@ module _ (ws : List ℤ) (at : ℕ) where
   some-inside s = omega (arith, has-fits ws at (encode-int (s .it)) (s .stands .words) (omega (arith, int-long (s .it))), int-long (s .it))
 
   pub some-first : Some-int ws at → Plain ws at
-  some-first s = record { inside = omega (arith, some-inside s); value = tag (s .it); is = first-word (s .it) (s .stands) }
+  some-first s = record { inside = omega (arith, some-inside s); value = int-tag (s .it); is = int-tag-word ws at (s .it) (s .stands .words) }
 
   module _ (w : ℕ) (hw : getD ws at (pos 0) ≡ pos w) where
-    tag-is : (e : IntExpr) → Int-at ws at e → tag e ≡ w
-    tag-is e h = pos-eq _ _ _ (first-word e h) hw
+    tag-is : (e : IntExpr) → Int-at ws at e → int-tag e ≡ w
+    tag-is e h = pos-eq _ _ _ (int-tag-word ws at e (h .words)) hw
 
     sum-inv : {X : Type 0} (e : IntExpr) → Int-at ws at e → w ≡ 22 → ((ts : Terms) → e ≡ Linear ts → Int-at ws at (Linear ts) → X) → X
     sum-inv (IConst c) h z go = absurd (let t : 20 ≡ w = tag-is (IConst c) h in omega arith)
@@ -97,11 +84,6 @@ has-join ws at us vs h g =
     ∙ ap (λ l. us ++ take (length vs) l) (drop-drop (length us) at ws)
     ∙ ap (λ l. us ++ l) g
 
-terms-fit : (ts : Terms) → count-terms ts ≤ length (encode-terms ts)
-unfolding encode-terms
-terms-fit tnil = omega arith
-terms-fit (tmore c e ts) = omega (arith, terms-fit ts, length-append (encode-int e) (encode-terms ts))
-
 module _ (ws : List ℤ) (at n : ℕ) (z : n ≡ 0 → ⊥) where
   more-inv : {X : Type 0} (ts : Terms) → Terms-at ws at n ts → ((c : ℤ) (e : IntExpr) (us : Terms) → ts ≡ tmore c e us → Int-at ws (at + 1) e → Has ws (at + 1 + length (encode-int e)) (encode-terms us) → n ≡ suc (count-terms us) → X) → X
   unfolding encode-terms
@@ -127,7 +109,7 @@ module _ (ws : List ℤ) (at n : ℕ) (z : n ≡ 0 → ⊥) where
         more-inv (s .them) (s .stand) λ c e us q h g k.
         let i = some-inside ws (at + 1) (record { it = e; stands = h }) in
         let w = head-words ws (at + 1) e h in
-        (record { them = join (body e) us; stand = inner e us h g k }, omega (arith, i), omega (arith, p e h, terms-fit (body e), has-fits ws (at + 1) (encode-int e) (h .words) (omega (arith, int-long e)), w .1))
+        (record { them = join (body e) us; stand = inner e us h g k }, omega (arith, i), omega (arith, p e h, terms-long (body e), has-fits ws (at + 1) (encode-int e) (h .words) (omega (arith, int-long e)), w .1))
 
     pub terms-skip : (r : ℕ) → Skip-terms-post ws (at + 3) (n - 1 + m) r → Skip-terms-post ws at n r
     unfolding encode-terms
@@ -143,4 +125,4 @@ terms-end ws at n z (tmore c e us) h = absurd (let s : n ≡ suc (count-terms us
 
 pub terms-room : (ws : List ℤ) (at n : ℕ) → Some-terms ws at n → n ≤ length ws
 terms-room ws at zero s = omega arith
-terms-room ws at (suc n) s = omega (arith, s .stand .size, terms-fit (s .them), has-fits ws at (encode-terms (s .them)) (s .stand .words) (omega (arith, s .stand .size, terms-fit (s .them))))
+terms-room ws at (suc n) s = omega (arith, s .stand .size, terms-long (s .them), has-fits ws at (encode-terms (s .them)) (s .stand .words) (omega (arith, s .stand .size, terms-long (s .them))))

@@ -9,18 +9,18 @@ use lib.ListN.{length, take, drop, getD, set, length-append, length-set, length-
 use lib.Seq.{take-suc, take-suc-set, drop-set-lt, getD-drop, take-set-le, slice-empty, length-take-le}
 use Rattle.laws.specs.Lists.{flat}
 use Rattle.laws.specs.Slices.{Has, has-fits, has-front, has-back, has-word, has-rest, Pushed, pushed-below, pushed-then, pushed-none, Stored, heads-one, drop-up}
+use Rattle.laws.specs.Ints.{pos-eq}
 use Rattle.syntax.specs.Words.{max-bools}
 use Rattle.syntax.specs.Syntax.{IntExpr, BoolExpr, Cell, Stmt, Rule, Table, encode-int, encode-bool, encode-cell, encode-stmt}
+use Rattle.syntax.specs.Lengths.{rows-length}
+use Rattle.syntax.specs.Written.{EveryColumn}
 use Rattle.fold.specs.Fold.{constant-folding-int, constant-folding-bool, constant-folding-stmt}
 use Rattle.fold.specs.Forms.{bool-long}
 use Rattle.fold.specs.Kept.{fold-columns-size, fold-stmt-size, fold-int-size}
 use Rattle.domains.specs.Declared.{Plain}
 use Rattle.fold.specs.Steps.{fixed-in, Reads-int, Ready-int, Int-post, Reads, Ready, Fold-post}
 use Rattle.fold.proofs.BoolLaws.{same-fixed}
-use Rattle.passes.specs.Statements.{Declared-columns, Declared-stmt, Declared-stmts, Reads-columns, Ready-columns, Columns-post, Reads-stmt, Reads-stmts, Ready-stmt, Ready-stmts, Stmt-post, Stmts-post, rows-length}
-
-pos-eq : (z : ℤ) (m n : ℕ) → z ≡ pos m → z ≡ pos n → m ≡ n
-pos-eq z m n p q = cc
+use Rattle.passes.specs.Statements.{Declared-stmt, Declared-stmts, Reads-columns, Ready-columns, Columns-post, Reads-stmt, Reads-stmts, Ready-stmt, Ready-stmts, Stmt-post, Stmts-post}
 
 -- ---- `copy_words`
 
@@ -60,7 +60,7 @@ columns-none ws d at n out o h ds (e ∷ es) hd r = absurd (let s : n ≡ suc (l
 
 module _ (ws : List ℤ) (d at n : ℕ) (out : List ℤ) (o : ℕ) (z : n ≡ 0 → ⊥) where
   pub columns-inv : {X : Type 0} (ni : ℕ) (es : List IntExpr) → Reads-columns ni ws at n es → ((e : IntExpr) (fs : List IntExpr) → es ≡ e ∷ fs → Reads-int ni ws at e → Reads-columns ni ws (at + length (encode-int e)) (n - 1) fs → X) → X
-  unfolding Declared-columns
+  unfolding EveryColumn
   columns-inv ni [] r go = absurd (z (r .size))
   columns-inv ni (e ∷ fs) r go =
       let h = r .words in

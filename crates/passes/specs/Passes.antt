@@ -1,73 +1,31 @@
 -- The passes one at a time: what each makes of the fixed values, from the original statements. What is declared stays declared.
-use Prim.Native.Nat.{ℕ, suc, _-_, _≤_, _<_}
+use Prim.Native.Nat.{ℕ, suc, _≤_, _<_}
 use mathlib.Core.Path.{_≡_, refl, ap, _∙_}
 use mathlib.Core.Bool.{true, false}
 use mathlib.Core.List.{List, [], _∷_, map}
 use native.Mathlib.Omega.{arith}
 use lib.ListN.{length}
 use Rattle.syntax.specs.Words.{max-bools}
-use Rattle.syntax.specs.Syntax.{Domain, IntExpr, IConst, IVar, Linear, Terms, tnil, tmore, BoolExpr, Const, Var, NVar, And, Or, Not, Xor, Iff, Imp, Cmp, Members, none, more, Stmt, Rule, Table}
-use Rattle.syntax.specs.Written.{EveryInt, EveryTerm, EveryColumn, Every, EveryMember, EveryStmt, EveryStmts}
+use Rattle.syntax.specs.Syntax.{Domain, IntExpr, Stmt, Rule, Table}
+use Rattle.syntax.specs.Written.{EveryStmt, EveryStmts, every-map, Any, None}
 use Rattle.fold.specs.Fold.{Fixed, constant-folding-int, constant-folding-stmt}
 use Rattle.fold.specs.Optimize.{unsatisfiable, updated, constant-prop-stmts, inconsistent, settled, passes}
 use Rattle.fold.specs.Ends.{prop-stmts-after, prop-extends, passes-original, opens, opens-most, Fewer, fewer-steps}
-use Rattle.fold.specs.Forms.{Declared-int, Declared-terms, Declared, Declared-members}
-use Rattle.fold.specs.Size.{int-declared, fold-declared}
-use Rattle.passes.specs.Statements.{Declared-columns, Declared-stmt, Declared-stmts}
+use Rattle.fold.specs.Kept.{fold-columns-every, fold-every}
+use Rattle.passes.specs.Statements.{Declared-stmt, Declared-stmts}
 
 -- ---- declared, in the words of the theorems on folding
 
 module _ (nb ni : ℕ) where
-  mutual
-    unfolding Declared-int EveryInt
-
-    int-every : (e : IntExpr) → Declared-int ni e → EveryInt (λ v. v < ni) e
-    int-every (IConst c) h = tt
-    int-every (IVar v) h = h
-    int-every (Linear ts) h = terms-every ts h
-
-    terms-every : (ts : Terms) → Declared-terms ni ts → EveryTerm (λ v. v < ni) ts
-    terms-every tnil h = tt
-    terms-every (tmore k e ts) h = (int-every e (h .0), terms-every ts (h .1))
-
-  mutual
-    unfolding Declared Every
-
-    bool-every : (e : BoolExpr) → Declared nb ni e → Every (λ v. v < nb) (λ v. v < ni) e
-    bool-every (Const b) h = tt
-    bool-every (Var v) h = h
-    bool-every (NVar n) h = tt
-    bool-every (And ms) h = members-every ms h
-    bool-every (Or ms) h = members-every ms h
-    bool-every (Not e) h = bool-every e h
-    bool-every (Xor a b) h = (bool-every a (h .0), bool-every b (h .1))
-    bool-every (Iff a b) h = (bool-every a (h .0), bool-every b (h .1))
-    bool-every (Imp a b) h = (bool-every a (h .0), bool-every b (h .1))
-    bool-every (Cmp o a b) h = (int-every a (h .0), int-every b (h .1))
-
-    members-every : (ms : Members) → Declared-members nb ni ms → EveryMember (λ v. v < nb) (λ v. v < ni) ms
-    members-every none h = tt
-    members-every (more e ms) h = (bool-every e (h .0), members-every ms (h .1))
-
-  columns-every : (es : List IntExpr) → Declared-columns ni es → EveryColumn (λ v. v < ni) es
-  unfolding Declared-columns EveryColumn
-  columns-every [] h = tt
-  columns-every (e ∷ es) h = (int-every e (h .0), columns-every es (h .1))
-
   pub stmts-every : (ss : List Stmt) → Declared-stmts nb ni ss → EveryStmts (λ v. v < nb) (λ v. v < ni) ss
   unfolding Declared-stmts Declared-stmt EveryStmts EveryStmt
   stmts-every [] h = tt
-  stmts-every (Rule e ∷ ss) h = (bool-every e (h .0), stmts-every ss (h .1))
-  stmts-every (Table es rows ∷ ss) h = (columns-every es (h .0 .0), stmts-every ss (h .1))
+  stmts-every (Rule e ∷ ss) h = (every-map None (λ v. v < nb) (λ v. v < ni) Any (λ v. v < nb) (λ v. v < ni) (λ n k. tt) (λ v k. k) (λ v k. k) e (h .0), stmts-every ss (h .1))
+  stmts-every (Table es rows ∷ ss) h = (h .0 .0, stmts-every ss (h .1))
 
   -- ---- folding keeps it
 
   module _ (ds : List Domain) (f : Fixed) where
-    columns-kept : (es : List IntExpr) → Declared-columns ni es → Declared-columns ni (map (constant-folding-int ds) es)
-    unfolding Declared-columns
-    columns-kept [] h = tt
-    columns-kept (e ∷ es) h = (int-declared ds ni e (h .0), columns-kept es (h .1))
-
     map-length : (es : List IntExpr) → length (map (constant-folding-int ds) es) ≡ length es
     map-length [] = refl
     map-length (e ∷ es) = ap suc (map-length es)
@@ -75,8 +33,8 @@ module _ (nb ni : ℕ) where
     pub stmts-kept : (ss : List Stmt) → Declared-stmts nb ni ss → Declared-stmts nb ni (map (constant-folding-stmt ds f) ss)
     unfolding Declared-stmts Declared-stmt constant-folding-stmt
     stmts-kept [] h = tt
-    stmts-kept (Rule e ∷ ss) h = (fold-declared nb ni ds f e (h .0), stmts-kept ss (h .1))
-    stmts-kept (Table es rows ∷ ss) h = ((columns-kept es (h .0 .0), rw (map-length es) (h .0 .1)), stmts-kept ss (h .1))
+    stmts-kept (Rule e ∷ ss) h = (fold-every None (λ v. v < nb) (λ v. v < ni) ds f e (h .0), stmts-kept ss (h .1))
+    stmts-kept (Table es rows ∷ ss) h = ((fold-columns-every (λ v. v < ni) ds es (h .0 .0), rw (map-length es) (h .0 .1)), stmts-kept ss (h .1))
 
 pub stmts-length : (ds : List Domain) (f : Fixed) (ss : List Stmt) → length (map (constant-folding-stmt ds f) ss) ≡ length ss
 stmts-length ds f [] = refl

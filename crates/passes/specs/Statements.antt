@@ -1,32 +1,27 @@
 -- Statements: what is asked of their parts, their words, and what folding and requiring them ask and give.
-use Prim.Native.Nat.{ℕ, suc, _+_, _-_, _*_, _≤_}
-use mathlib.Core.Path.{_≡_, refl, ap}
+use Prim.Native.Nat.{ℕ, _+_, _≤_, _<_}
+use mathlib.Core.Path.{_≡_, refl}
 use mathlib.Core.Bool.{true, false}
 use mathlib.Core.List.{List, [], _∷_, map}
-use native.Mathlib.Omega.{arith}
-use native.Mathlib.Numerals.{unary-clauses}
 use lib.IntN.{ℤ}
-use lib.ListN.{length, drop, length-append}
+use lib.ListN.{length, drop}
 use Rattle.laws.specs.Lists.{flat}
 use Rattle.laws.specs.Slices.{Has, Pushed}
 use Rattle.syntax.specs.Words.{max-bools}
-use Rattle.syntax.specs.Syntax.{Domain, IntExpr, Cell, Stmt, Rule, Table, encode-int, encode-cell, encode-stmt}
+use Rattle.syntax.specs.Syntax.{Domain, IntExpr, Stmt, Rule, Table, encode-int, encode-stmt}
+use Rattle.syntax.specs.Lengths.{Wide}
+use Rattle.syntax.specs.Written.{EveryColumn}
 use Rattle.fold.specs.Fold.{Fixed, constant-folding-int, constant-folding-stmt}
 use Rattle.fold.specs.Optimize.{Status, unsatisfiable, updated, worst, and-then, constant-prop-bool, constant-prop-stmts}
-use Rattle.fold.specs.Forms.{Declared-int, Declared}
+use Rattle.fold.specs.Forms.{Declared}
 use Rattle.domains.specs.Declared.{Domains}
 use Rattle.fold.specs.Steps.{fixed-in}
 use Rattle.passes.specs.Want.{Values, Propagates}
 
 -- ---- declared, and every row as wide as its table
 
-unfoldable pub Declared-columns : ℕ → List IntExpr → Type 0
-Declared-columns ni [] = Unit {0}
-Declared-columns ni (e ∷ es) = Declared-int ni e × Declared-columns ni es
-
-unfoldable pub Wide : ℕ → List (List Cell) → Type 0
-Wide n [] = Unit {0}
-Wide n (r ∷ rows) = (length r ≡ n) × Wide n rows
+abbrev pub Declared-columns : ℕ → List IntExpr → Type 0
+Declared-columns ni es = EveryColumn (λ v. v < ni) es
 
 unfoldable pub Declared-stmt : ℕ → ℕ → Stmt → Type 0
 Declared-stmt nb ni (Rule e) = Declared nb ni e
@@ -154,22 +149,3 @@ pub record Some-columns (ws : List ℤ) (at n : ℕ) : Type 0 where
 
 abbrev pub Skip-table-post : List ℤ → ℕ → ℕ → Type 0
 Skip-table-post ws at r = (ni : ℕ) (s : Stmt) → Reads-stmt ni ws at s → r ≡ at + length (encode-stmt s)
-
--- ---- the words of a table
-
-pub rows-length : (n : ℕ) (rows : List (List Cell)) → Wide n rows → length (flat (map (map encode-cell) rows)) ≡ n * length rows
-unfolding Wide
-rows-length n [] h = omega arith
-rows-length n (r ∷ rows) h =
-    let m : length (map encode-cell r) ≡ length r = cells r in
-    let z : length r ≡ n = h .0 in
-    let ih = rows-length n rows (h .1) in
-    let s : n * suc (length rows) ≡ n + n * length rows = step n (length rows) in
-    omega (arith, length-append (map encode-cell r) (flat (map (map encode-cell) rows)))
-  where
-    cells : (cs : List Cell) → length (map encode-cell cs) ≡ length cs
-    cells [] = refl
-    cells (c ∷ cs) = ap suc (cells cs)
-
-    step : (n k : ℕ) → n * suc k ≡ n + n * k
-    step n k = simp unary-clauses (omega arith)

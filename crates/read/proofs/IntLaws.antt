@@ -6,7 +6,8 @@ use native.Mathlib.Omega.{arith}
 use native.Mathlib.Numerals.{sub-one}
 use lib.IntN.{ℤ, pos}
 use lib.ListN.{length, drop}
-use Rattle.syntax.specs.Syntax.{encode-int, IntExpr, IConst, IVar, Linear, Terms, tmore}
+use Rattle.syntax.specs.Syntax.{IntExpr, IConst, IVar, Linear, Terms, tmore}
+use Rattle.syntax.specs.Lengths.{int-long}
 use Rattle.words.specs.Parse.{Parsed, ok, refuse, Parser, bind, map-parser, word, number, up-to, count, index}
 use Rattle.words.specs.Exact.{word-ok, number-exact, count-exact, index-exact}
 use Rattle.words.specs.Cursor.{cursor, next-at, counted-at}
@@ -16,7 +17,6 @@ use Rattle.words.specs.declared.Counted.the-variants as counted
 use Rattle.read.specs.declared.Read.{Read}
 use Rattle.read.specs.declared.Read.the-variants as read
 use Rattle.read.specs.Read.{IntKind, i-const, i-var, i-sum, i-unknown, kind-int, too-deep-int, read-terms, step-int, read-int}
-use Rattle.read.specs.WellFormed.{WellInt}
 use Rattle.read.specs.ExactExpr.{terms-exact, int-exact}
 use Rattle.read.specs.Position.{read-at, reads}
 use Rattle.read.proofs.Tails.{Shortens, exact-shortens, ok-shortens, refuse-shortens, bind-shortens}
@@ -131,11 +131,5 @@ module _ (ni left at : ℕ) (ws : List ℤ) (w : ℤ) (d : Cursor) (h : next-at 
     unfolding step-int reads read-at
     int-none e = arm i-unknown (read.Refused 5) e refl
 
-int-long : (ni left : ℕ) (e : IntExpr) → WellInt ni left e → 0 < length (encode-int e)
-unfolding encode-int
-int-long ni left (IConst c) h = omega arith
-int-long ni left (IVar v) h = omega arith
-int-long ni left (Linear ts) h = omega arith
-
 pub int-falls : (ni left at : ℕ) (ws : List ℤ) (d : Cursor) → reads (read-int ni left) at ws ≡ read.Ok d → (at < d .at) × (at < length ws)
-int-falls ni left = reads-falls (read-int ni left) (int-exact ni left) (int-long ni left)
+int-falls ni left = reads-falls (read-int ni left) (int-exact ni left) (λ e h. omega (arith, int-long e))

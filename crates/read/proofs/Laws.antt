@@ -7,6 +7,7 @@ use native.Mathlib.Numerals.{sub-one}
 use lib.IntN.{ℤ, pos}
 use lib.ListN.{length, drop, length-drop, length-append}
 use lib.Seq.{drop-drop}
+use Rattle.laws.specs.Ints.{apart}
 use Rattle.words.specs.Parse.{Parsed, ok, refuse, Parser, bind, seq-parser, map-parser, times, number}
 use Rattle.words.specs.Exact.{Exact, number-words, number-exact, times-exact}
 use Rattle.words.specs.Cursor.{cursor, next-at, counted-at, next-refused, next-word, counted-refused, counted-number}
@@ -19,9 +20,6 @@ use Rattle.read.specs.Position.{read-at, reads}
 use Rattle.read.proofs.Tails.{Tail, Shortens, tail-of, exact-shortens}
 
 -- ---- what an answer says of the parser
-
-apart : {X : Type 0} → _≡_ {A = ℕ} 0 1 → X
-apart z = absurd (omega arith)
 
 at-refused : {A : Type 0} (at : ℕ) (xs : List ℤ) (q : Parsed A) (k : ℕ) → read-at at xs q ≡ read.Refused k → q ≡ refuse k
 unfolding read-at

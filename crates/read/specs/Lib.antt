@@ -4,3 +4,4 @@ pub mod ExactExpr
 pub mod Exact
 pub mod Position
 pub mod Accepted
+pub mod Vars

@@ -13,6 +13,7 @@ use Rattle.laws.specs.Lists.{any, flat}
 use Rattle.laws.specs.Slices.{Has, has-front, has-back}
 use Rattle.syntax.specs.Syntax.{Domain, domain-of, CmpOp, Eq, IntExpr, IConst, IVar, Linear, encode-int}
 use Rattle.syntax.specs.Written.{EveryInt, EveryColumn}
+use Rattle.syntax.specs.Lengths.{int-long}
 use Rattle.limits.specs.Limits.{heavy, many-column}
 use Rattle.sums.specs.LinearSum.{LinearSum, singleton, sub-sum, get-domain-linear-sum}
 use Rattle.sums.specs.Linear.{linear-of}
@@ -26,11 +27,8 @@ use Rattle.walk.specs.Grow.{Grows, same, then, Fit, back}
 use Rattle.walk.specs.Ints.{int-grows, int-bools, var-found, int-linear}
 use Rattle.walk.specs.Num.{max-emitted, code, Recorded, Numbered, recorded-set, bool-other, int-other, int-num, expr-num}
 use Rattle.walk.specs.Two.{Low}
+pub use Rattle.walk.specs.MeetColumns.{column-map, number-column}
 use Rattle.statements.specs.Kept.{Kept, kept-same, kept-then, int-var-kept, expr-kept}
-
--- the number plus 1 of a column that stands at p, at column-map + p
-abbrev pub column-map : ℕ
-column-map = 7424
 
 -- what is known of the record of a column: its place in F, its expression (within refusals 9 and 10), its sum and domain
 pub record ColumnRecord (F : List ℤ) (ds : List Domain) (s : Log) (word : ℤ) (l : LinearSum) (d : Domain) : Type 0 where
@@ -45,13 +43,6 @@ pub record ColumnRecord (F : List ℤ) (ds : List Domain) (s : Log) (word : ℤ)
   pub domain : d ≡ get-domain-linear-sum (domain-of (emitted-domains ds s)) l
 
 -- ---- numbering
-
-abbrev pub number-column : ℕ → State → State
-number-column p st = record {
-  work = set (set (st .work) (column-map + p) (pos (bump (st .ints) 1))) (emitted-ints + st .ints) (negsuc p);
-  bools = st .bools;
-  ints = bump (st .ints) 1;
-}
 
 unfoldable pub meet-column : ℕ → IntExpr → State → State
 meet-column p (IConst c) st = number-column p (meet-int (IConst c) st)
@@ -85,13 +76,6 @@ column-clause w p (Linear ts) = equality w (Linear ts) (column-number w p (Linea
 unfoldable pub columns-clauses : List ℤ → ℕ → List IntExpr → List Clause
 columns-clauses w p [] = []
 columns-clauses w p (e ∷ es) = column-clause w p e ++ columns-clauses w (p + length (encode-int e)) es
-
--- an integer expression has two words at least
-pub int-words : (e : IntExpr) → 2 ≤ length (encode-int e)
-unfolding encode-int
-int-words (IConst c) = omega arith
-int-words (IVar v) = omega arith
-int-words (Linear ts) = omega arith
 
 -- ---- what numbering the columns from p on keeps: all below the maps, and the numbers of the columns before p
 
@@ -189,7 +173,7 @@ module _ (F : List ℤ) (ds : List Domain) where
   placed-keeps w w' p [] s l g h = tt
   placed-keeps w w' p (e ∷ es) s l g h =
       let n : length (words-of (e ∷ es)) ≡ length (encode-int e) + length (words-of es) = length-append (encode-int e) (words-of es) in (
-        one-keeps w w' p e s l (grown-less (p + 1) (p + length (words-of (e ∷ es))) (omega (arith, int-words e)) g) (h .0),
+        one-keeps w w' p e s l (grown-less (p + 1) (p + length (words-of (e ∷ es))) (omega (arith, int-long e)) g) (h .0),
         placed-keeps w w' (p + length (encode-int e)) es (equivalent-int-var ds e s .log) (omega arith) (grown-less _ (p + length (words-of (e ∷ es))) (omega arith) g) (h .1),
       )
 
@@ -258,11 +242,11 @@ module _ (F : List ℤ) (ds : List Domain) where
       let q : ℕ = p + length (encode-int e) in
       let t : Log = equivalent-int-var ds e s .log in
       let k : length (words-of (e ∷ es)) ≡ length (encode-int e) + length (words-of es) = length-append (encode-int e) (words-of es) in
-      let a = column-met p e st s l (omega (arith, int-words e)) (has-front F p (encode-int e) (words-of es) f) (v .0) (or-no-l (heavy ds e) _ y) (or-no-l (many-column e) _ z) n (omega (arith, columns-grow es t .ints)) in
+      let a = column-met p e st s l (omega (arith, int-long e)) (has-front F p (encode-int e) (words-of es) f) (v .0) (or-no-l (heavy ds e) _ y) (or-no-l (many-column e) _ z) n (omega (arith, columns-grow es t .ints)) in
       let b = columns-met q es (meet-column p e st) t (omega arith) (omega arith) (has-back F p (encode-int e) (words-of es) f) (v .1) (or-no-r (heavy ds e) _ y) (or-no-r (many-column e) _ z) (a .numbered) r in
       record {
         numbered = b .numbered;
-        placed = (one-keeps _ _ p e s l (grown-less (p + 1) q (omega (arith, int-words e)) (b .grown)) (a .placed), b .placed);
+        placed = (one-keeps _ _ p e s l (grown-less (p + 1) q (omega (arith, int-long e)) (b .grown)) (a .placed), b .placed);
         grown = grown-then p q _ _ _ (omega arith) (a .grown) (b .grown);
       }
 

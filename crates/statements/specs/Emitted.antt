@@ -1,9 +1,9 @@
 -- How many integers are emitted: each declared variable once, and one for each column that is no variable.
-use mathlib.Core.Path.{_≡_, refl, sym, ap, _∙_}
-use mathlib.Core.Bool.{Bool, true, false, not, cond}
+use mathlib.Core.Path.{_≡_, refl, _∙_}
+use mathlib.Core.Bool.{Bool, true, false, cond}
 use mathlib.Core.Option.{Option, none as nothing, some}
-use mathlib.Core.List.{List, [], _∷_, _++_, map}
-use Prim.Native.Nat.{ℕ, zero, suc, _+_, _-_, _*_, _≤_, _<_}
+use mathlib.Core.List.{List, [], _∷_, map}
+use Prim.Native.Nat.{ℕ, zero, suc, _+_, _*_, _≤_, _<_}
 use native.Mathlib.Omega.{arith}
 use lib.Dec.{eqb, ltb}
 use borrow.Author.Tests.{ne-eqb, eqb-true, eqb-false, ltb-true, ltb-false}
@@ -12,9 +12,10 @@ use lib.ListN.{length, length-append}
 use Rattle.laws.specs.Lists.{any, flat}
 use Rattle.syntax.specs.Syntax.{Domain, domain-of, IntExpr, IConst, IVar, Linear, Terms, tnil, tmore, encode-int, BoolExpr, Const, Var, NVar, And, Or, Not, Xor, Iff, Imp, Cmp, Members, none, more, Cell, encode-cell, Stmt, Rule, Table, encode-stmt}
 use Rattle.syntax.specs.Satisfies.{IVal}
+use Rattle.syntax.specs.Lengths.{int-long}
 use Rattle.sums.specs.LinearSum.{LinearSum, constant}
 use Rattle.clauses.specs.Clause.{Clause}
-use Rattle.clauses.specs.Log.{Made, declared, aux, side, declared-int, column, Log, next-bool, next-int, get-bool-var, get-int-var, bool-var-at, convert-bool-var, int-var-at, convert-int-var}
+use Rattle.clauses.specs.Log.{declared, aux, side, declared-int, column, Log, next-bool, next-int, get-bool-var, get-int-var, bool-var-at, convert-bool-var, int-var-at, convert-int-var}
 use Rattle.clauses.specs.Disjunction.{normalize-disjunction}
 use Rattle.clauses.specs.Normalize.{no-run, run-then, normalize-conjunction, disjunction-of, cross as cross-run, normalize-var, normalize-comparison, normalize-int-var, normalize-term, normalize-int-expr, normalize-terms, lit-clauses}
 use Rattle.clauses.specs.Split.{normalize-and-register-expr, unsplit, split-not, split-members, split-two, split-sides, split-more, tseitin-transformation-bool as split, tseitin-transformation-members as split-each}
@@ -25,7 +26,6 @@ use Rattle.answer.specs.Declared.{Declared}
 use Rattle.walk.specs.Tree.{Tree, var, num, cmp, conj, disj, cross, tied, Trees, nil, cons, num-run, run, runs}
 use Rattle.walk.specs.Resolve.{rule-trees, rule-runs}
 use Rattle.walk.specs.Texts.{Auxed, here, above, disjunction-auxed}
-use Rattle.statements.specs.Columns.{int-words}
 
 -- ---- declared variables without a number
 
@@ -183,7 +183,7 @@ module _ (ds : List Domain) where
 
   column-words : (es : List IntExpr) → 2 * length es ≤ length (flat (map encode-int es))
   column-words [] = omega arith
-  column-words (e ∷ es) = omega (arith, column-words es, int-words e, length-append (encode-int e) (flat (map encode-int es)))
+  column-words (e ∷ es) = omega (arith, column-words es, int-long e, length-append (encode-int e) (flat (map encode-int es)))
 
   stmt-columns : (t : Stmt) (s : Log) → 2 * columns (normalize-stmt ds t s .1) ≤ 2 * columns s + length (encode-stmt t)
   unfolding normalize-stmt normalize-table encode-stmt

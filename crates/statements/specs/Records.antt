@@ -10,7 +10,7 @@ use lib.Dec.{eqb, ltb}
 use borrow.Author.Tests.{eqb-true, ltb-true, ltb-false}
 use lib.ListN.{length, getD}
 use Rattle.laws.specs.Bools.{never}
-use Rattle.laws.specs.Lists.{any, any-append}
+use Rattle.laws.specs.Lists.{any, any-append, least}
 use Rattle.laws.specs.Slices.{Has}
 use Rattle.laws.specs.Ints.{times-low, times-high}
 use Rattle.syntax.specs.Syntax.{Domain, Range, lower-bound, upper-bound, domain-of, IntExpr, IConst, IVar, Linear, Terms, tnil, tmore, encode-int}
@@ -48,10 +48,6 @@ module _ (dom dom' : ℕ → Domain) (m : ℕ) (same-below : (v : ℕ) → v < m
   domain-same : (l : LinearSum) → sum-bound l ≤ m → get-domain-linear-sum dom l ≡ get-domain-linear-sum dom' l
   unfolding get-domain-linear-sum
   domain-same (linear-sum c ts) h = rw (lowest-same c ts h, highest-same c ts h) refl
-
-least : {X : Type 0} (i v : ℕ) (t : Bool) → ltb i v ≡ t → i ≤ v → (i < v → X) → (i ≡ v → X) → X
-least i v true q l f g = f (ltb-true i v q)
-least i v false q l f g = g (omega (arith, ltb-false i v q))
 
 -- ---- the variables that an expression writes have numbers behind it
 

@@ -11,7 +11,7 @@ use Rattle.laws.specs.Bools.{or-no-l, or-no-r}
 use Rattle.laws.specs.Lists.{any, flat}
 use Rattle.syntax.specs.Syntax.{Domain, IntExpr, IConst, IVar, Linear, Terms, tnil, tmore, BoolExpr, Const, Var, NVar, And, Or, Not, Xor, Iff, Imp, Cmp, Members, none, more, count-members, Stmt, Rule, Table, encode-stmt, Problem}
 use Rattle.syntax.specs.Depth.{depth-int, depth-terms, depth, depth-members}
-use Rattle.syntax.specs.Written.{EveryInt, EveryTerm, EveryColumn, Every, EveryMember, EveryStmt, EveryStmts, every-stmts-map}
+use Rattle.syntax.specs.Written.{EveryInt, EveryTerm, EveryColumn, Every, EveryMember, EveryStmt, EveryStmts, every-stmts-map, EveryOf}
 use Rattle.words.specs.Exact.{Each}
 use Rattle.read.specs.WellFormed.{WellInt, WellTerms, WellBool, WellMembers, WellStmt, WellFormed}
 use Rattle.limits.specs.Limits.{any-part, heavy, heavy-comparison, many-comparison, many-column, check}
@@ -81,7 +81,7 @@ module _ (ds : List Domain) where
   Small = Every (λ v. v < 512) (λ v. v < 256)
 
   mutual
-    unfolding Solid Legal Every depth expr-bound
+    unfolding Solid Legal EveryOf depth expr-bound
 
     solid-legal : (e : BoolExpr) (l : ℕ) → Solid ds e → Small e → expr-bound e ≤ 0 → depth e ≤ l → Legal e l
     solid-legal (Const b) l s v n d = s

@@ -4,15 +4,16 @@ use mathlib.Core.Bool.{Bool, true, false, _&&_, _||_}
 use mathlib.Core.List.{List, [], _∷_}
 use Prim.Native.Nat.{ℕ, suc, _+_, _*_, _≤_}
 use native.Mathlib.Omega.{arith}
-use lib.IntN.{ℤ, pos, negsuc, negℤ, natAbs, _+ℤ_, _-ℤ_, _*ℤ_, +ℤ-idr, +ℤ-assoc, +ℤ-comm, +ℤ-invr, +ℤ-invl, -ℤ-+ℤ-cancel, +ℤ-negℤ-cancel}
+use lib.IntN.{ℤ, pos, natAbs, _+ℤ_, _-ℤ_, _*ℤ_, +ℤ-idr, +ℤ-assoc}
 use lib.Signed.{leZ, ltZ}
 use lib.Dec.{eqb}
 use borrow.Author.Tests.{eq-eqb}
 use native.Mathlib.Nat.{mul-le-mul-left}
 use Rattle.laws.specs.Bools.{and-l, and-r, and-i, or-l, never}
-use Rattle.laws.specs.Ints.{eqZ, times-low, times-high, +ℤ-swap, *ℤ-dist-l}
-use Rattle.laws.specs.Order.{eqZ-is, leZ-refl, leZ-trans, leZ-lt, leZ-add, leZ-shift, times-low-le, times-high-le}
+use Rattle.laws.specs.Ints.{eqZ, times-low, times-high}
+use Rattle.laws.specs.Order.{eqZ-is, leZ-refl, leZ-trans, leZ-lt, leZ-add, times-low-le, times-high-le}
 use Rattle.laws.specs.Lists.{any}
+use Rattle.laws.specs.Gaps.{gap, gap-size, times-apart, sum-apart}
 use Rattle.syntax.specs.Syntax.{Domain, Range, Enumerative, last-or, lower-bound, upper-bound, num-candidates, in-domain, domain-of, IntExpr, IConst, IVar, Linear, Terms, tnil, tmore}
 use Rattle.syntax.specs.Satisfies.{IVal}
 use Rattle.limits.specs.Limits.{written, written-terms, interval, terms-interval, span}
@@ -99,32 +100,6 @@ linear-of-domain number domain ι e h =
 
 -- ---- its number of values
 
--- from a up to b
-pub leZ-gap : (a b : ℤ) → leZ a b ≡ true → b ≡ a +ℤ pos (natAbs (b -ℤ a))
-leZ-gap a b h = sym (-ℤ-+ℤ-cancel b a) ∙ +ℤ-comm (b -ℤ a) a ∙ ap (λ (x : ℤ). a +ℤ x) (size (b -ℤ a) (rw (+ℤ-invr a) at (leZ-shift a b (negℤ a) ∙ h)))
-  where
-    size : (z : ℤ) → leZ (pos 0) z ≡ true → z ≡ pos (natAbs z)
-    size (pos n) h = refl
-    size (negsuc n) h = never h
-
-times-gap : (k a : ℤ) (n : ℕ) → times-high k a (a +ℤ pos n) ≡ times-low k a (a +ℤ pos n) +ℤ pos (natAbs k * n)
-times-gap (pos k) a n = *ℤ-dist-l (pos k) a (pos n)
-times-gap (negsuc k) a n =
-    sym (rw (*ℤ-dist-l (negsuc k) a (pos n)) (+ℤ-assoc (negsuc k *ℤ a) (negsuc k *ℤ pos n) (pos (suc k * n)) ∙ ap (λ (x : ℤ). negsuc k *ℤ a +ℤ x) (+ℤ-invl (pos (suc k * n))) ∙ +ℤ-idr (negsuc k *ℤ a)))
-
-gap-four : (a b : ℤ) (m n : ℕ) → (a +ℤ pos m) +ℤ (b +ℤ pos n) ≡ (a +ℤ b) +ℤ pos (m + n)
-gap-four a b m n = +ℤ-assoc a (pos m) (b +ℤ pos n) ∙ ap (λ (x : ℤ). a +ℤ x) (+ℤ-swap (pos m) b (pos n)) ∙ sym (+ℤ-assoc a b (pos (m + n)))
-
-gap-size : (a : ℤ) (n : ℕ) → (a +ℤ pos n) -ℤ a ≡ pos n
-gap-size a n = ap (λ (x : ℤ). x -ℤ a) (+ℤ-comm a (pos n)) ∙ +ℤ-negℤ-cancel (pos n) a
-
--- a product's bounds lie |coefficient| times as far apart
-times-apart : (k a b : ℤ) (n : ℕ) → b ≡ a +ℤ pos n → times-high k a b ≡ times-low k a b +ℤ pos (natAbs k * n)
-times-apart k a b n e = rw e (times-gap k a n)
-
-apart-sum : (a b c d : ℤ) (m n : ℕ) → b ≡ a +ℤ pos m → d ≡ c +ℤ pos n → b +ℤ d ≡ (a +ℤ c) +ℤ pos (m + n)
-apart-sum a b c d m n e f = rw (e, f) (gap-four a c m n)
-
 unfoldable pub width : Domain → ℕ
 width d = natAbs (upper-bound d -ℤ lower-bound d)
 
@@ -133,17 +108,17 @@ Bounded d = leZ (lower-bound d) (upper-bound d) ≡ true
 
 width-apart : (d : Domain) → Bounded d → upper-bound d ≡ lower-bound d +ℤ pos (width d)
 unfolding width
-width-apart d h = leZ-gap (lower-bound d) (upper-bound d) h
+width-apart d h = gap (lower-bound d) (upper-bound d) h
 
 module _ (domain : ℕ → Domain) where
-  sum-apart : (ts : List Term) (c d : ℤ) (n : ℕ) → d ≡ c +ℤ pos n → Each (λ v. Bounded (domain v)) ts → highest domain d ts ≡ lowest domain c ts +ℤ pos (n + norm (λ v. width (domain v)) ts)
+  sum-terms-apart : (ts : List Term) (c d : ℤ) (n : ℕ) → d ≡ c +ℤ pos n → Each (λ v. Bounded (domain v)) ts → highest domain d ts ≡ lowest domain c ts +ℤ pos (n + norm (λ v. width (domain v)) ts)
   unfolding lowest highest Each norm
-  sum-apart [] c d n e h = e ∙ ap (λ (m : ℕ). c +ℤ pos m) (omega arith)
-  sum-apart (term v a ∷ ts) c d n e h =
+  sum-terms-apart [] c d n e h = e ∙ ap (λ (m : ℕ). c +ℤ pos m) (omega arith)
+  sum-terms-apart (term v a ∷ ts) c d n e h =
       let l = lower-bound (domain v) in
       let u = upper-bound (domain v) in
       let w = width (domain v) in
-      sum-apart ts (c +ℤ times-low a l u) (d +ℤ times-high a l u) (n + natAbs a * w) (apart-sum c d (times-low a l u) (times-high a l u) n (natAbs a * w) e (times-apart a l u w (width-apart (domain v) (h .0)))) (h .1)
+      sum-terms-apart ts (c +ℤ times-low a l u) (d +ℤ times-high a l u) (n + natAbs a * w) (sum-apart c d (times-low a l u) (times-high a l u) n (natAbs a * w) e (times-apart a l u w (width-apart (domain v) (h .0)))) (h .1)
       ∙ ap (λ (m : ℕ). lowest domain (c +ℤ times-low a l u) ts +ℤ pos m) (omega arith)
 
 -- u: the width of each declared variable's domain
@@ -175,7 +150,7 @@ module _ (ds : List Domain) where
     terms-apart (tmore k e ts) h =
         let a = interval-apart e (λ v m. h v (among-left v (written e) (written-terms ts) m)) in
         let b = terms-apart ts (λ v m. h v (among-right v (written e) (written-terms ts) m)) in
-        apart-sum (times-low k (interval ds e .0) (interval ds e .1)) (times-high k (interval ds e .0) (interval ds e .1)) (terms-interval ds ts .0) (terms-interval ds ts .1) (natAbs k * breadth declared-width e) (breadth-terms declared-width ts)
+        sum-apart (times-low k (interval ds e .0) (interval ds e .1)) (times-high k (interval ds e .0) (interval ds e .1)) (terms-interval ds ts .0) (terms-interval ds ts .1) (natAbs k * breadth declared-width e) (breadth-terms declared-width ts)
         (times-apart k (interval ds e .0) (interval ds e .1) (breadth declared-width e) a) b
 
   pub span-is : (e : IntExpr) → ((v : ℕ) → Among (written e) v → Bounded (domain-of ds v)) → span ds e ≡ suc (breadth declared-width e)
@@ -207,7 +182,7 @@ module _ (ds : List Domain) (number : ℕ → ℕ) (domain : ℕ → Domain) (e 
   candidates : (l : LinearSum) → Each (λ n. Bounded (domain n)) (terms-of l) → natAbs (num-candidates (get-domain-linear-sum domain l)) ≡ suc (norm (λ n. width (domain n)) (terms-of l))
   unfolding get-domain-linear-sum
   candidates (linear-sum c ts) b =
-      ap (λ (x : ℤ). natAbs (x +ℤ pos 1)) (ap (λ (x : ℤ). x -ℤ lowest domain c ts) (sum-apart domain ts c c 0 (sym (+ℤ-idr c)) b) ∙ gap-size (lowest domain c ts) (0 + norm (λ n. width (domain n)) ts)) ∙ omega arith
+      ap (λ (x : ℤ). natAbs (x +ℤ pos 1)) (ap (λ (x : ℤ). x -ℤ lowest domain c ts) (sum-terms-apart domain ts c c 0 (sym (+ℤ-idr c)) b) ∙ gap-size (lowest domain c ts) (0 + norm (λ n. width (domain n)) ts)) ∙ omega arith
 
   pub linear-of-candidates : natAbs (num-candidates (get-domain-linear-sum domain (linear-of number e))) ≤ span ds e
   linear-of-candidates =

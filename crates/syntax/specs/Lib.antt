@@ -4,3 +4,4 @@ pub mod Satisfies
 pub mod Written
 pub mod Depth
 pub mod Unique
+pub mod Lengths

@@ -1,5 +1,5 @@
--- The declared variables that an expression writes: a property of each Boolean (P) and of each integer (Q).
--- With v < B and v < I it says that all are declared.
+-- The variables that an expression writes: a property of each declared Boolean (P), of each integer (Q) and of each emitted number (N).
+-- With v < B and v < I it says that all are declared; N is false of what reading makes, and left out where it does not matter.
 use mathlib.Core.Path.{_≡_}
 use mathlib.Core.Bool.{true}
 use mathlib.Core.List.{List, [], _∷_}
@@ -24,23 +24,37 @@ module _ (Q : ℕ → Type 0) where
   EveryColumn [] = Unit {0}
   EveryColumn (e ∷ es) = EveryInt e × EveryColumn es
 
-module _ (P Q : ℕ → Type 0) where
+module _ (N P Q : ℕ → Type 0) where
   unfoldable mutual
-    pub Every : BoolExpr → Type 0
-    Every (Const b) = Unit {0}
-    Every (Var v) = P v
-    Every (NVar n) = Unit {0}
-    Every (And ms) = EveryMember ms
-    Every (Or ms) = EveryMember ms
-    Every (Not e) = Every e
-    Every (Xor a b) = Every a × Every b
-    Every (Iff a b) = Every a × Every b
-    Every (Imp a b) = Every a × Every b
-    Every (Cmp o a b) = EveryInt Q a × EveryInt Q b
+    pub EveryOf : BoolExpr → Type 0
+    EveryOf (Const b) = Unit {0}
+    EveryOf (Var v) = P v
+    EveryOf (NVar n) = N n
+    EveryOf (And ms) = EveryMemberOf ms
+    EveryOf (Or ms) = EveryMemberOf ms
+    EveryOf (Not e) = EveryOf e
+    EveryOf (Xor a b) = EveryOf a × EveryOf b
+    EveryOf (Iff a b) = EveryOf a × EveryOf b
+    EveryOf (Imp a b) = EveryOf a × EveryOf b
+    EveryOf (Cmp o a b) = EveryInt Q a × EveryInt Q b
 
-    pub EveryMember : Members → Type 0
-    EveryMember none = Unit {0}
-    EveryMember (more e ms) = Every e × EveryMember ms
+    pub EveryMemberOf : Members → Type 0
+    EveryMemberOf none = Unit {0}
+    EveryMemberOf (more e ms) = EveryOf e × EveryMemberOf ms
+
+-- any emitted number; none
+abbrev pub Any : ℕ → Type 0
+Any n = Unit {0}
+
+abbrev pub None : ℕ → Type 0
+None n = ⊥
+
+module _ (P Q : ℕ → Type 0) where
+  abbrev pub Every : BoolExpr → Type 0
+  Every e = EveryOf Any P Q e
+
+  abbrev pub EveryMember : Members → Type 0
+  EveryMember ms = EveryMemberOf Any P Q ms
 
   unfoldable pub EveryStmt : Stmt → Type 0
   EveryStmt (Rule e) = Every e
@@ -74,14 +88,14 @@ module _ (Q Q' : ℕ → Type 0) (to : (v : ℕ) → Q v → Q' v) where
   every-column-map [] h = tt
   every-column-map (e ∷ es) h = (every-int-map e (h .0), every-column-map es (h .1))
 
-module _ (P Q P' Q' : ℕ → Type 0) (toP : (v : ℕ) → P v → P' v) (toQ : (v : ℕ) → Q v → Q' v) where
+module _ (N P Q N' P' Q' : ℕ → Type 0) (toN : (n : ℕ) → N n → N' n) (toP : (v : ℕ) → P v → P' v) (toQ : (v : ℕ) → Q v → Q' v) where
   mutual
-    unfolding Every
+    unfolding EveryOf
 
-    pub every-map : (e : BoolExpr) → Every P Q e → Every P' Q' e
+    pub every-map : (e : BoolExpr) → EveryOf N P Q e → EveryOf N' P' Q' e
     every-map (Const b) h = tt
     every-map (Var v) h = toP v h
-    every-map (NVar n) h = tt
+    every-map (NVar n) h = toN n h
     every-map (And ms) h = every-member-map ms h
     every-map (Or ms) h = every-member-map ms h
     every-map (Not e) h = every-map e h
@@ -90,13 +104,14 @@ module _ (P Q P' Q' : ℕ → Type 0) (toP : (v : ℕ) → P v → P' v) (toQ : 
     every-map (Imp a b) h = (every-map a (h .0), every-map b (h .1))
     every-map (Cmp o a b) h = (every-int-map Q Q' toQ a (h .0), every-int-map Q Q' toQ b (h .1))
 
-    pub every-member-map : (ms : Members) → EveryMember P Q ms → EveryMember P' Q' ms
+    pub every-member-map : (ms : Members) → EveryMemberOf N P Q ms → EveryMemberOf N' P' Q' ms
     every-member-map none h = tt
     every-member-map (more e ms) h = (every-map e (h .0), every-member-map ms (h .1))
 
+module _ (P Q P' Q' : ℕ → Type 0) (toP : (v : ℕ) → P v → P' v) (toQ : (v : ℕ) → Q v → Q' v) where
   pub every-stmt-map : (s : Stmt) → EveryStmt P Q s → EveryStmt P' Q' s
   unfolding EveryStmt
-  every-stmt-map (Rule e) h = every-map e h
+  every-stmt-map (Rule e) h = every-map Any P Q Any P' Q' (λ n k. k) toP toQ e h
   every-stmt-map (Table es rows) h = every-column-map Q Q' toQ es h
 
   pub every-stmts-map : (ss : List Stmt) → EveryStmts P Q ss → EveryStmts P' Q' ss
@@ -124,7 +139,7 @@ any-columns [] = tt
 any-columns (e ∷ es) = (any-int e, any-columns es)
 
 mutual
-  unfolding Every
+  unfolding EveryOf
 
   pub any-bool : (e : BoolExpr) → Every (λ v. Unit {0}) (λ v. Unit {0}) e
   any-bool (Const b) = tt

@@ -1,13 +1,13 @@
 -- The walks' package of a tree is what the Rust makes of it: the counter, the words, the shape. w: a work slice with the final maps.
 use mathlib.Core.Path.{_≡_, refl, sym, ap, _∙_}
-use mathlib.Core.Bool.{Bool, true, false, not, cond}
+use mathlib.Core.Bool.{Bool, true, false, cond}
 use mathlib.Core.Option.{Option, none as nothing, some}
-use mathlib.Core.List.{List, [], _∷_, _++_, append-assoc, append-nil, map}
-use Prim.Native.Nat.{ℕ, zero, suc, _+_, _≤_, _<_, min}
+use mathlib.Core.List.{List, [], _∷_, _++_, append-nil}
+use Prim.Native.Nat.{ℕ, suc, _+_, _≤_, _<_, min}
 use native.Mathlib.Omega.{arith}
 use native.Mathlib.Numerals.{add-one}
-use lib.IntN.{ℤ, pos, negsuc}
-use lib.ListN.{length, length-append, length-map}
+use lib.IntN.{ℤ}
+use lib.ListN.{length, length-append}
 use lib.Dec.{eqb}
 use borrow.Author.Tests.{eq-eqb, ne-eqb}
 use Rattle.laws.specs.Lists.{flat}
@@ -15,17 +15,17 @@ use Rattle.syntax.specs.Syntax.{CmpOp, IntExpr}
 use Rattle.syntax.specs.Written.{EveryInt}
 use Rattle.sums.specs.LinearSum.{sub-sum}
 use Rattle.clauses.specs.Clause.{BoolLit, lit, LinearLit, linear, Clause, clause}
-use Rattle.clauses.specs.Log.{Log, declared, next-bool, next-int, get-bool-var, get-int-var, bool-var-at, convert-bool-var}
+use Rattle.clauses.specs.Log.{Log, declared, next-bool, get-bool-var, bool-var-at, convert-bool-var}
 use Rattle.clauses.specs.Disjunction.{add-bool-each, Sorted, satisfied, pool, sorted, Out, Outs, each-longer, finish-disjunction, finish-sorted, normalize-disjunction}
 use Rattle.clauses.specs.Normalize.{Run, Runs, no-run, run-then, two, normalize-conjunction, disjunction-of, cross as cross-run, lit-clauses, normalize-var, negate-op-if, normalize-comparison, normalize-int-expr}
 use Rattle.answer.specs.Answer.{linear-words}
-use Rattle.walk.specs.Tree.{Tree, var, num, cmp, conj, disj, cross, tied, Trees, nil, cons, size, append, num-run, run, runs}
-use Rattle.walk.specs.Item.{limit, bump, bool-entry, word-of, comparison, clause-text, tally, long, plus, is-none, mode-of, fresh, fresh-in, lines-in, disj-lines, closed, lines-of, extra, Item, is-single, tallies, all-lines, counts, pools, texts, long-texts, disj-text, var-item, num-item, cmp-item, conj-item, disj-item, cross-item, tied-item, item, items}
+use Rattle.walk.specs.Tree.{Tree, var, num, cmp, conj, disj, cross, tied, Trees, nil, cons, size, num-run, run, runs}
+use Rattle.walk.specs.Item.{limit, bump, bool-entry, word-of, comparison, clause-text, tally, long, fresh, disj-lines, closed, lines-of, extra, Item, tallies, all-lines, counts, pools, texts, long-texts, disj-text, var-item, num-item, cmp-item, conj-item, disj-item, cross-item, tied-item, item, items}
 use Rattle.walk.specs.Grow.{Grows, same, then, grow-declared, bool-below, bool-here, Fit, back, lit-word, word-lit}
 use Rattle.walk.specs.Ints.{int-grows, int-bools, int-linear}
 use Rattle.walk.specs.Texts.{words, linears, layout, words-more, linears-more, layout-append, layout-add, long-layout, AllLong, finish-words, finish-count, finish-grows, lengths, finish-lines, finish-long, disjunction-finish}
 
-tally-eq : (a a' b b' c c' d d' : ℕ) → a ≡ a' → b ≡ b' → c ≡ c' → d ≡ d' → tally a b c d ≡ tally a' b' c' d'
+pub tally-eq : (a a' b b' c c' d d' : ℕ) → a ≡ a' → b ≡ b' → c ≡ c' → d ≡ d' → tally a b c d ≡ tally a' b' c' d'
 tally-eq a a' b b' c c' d d' p q r s = cc
 
 -- conjunctions have two members or more, variables are declared, and numbers are below the limit

@@ -1,18 +1,18 @@
 -- What one step of a walk says of the tree that is read: where its parts lie, and what a survey finds. Laws for the code of the passes.
 use mathlib.Core.Path.{_≡_, refl, sym, ap, _∙_, subst}
 use mathlib.Core.Bool.{Bool, true, false, not, cond}
-use mathlib.Core.List.{List, [], _∷_, _++_}
-use Prim.Native.Nat.{ℕ, zero, suc, _+_, _-_, _*_, _≤_, _<_, min}
+use mathlib.Core.List.{List, [], _∷_}
+use Prim.Native.Nat.{ℕ, zero, suc, _+_, _-_, _≤_, _<_, min}
 use native.Mathlib.Omega.{arith}
 use native.Mathlib.Numerals.{sub-one}
-use lib.IntN.{ℤ, pos, negsuc}
-use lib.ListN.{length, getD, take, List·getD-eq-default}
+use lib.IntN.{ℤ, pos}
+use lib.ListN.{length, getD, List·getD-eq-default}
 use lib.Dec.{eqb, ltb}
 use borrow.Author.Tests.{ltb-true, ltb-false}
 use Rattle.syntax.specs.Syntax.{IntExpr}
-use Rattle.walk.specs.Tree.{Tree, Trees, nil, cons, joined}
-use Rattle.walk.specs.Item.{limit, bump, is-none, nat, bool-entry, Tally, tally, long, plus, mode-in, fresh-in, lines-in, fresh, disj-lines, closed, lines-of, Item, tallies, all-lines, counts, var-item, cmp-item, num-item, conj-item, disj-item, cross-item, item, items}
-use Rattle.walk.specs.Decode.{word, past, below, terms, int-step, int-at, int-end, constant-node, comparison-node, node-of, Read, Reads, Reader, many, as-tree, cross-step, step, decode, read-part, surveyed, fresh-of, lines-in-of, closed-disj, closed-cross, added, Counted, Surveys, SurveysAll}
+use Rattle.walk.specs.Tree.{cons}
+use Rattle.walk.specs.Item.{limit, bump, is-none, nat, bool-entry, Tally, tally, long, plus, mode-in, lines-in, disj-lines, closed, lines-of, Item, tallies, all-lines, counts, var-item, cmp-item, num-item, conj-item, disj-item, cross-item, item, items}
+use Rattle.walk.specs.Decode.{word, past, below, terms, int-step, int-at, int-end, node-of, Read, Reads, Reader, many, cross-step, step, decode, read-part, surveyed, fresh-of, lines-in-of, closed-disj, closed-cross, added, Counted, Surveys, SurveysAll}
 use Rattle.walk.specs.declared.Mode.{Mode}
 use Rattle.walk.specs.declared.Mode.the-variants.{Pool, Pass, Two, Each}
 use Rattle.walk.specs.declared.Node.{Node}
@@ -347,13 +347,10 @@ unfolding tallies
 tallies-low [] = omega arith
 tallies-low (i ∷ is) = omega arith
 
-lines-all-low : (is : List Item) → all-lines is ≤ limit
+pub lines-all-low : (is : List Item) → all-lines is ≤ limit
 unfolding all-lines
 lines-all-low [] = omega arith
 lines-all-low (i ∷ is) = omega arith
-
-tally-to : (a a' b b' c c' d d' : ℕ) → a ≡ a' → b ≡ b' → c ≡ c' → d ≡ d' → tally a b c d ≡ tally a' b' c' d'
-tally-to a a' b b' c c' d d' p q r s = cc
 
 module _ (w : List ℤ) (l : ℕ) (t h : Bool) (k : ℕ) (g : Bool) (at base n : ℕ) where
   pub sofar-none : at ≤ length (read-part w) → n ≤ limit → base ≤ limit → Sofar w l t h k g at base n (surveyed at base n 0 0 0 0 0) k g
@@ -363,7 +360,7 @@ module _ (w : List ℤ) (l : ℕ) (t h : Bool) (k : ℕ) (g : Bool) (at base n :
         end = refl;
         splits = refl;
         count = refl;
-        unit = tally-to _ _ _ _ _ _ _ _ (omega arith) (omega arith) (omega arith) (omega (arith, tallies-low ts));
+        unit = tally-eq _ _ _ _ _ _ _ _ (omega arith) (omega arith) (omega arith) (omega (arith, tallies-low ts));
         all = omega (arith, lines-all-low ts);
         start = omega arith;
         fewer = omega arith;
@@ -391,7 +388,7 @@ module _ (w : List ℤ) (l : ℕ) (t h : Bool) (k : ℕ) (g : Bool) (at base n :
         end = ap (λ (a : Reads). a .end) e ∙ rw j at (x .end);
         splits = ap (λ (a : Reads). a .next) e ∙ rw j at (x .splits);
         count = rw (e, y .count) (rw j at (x .count));
-        unit = rw e (tally-to _ _ _ _ _ _ _ _ (omega arith) (omega arith) (omega arith) (omega (arith, tallies-low (items (m .trees)))) ∙ ap (λ (a : Tally). plus (tally (r .longs) (r .lits) (r .cmps) (r .lines)) (plus a ts)) u ∙ v);
+        unit = rw e (tally-eq _ _ _ _ _ _ _ _ (omega arith) (omega arith) (omega arith) (omega (arith, tallies-low (items (m .trees)))) ∙ ap (λ (a : Tally). plus (tally (r .longs) (r .lits) (r .cmps) (r .lines)) (plus a ts)) u ∙ v);
         all = rw e (omega (arith, y .all, q));
         start = omega (arith, x .start, y .room);
         fewer = omega (arith, x .fewer);
@@ -409,7 +406,7 @@ module _ (w : List ℤ) (l : ℕ) (t h : Bool) (k : ℕ) (g : Bool) (at base n :
     end = x .end;
     splits = x .splits;
     count = x .count;
-    unit = tally-to _ _ _ _ _ _ _ _ (omega arith) (omega arith) (omega arith) (omega (arith, x .low-lines)) ∙ x .unit;
+    unit = tally-eq _ _ _ _ _ _ _ _ (omega arith) (omega arith) (omega arith) (omega (arith, x .low-lines)) ∙ x .unit;
     all = omega (arith, x .all, x .low-all);
     room = x .room;
     inside = x .inside;

@@ -1,9 +1,9 @@
 -- What the code's readers answer at a position, given what the definition reads there; and back. Assumes nothing.
 use mathlib.Core.Path.{_≡_, refl, ap}
 use mathlib.Core.List.{List}
-use native.Mathlib.Omega.{arith}
 use Prim.Native.Nat.{ℕ, _+_}
 use lib.IntN.{ℤ, pos, negsuc}
+use Rattle.laws.specs.Ints.{apart}
 use Rattle.words.specs.Parse.{Parsed, ok, refuse}
 use Rattle.words.specs.declared.Cursor as declared
 use Rattle.words.specs.declared.Plain.{Plain}
@@ -30,9 +30,6 @@ counted-at at (ok n r) = counted.Number n (cursor (at + 1))
 counted-at at (refuse k) = counted.Refused k
 
 -- ---- what an answer says of the definition
-
-apart : {X : Type 0} → _≡_ {A = ℕ} 0 1 → X
-apart z = absurd (omega arith)
 
 pub next-refused : (at : ℕ) (q : Parsed ℤ) (k : ℕ) → next-at at q ≡ next.Refused k → q ≡ refuse k
 unfolding next-at

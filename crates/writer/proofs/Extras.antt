@@ -1,20 +1,21 @@
 -- What the walk over the extras of a rule writes, and the rule behind them.
 use mathlib.Core.Path.{_≡_, refl, sym, ap, _∙_, subst}
-use mathlib.Core.Bool.{Bool, true, false, not, cond}
+use mathlib.Core.Bool.{Bool, true, false}
 use mathlib.Core.List.{List, [], _∷_, _++_, append-nil, append-assoc}
-use Prim.Native.Nat.{ℕ, zero, suc, _+_, _-_, _≤_, _<_, min}
+use Prim.Native.Nat.{ℕ, zero, suc, _+_, _-_, _≤_}
 use native.Mathlib.Omega.{arith}
 use native.Mathlib.Numerals.{sub-one}
-use lib.IntN.{ℤ, pos}
+use lib.IntN.{ℤ}
 use lib.ListN.{length}
-use Rattle.laws.specs.Writes.{cap, Wrote, wrote-none, wrote-then, wrote-length}
-use Rattle.walk.specs.Tree.{Tree, tied, Trees, nil, cons, append, both-tied}
-use Rattle.walk.specs.Item.{limit, bump, Tally, word-of, Item, counts, texts, all-lines, lines-of, item, items, tied-item}
-use Rattle.walk.specs.Decode.{word, node-of, Read, Reader, many, decode, many-ties, tie-at, cross-ties, ties-step, ties-at, read-part, item-at, Surveys}
+use Rattle.laws.specs.Writes.{Wrote, wrote-none, wrote-then, wrote-length}
+use Rattle.walk.specs.Tree.{Tree, Trees, nil, cons, append, both-tied}
+use Rattle.walk.specs.Item.{limit, bump, word-of, Item, counts, texts, all-lines, lines-of, item, items, tied-item}
+use Rattle.walk.specs.Decode.{word, node-of, Reader, decode, many-ties, tie-at, cross-ties, ties-step, ties-at, read-part, item-at, Surveys}
 use Rattle.walk.specs.Standing.{rule-at}
 use Rattle.walk.specs.declared.Node.{Node}
 use Rattle.walk.specs.declared.Node.the-variants.{Var, Cmp, Not, Join, Cross}
 use Rattle.walk.specs.declared.Surveyed.{Surveyed}
+use Rattle.walk.specs.Steps.{lines-all-low}
 use Rattle.writer.specs.Suffix.{Open}
 use Rattle.writer.specs.Fine.{Fine, Fines}
 use Rattle.writer.specs.Placed.{Placed, Listed, RuleWrote}
@@ -48,14 +49,9 @@ unfolding texts counts
 texts-append [] js w n suf = refl
 texts-append (i ∷ is) js w n suf = rw (texts-append is js w (i .count w n) suf) (sym (append-assoc (i .text w n suf) (texts is w (i .count w n) suf) (texts js w (counts is w (i .count w n)) suf)))
 
-lines-low : (is : List Item) → all-lines is ≤ limit
-unfolding all-lines
-lines-low [] = omega arith
-lines-low (i ∷ is) = omega arith
-
 lines-append : (is js : List Item) → all-lines (is ++ js) ≡ bump (all-lines is) (all-lines js)
 unfolding all-lines
-lines-append [] js = omega (arith, lines-low js)
+lines-append [] js = omega (arith, lines-all-low js)
 lines-append (i ∷ is) js = ap (bump (lines-of (i .unit))) (lines-append is js) ∙ omega arith
 
 pub listed-none : {w out : List ℤ} {n o : ℕ} → Open out o → n ≤ limit → Listed w [] n out o out n 0 o
@@ -204,7 +200,7 @@ pub listed-lines : {w out b : List ℤ} {is : List Item} {n o m k p : ℕ} (j : 
 listed-lines j e x = record { wrote = x .wrote; count = x .count; lines = e ∙ x .lines; low = x .low }
 
 pub listed-zero : {w out b : List ℤ} {is : List Item} {n o m k p : ℕ} → Listed w is n out o b m k p → Listed w is n out o b m (bump 0 k) p
-listed-zero {is = is} x = listed-lines _ (omega (arith, x .lines, lines-low is)) x
+listed-zero {is = is} x = listed-lines _ (omega (arith, x .lines, lines-all-low is)) x
 
 -- in a loop over members: the member at q is next, and `rest` are left
 pub record Going (w out₀ : List ℤ) (l : ℕ) (t : Bool) (at count q rest c e k p : ℕ) (out : List ℤ) : Type 0 where

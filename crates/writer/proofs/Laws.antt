@@ -1,14 +1,14 @@
 -- Laws of the written words, for the functions outside the cycle.
 use mathlib.Core.Path.{_≡_, refl, sym, ap, _∙_, subst}
-use mathlib.Core.Bool.{Bool, true, false, not, cond}
-use mathlib.Core.List.{List, [], _∷_, _++_, append-assoc, append-nil, map}
-use Prim.Native.Nat.{ℕ, zero, suc, _+_, _-_, _*_, _≤_, _<_, _^_, min}
+use mathlib.Core.Bool.{Bool, true, false}
+use mathlib.Core.List.{List, [], _∷_, _++_, map}
+use Prim.Native.Nat.{ℕ, zero, suc, _+_, _-_, _≤_, _<_}
 use native.Mathlib.Omega.{arith}
-use native.Mathlib.Numerals.{sub-one, add-one}
-use lib.IntN.{ℤ, pos, negsuc, negℤ, natAbs, _-ℤ_, +ℤ-idl}
-use lib.ListN.{length, getD, set, take, drop, drop-of-length-le, length-set, length-append, length-drop}
-use lib.Seq.{drop-cons, drop-set-lt, getD-set-same, take-all, getD-drop}
-use lib.Dec.{eqb, leb}
+use native.Mathlib.Numerals.{add-one}
+use lib.IntN.{ℤ, pos, negℤ, _-ℤ_}
+use lib.ListN.{length, getD, set, drop, drop-of-length-le, length-set, length-drop}
+use lib.Seq.{drop-cons, drop-set-lt, getD-set-same}
+use lib.Dec.{eqb}
 use borrow.Author.Tests.{le-leb, lt-leb, ne-eqb}
 use mir.Syntax.{w32}
 use mir.Val.{SFits, ofZ, toZ}
@@ -16,12 +16,11 @@ use mir.Facts.{toZ-ofZ}
 use Rattle.laws.specs.Lists.{flat}
 use Rattle.laws.specs.Writes.{cap, Wrote, wrote-none, wrote-then, wrote-length, wrote-low}
 use Rattle.syntax.specs.Syntax.{op-at, encode-op}
-use Rattle.sums.specs.LinearSum.{Term, term, LinearSum, linear-sum, sub-sum}
+use Rattle.sums.specs.LinearSum.{Term, term, LinearSum, sub-sum}
 use Rattle.sums.specs.Linear.{linear-of}
 use Rattle.sums.specs.Rising.{Each}
 use Rattle.sums.specs.Struct.{terms, sum-of}
 use Rattle.sums.specs.declared.LinearSum.{LinearSum as Sum}
-use Rattle.nest.specs.Nest.{Word}
 use Rattle.clauses.specs.Clause.{linear}
 use Rattle.clauses.specs.Normalize.{negate-op-if}
 use Rattle.answer.specs.Answer.{term-words, linear-words}
@@ -30,6 +29,7 @@ use Rattle.walk.specs.Item.{limit, is-none, int-number, word-of, clause-text, c
 use Rattle.writer.specs.declared.Suffix.{Suffix}
 use Rattle.writer.specs.Suffix.{Stacked, suffix, Open}
 use Rattle.writer.specs.Fine.{Compares, Subtracted, Compared}
+use Rattle.number.proofs.Leaves.{pos-is, minus-is}
 
 -- ---- the place behind what was written
 
@@ -38,18 +38,9 @@ open-next h x = record { low = wrote-low x; room = omega (arith, wrote-length x,
 
 -- ---- the word of a literal
 
-pos-fits : (x : ℕ) → x ≤ limit → SFits w32 (pos x)
-pos-fits x h = record { sfits = omega arith }
-
-pub pos-is : (x : ℕ) → x ≤ limit → toZ w32 x ≡ pos x
-pos-is x h = toZ-ofZ (pos-fits x h)
-
 neg-fits : (x : ℕ) → x ≤ limit → SFits w32 (negℤ (pos x))
 neg-fits zero h = record { sfits = omega arith }
 neg-fits (suc x) h = record { sfits = omega arith }
-
-minus-is : (x : ℕ) → x ≤ limit → pos 0 -ℤ toZ w32 x ≡ negℤ (pos x)
-minus-is x h = rw (pos-is x h) (+ℤ-idl (negℤ (pos x)))
 
 pub minus-fits : (x : ℕ) → x ≤ limit → SFits w32 (pos 0 -ℤ toZ w32 x)
 minus-fits x h = rw (minus-is x h) (neg-fits x h)

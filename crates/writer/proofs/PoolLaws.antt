@@ -2,17 +2,14 @@
 use mathlib.Core.Path.{_≡_, refl, sym, ap, _∙_, subst}
 use mathlib.Core.Bool.{Bool, true, false, not, cond}
 use mathlib.Core.List.{List, [], _∷_, _++_, append-assoc}
-use Prim.Native.Nat.{ℕ, zero, suc, _+_, _-_, _≤_, _<_}
+use Prim.Native.Nat.{ℕ, zero, suc, _+_, _-_, _≤_}
 use native.Mathlib.Omega.{arith}
 use lib.IntN.{ℤ, pos}
 use lib.ListN.{length, getD, length-append}
-use Rattle.laws.specs.Writes.{cap, Wrote, wrote-none, wrote-then}
-use Rattle.syntax.specs.Syntax.{op-at}
+use Rattle.laws.specs.Writes.{Wrote, wrote-none, wrote-then}
 use Rattle.walk.specs.Tree.{Tree, var, num, cmp, conj, disj, cross, tied, Trees, nil, cons}
-use Rattle.walk.specs.Item.{nat, is-none, Tally, closed, long, disj-lines, word-of, clause-text, comparison, bool-entry, block, Item, tallies, pools, item, items, var-item, num-item, cmp-item, conj-item, disj-item, cross-item, tied-item}
-use Rattle.walk.specs.Decode.{word, past, int-at, node-of, Read, many, as-tree, step, cross-step, decode, read-part, item-at, items-at, Surveys}
-use Rattle.walk.specs.declared.Mode.{Mode}
-use Rattle.walk.specs.declared.Node.{Node}
+use Rattle.walk.specs.Item.{nat, is-none, Tally, closed, long, disj-lines, word-of, clause-text, bool-entry, block, Item, tallies, pools, item, items, var-item, num-item, cmp-item, conj-item, disj-item, cross-item, tied-item}
+use Rattle.walk.specs.Decode.{word, Read, many, step, cross-step, decode, read-part, item-at, items-at, Surveys}
 use Rattle.walk.specs.declared.Node.the-variants.{Var, Cmp, Not, Join, Cross}
 use Rattle.walk.specs.declared.Surveyed.{Surveyed}
 use Rattle.writer.specs.declared.Suffix.{Suffix}
@@ -145,9 +142,6 @@ module _ (w : List ℤ) (l u : ℕ) (t g : Bool) (at base : ℕ) (z : l ≡ 0 �
     pub pool-cross : (f : Bool) (q : ℕ) → Is w l u t g at base z hu (Cross f q) → Wrote out o (item-at F l t g at base .pool b w) out o
     unfolding step
     pool-cross f q e = up w l u t g at base z hu (λ (r : Read). Wrote out o (item (r .tree) .pool b w) out o) (Cross f q) e (split-none f q t)
-
-pub join-is : {N : Node} {c d g h : Bool} {k q : ℕ} → Join c k g h q ≡ N → c ≡ d → Join d k g h q ≡ N
-join-is e f = cc
 
 -- ---- members
 

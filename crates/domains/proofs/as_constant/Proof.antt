@@ -10,7 +10,7 @@ use lib.ListN.{getD}
 use mir.Syntax.{w32}
 use mir.Val.{SFits, ofZ}
 use borrow.Author.Needs.{needs, sfits-of}
-use Rattle.domains.proofs.Signed.{same-value}
+use Rattle.laws.specs.Signed.{same-value}
 use Rattle.domains.proofs.Laws.{kind-plain, range-fits, count-plain, enum-fits, domain-inside, enum-one, enum-many, range-one, range-many}
 
 number-requires : tie.Need-number-requires

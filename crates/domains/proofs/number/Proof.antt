@@ -9,7 +9,7 @@ use mir.Syntax.{w32}
 use mir.Val.{SFits}
 use mir.Facts.{toZ-ofZ}
 use borrow.Author.Needs.{needs, sfits-of}
-use Rattle.domains.proofs.Signed.{number-cast, number-is}
+use Rattle.laws.specs.Signed.{number-cast, number-is}
 
 fits : (c : tie.After-w) → SFits w32 (getD (c .before .args .words .now) (c .before .args .at) (pos 0))
 fits c = sfits-of (c .w .given)

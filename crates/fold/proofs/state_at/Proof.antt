@@ -3,7 +3,7 @@ use Rattle.fold.proofs.state_at.Statement.{statement}
 use Rattle.fold.proofs.state_at.Tie as tie
 use Rattle.fold.proofs.state_at.Reads as reads
 use Rattle.fold.proofs.state_at.Lts as lts
-use mathlib.Core.Path.{_≡_, refl, sym, ap, _∙_}
+use mathlib.Core.Path.{sym, ap}
 use lib.IntN.{pos}
 use lib.ListN.{getD}
 use mir.Syntax.{w32}
@@ -11,7 +11,8 @@ use mir.Val.{SFits}
 use borrow.Author.Needs.{needs, sfits-of}
 use Rattle.fold.specs.Steps.{state-of}
 use Rattle.fold.specs.Table.{state-num}
-use Rattle.fold.proofs.Signed.{value-is, state-else}
+use Rattle.laws.specs.Signed.{value-is}
+use Rattle.fold.proofs.Signed.{state-else}
 
 fits : (c : tie.After-w) → SFits w32 (getD (c .before .args .work .now) (c .before .args .v) (pos 0))
 fits c = sfits-of (c .w .given)
