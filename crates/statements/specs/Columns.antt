@@ -28,6 +28,7 @@ use Rattle.walk.specs.Ints.{int-grows, int-bools, var-found, int-linear}
 use Rattle.walk.specs.Num.{max-emitted, code, Recorded, Numbered, recorded-set, bool-other, int-other, int-num, expr-num}
 use Rattle.walk.specs.Two.{Low}
 pub use Rattle.walk.specs.MeetColumns.{column-map, number-column}
+pub use Rattle.syntax.specs.Lengths.{int-long as int-words}
 use Rattle.statements.specs.Kept.{Kept, kept-same, kept-then, int-var-kept, expr-kept}
 
 -- what is known of the record of a column: its place in F, its expression (within refusals 9 and 10), its sum and domain

@@ -13,6 +13,7 @@ use Rattle.writer.proofs.pool_var.Reads as pool-var-reads
 use Rattle.number.proofs.word.Reads as word-reads
 use Rattle.writer.proofs.pool_cmp.Reads as pool-cmp-reads
 use Rattle.number.proofs.survey.Reads as survey-reads
+use Rattle.number.proofs.Leaves.{join-is}
 use Rattle.writer.proofs.+pool+pools.{statement}
 use Rattle.writer.proofs.+pool+pools.Tie.{close}
 use mathlib.Core.Path.{_≡_, refl, sym, ap, _∙_}
@@ -28,7 +29,7 @@ use Rattle.walk.specs.Decode.{read-part, item-at, items-at}
 use Rattle.writer.specs.Placed.{Placed}
 use Rattle.writer.proofs.Laws.{compared-length}
 use Rattle.writer.proofs.Steps.{part-length, okay, placed-at, compares, fine-cmp, fine-not, fine-join, Sofar, sofar-none, sofar-more, sofar-with, sofar-first}
-use Rattle.writer.proofs.PoolLaws.{pool-none, single-not, pool-var, pool-cmp, pool-not, pool-disj, pool-conj, pool-cross, join-is, pools-none, pools-more, wrote-as, pool-skip}
+use Rattle.writer.proofs.PoolLaws.{pool-none, single-not, pool-var, pool-cmp, pool-not, pool-disj, pool-conj, pool-cross, pools-none, pools-more, wrote-as, pool-skip}
 
 abbrev μ-pool : Measures 2 pool-kinds.ps ℕ
 μ-pool κs a = 4 * (4608 - a .1 .0) + 1

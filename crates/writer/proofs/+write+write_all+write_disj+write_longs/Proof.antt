@@ -26,6 +26,7 @@ use Rattle.number.proofs.fresh.Reads as fresh-reads
 use Rattle.number.proofs.bump.Reads as bump-reads
 use Rattle.number.proofs.survey.Reads as survey-reads
 use Rattle.number.proofs.mode_of.Reads as mode-of-reads
+use Rattle.number.proofs.Leaves.{join-is}
 use Rattle.writer.proofs.put_pool.Reads as put-pool-reads
 use Rattle.writer.proofs.pools.Reads as pools-reads
 use Rattle.writer.proofs.pushed.Reads as pushed-reads
@@ -49,7 +50,7 @@ use Rattle.writer.specs.Suffix.{Open, suffix, extra-lits}
 use Rattle.writer.specs.Placed.{Placed}
 use Rattle.writer.proofs.Laws.{open-next, stack-down, compared-length}
 use Rattle.writer.proofs.Steps.{part-length, okay, placed-at, placed-with, compares, fine-cmp, fine-not, fine-join, fine-cross, Sofar, sofar-none, sofar-more, sofar-skip, sofar-first}
-use Rattle.writer.proofs.PoolLaws.{join-is, items-lits}
+use Rattle.writer.proofs.PoolLaws.{items-lits}
 use Rattle.writer.proofs.Written.{write-none, write-var, write-cmp, write-not, write-conj, write-disjoint, write-split, write-cross, texts-none, texts-more, longs-none, longs-skip, longs-more, one-lit, disj-pool, disj-pass, disj-two, disj-each, tallied}
 
 abbrev μ-write : Measures 2 write-kinds.ps ℕ
