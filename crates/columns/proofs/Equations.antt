@@ -102,7 +102,7 @@ module _ (w : List ℤ) (p : ℕ) (c : Column w p) where
 -- ---- the same behind clauses, and nothing for a variable
 
 module _ (w : List ℤ) (p : ℕ) where
-  code-is : (e : IntExpr) (x : ℕ) (us : List ℤ) → encode-int e ≡ pos x ∷ us → Has (read-part w) p (encode-int e) → word (read-part w) p ≡ x
+  pub code-is : (e : IntExpr) (x : ℕ) (us : List ℤ) → encode-int e ≡ pos x ∷ us → Has (read-part w) p (encode-int e) → word (read-part w) p ≡ x
   unfolding word nat
   code-is e x us k h = let g : Has (read-part w) p (pos x ∷ us) = subst (λ (l : List ℤ). Has (read-part w) p l) k h in rw (has-word (read-part w) p (pos x) us (pos 0) g) refl
 

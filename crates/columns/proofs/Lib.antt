@@ -1,2 +1,5 @@
 pub mod Walking
 pub mod Equations
+pub mod Descriptions
+pub mod Triples
+pub mod Storing

@@ -1,12 +1,16 @@
 // The columns of a table while its clauses are written: the equality clauses of those that are no variables, and the words that describe all of them to the rows' code.
 ghost use mathlib.Core.Path.{_≡_};
-ghost use Prim.Native.Nat.{_+_, _-_, _<_};
+ghost use mathlib.Core.List.{List};
+ghost use Prim.Native.Nat.{ℕ, _+_, _-_, _<_};
 ghost use lib.IntN.{pos};
-ghost use lib.ListN.{getD};
+ghost use lib.ListN.{length, getD};
 ghost use Rattle.laws.specs.Writes.{cap};
 ghost use Rattle.rows.specs.Emit.{Behind};
+ghost use Rattle.syntax.specs.Syntax.{Domain, domain-of, IntExpr};
+ghost use Rattle.statements.specs.Columns.{column-number};
 ghost use Rattle.walk.specs.Item.{nat};
 ghost use Rattle.writer.specs.Suffix.{Open};
+ghost use Rattle.columns.specs.Describing.{At, SomeAt, Declared, SomeDeclared, Describes, Told, SomeTold, Storable, StoredColumn, SomeDescribable, Described};
 ghost use Rattle.columns.specs.Equalities.{Column, Equality, EquatedOne, Equatable, Equated};
 use rows::Written;
 
@@ -106,4 +110,113 @@ pub fn put_equalities(
         rest -= 1;
     }
     Written { at: q, clauses: c }
+}
+
+// ---- the words that describe the columns
+
+// The number of the column at p: a declared variable's from the map, another's from its place.
+fn column_number(work: &[i32], p: usize) -> usize
+    requires { ⌜ SomeAt (now work) p ⌝ }
+    ensures { λ r. ⌜ ((e : IntExpr) → At (now (work .entry)) p e → r ≡ column-number (now (work .entry)) p e) × (r < 2147483648) ⌝ }
+{
+    if number::word(work, p) == 21 {
+        let v = number::word(work, p + 1);
+        return number_at(work, 5120 + v);
+    }
+    number_at(work, 7424 + p)
+}
+
+// A domain in two words: a range's number of values and lowest one; a list's length, negated, and its place among the set's words.
+pub struct Description {
+    pub count: i32,
+    pub from: i32,
+}
+
+// Of the declared variable v.
+fn describe_declared(set: &[i32], v: usize) -> Description
+    requires { ⌜ SomeDeclared (now set) v ⌝ }
+    ensures { λ r. ⌜ ((ds : List Domain) → Declared (now (set .entry)) ds → v < length ds → Describes (now (set .entry)) (domain-of ds v) (r .count) (r .from)) ⌝ }
+{
+    let at = domains::domain_of(set, 2, v);
+    let c = domains::num_candidates(set, at);
+    if domains::number(set, at) == 0 {
+        let low = domains::lower_bound(set, at);
+        return Description {
+            count: c,
+            from: low,
+        };
+    }
+    Description {
+        count: 0 - c,
+        from: (at + 2) as i32,
+    }
+}
+
+// Of the column at p, whose number is n; a new one's bounds are read from the answer.
+fn describe(
+    set: &[i32],
+    work: &[i32],
+    p: usize,
+    n: usize,
+    out: &[i32],
+    triples: usize,
+) -> Description
+    requires { ⌜ SomeTold (now set) (now work) p n (now out) triples ⌝ }
+    ensures { λ r. ⌜ ((ds : List Domain) (dom : ℕ → Domain) (e : IntExpr) → Told (now (set .entry)) (now (work .entry)) p n (now (out .entry)) triples ds dom e → Describes (now (set .entry)) (dom n) (r .count) (r .from)) ⌝ }
+{
+    if number::word(work, p) == 21 {
+        return describe_declared(set, number::word(work, p + 1));
+    }
+    let i = triples + 3 * n;
+    let low = out[i];
+    let c = out[i + 2];
+    Description {
+        count: c,
+        from: low,
+    }
+}
+
+// The three words of the column at p stored at `to`; the column's end.
+fn describe_column(
+    set: &[i32],
+    work: &mut [i32],
+    p: usize,
+    to: usize,
+    out: &[i32],
+    triples: usize,
+) -> usize
+    requires { ⌜ Storable (now set) (now work) p to (now out) triples ⌝ }
+    ensures { λ r. ⌜ StoredColumn (now (set .entry)) (now (work .entry)) p to (now (out .entry)) triples (now (work .exit)) r ⌝ }
+{
+    let n = column_number(work, p);
+    let d = describe(set, work, p, n, out, triples);
+    let next = number::int_end(work, p, 64);
+    let c = d.count;
+    let from = d.from;
+    work[to] = n as i32;
+    work[to + 1] = c;
+    work[to + 2] = from;
+    next
+}
+
+// The words of so many columns from `at` on, stored from 12032 on; `triples`: where the words of the emitted integers begin in the answer.
+pub fn describe_columns(
+    set: &[i32],
+    work: &mut [i32],
+    at: usize,
+    count: usize,
+    out: &[i32],
+    triples: usize,
+)
+    requires { ⌜ SomeDescribable (now set) (now work) at count (now out) triples ⌝ }
+    ensures { λ _. ⌜ Described (now (set .entry)) (now (work .entry)) at count (now (out .entry)) triples (now (work .exit)) ⌝ }
+{
+    let mut p = at;
+    let mut to = 12032;
+    let mut rest = count;
+    while rest != 0 {
+        p = describe_column(set, work, p, to, out, triples);
+        to += 3;
+        rest -= 1;
+    }
 }

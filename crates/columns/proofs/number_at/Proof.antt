@@ -1,3 +1,4 @@
+-- The word at a place as a number plus 1: negative, 0, above 0, past the end.
 use mathlib.Core.Path.{_≡_, ap, _∙_}
 use native.Mathlib.Omega.{arith}
 use Prim.Native.Nat.{ℕ, _-_}

@@ -1,3 +1,4 @@
+-- A variable writes nothing, any other column its equality.
 use native.Mathlib.Omega.{arith}
 use Rattle.laws.specs.Writes.{wrote-length}
 use Rattle.columns.proofs.Equations.{inside, variable-passed, equality-passed}

@@ -1,3 +1,4 @@
+-- The loop stops where the answer is too long; Going carries the clauses of the columns left.
 use native.Mathlib.Omega.{arith}
 use borrow.Author.Needs.{needs}
 use Rattle.columns.proofs.Equations.{Going, going-start, going-column, going-next, going-end, going-stop}

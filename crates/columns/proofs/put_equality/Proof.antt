@@ -1,3 +1,4 @@
+-- Three writes behind the column's sum less its variable.
 use mathlib.Core.Path.{_∙_}
 use native.Mathlib.Omega.{arith}
 use Rattle.laws.specs.Writes.{wrote-length}
