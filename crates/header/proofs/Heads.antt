@@ -1,0 +1,118 @@
+-- The header as a whole: the words of the work slice are those of the definition.
+use mathlib.Core.Path.{_≡_, refl, sym, ap, _∙_, subst}
+use mathlib.Core.Option.{Option, none as nothing, some}
+use mathlib.Core.Bool.{Bool, true, false}
+use mathlib.Core.List.{List, [], _∷_, _++_, map, append-assoc}
+use Prim.Native.Nat.{ℕ, zero, suc, _+_, _≤_, _<_}
+use native.Mathlib.Omega.{arith}
+use lib.IntN.{ℤ, pos}
+use lib.ListN.{length, getD, take}
+use mir.Syntax.{w32}
+use mir.Val.{SFits, toZ}
+use Rattle.laws.specs.Lists.{from, below, flat, counted}
+use Rattle.laws.specs.Writes.{cap, Wrote, wrote-then, wrote-length, wrote-to}
+use Rattle.syntax.specs.Syntax.{Domain, Stmt, Problem, encode}
+use Rattle.fold.specs.Fold.{Fixed}
+use Rattle.clauses.specs.Log.{Log, next-bool, next-int, get-bool-var, get-int-var}
+use Rattle.tables.specs.Emitted.{length-emitted}
+use Rattle.answer.specs.Answer.{fixed-word, map-word, domain-words}
+use Rattle.walk.specs.Item.{limit, nat, bool-map, int-map, bool-entry, int-entry}
+use Rattle.walk.specs.Num.{Numbered}
+use Rattle.walk.specs.declared.Counters.{Counters}
+use Rattle.writer.proofs.Laws.{pos-is}
+use Rattle.statements.specs.Whole.{entries}
+use Rattle.statements.specs.Ready.{log-of, Ready, head-words, SomeReady}
+use Rattle.statements.specs.ReadyEntry.{settled-emitted, settled-low}
+use Rattle.header.specs.Emitted.{naturals, maps-words, emitted, SomeNumbered, PutAll}
+use Rattle.header.specs.Headed.{Headed}
+
+-- ---- the three maps
+
+naturals-map : (w : List ℤ) (a i n : ℕ) → naturals w (a + i) n ≡ map (λ v. pos (nat (getD w (a + v) (pos 0)))) (from i n)
+unfolding naturals
+naturals-map w a i zero = refl
+naturals-map w a i (suc n) =
+    let e : suc (a + i) ≡ a + suc i = omega arith in
+    ap (λ (l : List ℤ). pos (nat (getD w (a + i) (pos 0))) ∷ l) (ap (λ (k : ℕ). naturals w k n) e ∙ naturals-map w a (suc i) n)
+
+fixed-natural : (o : Option Bool) → pos (nat (fixed-word o)) ≡ fixed-word o
+unfolding nat
+fixed-natural nothing = refl
+fixed-natural (some false) = refl
+fixed-natural (some true) = refl
+
+fixed-values : (w : List ℤ) (f : Fixed) (i n : ℕ) → ((v : ℕ) → v < i + n → getD w (0 + v) (pos 0) ≡ fixed-word (f v)) → map fixed-word (map f (from i n)) ≡ map (λ v. pos (nat (getD w (0 + v) (pos 0)))) (from i n)
+fixed-values w f i zero h = refl
+fixed-values w f i (suc n) h = rw (h i (omega arith), fixed-natural (f i), fixed-values w f (suc i) n (λ v k. h v (omega arith))) refl
+
+module _ (p : Problem) (f : Fixed) (ss : List Stmt) (w : List ℤ) (c : Counters) (r : Ready p f ss w c) where
+  abbrev b : ℕ
+  b = p .bools
+
+  abbrev i : ℕ
+  i = length (p .domains)
+
+  fixed-is : map fixed-word (map f (below b)) ≡ naturals w 0 b
+  fixed-is = fixed-values w f 0 b (λ v h. let e : 0 + v ≡ v = omega arith in rw e (r .values v (omega (arith, r .set .well .few-bools)))) ∙ sym (naturals-map w 0 0 b)
+
+  bools-are : map map-word (map (λ v. get-bool-var v (log-of p ss)) (below b)) ≡ naturals w bool-map b
+  unfolding bool-entry
+  bools-are = entries (bool-entry w) (λ v. get-bool-var v (log-of p ss)) 0 b (λ v h. r .numbered .map v (omega (arith, r .set .well .few-bools))) ∙ sym (naturals-map w bool-map 0 b)
+
+  ints-are : map map-word (map (λ v. get-int-var v (log-of p ss)) (below i)) ≡ naturals w int-map i
+  unfolding int-entry
+  ints-are = entries (int-entry w) (λ v. get-int-var v (log-of p ss)) 0 i (λ v h. r .numbered .map-int v (omega (arith, r .set .well .few-ints))) ∙ sym (naturals-map w int-map 0 i)
+
+  counts-are : pos (c .bools) ∷ pos (c .ints) ∷ flat (map domain-words (emitted p ss)) ≡ pos (next-bool (log-of p ss)) ∷ counted domain-words (emitted p ss)
+  counts-are =
+      let n : c .ints ≡ length (emitted p ss) = r .numbered .ints ∙ sym (length-emitted (p .domains) (log-of p ss)) in
+      let k : c .bools ≡ next-bool (log-of p ss) = r .numbered .bools in
+      rw (n, k) refl
+
+  -- the header's words by the work slice
+  pub header-is : maps-words w b i ++ (pos (c .bools) ∷ pos (c .ints) ∷ flat (map domain-words (emitted p ss))) ≡ head-words p f ss
+  unfolding head-words
+  header-is =
+      let x : List ℤ = naturals w 0 b in
+      let y : List ℤ = naturals w bool-map b in
+      let z : List ℤ = naturals w int-map i in
+      let t : List ℤ = pos (c .bools) ∷ pos (c .ints) ∷ flat (map domain-words (emitted p ss)) in
+      append-assoc x (y ++ z) t ∙ ap (λ (l : List ℤ). x ++ l) (append-assoc y z t) ∙ rw (fixed-is, bools-are, ints-are, counts-are) refl
+
+-- ---- what is asked
+
+module _ (set w : List ℤ) (b i : ℕ) (c : Counters) (s : SomeReady set w b i c) where
+  pub few-declared : (b ≤ 512) × (i ≤ 256) × (5376 ≤ length w)
+  few-declared = let k = s .ready .set .well in (omega (arith, s .bools, k .few-bools), omega (arith, s .ints, k .few-ints), omega (arith, s .ready .numbered .size))
+
+  pub bools-low : c .bools ≤ limit
+  bools-low = omega (arith, s .ready .numbered .bools, settled-low (s .ready .set) .bools)
+
+  pub ints-low : c .ints ≤ limit
+  ints-low = omega (arith, s .ready .numbered .ints, settled-emitted (s .ready .set))
+
+  pub some-numbered : SomeNumbered set w (c .ints)
+  some-numbered = record { it = s .it; fixed = s .fixed; stmts = s .stmts; counters = c; words = s .words; ready = s .ready; all = refl }
+
+pub count-fits : (n : ℕ) → n ≤ limit → SFits w32 (pos n)
+count-fits n h = record { sfits = omega arith }
+
+-- ---- what is given
+
+-- a count, from its bits
+pub count-word : {out a : List ℤ} {o p : ℕ} (n : ℕ) → n ≤ limit → Wrote out o (toZ w32 n ∷ []) a p → Wrote out o (pos n ∷ []) a p
+count-word n h x = wrote-to (ap (λ (z : ℤ). z ∷ []) (pos-is n h)) x
+
+pub maps-done : {out a e d : List ℤ} {o p q : ℕ} (w : List ℤ) (b i : ℕ) → length out ≤ cap → Wrote out 0 (naturals w 0 b) a o → Wrote a o (naturals w bool-map b) e p → Wrote e p (naturals w int-map i) d q → Wrote out 0 (maps-words w b i) d q
+maps-done w b i l x y z = wrote-then l x (wrote-then (omega (arith, wrote-length x)) y z)
+
+pub header-done : {set w w' out a e d out' : List ℤ} {b i o p q r : ℕ} {c : Counters} → length out ≤ cap
+    → Wrote out 0 (maps-words w b i) a o → Wrote a o (pos (c .bools) ∷ []) e p → Wrote e p (pos (c .ints) ∷ []) d q → PutAll set w (c .ints) d q w' out' r → Headed set b i c w w' out out' r
+header-done {set} {w} {w'} {out} {a} {e} {d} {out'} {b} {i} {o} {p} {q} {r} {c} l x y z t = record {
+  wrote = λ m f ss k u v h.
+      let g = wrote-then l x (wrote-then (omega (arith, wrote-length x)) y (wrote-then (omega (arith, wrote-length x, wrote-length y)) z (t .wrote m f ss c k h refl))) in
+      let n : List ℤ = pos (c .bools) ∷ pos (c .ints) ∷ flat (map domain-words (emitted m ss)) in
+      wrote-to (ap (λ (j : ℕ). maps-words w j i ++ n) u ∙ ap (λ (j : ℕ). maps-words w (m .bools) j ++ n) v ∙ header-is m f ss w c h) g;
+  below = t .below;
+  size = t .size;
+}
