@@ -1,3 +1,4 @@
 pub mod ReadText
+pub mod Room
 pub mod Input
 pub mod Cases
