@@ -5,3 +5,4 @@ pub mod Shown
 pub mod Lines
 pub mod Listed
 pub mod ListingBack
+pub mod Room

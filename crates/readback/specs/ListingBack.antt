@@ -36,7 +36,7 @@ use Rattle.readback.specs.Listed.{kind-of, words-of, print-result}
 
 -- ---- the domains
 
-abbrev domain-text : Domain → List ℕ
+abbrev pub domain-text : Domain → List ℕ
 domain-text d = print-line domain-key (domain-words d)
 
 join-assoc : (xs ys : List ℤ) (b : Option (List ℤ)) → join (some xs) (join (some ys) b) ≡ join (some (xs ++ ys)) b
@@ -73,19 +73,19 @@ not-domain (c ∷ cs) k t next = rw (clauses-split c cs k t) (go c)
 -- ---- what is printed of an answer's words
 
 module _ (fs ms is : List ℤ) (b i : ℕ) (fs-count : length fs ≡ b) (ms-count : length ms ≡ b) (is-count : length is ≡ i) (eb : ℕ) (ds : List Domain) (cs : List Clause) where
-  abbrev clauses-words : List ℤ
+  abbrev pub clauses-words : List ℤ
   clauses-words = counted clause-words cs
 
-  abbrev tail : List ℤ
+  abbrev pub tail : List ℤ
   tail = pos eb ∷ (counted domain-words ds ++ clauses-words)
 
-  abbrev whole : List ℤ
+  abbrev pub whole : List ℤ
   whole = fs ++ (ms ++ (is ++ tail))
 
-  abbrev clauses-text : List ℕ
+  abbrev pub clauses-text : List ℕ
   clauses-text = flat (map clause-text cs) ++ last-text (length cs) (literals-in cs)
 
-  abbrev tail-text : List ℕ
+  abbrev pub tail-text : List ℕ
   tail-text = print-line emitted-key (pos eb ∷ pos (length ds) ∷ []) ++ (flat (map domain-text ds) ++ clauses-text)
 
   clauses-printed : print-clauses clauses-words ≡ clauses-text
@@ -100,7 +100,7 @@ module _ (fs ms is : List ℤ) (b i : ℕ) (fs-count : length fs ≡ b) (ms-coun
   unfolding print-emitted
   tail-printed = rw (times-shown print-domain domain-words domain-text domain-filled domain-shown ds clauses-words, clauses-printed) refl
 
-  compiled-printed : print-compiled b i whole ≡ compiled-line ++ (print-line fixed-key fs ++ (print-line bools-key ms ++ (print-line ints-key is ++ tail-text)))
+  pub compiled-printed : print-compiled b i whole ≡ compiled-line ++ (print-line fixed-key fs ++ (print-line bools-key ms ++ (print-line ints-key is ++ tail-text)))
   unfolding print-compiled
   compiled-printed =
       let t1 : take b whole ≡ fs = rw (← fs-count) (take-append-seam fs (ms ++ (is ++ tail))) in
@@ -158,16 +158,16 @@ abbrev Back : List ℤ → Result → Type 0
 Back set r = read-listing (print-result set r) ≡ some r
 
 -- the counts of declared variables are the set's first words, and the answer's maps are as long
-length-from : (k n : ℕ) → length (from k n) ≡ n
+pub length-from : (k n : ℕ) → length (from k n) ≡ n
 length-from k zero = refl
 length-from k (suc n) = ap suc (length-from (suc k) n)
 
 module _ (set : List ℤ) (p : Problem) (r : List ℤ) (read : read-set set ≡ ok p r) where
-  bools-word : count-word set ≡ p .bools
+  pub bools-word : count-word set ≡ p .bools
   unfolding encode
   bools-word = ap count-word (set-sound set p r read .0)
 
-  ints-word : count-word (drop 1 set) ≡ length (p .domains)
+  pub ints-word : count-word (drop 1 set) ≡ length (p .domains)
   unfolding encode
   ints-word = ap (λ (ws : List ℤ). count-word (drop 1 ws)) (set-sound set p r read .0)
 
