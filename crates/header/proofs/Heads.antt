@@ -19,7 +19,7 @@ use Rattle.answer.specs.Answer.{fixed-word, map-word, domain-words}
 use Rattle.walk.specs.Item.{limit, nat, bool-map, int-map, bool-entry, int-entry}
 use Rattle.walk.specs.Num.{Numbered}
 use Rattle.walk.specs.declared.Counters.{Counters}
-use Rattle.writer.proofs.Laws.{pos-is}
+use Rattle.number.proofs.Leaves.{pos-is}
 use Rattle.statements.specs.Whole.{entries}
 use Rattle.statements.specs.Ready.{log-of, Ready, head-words, SomeReady}
 use Rattle.statements.specs.ReadyEntry.{settled-emitted, settled-low}
