@@ -87,7 +87,7 @@ fn put_suffix(s: Suffix, out: &mut [i32], o: usize) -> usize
 }
 
 // The literals of k numbers from b on.
-fn put_block(b: usize, k: usize, out: &mut [i32], o: usize) -> usize
+pub fn put_block(b: usize, k: usize, out: &mut [i32], o: usize) -> usize
     requires { ⌜ (b + k ≤ 2 * limit) × Open (now out) o ⌝ }
     ensures { λ r. ⌜ Wrote (now (out .entry)) o (block-of b k) (now (out .exit)) r ⌝ }
 {
