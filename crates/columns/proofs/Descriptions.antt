@@ -14,6 +14,7 @@ use Rattle.laws.specs.Bools.{never}
 use Rattle.laws.specs.Ints.{natAbs-add, sfits-natAbs}
 use Rattle.laws.specs.Slices.{Has, has-fits, has-back, has-word, has-rest, has-nth}
 use Rattle.syntax.specs.Words.{max-value, max-set-words}
+use Rattle.syntax.specs.Lengths.{int-long, int-fits}
 use Rattle.syntax.specs.Syntax.{Domain, Range, Enumerative, lower-bound, upper-bound, num-candidates, domain-of, encode-domain, IntExpr, IConst, IVar, Linear, encode-int}
 use Rattle.words.specs.Exact.{Each}
 use Rattle.read.specs.WellFormed.{WellDomain}
@@ -28,7 +29,7 @@ use Rattle.walk.specs.Legal.{LegalInt}
 use Rattle.walk.specs.Meets.{part-short}
 use Rattle.rows.specs.Columns.{domain-in}
 use Rattle.rows.specs.Described.{range-described, list-described}
-use Rattle.statements.specs.Columns.{int-words, column-number}
+use Rattle.statements.specs.Columns.{column-number}
 use Rattle.columns.specs.Describing.{Ranged, Known, At, Declared, SomeDeclared, Describes, Told, SomeTold}
 use Rattle.columns.proofs.Equations.{code-is}
 
@@ -155,14 +156,14 @@ minus-fits c h = sfits-natAbs w32 (pos 0 -ℤ c) (omega (arith, natAbs-add (pos 
 
 module _ (w : List ℤ) (p : ℕ) where
   pub place-inside : {e : IntExpr} → At w p e → p + 2 ≤ 4608
-  place-inside {e} a = omega (arith, int-words e, has-fits (read-part w) p (encode-int e) (a .words) (omega (arith, int-words e)), part-short w)
+  place-inside {e} a = omega (arith, int-long e, int-fits (read-part w) p e (a .words), part-short w)
 
   -- its code word tells a declared variable from other columns
   pub variable-inv : {X : Type 0} (e : IntExpr) → At w p e → word (read-part w) p ≡ 21 → ((v : ℕ) → e ≡ IVar v → v < 256 → word (read-part w) (p + 1) ≡ v → X) → X
   unfolding encode-int LegalInt word nat
-  variable-inv (IConst c) a k go = absurd (omega (arith, code-is w p (IConst c) 20 _ refl (a .words), k))
+  variable-inv (IConst c) a k go = absurd (omega (arith, code-is w p (IConst c) (a .words), k))
   variable-inv (IVar v) a k go = go v refl (a .legal .1) (rw (has-word (read-part w) (p + 1) (pos v) [] (pos 0) (has-rest (read-part w) p (pos 21) (pos v ∷ []) (a .words))) refl)
-  variable-inv (Linear ts) a k go = absurd (omega (arith, code-is w p (Linear ts) 22 _ refl (a .words), k))
+  variable-inv (Linear ts) a k go = absurd (omega (arith, code-is w p (Linear ts) (a .words), k))
 
   module _ {m : ℕ} (code : m ≡ word (read-part w) p) where
     module _ {x : ℕ} (index : x ≡ word (read-part w) (p + 1)) (k : m ≡ 21) where
@@ -194,13 +195,13 @@ module _ (w : List ℤ) (p : ℕ) where
       pub other-number : {n : ℕ} → n ≡ nat (getD w (7424 + p) (pos 0)) - 1 → (e : IntExpr) → At w p e → n ≡ column-number w p e
       unfolding column-number encode-int
       other-number s (IConst c) a = s
-      other-number s (IVar v) a = absurd (k (code ∙ code-is w p (IVar v) 21 _ refl (a .words)))
+      other-number s (IVar v) a = absurd (k (code ∙ code-is w p (IVar v) (a .words)))
       other-number s (Linear ts) a = s
 
       pub told-range : {set out : List ℤ} {n triples : ℕ} (ds : List Domain) (dom : ℕ → Domain) (e : IntExpr) → Told set w p n out triples ds dom e → Ranged dom out triples n
       unfolding encode-int
       told-range ds dom (IConst c) t = t .known
-      told-range ds dom (IVar v) t = absurd (k (code ∙ code-is w p (IVar v) 21 _ refl (t .stands .words)))
+      told-range ds dom (IVar v) t = absurd (k (code ∙ code-is w p (IVar v) (t .stands .words)))
       told-range ds dom (Linear ts) t = t .known
 
 -- the three words of an emitted integer

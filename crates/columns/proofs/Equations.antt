@@ -10,9 +10,10 @@ use lib.Seq.{take-all}
 use borrow.Author.Tests.{ltb-false}
 use Rattle.laws.specs.Bools.{or-no-l, or-no-r}
 use Rattle.laws.specs.Lists.{any, different}
-use Rattle.laws.specs.Slices.{Has, has-fits, has-word}
+use Rattle.laws.specs.Slices.{Has}
 use Rattle.laws.specs.Writes.{cap, Wrote, wrote-length, wrote-then, wrote-to}
 use Rattle.syntax.specs.Words.{max-column-vars}
+use Rattle.syntax.specs.Lengths.{int-tag, int-tag-word, int-long, int-fits}
 use Rattle.syntax.specs.Syntax.{Domain, op-at, IntExpr, IConst, IVar, Linear, encode-int}
 use Rattle.limits.specs.Limits.{heavy, written, many-column}
 use Rattle.sums.specs.LinearSum.{LinearSum, singleton, mul-sum, sub-sum}
@@ -36,7 +37,7 @@ use Rattle.writer.specs.Rules.{has-part}
 use Rattle.writer.proofs.Differences.{numbers}
 use Rattle.rows.specs.Emit.{Clauses, Behind}
 use Rattle.rows.proofs.Looping.{clauses-none, clauses-one, clauses-then, clauses-to, clauses-stop}
-use Rattle.statements.specs.Columns.{column-map, int-words, column-number, equality, column-clause, columns-clauses}
+use Rattle.statements.specs.Columns.{column-map, column-number, equality, column-clause, columns-clauses}
 use Rattle.columns.specs.Standing.{Standing}
 use Rattle.columns.specs.Equalities.{Column, Equality, EquatedOne, Equatable, Equated}
 use Rattle.columns.proofs.Walking.{first-stands, rest-stands, same-columns}
@@ -73,7 +74,7 @@ module _ (w : List ℤ) (p : ℕ) (c : Column w p) where
   }
 
   pub inside : p + 2 ≤ 4608
-  inside = omega (arith, int-words (c .expr), has-fits (read-part w) p (encode-int (c .expr)) (c .words) (omega (arith, int-words (c .expr))), part-short w)
+  inside = omega (arith, int-long (c .expr), int-fits (read-part w) p (c .expr) (c .words), part-short w)
 
   module _ (next : ℕ) (s : Sum) (x : Linears w (numbers w) p next s) (n : ℕ) where
     pub less-asked : (s .count ≤ 64) × Room (terms s) (terms-of (mul-sum (negsuc 0) (singleton n))) × (size (sum-of s) + 1 < 2 ^ 31)
@@ -102,20 +103,20 @@ module _ (w : List ℤ) (p : ℕ) (c : Column w p) where
 -- ---- the same behind clauses, and nothing for a variable
 
 module _ (w : List ℤ) (p : ℕ) where
-  pub code-is : (e : IntExpr) (x : ℕ) (us : List ℤ) → encode-int e ≡ pos x ∷ us → Has (read-part w) p (encode-int e) → word (read-part w) p ≡ x
+  pub code-is : (e : IntExpr) → Has (read-part w) p (encode-int e) → word (read-part w) p ≡ int-tag e
   unfolding word nat
-  code-is e x us k h = let g : Has (read-part w) p (pos x ∷ us) = subst (λ (l : List ℤ). Has (read-part w) p l) k h in rw (has-word (read-part w) p (pos x) us (pos 0) g) refl
+  code-is e h = rw (int-tag-word (read-part w) p e h) refl
 
   variable : (e : IntExpr) → Has (read-part w) p (encode-int e) → word (read-part w) p ≡ 21 → (column-clause w p e ≡ []) × (length (encode-int e) ≡ 2)
   unfolding column-clause encode-int
-  variable (IConst c) h k = absurd (omega (arith, code-is (IConst c) 20 _ refl h))
+  variable (IConst c) h k = absurd (omega (arith, code-is (IConst c) h))
   variable (IVar v) h k = (refl, refl)
-  variable (Linear ts) h k = absurd (omega (arith, code-is (Linear ts) 22 _ refl h))
+  variable (Linear ts) h k = absurd (omega (arith, code-is (Linear ts) h))
 
   other : (e : IntExpr) → Has (read-part w) p (encode-int e) → (word (read-part w) p ≡ 21 → ⊥) → column-clause w p e ≡ equality w e (nat (getD w (column-map + p) (pos 0)) - 1) ∷ []
-  unfolding column-clause encode-int
+  unfolding column-clause
   other (IConst c) h k = unfold column-number in refl
-  other (IVar v) h k = absurd (k (code-is (IVar v) 21 _ refl h))
+  other (IVar v) h k = absurd (k (code-is (IVar v) h))
   other (Linear ts) h k = unfold column-number in refl
 
   pub variable-passed : {out : List ℤ} {o k n : ℕ} → Behind out o k → n ≡ word (read-part w) p → n ≡ 21 → EquatedOne w p (p + 2) out o k out o k
