@@ -1,8 +1,7 @@
 -- The domain of a column: what working out its sum and its bounds asks, and what they give.
 use mathlib.Core.Path.{_≡_, refl, sym, ap, _∙_, subst}
-use mathlib.Core.Bool.{false}
 use mathlib.Core.List.{List, [], _∷_}
-use Prim.Native.Nat.{ℕ, zero, suc, _+_, _-_, _*_, _≤_, _<_}
+use Prim.Native.Nat.{ℕ, zero, suc, _+_, _-_, _*_, _≤_}
 use native.Mathlib.Omega.{arith}
 use lib.IntN.{ℤ, pos, negsuc, negℤ, natAbs, _+ℤ_, _-ℤ_}
 use lib.ListN.{length, getD, take, drop, length-drop}
@@ -14,8 +13,8 @@ use Rattle.laws.specs.Ints.{natAbs-add, sfits-natAbs}
 use Rattle.laws.specs.Lists.{different}
 use Rattle.syntax.specs.Words.{max-weight, max-column-vars}
 use Rattle.syntax.specs.Syntax.{Domain, Range, lower-bound, upper-bound, num-candidates, domain-of, IntExpr}
-use Rattle.limits.specs.Limits.{heavy, written, many-column}
-use Rattle.sums.specs.LinearSum.{Term, LinearSum, linear-sum, lowest, highest, get-domain-linear-sum}
+use Rattle.limits.specs.Limits.{written, many-column}
+use Rattle.sums.specs.LinearSum.{LinearSum, linear-sum, lowest, highest, get-domain-linear-sum}
 use Rattle.sums.specs.Linear.{linear-of, linear-of-same}
 use Rattle.sums.specs.Rising.{constant-of, terms-of, Among}
 use Rattle.sums.specs.Bounds.{domain-bounds-fit}
@@ -28,7 +27,7 @@ use Rattle.nest.specs.Ranges.{domain-at, Bounded}
 use Rattle.nest.specs.Column.{Same-bounds, column-bounded, column-domain}
 use Rattle.walk.specs.Item.{nat, int-map, int-entry, int-number}
 use Rattle.statements.specs.ReadyKeeps.{free-from}
-use Rattle.header.specs.Emitted.{IsDomain, Column, SomeColumn, ColumnDomain}
+use Rattle.header.specs.Emitted.{Column, SomeColumn, ColumnDomain}
 
 -- ---- the parts of the work slice that are lent
 
@@ -52,7 +51,7 @@ number-is w v = ap (λ (l : List ℤ). number-at l v) (part-is w int-map) ∙ nu
 
 -- ---- one column
 
-module _ (w : List ℤ) (place : ℕ) (e : IntExpr) (ds : List Domain) (dom : ℕ → Domain) (c : Column w place e ds dom) where
+module _ {w : List ℤ} {place : ℕ} {e : IntExpr} {ds : List Domain} {dom : ℕ → Domain} (c : Column w place e ds dom) where
   abbrev numbers : List ℤ
   numbers = part w int-map
 
@@ -85,7 +84,7 @@ module _ (w : List ℤ) (place : ℕ) (e : IntExpr) (ds : List Domain) (dom : �
   abbrev domain : Domain
   domain = get-domain-linear-sum dom (linear-of (int-number w) e)
 
-  module _ (next : ℕ) (s : Sum) (x : Linear w numbers place next s) where
+  module _ {next : ℕ} {s : Sum} (x : Linear w numbers place next s) where
     pub bounds-asked : Bounded 0 1 bounds s
     bounds-asked = column-bounded ds numbers bounds e same s (x .right e (c .has) .0) (x .words) (c .light)
 
@@ -121,29 +120,29 @@ module _ (low high : ℤ) (l : natAbs low ≤ max-weight) (h : natAbs high ≤ m
   size-fits = sfits-natAbs w32 ((high -ℤ low) +ℤ pos 1) (omega (arith, natAbs-add (high -ℤ low) (pos 1), apart-size low high))
 
 -- of the column that stands there, whichever it is
-module _ (w : List ℤ) (place : ℕ) (x : SomeColumn w place) (next : ℕ) (s : Sum) (y' : Linear w (part w int-map) place next s)
-    (low high : ℤ) (r : Range low high ≡ get-domain-linear-sum (domain-at 0 1 (part w free-from)) (sum-of s)) where
+module _ {w : List ℤ} {place : ℕ} (x : SomeColumn w place) {next : ℕ} {s : Sum} (y' : Linear w (part w int-map) place next s)
+    {low high : ℤ} (r : Range low high ≡ get-domain-linear-sum (domain-at 0 1 (part w free-from)) (sum-of s)) where
   abbrev is : Range low high ≡ get-domain-linear-sum (x .dom) (linear-of (int-number w) (x .expr))
-  is = bounds-given w place (x .expr) (x .domains) (x .dom) (x .column) next s y' low high r
+  is = bounds-given (x .column) y' low high r
 
   low-small : natAbs low ≤ max-weight
-  low-small = let m = small w place (x .expr) (x .domains) (x .dom) (x .column) in subst (λ (d : Domain). natAbs (lower-bound d) ≤ max-weight) (sym is) (m .0)
+  low-small = let m = small (x .column) in subst (λ (d : Domain). natAbs (lower-bound d) ≤ max-weight) (sym is) (m .0)
 
   high-small : natAbs high ≤ max-weight
-  high-small = let m = small w place (x .expr) (x .domains) (x .dom) (x .column) in subst (λ (d : Domain). natAbs (upper-bound d) ≤ max-weight) (sym is) (m .1)
+  high-small = let m = small (x .column) in subst (λ (d : Domain). natAbs (upper-bound d) ≤ max-weight) (sym is) (m .1)
 
   -- y, z, d, k: the bits of the bounds, of their distance, of the number of values
-  module _ (y z : ℤ) (a : y ≡ low) (b : z ≡ high) where
+  module _ {y z : ℤ} (a : y ≡ low) (b : z ≡ high) where
     pub column-apart : SFits w32 (z -ℤ y)
     column-apart = rw (a, b) (apart-fits low high low-small high-small)
 
-    module _ (d : ℤ) (q : d ≡ z -ℤ y) where
+    module _ {d : ℤ} (q : d ≡ z -ℤ y) where
       pub column-size : SFits w32 (d +ℤ pos 1)
       column-size = rw (q, a, b) (size-fits low high low-small high-small)
 
-      pub column-is : (k : ℤ) → k ≡ d +ℤ pos 1 → ColumnDomain w place y z k
-      column-is k j e ds dom c =
-          let g = bounds-given w place e ds dom c next s y' low high r in
+      pub column-is : {k : ℤ} → k ≡ d +ℤ pos 1 → ColumnDomain w place y z k
+      column-is j e ds dom c =
+          let g = bounds-given c y' low high r in
           record {
             low-is = a ∙ ap lower-bound g;
             high-is = b ∙ ap upper-bound g;

@@ -1,8 +1,8 @@
 -- The emitted integers one after another: their words in the output, their bounds in the work slice.
-use mathlib.Core.Path.{_≡_, refl, sym, ap, _∙_, subst}
+use mathlib.Core.Path.{_≡_, refl, ap, _∙_}
 use mathlib.Core.Bool.{Bool, true, false}
-use mathlib.Core.List.{List, [], _∷_, _++_, map, append-nil}
-use Prim.Native.Nat.{ℕ, zero, suc, _+_, _*_, _≤_, _<_}
+use mathlib.Core.List.{List, [], _∷_, _++_, map}
+use Prim.Native.Nat.{ℕ, _+_, _*_, _≤_, _<_}
 use native.Mathlib.Omega.{arith}
 use native.Mathlib.Numerals.{add-one}
 use lib.IntN.{ℤ, pos}
@@ -10,7 +10,7 @@ use lib.ListN.{length, getD, set, take, length-set}
 use lib.Seq.{take-suc, take-all, take-set-le, getD-set-same, getD-set-other}
 use lib.Dec.{ltb}
 use borrow.Author.Tests.{ltb-true, ltb-false}
-use Rattle.laws.specs.Lists.{flat, flat-append}
+use Rattle.laws.specs.Lists.{flat}
 use Rattle.laws.specs.Writes.{cap, Wrote, wrote-none, wrote-then, wrote-length, wrote-to}
 use Rattle.syntax.specs.Syntax.{Domain, Range, lower-bound, upper-bound, num-candidates, domain-of, Stmt, Problem, encode}
 use Rattle.fold.specs.Fold.{Fixed}
@@ -64,9 +64,9 @@ three-words {out} {a} {b} {e} {o} {p} {q} {r} {low} {high} {size} d l i x y z =
     (wrote-then l x (wrote-then k y z))
 
 -- y, z, k: the bits of its lowest and highest value and of its number of values
-module _ (set w : List ℤ) (n : ℕ) (x : SomeEmits set w n) where
+module _ {set w : List ℤ} {n : ℕ} (x : SomeEmits set w n) where
   pub pair-room : free-from + 2 * n + 1 < length w
-  pair-room = omega (arith, emits-few set w n (x .it) (x .fixed) (x .stmts) (x .counters) (x .emits), emits-long set w n (x .it) (x .fixed) (x .stmts) (x .counters) (x .emits))
+  pair-room = omega (arith, emits-few (x .emits), emits-long (x .emits))
 
   pub put-done : {out a b out' : List ℤ} {o p q r : ℕ} {low high size y z k : ℤ} → y ≡ low → z ≡ high → k ≡ size → EmittedDomain set w n low high size → length out ≤ cap
       → Wrote out o (y ∷ []) a p → Wrote a p (z ∷ []) b q → Wrote b q (k ∷ []) out' r → Put set w n out o (stored w n y z pair-room) out' r
@@ -90,8 +90,8 @@ pub record Going (set w₀ : List ℤ) (count : ℕ) (out₀ : List ℤ) (o : �
   pub pairs : (p : Problem) (f : Fixed) (ss : List Stmt) (c : Counters) → set ≡ encode p → Ready p f ss w₀ c → count ≡ c .ints → Pairs (emitted p ss) w n
   pub wrote : (p : Problem) (f : Fixed) (ss : List Stmt) (c : Counters) → set ≡ encode p → Ready p f ss w₀ c → count ≡ c .ints → Wrote out₀ o (flat (map domain-words (take n (emitted p ss)))) out at
 
-pub going-start : (set w : List ℤ) (count : ℕ) (out : List ℤ) (o : ℕ) → SomeNumbered set w count → Open out o → Going set w count out o w out 0 o
-going-start set w count out o s h = record {
+pub going-start : {set w : List ℤ} {count : ℕ} {out : List ℤ} {o : ℕ} → SomeNumbered set w count → Open out o → Going set w count out o w out 0 o
+going-start {set} {w} {count} {out} {o} s h = record {
   some = s;
   low = omega arith;
   room = h;
@@ -103,7 +103,7 @@ going-start set w count out o s h = record {
   wrote = λ p f ss c e r a. wrote-none out o (h .low);
 }
 
-module _ (set w₀ : List ℤ) (count : ℕ) (out₀ : List ℤ) (o : ℕ) (w out : List ℤ) (n at : ℕ) (g : Going set w₀ count out₀ o w out n at) where
+module _ {set w₀ : List ℤ} {count : ℕ} {out₀ : List ℤ} {o : ℕ} {w out : List ℤ} {n at : ℕ} (g : Going set w₀ count out₀ o w out n at) where
   emits : n < count → (p : Problem) (f : Fixed) (ss : List Stmt) (c : Counters) → set ≡ encode p → Ready p f ss w₀ c → count ≡ c .ints → Emits set w n p f ss c
   emits l p f ss c e r a = record { words = e; ready = ready-keeps (g .below) (g .size) r; below = omega (arith, a); pairs = g .pairs p f ss c e r a }
 

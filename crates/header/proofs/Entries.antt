@@ -15,24 +15,21 @@ use mir.Facts.{fits-natAbs}
 use Rattle.laws.specs.Bools.{never}
 use Rattle.laws.specs.Ints.{natAbs-add}
 use Rattle.laws.specs.Slices.{Has}
-use Rattle.syntax.specs.Syntax.{Domain, Range, Enumerative, lower-bound, upper-bound, num-candidates, domain-of, encode-domain, encode-int, Stmt, Problem, encode}
+use Rattle.syntax.specs.Syntax.{Domain, Range, Enumerative, lower-bound, upper-bound, num-candidates, domain-of, encode-domain, encode-int, Stmt, Problem}
 use Rattle.words.specs.Exact.{Each}
 use Rattle.read.specs.WellFormed.{WellDomain}
 use Rattle.limits.specs.Accepted.{domains-stand}
 use Rattle.fold.specs.Fold.{Fixed}
-use Rattle.sums.specs.LinearSum.{get-domain-linear-sum}
-use Rattle.sums.specs.Linear.{linear-of}
 use Rattle.domains.specs.Declared.{Domain-at, Sized-at, Domains, Domain-post}
 use Rattle.walk.specs.Item.{emitted-ints, int-number}
 use Rattle.walk.specs.Decode.{read-part}
 use Rattle.walk.specs.declared.Counters.{Counters}
 use Rattle.writer.specs.Rules.{has-part}
 use Rattle.statements.specs.Records.{Entry, of-declared, of-column, ColumnEntry}
-use Rattle.statements.specs.Ready.{log-of, Ready}
-use Rattle.statements.specs.ReadyKeeps.{free-from}
+use Rattle.statements.specs.Ready.{log-of}
 use Rattle.statements.specs.ReadyEntry.{settled-emitted, ready-entry}
 use Rattle.header.proofs.Columns.{apart-size}
-use Rattle.header.specs.Emitted.{emitted, Pairs, IsDomain, Column, SomeColumn, ColumnDomain, SomeDeclared, DeclaredDomain, Emits, SomeEmits, EmittedDomain}
+use Rattle.header.specs.Emitted.{emitted, IsDomain, Column, SomeColumn, ColumnDomain, SomeDeclared, DeclaredDomain, Emits}
 
 -- ---- what declared_domain asks of a well-formed domain: its number of values fits a word
 
@@ -45,7 +42,7 @@ sizes [] h v l = absurd (omega arith)
 sizes (d ∷ ds) h zero l = well-size d (h .0)
 sizes (d ∷ ds) h (suc v) l = sizes ds (h .1) v (omega arith)
 
-module _ (set : List ℤ) (v : ℕ) (x : SomeDeclared set v) (at : ℕ) (h : Domain-post set 2 v at) where
+module _ {set : List ℤ} {v : ℕ} (x : SomeDeclared set v) (at : ℕ) (h : Domain-post set 2 v at) where
   pub declared-at : Domain-at set at
   declared-at = record { it = domain-of (x .ds) v; words = h (x .ds) (x .domains) (x .below) }
 
@@ -106,7 +103,7 @@ module _ (z : ℤ) (f : SFits w32 z) (h : ltZ z (pos 0) ≡ true) (y : ℤ) (a :
 isDomain-to : {d e : Domain} {low high size : ℤ} → e ≡ d → IsDomain d low high size → IsDomain e low high size
 isDomain-to {d} {e} {low} {high} {size} q h = subst (λ (x : Domain). IsDomain x low high size) (sym q) h
 
-module _ (set w : List ℤ) (n : ℕ) (p : Problem) (f : Fixed) (ss : List Stmt) (c : Counters) (x : Emits set w n p f ss c) where
+module _ {set w : List ℤ} {n : ℕ} {p : Problem} {f : Fixed} {ss : List Stmt} {c : Counters} (x : Emits set w n p f ss c) where
   abbrev dom : ℕ → Domain
   dom = domain-of (emitted p ss)
 

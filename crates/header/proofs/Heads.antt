@@ -1,23 +1,22 @@
 -- The header as a whole: the words of the work slice are those of the definition.
-use mathlib.Core.Path.{_≡_, refl, sym, ap, _∙_, subst}
+use mathlib.Core.Path.{_≡_, refl, sym, ap, _∙_}
 use mathlib.Core.Option.{Option, none as nothing, some}
 use mathlib.Core.Bool.{Bool, true, false}
 use mathlib.Core.List.{List, [], _∷_, _++_, map, append-assoc}
 use Prim.Native.Nat.{ℕ, zero, suc, _+_, _≤_, _<_}
 use native.Mathlib.Omega.{arith}
 use lib.IntN.{ℤ, pos}
-use lib.ListN.{length, getD, take}
+use lib.ListN.{length, getD}
 use mir.Syntax.{w32}
 use mir.Val.{SFits, toZ}
 use Rattle.laws.specs.Lists.{from, below, flat, counted}
 use Rattle.laws.specs.Writes.{cap, Wrote, wrote-then, wrote-length, wrote-to}
-use Rattle.syntax.specs.Syntax.{Domain, Stmt, Problem, encode}
+use Rattle.syntax.specs.Syntax.{Stmt, Problem}
 use Rattle.fold.specs.Fold.{Fixed}
-use Rattle.clauses.specs.Log.{Log, next-bool, next-int, get-bool-var, get-int-var}
+use Rattle.clauses.specs.Log.{next-bool, get-bool-var, get-int-var}
 use Rattle.tables.specs.Emitted.{length-emitted}
 use Rattle.answer.specs.Answer.{fixed-word, map-word, domain-words}
 use Rattle.walk.specs.Item.{limit, nat, bool-map, int-map, bool-entry, int-entry}
-use Rattle.walk.specs.Num.{Numbered}
 use Rattle.walk.specs.declared.Counters.{Counters}
 use Rattle.number.proofs.Leaves.{pos-is}
 use Rattle.statements.specs.Whole.{entries}
@@ -81,7 +80,7 @@ module _ (p : Problem) (f : Fixed) (ss : List Stmt) (w : List ℤ) (c : Counters
 
 -- ---- what is asked
 
-module _ (set w : List ℤ) (b i : ℕ) (c : Counters) (s : SomeReady set w b i c) where
+module _ {set w : List ℤ} {b i : ℕ} {c : Counters} (s : SomeReady set w b i c) where
   pub few-declared : (b ≤ 512) × (i ≤ 256) × (5376 ≤ length w)
   few-declared = let k = s .ready .set .well in (omega (arith, s .bools, k .few-bools), omega (arith, s .ints, k .few-ints), omega (arith, s .ready .numbered .size))
 

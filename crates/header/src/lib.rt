@@ -1,8 +1,8 @@
 // The answer's header: the fixed values, the maps, the counts and the domains of the emitted integers.
 ghost use mathlib.Core.Path.{_≡_};
-ghost use mathlib.Core.List.{List, [], _∷_};
-ghost use Prim.Native.Nat.{ℕ, _+_, _≤_, _<_};
-ghost use lib.IntN.{ℤ, pos};
+ghost use mathlib.Core.List.{[], _∷_};
+ghost use Prim.Native.Nat.{_+_, _≤_, _<_};
+ghost use lib.IntN.{pos};
 ghost use lib.ListN.{length, getD};
 ghost use Rattle.laws.specs.Writes.{cap, Wrote};
 ghost use Rattle.walk.specs.Item.{nat};

@@ -1,5 +1,3 @@
-use mathlib.Core.Path.{_≡_, refl, _∙_}
-use native.Mathlib.Omega.{arith}
 use mir.Syntax.{w32}
 use mir.Val.{SFits}
 use mir.Facts.{toZ-ofZ}
@@ -31,31 +29,40 @@ part-bounds-end : tie.Need-part-bounds-end
 part-bounds-end c = search needs
 
 linear-of-requires : tie.Need-linear-of-requires
-linear-of-requires c κs = let x = c .before .before .pre in column-ready _ _ _ _ _ (x .column)
+linear-of-requires c κs = column-ready (c .before .before .pre .column)
 
 get-domain-linear-sum-requires : tie.Need-get-domain-linear-sum-requires
-get-domain-linear-sum-requires c κs = let x = c .before .before .before .before .pre in bounds-asked _ _ _ _ _ (x .column) _ _ (c .before .linear-of .ensures)
+get-domain-linear-sum-requires c κs = bounds-asked (c .before .before .before .before .pre .column) (c .before .linear-of .ensures)
 
 sub-apart : tie.Need-sub-apart
 sub-apart c =
-    let f : SFits w32 (c .before .before .get-domain-linear-sum .result .low) = search needs in
-    let g : SFits w32 (c .before .before .get-domain-linear-sum .result .high) = search needs in
-    column-apart _ _ (c .before .before .before .before .before .before .before .pre) _ _ (c .before .before .before .before .linear-of .ensures) _ _ (c .before .before .get-domain-linear-sum .ensures) _ _ (toZ-ofZ f) (toZ-ofZ g)
+    let x = c .before .before .before .before .before .before .before .pre in
+    let l = c .before .before .before .before .linear-of .ensures in
+    let b = c .before .before .get-domain-linear-sum in
+    let f : SFits w32 (b .result .low) = search needs in
+    let g : SFits w32 (b .result .high) = search needs in
+    column-apart x l (b .ensures) (toZ-ofZ f) (toZ-ofZ g)
 
 add-t17 : tie.Need-add-t17
 add-t17 c =
-    let f : SFits w32 (c .before .before .get-domain-linear-sum .result .low) = search needs in
-    let g : SFits w32 (c .before .before .get-domain-linear-sum .result .high) = search needs in
-    let a = column-apart _ _ (c .before .before .before .before .before .before .before .pre) _ _ (c .before .before .before .before .linear-of .ensures) _ _ (c .before .before .get-domain-linear-sum .ensures) _ _ (toZ-ofZ f) (toZ-ofZ g) in
-    column-size _ _ (c .before .before .before .before .before .before .before .pre) _ _ (c .before .before .before .before .linear-of .ensures) _ _ (c .before .before .get-domain-linear-sum .ensures) _ _ (toZ-ofZ f) (toZ-ofZ g) _ (toZ-ofZ a)
+    let x = c .before .before .before .before .before .before .before .pre in
+    let l = c .before .before .before .before .linear-of .ensures in
+    let b = c .before .before .get-domain-linear-sum in
+    let f : SFits w32 (b .result .low) = search needs in
+    let g : SFits w32 (b .result .high) = search needs in
+    let a = column-apart x l (b .ensures) (toZ-ofZ f) (toZ-ofZ g) in
+    column-size x l (b .ensures) (toZ-ofZ f) (toZ-ofZ g) (toZ-ofZ a)
 
 returns : tie.Need-returns
 returns c =
-    let f : SFits w32 (c .before .before .get-domain-linear-sum .result .low) = search needs in
-    let g : SFits w32 (c .before .before .get-domain-linear-sum .result .high) = search needs in
-    let a = column-apart _ _ (c .before .before .before .before .before .before .before .pre) _ _ (c .before .before .before .before .linear-of .ensures) _ _ (c .before .before .get-domain-linear-sum .ensures) _ _ (toZ-ofZ f) (toZ-ofZ g) in
-    let b = column-size _ _ (c .before .before .before .before .before .before .before .pre) _ _ (c .before .before .before .before .linear-of .ensures) _ _ (c .before .before .get-domain-linear-sum .ensures) _ _ (toZ-ofZ f) (toZ-ofZ g) _ (toZ-ofZ a) in
-    column-is _ _ (c .before .before .before .before .before .before .before .pre) _ _ (c .before .before .before .before .linear-of .ensures) _ _ (c .before .before .get-domain-linear-sum .ensures) _ _ (toZ-ofZ f) (toZ-ofZ g) _ (toZ-ofZ a) _ (toZ-ofZ b)
+    let x = c .before .before .before .before .before .before .before .pre in
+    let l = c .before .before .before .before .linear-of .ensures in
+    let b = c .before .before .get-domain-linear-sum in
+    let f : SFits w32 (b .result .low) = search needs in
+    let g : SFits w32 (b .result .high) = search needs in
+    let a = column-apart x l (b .ensures) (toZ-ofZ f) (toZ-ofZ g) in
+    let k = column-size x l (b .ensures) (toZ-ofZ f) (toZ-ofZ g) (toZ-ofZ a) in
+    column-is x l (b .ensures) (toZ-ofZ f) (toZ-ofZ g) (toZ-ofZ a) (toZ-ofZ k)
 
 pub column-domain-spec : {M : Type 1} → statement M
 column-domain-spec =

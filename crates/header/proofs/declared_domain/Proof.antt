@@ -1,4 +1,3 @@
-use mathlib.Core.Path.{_∙_}
 use mir.Syntax.{w32}
 use mir.Val.{SFits}
 use mir.Facts.{toZ-ofZ}
@@ -17,20 +16,22 @@ domain-of-requires : tie.Need-domain-of-requires
 domain-of-requires c κs = record { ds = c .pre .ds; domains = c .pre .domains; below = c .pre .below }
 
 lower-bound-requires : tie.Need-lower-bound-requires
-lower-bound-requires c κs = declared-at _ _ (c .before .pre) _ (c .domain-of .ensures)
+lower-bound-requires c κs = declared-at (c .before .pre) _ (c .domain-of .ensures)
 
 upper-bound-requires : tie.Need-upper-bound-requires
-upper-bound-requires c κs = declared-at _ _ (c .before .before .pre) _ (c .before .domain-of .ensures)
+upper-bound-requires c κs = declared-at (c .before .before .pre) _ (c .before .domain-of .ensures)
 
 num-candidates-requires : tie.Need-num-candidates-requires
-num-candidates-requires c κs = declared-sized _ _ (c .before .before .before .pre) _ (c .before .before .domain-of .ensures)
+num-candidates-requires c κs = declared-sized (c .before .before .before .pre) _ (c .before .before .domain-of .ensures)
 
 returns : tie.Need-returns
 returns c =
+    let s = c .before .before .before .before .args in
+    let d = c .before .before .before .domain-of in
     let f : SFits w32 (c .before .before .lower-bound .result) = search needs in
     let g : SFits w32 (c .before .upper-bound .result) = search needs in
     let k : SFits w32 (c .num-candidates .result) = search needs in
-    declared-is (c .before .before .before .before .args .set .now) (c .before .before .before .before .args .v) (c .before .before .before .domain-of .result) (c .before .before .before .domain-of .ensures) (toZ-ofZ f) (toZ-ofZ g) (toZ-ofZ k) (c .before .before .lower-bound .ensures) (c .before .upper-bound .ensures) (c .num-candidates .ensures)
+    declared-is (s .set .now) (s .v) (d .result) (d .ensures) (toZ-ofZ f) (toZ-ofZ g) (toZ-ofZ k) (c .before .before .lower-bound .ensures) (c .before .upper-bound .ensures) (c .num-candidates .ensures)
 
 pub declared-domain-spec : {M : Type 1} → statement M
 declared-domain-spec =

@@ -1,9 +1,8 @@
-use mathlib.Core.Path.{_≡_, refl, _∙_}
 use Prim.Native.Nat.{_+_}
 use native.Mathlib.Omega.{arith}
-use lib.IntN.{ℤ, pos}
+use lib.IntN.{pos}
 use lib.Signed.{ltZ}
-use lib.ListN.{length, getD}
+use lib.ListN.{getD}
 use mir.Syntax.{w32}
 use mir.Val.{SFits}
 use mir.Facts.{toZ-ofZ, fits-natAbs}
@@ -19,24 +18,26 @@ use Rattle.header.proofs.column_domain.Reads as column-domain-reads
 use Rattle.header.proofs.declared_domain.Reads as declared-domain-reads
 
 add-w : tie.Need-add-w
-add-w c = let x = c .pre in let l = emits-few _ _ _ _ _ _ _ (x .emits) in search needs
+add-w c = let l = emits-few (c .pre .emits) in search needs
 
 mul-w : tie.Need-mul-w
-mul-w c = let x = c .pre in let l = emits-few _ _ _ _ _ _ _ (x .emits) in search needs
+mul-w c = let l = emits-few (c .pre .emits) in search needs
 
 shared-slice-copy-out-w : tie.Need-shared-slice-copy-out-w
-shared-slice-copy-out-w c = let x = c .pre in omega (arith, emits-few _ _ _ _ _ _ _ (x .emits), emits-long _ _ _ _ _ _ _ (x .emits))
+shared-slice-copy-out-w c = omega (arith, emits-few (c .pre .emits), emits-long (c .pre .emits))
 
 add-q : tie.Need-add-q
 add-q c =
-    let z = getD (c .before .before .args .work .now) (emitted-ints + c .before .before .args .n) (pos 0) in
+    let s = c .before .before in
+    let z = getD (s .args .work .now) (emitted-ints + s .args .n) (pos 0) in
     let f : SFits w32 z = sfits-of (c .before .w .given) in
     let h = test-of (λ z. ltZ z (pos 0)) f (c .if1 .taken) in
     next-fits z f h _ (toZ-ofZ f)
 
 sub-q : tie.Need-sub-q
 sub-q c =
-    let z = getD (c .before .before .args .work .now) (emitted-ints + c .before .before .args .n) (pos 0) in
+    let s = c .before .before in
+    let z = getD (s .args .work .now) (emitted-ints + s .args .n) (pos 0) in
     let f : SFits w32 z = sfits-of (c .before .w .given) in
     let h = test-of (λ z. ltZ z (pos 0)) f (c .if1 .taken) in
     let g = next-fits z f h _ (toZ-ofZ f) in
@@ -44,7 +45,8 @@ sub-q c =
 
 cast-column-domain : tie.Need-cast-column-domain
 cast-column-domain c =
-    let z = getD (c .before .before .args .work .now) (emitted-ints + c .before .before .args .n) (pos 0) in
+    let s = c .before .before in
+    let z = getD (s .args .work .now) (emitted-ints + s .args .n) (pos 0) in
     let f : SFits w32 z = sfits-of (c .before .w .given) in
     let h = test-of (λ z. ltZ z (pos 0)) f (c .if1 .taken) in
     let g = next-fits z f h _ (toZ-ofZ f) in
@@ -53,44 +55,47 @@ cast-column-domain c =
 
 column-domain-requires : tie.Need-column-domain-requires
 column-domain-requires c κs =
-    let z = getD (c .before .before .args .work .now) (emitted-ints + c .before .before .args .n) (pos 0) in
+    let s = c .before .before in
+    let z = getD (s .args .work .now) (emitted-ints + s .args .n) (pos 0) in
     let f : SFits w32 z = sfits-of (c .before .w .given) in
     let h = test-of (λ z. ltZ z (pos 0)) f (c .if1 .taken) in
     let g = next-fits z f h _ (toZ-ofZ f) in
     let q = place-fits z f h _ (toZ-ofZ f) _ (toZ-ofZ g) in
-    let x = c .before .before .pre in
-    asks-column _ _ _ _ _ _ _ (x .emits) _ (place-same z f h _ (toZ-ofZ f) _ (toZ-ofZ g) _ (toZ-ofZ q)) h
+    asks-column (s .pre .emits) _ (place-same z f h _ (toZ-ofZ f) _ (toZ-ofZ g) _ (toZ-ofZ q)) h
 
 returns : tie.Need-returns
 returns c =
-    let z = getD (c .before .before .before .args .work .now) (emitted-ints + c .before .before .before .args .n) (pos 0) in
+    let s = c .before .before .before in
+    let z = getD (s .args .work .now) (emitted-ints + s .args .n) (pos 0) in
     let f : SFits w32 z = sfits-of (c .before .before .w .given) in
     let h = test-of (λ z. ltZ z (pos 0)) f (c .before .if1 .taken) in
     let g = next-fits z f h _ (toZ-ofZ f) in
     let q = place-fits z f h _ (toZ-ofZ f) _ (toZ-ofZ g) in
-    λ p b ss k x. gives-column _ _ _ p b ss k x _ (place-same z f h _ (toZ-ofZ f) _ (toZ-ofZ g) _ (toZ-ofZ q)) h (c .column-domain .ensures)
+    λ p b ss k x. gives-column x _ (place-same z f h _ (toZ-ofZ f) _ (toZ-ofZ g) _ (toZ-ofZ q)) h (c .column-domain .ensures)
 
 cast-declared-domain : tie.Need-cast-declared-domain
 cast-declared-domain c =
-    let z = getD (c .before .before .args .work .now) (emitted-ints + c .before .before .args .n) (pos 0) in
+    let s = c .before .before in
+    let z = getD (s .args .work .now) (emitted-ints + s .args .n) (pos 0) in
     let f : SFits w32 z = sfits-of (c .before .w .given) in
     let h = test-of (λ z. ltZ z (pos 0)) f (c .if1 .left) in
     rw (toZ-ofZ f) (not-neg z h, fits-natAbs tt f)
 
 declared-domain-requires : tie.Need-declared-domain-requires
 declared-domain-requires c κs =
-    let z = getD (c .before .before .args .work .now) (emitted-ints + c .before .before .args .n) (pos 0) in
+    let s = c .before .before in
+    let z = getD (s .args .work .now) (emitted-ints + s .args .n) (pos 0) in
     let f : SFits w32 z = sfits-of (c .before .w .given) in
     let h = test-of (λ z. ltZ z (pos 0)) f (c .if1 .left) in
-    let x = c .before .before .pre in
-    asks-declared _ _ _ _ _ _ _ (x .emits) _ (toZ-ofZ f) h
+    asks-declared (s .pre .emits) _ (toZ-ofZ f) h
 
 returns-2 : tie.Need-returns-2
 returns-2 c =
-    let z = getD (c .before .before .before .args .work .now) (emitted-ints + c .before .before .before .args .n) (pos 0) in
+    let s = c .before .before .before in
+    let z = getD (s .args .work .now) (emitted-ints + s .args .n) (pos 0) in
     let f : SFits w32 z = sfits-of (c .before .before .w .given) in
     let h = test-of (λ z. ltZ z (pos 0)) f (c .before .if1 .left) in
-    λ p b ss k x. gives-declared _ _ _ p b ss k x _ (toZ-ofZ f) h (c .declared-domain .ensures)
+    λ p b ss k x. gives-declared x _ (toZ-ofZ f) h (c .declared-domain .ensures)
 
 pub emitted-domain-spec : {M : Type 1} → statement M
 emitted-domain-spec =

@@ -1,4 +1,4 @@
-use lib.IntN.{ℤ, pos}
+use lib.IntN.{pos}
 use lib.Signed.{ltZ}
 use lib.ListN.{getD}
 use mathlib.Core.Path.{_∙_}

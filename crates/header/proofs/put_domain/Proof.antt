@@ -1,6 +1,3 @@
-use mathlib.Core.Path.{_≡_, refl, _∙_}
-use native.Mathlib.Omega.{arith}
-use lib.IntN.{ℤ}
 use mir.Syntax.{w32}
 use mir.Val.{SFits}
 use mir.Facts.{toZ-ofZ}
@@ -17,25 +14,25 @@ emitted-domain-requires : tie.Need-emitted-domain-requires
 emitted-domain-requires c κs = c .before .pre .0
 
 mul-at : tie.Need-mul-at
-mul-at c = let l = pair-room (c .before .before .before .before .before .args .set .now) (c .before .before .before .before .before .args .work .now) (c .before .before .before .before .before .args .n) (c .before .before .before .before .before .pre .0) in search needs
+mul-at c = let l = pair-room (c .before .before .before .before .before .pre .0) in search needs
 
 add-at : tie.Need-add-at
-add-at c = let l = pair-room (c .before .before .before .before .before .args .set .now) (c .before .before .before .before .before .args .work .now) (c .before .before .before .before .before .args .n) (c .before .before .before .before .before .pre .0) in search needs
+add-at c = let l = pair-room (c .before .before .before .before .before .pre .0) in search needs
 
 mul-low : tie.Need-mul-low
-mul-low c = let l = pair-room (c .before .before .before .before .before .args .set .now) (c .before .before .before .before .before .args .work .now) (c .before .before .before .before .before .args .n) (c .before .before .before .before .before .pre .0) in search needs
+mul-low c = let l = pair-room (c .before .before .before .before .before .pre .0) in search needs
 
 slice-set-from-low : tie.Need-slice-set-from-low
-slice-set-from-low c = let l = pair-room (c .before .before .before .before .before .args .set .now) (c .before .before .before .before .before .args .work .now) (c .before .before .before .before .before .args .n) (c .before .before .before .before .before .pre .0) in search needs
+slice-set-from-low c = let l = pair-room (c .before .before .before .before .before .pre .0) in search needs
 
 add-high : tie.Need-add-high
-add-high c = let l = pair-room (c .before .before .before .before .before .args .set .now) (c .before .before .before .before .before .args .work .now) (c .before .before .before .before .before .args .n) (c .before .before .before .before .before .pre .0) in search needs
+add-high c = let l = pair-room (c .before .before .before .before .before .pre .0) in search needs
 
 mul-high : tie.Need-mul-high
-mul-high c = let l = pair-room (c .before .before .before .before .before .args .set .now) (c .before .before .before .before .before .args .work .now) (c .before .before .before .before .before .args .n) (c .before .before .before .before .before .pre .0) in search needs
+mul-high c = let l = pair-room (c .before .before .before .before .before .pre .0) in search needs
 
 slice-set-from-high : tie.Need-slice-set-from-high
-slice-set-from-high c = let l = pair-room (c .before .before .before .before .before .args .set .now) (c .before .before .before .before .before .args .work .now) (c .before .before .before .before .before .args .n) (c .before .before .before .before .before .pre .0) in search needs
+slice-set-from-high c = let l = pair-room (c .before .before .before .before .before .pre .0) in search needs
 
 put-requires : tie.Need-put-requires
 put-requires c κs = search needs
@@ -54,11 +51,12 @@ same-length-2 c = search needs
 
 returns : tie.Need-returns
 returns c =
-    let d = c .before .before .before .before .before .before .before .before .before .before .before .before .emitted-domain .result in
-    let f : SFits w32 (d .low) = search needs in
-    let g : SFits w32 (d .high) = search needs in
-    let k : SFits w32 (d .size) = search needs in
-    put-done (c .before .before .before .before .before .before .before .before .before .before .before .before .before .before .args .set .now) (c .before .before .before .before .before .before .before .before .before .before .before .before .before .before .args .work .now) (c .before .before .before .before .before .before .before .before .before .before .before .before .before .before .args .n) (c .before .before .before .before .before .before .before .before .before .before .before .before .before .before .pre .0) (toZ-ofZ f) (toZ-ofZ g) (toZ-ofZ k) (c .before .before .before .before .before .before .before .before .before .before .before .before .emitted-domain .ensures) (c .before .before .before .before .before .before .before .before .before .before .before .before .before .before .pre .1 .room) (c .before .before .before .before .before .before .before .put .ensures) (c .before .before .before .before .put2 .ensures) (c .before .put3 .ensures)
+    let s = c .before .before .before .before .before .before .before .before .before .before .before .before .before .before in
+    let d = c .before .before .before .before .before .before .before .before .before .before .before .before .emitted-domain in
+    let f : SFits w32 (d .result .low) = search needs in
+    let g : SFits w32 (d .result .high) = search needs in
+    let k : SFits w32 (d .result .size) = search needs in
+    put-done (s .pre .0) (toZ-ofZ f) (toZ-ofZ g) (toZ-ofZ k) (d .ensures) (s .pre .1 .room) (c .before .before .before .before .before .before .before .put .ensures) (c .before .before .before .before .put2 .ensures) (c .before .put3 .ensures)
 
 pub put-domain-spec : {M : Type 1} → statement M
 put-domain-spec =

@@ -1,4 +1,3 @@
-use native.Mathlib.Omega.{arith}
 use Rattle.header.proofs.Heads.{maps-done}
 use borrow.Author.Needs.{needs}
 use Rattle.header.proofs.put_maps.Statement.{statement}

@@ -1,4 +1,3 @@
-use native.Mathlib.Omega.{arith}
 use Rattle.header.proofs.Heads.{few-declared, bools-low, ints-low, some-numbered, count-fits, count-word, header-done}
 use borrow.Author.Needs.{needs}
 use Rattle.header.proofs.write_header.Statement.{statement}
@@ -10,22 +9,22 @@ use Rattle.header.proofs.put_maps.Reads as put-maps-reads
 use Rattle.writer.proofs.put.Reads as put-reads
 
 put-maps-requires : tie.Need-put-maps-requires
-put-maps-requires c κs = let k = few-declared (c .before .before .args .set .now) (c .before .before .args .work .now) (c .before .before .args .bools) (c .before .before .args .ints) (c .before .before .args .c) (c .before .before .pre .0) in (k .0, k .1, k .2, c .before .before .pre .1)
+put-maps-requires c κs = let k = few-declared (c .before .before .pre .0) in (k .0, k .1, k .2, c .before .before .pre .1)
 
 cast-put : tie.Need-cast-put
-cast-put c = count-fits _ (bools-low (c .before .before .before .before .before .args .set .now) (c .before .before .before .before .before .args .work .now) (c .before .before .before .before .before .args .bools) (c .before .before .before .before .before .args .ints) (c .before .before .before .before .before .args .c) (c .before .before .before .before .before .pre .0))
+cast-put c = count-fits _ (bools-low (c .before .before .before .before .before .pre .0))
 
 put-requires : tie.Need-put-requires
 put-requires c κs = search needs
 
 cast-put-2 : tie.Need-cast-put-2
-cast-put-2 c = count-fits _ (ints-low (c .before .before .before .before .before .before .before .before .args .set .now) (c .before .before .before .before .before .before .before .before .args .work .now) (c .before .before .before .before .before .before .before .before .args .bools) (c .before .before .before .before .before .before .before .before .args .ints) (c .before .before .before .before .before .before .before .before .args .c) (c .before .before .before .before .before .before .before .before .pre .0))
+cast-put-2 c = count-fits _ (ints-low (c .before .before .before .before .before .before .before .before .pre .0))
 
 put-requires-2 : tie.Need-put-requires-2
 put-requires-2 c κs = search needs
 
 put-domains-requires : tie.Need-put-domains-requires
-put-domains-requires c κs = (some-numbered (c .before .before .before .before .before .before .before .before .before .before .before .before .args .set .now) (c .before .before .before .before .before .before .before .before .before .before .before .before .args .work .now) (c .before .before .before .before .before .before .before .before .before .before .before .before .args .bools) (c .before .before .before .before .before .before .before .before .before .before .before .before .args .ints) (c .before .before .before .before .before .before .before .before .before .before .before .before .args .c) (c .before .before .before .before .before .before .before .before .before .before .before .before .pre .0), search needs)
+put-domains-requires c κs = (some-numbered (c .before .before .before .before .before .before .before .before .before .before .before .before .pre .0), search needs)
 
 same-length : tie.Need-same-length
 same-length c = search needs
@@ -34,7 +33,11 @@ same-length-2 : tie.Need-same-length-2
 same-length-2 c = search needs
 
 returns : tie.Need-returns
-returns c = header-done (c .before .before .before .before .before .before .before .before .before .before .before .before .before .before .before .pre .1) (c .before .before .before .before .before .before .before .before .before .before .before .before .put-maps .ensures) (count-word _ (bools-low (c .before .before .before .before .before .before .before .before .before .before .before .before .before .before .before .args .set .now) (c .before .before .before .before .before .before .before .before .before .before .before .before .before .before .before .args .work .now) (c .before .before .before .before .before .before .before .before .before .before .before .before .before .before .before .args .bools) (c .before .before .before .before .before .before .before .before .before .before .before .before .before .before .before .args .ints) (c .before .before .before .before .before .before .before .before .before .before .before .before .before .before .before .args .c) (c .before .before .before .before .before .before .before .before .before .before .before .before .before .before .before .pre .0)) (c .before .before .before .before .before .before .before .before .before .put .ensures)) (count-word _ (ints-low (c .before .before .before .before .before .before .before .before .before .before .before .before .before .before .before .args .set .now) (c .before .before .before .before .before .before .before .before .before .before .before .before .before .before .before .args .work .now) (c .before .before .before .before .before .before .before .before .before .before .before .before .before .before .before .args .bools) (c .before .before .before .before .before .before .before .before .before .before .before .before .before .before .before .args .ints) (c .before .before .before .before .before .before .before .before .before .before .before .before .before .before .before .args .c) (c .before .before .before .before .before .before .before .before .before .before .before .before .before .before .before .pre .0)) (c .before .before .before .before .before .before .put2 .ensures)) (c .before .before .put-domains .ensures)
+returns c =
+    let s = c .before .before .before .before .before .before .before .before .before .before .before .before .before .before .before .pre in
+    let x = count-word _ (bools-low (s .0)) (c .before .before .before .before .before .before .before .before .before .put .ensures) in
+    let y = count-word _ (ints-low (s .0)) (c .before .before .before .before .before .before .put2 .ensures) in
+    header-done (s .1) (c .before .before .before .before .before .before .before .before .before .before .before .before .put-maps .ensures) x y (c .before .before .put-domains .ensures)
 
 pub write-header-spec : {M : Type 1} → statement M
 write-header-spec =
