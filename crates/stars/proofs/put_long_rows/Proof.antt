@@ -50,7 +50,7 @@ loop-again c =
     let z : (loop .left) ≡ 0 → ⊥ = λ e. omega (arith, e, c .before .before .loop-test .taken) in (
       rows-next (start .args .work .now) (start .args .n) (loop .p) (loop .left) (start .args .cols) z (loop .inv .0),
       omega (arith, loop .inv .1),
-      rest-skip _ (loop .inv .2) (long-no (start .args .work .now) (start .args .n) (loop .p) (loop .left) z (vars-of (start .args .n) (drop (start .args .cols) (start .args .work .now))) (start .args .mode) (start .args .m) (loop .j) (ap is-longer (sym (c .before .row-values .ensures .0)) ∙ longer-no _ (c .if1 .taken))),
+      rest-skip _ (loop .inv .2) (long-no (start .args .work .now) (start .args .n) (loop .p) (loop .left) z (vars-of (start .args .n) (drop (start .args .cols) (start .args .work .now))) (start .args .mode) (start .args .m) (loop .j) (ap is-longer (sym (c .before .row-values .ensures .0)) ∙ longer-no (c .before .row-values .result) (omega (arith, c .if1 .taken)))),
     )
 
 put-row-requires : tie.Need-put-row-requires Inv-loop μ-loop

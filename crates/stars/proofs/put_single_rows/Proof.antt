@@ -53,9 +53,10 @@ loop-again : tie.Need-loop-again Inv-loop μ-loop
 loop-again c =
     let start = c .before .before .before .before .before .before .before in
     let loop = c .before .before .before .before .before .before .loop in
-    let z : (loop .left) ≡ 0 → ⊥ = λ e. omega (arith, e, c .before .before .before .before .before .loop-test .taken) in (
+    let z : (loop .left) ≡ 0 → ⊥ = λ e. omega (arith, e, c .before .before .before .before .before .loop-test .taken) in
+    let one : (c .before .before .before .before .row-values .result) ≡ 1 = omega (arith, c .before .before .before .if1 .taken) in (
       rows-next (start .args .work .now) (start .args .n) (loop .p) (loop .left) (start .args .cols) z (loop .inv .0),
-      left-next _ _ (loop .inv .1) (single-yes (start .args .work .now) (start .args .n) (loop .p) (loop .left) z (vars-of (start .args .n) (drop (start .args .cols) (start .args .work .now))) (ap is-single (sym (c .before .before .before .before .row-values .ensures .0) ∙ c .before .before .before .if1 .taken))) (c .before .put-values .ensures),
+      left-next _ _ (loop .inv .1) (single-yes (start .args .work .now) (start .args .n) (loop .p) (loop .left) z (vars-of (start .args .n) (drop (start .args .cols) (start .args .work .now))) (ap is-single (sym (c .before .before .before .before .row-values .ensures .0) ∙ one))) (c .before .put-values .ensures),
     )
 
 loop-less-2 : tie.Need-loop-less-2 Inv-loop μ-loop
