@@ -83,7 +83,7 @@ count-step f r rs = go (f (values-in r))
     go false = refl
 
 -- whether a count is not 0
-abbrev some-of : ℕ → Bool
+abbrev pub some-of : ℕ → Bool
 some-of zero = false
 some-of (suc m) = true
 
@@ -112,7 +112,7 @@ module _ (n : ℕ) where
   free-step zero x = refl
   free-step (suc m) x = refl
 
-  free-count : (rows : List (List Cell)) → Each (WellRow n) rows → some-of (count-rows is-free (map (map encode-cell) rows)) ≡ free-rows n rows
+  pub free-count : (rows : List (List Cell)) → Each (WellRow n) rows → some-of (count-rows is-free (map (map encode-cell) rows)) ≡ free-rows n rows
   free-count [] h = unfold count-rows in refl
   free-count (cs ∷ rows) h =
       ap some-of (count-step is-free (map encode-cell cs) (map (map encode-cell) rows))
@@ -120,20 +120,20 @@ module _ (n : ℕ) where
 
 -- ---- the table's new numbers
 
-some-not : (m : ℕ) → (m ≡ 0 → ⊥) → some-of m ≡ true
+pub some-not : (m : ℕ) → (m ≡ 0 → ⊥) → some-of m ≡ true
 some-not zero h = absurd (h refl)
 some-not (suc m) h = refl
 
 module _ (w : List ℤ) (at n k : ℕ) (rows : List (List Cell)) (h : RowsStand w at n k rows) where
-  stars-are : any (λ x. eqZ x star-word) (row-at (k * n) at w) ≡ starred rows
+  pub stars-are : any (λ x. eqZ x star-word) (row-at (k * n) at w) ≡ starred rows
   stars-are =
       let l : k * n ≡ length (cells-words rows) = sym (length-cells n rows (rows-wide n rows (h .well)) ∙ ap (λ (m : ℕ). m * n) (sym (h .count))) in
       ap (λ (m : ℕ). any (λ x. eqZ x star-word) (row-at m at w)) l ∙ ap (any (λ x. eqZ x star-word)) (h .stands) ∙ stars-stand rows (rows-small n rows (h .well))
 
-  rows-are : rows-of n k (drop at w) ≡ map (map encode-cell) rows
+  pub rows-are : rows-of n k (drop at w) ≡ map (map encode-cell) rows
   rows-are = ap (λ (m : ℕ). rows-of n m (drop at w)) (h .count) ∙ cells-stand w at n rows (h .stands) (h .well)
 
-  counts-are : (f : ℕ → Bool) (m : ℕ) → m ≡ count-rows f (rows-of n k (drop at w)) → m ≡ count-rows f (map (map encode-cell) rows)
+  pub counts-are : (f : ℕ → Bool) (m : ℕ) → m ≡ count-rows f (rows-of n k (drop at w)) → m ≡ count-rows f (map (map encode-cell) rows)
   counts-are f m e = e ∙ ap (count-rows f) rows-are
 
   -- without a star; with a row of stars only; else

@@ -1,0 +1,162 @@
+-- A rule among the statements: it may be written where it stands, and what is written are its clauses.
+use mathlib.Core.Path.{_≡_, refl, sym, ap, _∙_, subst}
+use mathlib.Core.Bool.{Bool, true, false, _||_}
+use mathlib.Core.List.{List, [], _∷_, _++_, map}
+use Prim.Native.Nat.{ℕ, suc, _+_, _*_, _≤_, _<_, min}
+use native.Mathlib.Omega.{arith}
+use lib.IntN.{ℤ, pos}
+use lib.ListN.{length, getD, length-append}
+use Rattle.laws.specs.Lists.{flat, counted}
+use Rattle.laws.specs.Slices.{Has, has-word, has-rest}
+use Rattle.laws.specs.Writes.{cap}
+use Rattle.syntax.specs.Syntax.{IntExpr, BoolExpr, Const, Var, NVar, And, Or, Not, Xor, Iff, Imp, Cmp, Members, none, more, encode-bool, Cell, Stmt, Rule, Table, encode-stmt}
+use Rattle.limits.specs.Limits.{any-comparison, any-comparison-members}
+use Rattle.clauses.specs.Clause.{Clause, clause}
+use Rattle.clauses.specs.Log.{Log, next-bool}
+use Rattle.clauses.specs.Normalize.{normalize-conjunction}
+use Rattle.clauses.specs.Split.{normalize-and-register-expr, tseitin-transformation-bool as split}
+use Rattle.answer.specs.Answer.{lit-words, linear-words, clause-words, normalize-stmt}
+use Rattle.walk.specs.Tree.{splits, runs}
+use Rattle.walk.specs.Resolve.{rule-trees, rule-runs, split-sided}
+use Rattle.walk.specs.Item.{limit, State, nat}
+use Rattle.walk.specs.Grow.{back}
+use Rattle.walk.specs.Two.{Low, low-back, runs-grow}
+use Rattle.walk.specs.Rule.{LegalRule, true-rule, legal-rule}
+use Rattle.walk.specs.Decode.{word, read-part}
+use Rattle.writer.specs.Placed.{Placed, RuleWrote}
+use Rattle.writer.specs.Rules.{Writable, RuleIs, rule-written}
+use Rattle.rows.specs.Emit.{clauses-words, Clauses, Behind}
+use Rattle.statements.specs.Columns.{ColumnRecord}
+use Rattle.statements.specs.Statements.{stmt-grows}
+use Rattle.statements.specs.Saved.{saved-same}
+use Rattle.tabling.specs.Step.{Place, At, SomeAt, SomeTable, Did}
+use Rattle.writing.specs.Writing.{RuleStep}
+
+-- ---- a rule has no columns
+
+module _ (f : IntExpr → IntExpr → Bool) (g h : IntExpr → Bool) where
+  mutual
+    unfolding any-comparison
+
+    any-same : (e : BoolExpr) → any-comparison f g e ≡ any-comparison f h e
+    any-same (Const b) = refl
+    any-same (Var v) = refl
+    any-same (NVar n) = refl
+    any-same (And ms) = any-sames ms
+    any-same (Or ms) = any-sames ms
+    any-same (Not e) = any-same e
+    any-same (Xor a b) = rw (any-same a, any-same b) refl
+    any-same (Iff a b) = rw (any-same a, any-same b) refl
+    any-same (Imp a b) = rw (any-same a, any-same b) refl
+    any-same (Cmp o a b) = refl
+
+    any-sames : (ms : Members) → any-comparison-members f g ms ≡ any-comparison-members f h ms
+    any-sames none = refl
+    any-sames (more e ms) = rw (any-same e, any-sames ms) refl
+
+-- ---- room for the splitting's numbers
+
+splits-low : (e : BoolExpr) (s : Log) → LegalRule e 64 → Low (normalize-and-register-expr e s .1) → next-bool s ≤ limit → next-bool s + splits e false ≤ limit
+unfolding splits normalize-conjunction
+splits-low e s (true-rule x) l k = omega arith
+splits-low e s (legal-rule x) l k =
+    let ts = rule-trees e 0 (next-bool s) in
+    let z : Log = split e false s .log in
+    let m : Low (runs ts z .1) = rw (rule-runs e 0 s) at l in
+    omega (arith, runs-grow ts z .bools, m .bools, split-sided e false s .bools)
+
+-- ---- a clause has two words at least
+
+clause-two : (c : Clause) → 2 ≤ length (clause-words c)
+clause-two (clause ls ks) = omega (arith, length-append (counted lit-words ls) (counted linear-words ks))
+
+clauses-two : (cs : List Clause) → 2 * length cs ≤ length (clauses-words cs)
+clauses-two [] = omega arith
+clauses-two (c ∷ cs) = omega (arith, clause-two c, clauses-two cs, length-append (clause-words c) (clauses-words cs))
+
+-- ---- the code word tells the statement
+
+code-rule : (w : List ℤ) (q : ℕ) (e : BoolExpr) → Has (read-part w) q (encode-stmt (Rule e)) → word (read-part w) q ≡ 1
+unfolding word nat encode-stmt
+code-rule w q e h = ap nat (has-word (read-part w) q (pos 1) (encode-bool e) (pos 0) h)
+
+code-table : (w : List ℤ) (q : ℕ) (es : List IntExpr) (rows : List (List Cell)) → Has (read-part w) q (encode-stmt (Table es rows)) → word (read-part w) q ≡ 2
+unfolding word nat encode-stmt
+code-table w q es rows h = ap nat (has-word (read-part w) q (pos 2) _ (pos 0) h)
+
+rule-has : (w : List ℤ) (q : ℕ) (e : BoolExpr) → Has (read-part w) q (encode-stmt (Rule e)) → Has (read-part w) (q + 1) (encode-bool e)
+unfolding encode-stmt
+rule-has w q e h = has-rest (read-part w) q (pos 1) (encode-bool e) h
+
+rule-length : (e : BoolExpr) → length (encode-stmt (Rule e)) ≡ 1 + length (encode-bool e)
+unfolding encode-stmt
+rule-length e = omega arith
+
+module _ (set w : List ℤ) (q triples m : ℕ) (out : List ℤ) (o : ℕ) where
+  module _ (x : Place) (e : BoolExpr) (h : At x (Rule e) set w q triples m out o) where
+    rule-low : Low (normalize-and-register-expr e (x .before) .1)
+    rule-low = unfold normalize-stmt in low-back (h .at .grows) (h .low)
+
+    rule-room : next-bool (x .before) + splits e false ≤ limit
+    unfolding normalize-stmt
+    rule-room = splits-low e (x .before) (h .at .legal) rule-low (omega (arith, stmt-grows (x .folded) (x .problem .domains) (Rule e) (x .before) (h .at .legal) .bools, rule-low .bools))
+
+    pub rule-writable : Placed w (q + 1) m m × Writable w (q + 1) m
+    rule-writable = (
+      record { size = omega (arith, h .size); inside = omega (arith, h .at .inside, rule-length e); low = omega (arith, h .number, rule-room); low-base = omega (arith, h .number, rule-room) },
+      record {
+        rule = e;
+        legal = h .at .legal;
+        has = rule-has w q e (h .stands);
+        room = omega (arith, h .number, rule-room);
+        domains = x .problem .domains;
+        light = sym (any-same _ _ _ e) ∙ h .at .facts .light;
+        few = sym (any-same _ _ _ e) ∙ h .at .facts .few;
+      },
+    )
+
+    -- k: the clauses before it
+    pub rule-did : (k : ℕ) → Behind out o k → (out' : List ℤ) (e' m' o' k' : ℕ) → RuleStep w q m out o k out' e' m' o' k' → Did x (Rule e) w q out o k w out' e' m' o' k'
+    unfolding normalize-stmt
+    rule-did k b out' e' m' o' k' r =
+        let st : State = x .state in
+        let n : m ≡ st .bools = h .number ∙ sym (h .at .numbered .bools) in
+        let y : RuleWrote w (q + 1) (st .bools) out o out' e' m' (r .lines) o' = subst (λ (i : ℕ). RuleWrote w (q + 1) i out o out' e' m' (r .lines) o') n (r .wrote) in
+        let i : RuleIs e (x .before) (q + 1) out o out' e' m' (r .lines) o' = rule-written (ColumnRecord (x .folded) (x .problem .domains)) w (q + 1) out o out' e' m' (r .lines) o' st y e (x .before) (h .at .legal) (rule-has w q e (h .stands)) (omega (arith, h .at .numbered .bools, rule-room)) (h .at .numbered) rule-low (back (h .at .grows) (h .fit)) in
+        let two = clauses-two (normalize-and-register-expr e (x .before) .0) in
+        record {
+          clauses = record {
+            words = i .wrote;
+            count = λ l. omega (arith, r .count, i .lines, i .wrote .at, two, b .low);
+            low = omega (arith, r .count);
+          };
+          next = omega (arith, i .stop, rule-length e);
+          bools = i .count;
+          saved = saved-same e' w;
+        }
+
+  -- the code word is a rule's
+  pub is-rule : {X : Type 0} (x : Place) (t : Stmt) → At x t set w q triples m out o → word (read-part w) q ≡ 1 → ((e : BoolExpr) → At x (Rule e) set w q triples m out o → X) → X
+  is-rule x (Rule e) h c f = f e h
+  is-rule x (Table es rows) h c f = absurd (omega (arith, c, code-table w q es rows (h .stands)))
+
+  pub some-rule : SomeAt set w q triples m out o → word (read-part w) q ≡ 1 → Placed w (q + 1) m m × Writable w (q + 1) m
+  some-rule s c = is-rule (s .place) (s .stmt) (s .it) c (λ e h. rule-writable (s .place) e h)
+
+  -- it is a table's
+  pub some-table : SomeAt set w q triples m out o → (word (read-part w) q ≡ 1 → ⊥) → SomeTable set w q triples m out o
+  some-table s c = go (s .stmt) (s .it)
+    where
+      go : (t : Stmt) → At (s .place) t set w q triples m out o → SomeTable set w q triples m out o
+      go (Rule e) h = absurd (c (code-rule w q e (h .stands)))
+      go (Table es rows) h = record { place = s .place; exprs = es; rows = rows; it = h }
+
+  module _ (k : ℕ) (w' out' : List ℤ) (e' m' o' k' : ℕ) where
+    pub did-rule : word (read-part w) q ≡ 1 → Behind out o k → RuleStep w q m out o k out' e' m' o' k' → (x : Place) (t : Stmt) → At x t set w q triples m out o → Did x t w q out o k w out' e' m' o' k'
+    did-rule c b r x (Rule e) h = rule-did x e h k b out' e' m' o' k' r
+    did-rule c b r x (Table es rows) h = absurd (omega (arith, c, code-table w q es rows (h .stands)))
+
+    pub did-table : (word (read-part w) q ≡ 1 → ⊥) → ((x : Place) (es : List IntExpr) (rows : List (List Cell)) → At x (Table es rows) set w q triples m out o → Did x (Table es rows) w q out o k w' out' e' m' o' k')
+        → (x : Place) (t : Stmt) → At x t set w q triples m out o → Did x t w q out o k w' out' e' m' o' k'
+    did-table c f x (Rule e) h = absurd (c (code-rule w q e (h .stands)))
+    did-table c f x (Table es rows) h = f x es rows h

@@ -1,0 +1,45 @@
+-- The clauses of all statements of a numbered set: what writing them asks and gives.
+use mathlib.Core.Path.{_≡_}
+use mathlib.Core.List.{List, map}
+use Prim.Native.Nat.{ℕ, _+_, _*_, _≤_, min}
+use lib.IntN.{ℤ}
+use lib.ListN.{length}
+use Rattle.laws.specs.Lists.{flat}
+use Rattle.laws.specs.Slices.{Has}
+use Rattle.syntax.specs.Syntax.{Stmt, Problem, encode}
+use Rattle.fold.specs.Fold.{Fixed}
+use Rattle.tables.specs.Tables.{emitted-domains}
+use Rattle.answer.specs.Answer.{domain-words}
+use Rattle.walk.specs.Item.{bump}
+use Rattle.walk.specs.declared.Counters.{Counters}
+use Rattle.writer.specs.Placed.{RuleWrote}
+use Rattle.rows.specs.Emit.{Clauses, Behind}
+use Rattle.rows.specs.declared.Written.{Written}
+use Rattle.statements.specs.Ready.{stmts-words, clauses-of, log-of, Ready}
+
+-- the set's words, the work slice after numbering, and the answer with its emitted integers' words from `triples` on, in front of o
+pub record Writable (p : Problem) (f : Fixed) (ss : List Stmt) (c : Counters) (set w : List ℤ) (end triples : ℕ) (out : List ℤ) (o : ℕ) : Type 0 where
+  pub words : set ≡ encode p
+  pub ready : Ready p f ss w c
+  pub ends : end ≡ 512 + length (stmts-words ss)
+  pub domains : Has out triples (flat (map domain-words (emitted-domains (p .domains) (log-of p ss))))
+  pub behind : triples + 3 * c .ints ≤ o
+  pub room : Behind out o 0
+
+pub record SomeWritable (set w : List ℤ) (end triples : ℕ) (out : List ℤ) (o : ℕ) : Type 0 where
+  pub it : Problem
+  pub fixed : Fixed
+  pub stmts : List Stmt
+  pub counters : Counters
+  pub writable : Writable it fixed stmts counters set w end triples out o
+
+-- the clauses of all statements in order, from o on
+pub record WrittenAll (set w : List ℤ) (end triples : ℕ) (out : List ℤ) (o : ℕ) (w' out' : List ℤ) (r : Written) : Type 0 where
+  pub clauses : (p : Problem) (f : Fixed) (ss : List Stmt) (c : Counters) → Writable p f ss c set w end triples out o → Clauses out o 0 (clauses-of p ss) out' (r .at) (r .clauses)
+  pub size : length w' ≡ length w
+
+-- the rule behind the code word at q is written; the count of clauses is no more than the place
+pub record RuleStep (w : List ℤ) (q m : ℕ) (out : List ℤ) (o k : ℕ) (out' : List ℤ) (e m' o' k' : ℕ) : Type 0 where
+  pub lines : ℕ
+  pub wrote : RuleWrote w (q + 1) m out o out' e m' lines o'
+  pub count : k' ≡ min (bump k lines) o'

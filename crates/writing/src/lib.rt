@@ -1,0 +1,76 @@
+// The clauses of all statements, in order, behind the answer's header.
+ghost use mathlib.Core.Path.{_≡_};
+ghost use Prim.Native.Nat.{_+_};
+ghost use Rattle.syntax.specs.Syntax.{Stmt};
+ghost use Rattle.writer.specs.Placed.{Placed};
+ghost use Rattle.writer.specs.Rules.{Writable as WritableRule};
+ghost use Rattle.rows.specs.Emit.{Behind};
+ghost use Rattle.tabling.specs.Step.{Place, At, SomeAt, Did};
+ghost use Rattle.writing.specs.Writing.{SomeWritable, WrittenAll, RuleStep};
+use rows::Written;
+use tabling::Step;
+
+// The clauses of the rule whose code word is at `at`, behind k others. m: the next Boolean's number.
+fn write_rule(work: &[i32], at: usize, m: usize, out: &mut [i32], o: usize, k: usize) -> Step
+    requires { ⌜ Placed (now work) (at + 1) m m × WritableRule (now work) (at + 1) m × Behind (now out) o k ⌝ }
+    ensures { λ r. ⌜ RuleStep (now (work .entry)) at m (now (out .entry)) o k (now (out .exit)) (r .next) (r .bools) (r .at) (r .clauses) ⌝ }
+{
+    let r = writer::write_rule(work, at + 1, m, out, o);
+    let p = r.o;
+    let mut c = number::bump(k, r.lines);
+    if p < c {
+        c = p;
+    }
+    Step {
+        next: r.at,
+        bools: r.n,
+        at: p,
+        clauses: c,
+    }
+}
+
+// The clauses of the statement at `at`.
+fn write_statement(
+    set: &[i32],
+    work: &mut [i32],
+    at: usize,
+    triples: usize,
+    m: usize,
+    out: &mut [i32],
+    o: usize,
+    k: usize,
+) -> Step
+    requires { ⌜ SomeAt (now set) (now work) at triples m (now out) o × Behind (now out) o k ⌝ }
+    ensures { λ r. ⌜ ((x : Place) (t : Stmt) → At x t (now (set .entry)) (now (work .entry)) at triples m (now (out .entry)) o → Did x t (now (work .entry)) at (now (out .entry)) o k (now (work .exit)) (now (out .exit)) (r .next) (r .bools) (r .at) (r .clauses)) ⌝ }
+{
+    if number::word(work, at) == 1 {
+        return write_rule(work, at, m, out, o, k);
+    }
+    tabling::write_table(set, work, at, triples, m, out, o, k)
+}
+
+// The clauses of the statements from 512 to `end`. The emitted integers' words stand in the answer from `triples` on.
+pub fn write_statements(
+    set: &[i32],
+    work: &mut [i32],
+    end: usize,
+    triples: usize,
+    out: &mut [i32],
+    o: usize,
+) -> Written
+    requires { ⌜ SomeWritable (now set) (now work) end triples (now out) o ⌝ }
+    ensures { λ r. ⌜ WrittenAll (now (set .entry)) (now (work .entry)) end triples (now (out .entry)) o (now (work .exit)) (now (out .exit)) r ⌝ }
+{
+    let mut q = 512;
+    let mut m = 0;
+    let mut p = o;
+    let mut k = 0;
+    while q < end {
+        let r = write_statement(set, work, q, triples, m, out, p, k);
+        q = r.next;
+        m = r.bools;
+        p = r.at;
+        k = r.clauses;
+    }
+    Written { at: p, clauses: k }
+}
