@@ -42,10 +42,10 @@ fn put_words(work: &[i32], from: usize, n: usize, out: &mut [i32], o: usize) -> 
 
 // ---- the domain of an emitted integer: lowest, highest, number of values
 
-pub struct Triple {
-    pub low: i32,
-    pub high: i32,
-    pub size: i32,
+struct Triple {
+    low: i32,
+    high: i32,
+    size: i32,
 }
 
 // Of the declared variable v.
