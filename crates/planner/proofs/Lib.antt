@@ -1,0 +1,7 @@
+pub mod Zeros
+pub mod Head
+pub mod Whole
+pub mod Cases
+pub mod Claims
+pub mod Refusals
+pub mod Numbers

@@ -1,0 +1,80 @@
+-- The answer as a station's number: it fits i64, and it is the definition's.
+use mathlib.Core.Path.{_≡_, refl, sym, ap, _∙_}
+use mathlib.Core.List.{List}
+use Prim.Native.Nat.{ℕ, zero, suc, _≤_}
+use native.Mathlib.Omega.{arith}
+use lib.IntN.{ℤ, pos, negℤ, _-ℤ_, +ℤ-idl}
+use lib.ListN.{length}
+use mir.Syntax.{w64}
+use mir.Val.{toZ, ofZ, SFits}
+use mir.Facts.{toZ-ofZ}
+use Rattle.laws.specs.Ints.{apart}
+use Rattle.syntax.specs.Words.{max-answer-words}
+use Rattle.call.specs.Call.{Result, compiled, contradiction, refused, returned, call}
+use Rattle.planner.specs.declared.Answer.{Answer}
+use Rattle.planner.specs.declared.Answer.the-variants.{Compiled, Contradiction, Refused}
+use Rattle.planner.specs.Contract.{answer-of, Compiles, Returns}
+use Rattle.planner.proofs.Refusals.{Small, call-small}
+
+-- ---- small numbers as bits
+
+pub number-fits : (n : ℕ) → n ≤ max-answer-words → SFits w64 (pos n)
+number-fits n h = record { sfits = omega arith }
+
+pub number-is : (n : ℕ) → n ≤ max-answer-words → toZ w64 n ≡ pos n
+number-is n h = toZ-ofZ (number-fits n h)
+
+minus-is : (k : ℕ) → pos 0 -ℤ pos k ≡ negℤ (pos k)
+minus-is k = +ℤ-idl (negℤ (pos k))
+
+minus-fits : (k : ℕ) → k ≤ 12 → SFits w64 (negℤ (pos k))
+minus-fits zero h = record { sfits = omega arith }
+minus-fits (suc k) h = record { sfits = omega arith }
+
+pub negated-fits : (k : ℕ) → k ≤ 12 → SFits w64 (pos 0 -ℤ toZ w64 k)
+negated-fits k h = rw (number-is k (omega arith), minus-is k) (minus-fits k h)
+
+pub negated-is : (k : ℕ) → k ≤ 12 → toZ w64 (ofZ w64 (pos 0 -ℤ toZ w64 k)) ≡ negℤ (pos k)
+negated-is k h = toZ-ofZ (negated-fits k h) ∙ ap (λ (z : ℤ). pos 0 -ℤ z) (number-is k (omega arith)) ∙ minus-is k
+
+-- ---- of an answer
+
+words-of : (x : Result) → Small x → (n : ℕ) → answer-of x ≡ Compiled n → (n ≤ max-answer-words) × (pos n ≡ returned x)
+unfolding answer-of returned
+words-of (compiled ws) s n e = let l : length ws ≡ n = cc in (omega (arith, s), ap pos (sym l))
+words-of contradiction s n e = apart (cc)
+words-of (refused k) s n e = apart (cc)
+
+none-of : (x : Result) → answer-of x ≡ Contradiction → negℤ (pos 100) ≡ returned x
+unfolding answer-of returned
+none-of (compiled ws) e = apart (cc)
+none-of contradiction e = refl
+none-of (refused k) e = apart (cc)
+
+refusal-of : (x : Result) → Small x → (k : ℕ) → answer-of x ≡ Refused k → (k ≤ 12) × (negℤ (pos k) ≡ returned x)
+unfolding answer-of returned
+refusal-of (compiled ws) s k e = apart (cc)
+refusal-of contradiction s k e = apart (cc)
+refusal-of (refused j) s k e = let l : j ≡ k = cc in (omega (arith, s), ap (λ (m : ℕ). negℤ (pos m)) (sym l))
+
+module _ (set out work out' work' : List ℤ) (r : Answer) (h : Compiles set out work out' work' r) where
+  abbrev result : Result
+  result = call set (length out) (length work)
+
+  gives : (x : ℤ) → x ≡ returned result → Returns set out work out' work' x
+  gives x e = record { number = e; output = h .output; zeroed = h .zeroed }
+
+  pub words-small : (n : ℕ) → r ≡ Compiled n → n ≤ max-answer-words
+  words-small n e = words-of result (call-small set (length out) (length work)) n (sym (h .answer) ∙ e) .0
+
+  pub refusal-small : (k : ℕ) → r ≡ Refused k → k ≤ 12
+  refusal-small k e = refusal-of result (call-small set (length out) (length work)) k (sym (h .answer) ∙ e) .0
+
+  pub returns-words : (n : ℕ) → r ≡ Compiled n → Returns set out work out' work' (toZ w64 n)
+  returns-words n e = gives (toZ w64 n) (number-is n (words-small n e) ∙ words-of result (call-small set (length out) (length work)) n (sym (h .answer) ∙ e) .1)
+
+  pub returns-none : r ≡ Contradiction → Returns set out work out' work' (negℤ (pos 100))
+  returns-none e = gives (negℤ (pos 100)) (none-of result (sym (h .answer) ∙ e))
+
+  pub returns-refusal : (k : ℕ) → r ≡ Refused k → Returns set out work out' work' (toZ w64 (ofZ w64 (pos 0 -ℤ toZ w64 k)))
+  returns-refusal k e = gives _ (negated-is k (refusal-small k e) ∙ refusal-of result (call-small set (length out) (length work)) k (sym (h .answer) ∙ e) .1)
