@@ -3,6 +3,7 @@ pub mod Log
 pub mod Disjunction
 pub mod Normalize
 pub mod Split
+pub mod Cases
 pub mod Valuation
 pub mod Bounds
 pub mod Grow

@@ -1,4 +1,5 @@
 pub mod Tables
+pub mod Cases
 pub mod Sorted
 pub mod Domains
 pub mod Agree
