@@ -18,7 +18,7 @@ use Rattle.laws.specs.Slices.{Has}
 use Rattle.syntax.specs.Syntax.{Domain, Range, Enumerative, lower-bound, upper-bound, num-candidates, domain-of, encode-domain, encode-int, Stmt, Problem}
 use Rattle.words.specs.Exact.{Each}
 use Rattle.read.specs.WellFormed.{WellDomain}
-use Rattle.limits.specs.Accepted.{domains-stand}
+use Rattle.accept.specs.Accepted.{domains-stand}
 use Rattle.fold.specs.Fold.{Fixed}
 use Rattle.domains.specs.Declared.{Domain-at, Sized-at, Domains, Domain-post}
 use Rattle.walk.specs.Item.{emitted-ints, int-number}

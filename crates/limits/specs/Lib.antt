@@ -1,6 +1,4 @@
 pub mod Limits
+pub mod Cases
 pub mod Total
 pub mod Count
-pub mod Walk
-pub mod Accepted
-pub mod Taken

@@ -22,7 +22,7 @@ use Rattle.fold.specs.Ends.{optimize-more}
 use Rattle.fold.specs.Kept.{fold-stmts-size}
 use Rattle.domains.specs.Declared.{Plain, Domains, Domain-at}
 use Rattle.fold.specs.Steps.{state-of, fixed-of, fixed-in}
-use Rattle.fold.proofs.BoolLaws.{fixed-at}
+use Rattle.folding.proofs.BoolLaws.{fixed-at}
 use Rattle.passes.specs.Want.{Values, Propagates}
 use Rattle.passes.specs.Statements.{Declared-stmts, Reads-stmts, Stmts-post, Stand-stmts, Prop-stmts-post}
 use Rattle.passes.specs.Passes.{stmts-every, stmts-kept, stmts-length, open-count, open-most, open-fewer, pass-unsatisfiable, pass-settled, pass-again}

@@ -126,9 +126,9 @@ pub fn set_infeasible(work: &mut [i32], v: usize, want: usize) -> usize
     if want == 2 {
         return 0;
     }
-    let s = fold::state_at(work, v);
+    let s = folding::state_at(work, v);
     if s == 2 {
-        fold::put(work, v, want);
+        folding::put(work, v, want);
         return 1;
     }
     if s == want {
@@ -227,7 +227,7 @@ pub fn copy_words(words: &[i32], at: usize, n: usize, work: &mut [i32], o: usize
 {
     let mut i = 0;
     while i < n {
-        fold::copy_word(words, at + i, work, o + i);
+        folding::copy_word(words, at + i, work, o + i);
         i += 1;
     }
     o + n
@@ -248,7 +248,7 @@ pub fn fold_columns(
     let mut end = o;
     let mut rest = n;
     while rest != 0 {
-        let a = fold::constant_folding_int(words, d, next, work, end);
+        let a = folding::constant_folding_int(words, d, next, work, end);
         next = a.next;
         end = a.end;
         rest = rest - 1;
@@ -264,8 +264,8 @@ pub fn fold_table(words: &[i32], d: usize, at: usize, work: &mut [i32], o: usize
 {
     let n = domains::number(words, at + 1);
     let k = domains::number(words, at + 2);
-    fold::put(work, o, 2);
-    let m = fold::put_two(work, o + 1, n, k);
+    folding::put(work, o, 2);
+    let m = folding::put_two(work, o + 1, n, k);
     let a = fold_columns(words, d, at + 3, n, work, m);
     let cells = n * k;
     let end = copy_words(words, a.next, cells, work, a.end);
@@ -281,8 +281,8 @@ pub fn fold_stmt(words: &[i32], d: usize, at: usize, work: &mut [i32], o: usize)
 {
     let w = domains::number(words, at);
     if w == 1 {
-        fold::put(work, o, 1);
-        let f = fold::constant_folding_bool(words, d, at + 1, work, o + 1);
+        folding::put(work, o, 1);
+        let f = folding::constant_folding_bool(words, d, at + 1, work, o + 1);
         return Span {
             next: f.next,
             end: f.end,
@@ -379,7 +379,7 @@ pub fn fill_open(work: &mut [i32])
 {
     let mut i = 0;
     while i < 512 {
-        fold::put(work, i, 2);
+        folding::put(work, i, 2);
         i += 1;
     }
 }

@@ -1,7 +1,6 @@
 pub mod Read
+pub mod Cases
 pub mod WellFormed
 pub mod ExactExpr
 pub mod Exact
-pub mod Position
-pub mod Accepted
 pub mod Vars

@@ -3,8 +3,8 @@ use mathlib.Core.List.{List, _++_}
 use Prim.Native.Nat.{ℕ}
 use lib.IntN.{ℤ, pos}
 use lib.ListN.{length, replicate, drop}
-use Rattle.read.specs.declared.Set.{Set}
-use Rattle.read.specs.declared.Set.the-variants.{Ok, Refused}
+use Rattle.reader.specs.declared.Set.{Set}
+use Rattle.reader.specs.declared.Set.the-variants.{Ok, Refused}
 
 abbrev pub refusal-of : Set → ℕ
 refusal-of (Ok d) = 0

@@ -1,8 +1,8 @@
 // For stations and tests: refusals 1 to 11 of a set, by number, with the work slice zeroed.
-use read::Set;
+use reader::Set;
 ghost use mathlib.Core.Path.{_≡_};
 ghost use lib.ListN.{length};
-ghost use Rattle.limits.specs.Accepted.{accepted};
+ghost use Rattle.accept.specs.Accepted.{accepted};
 ghost use Rattle.refuse.specs.Refuse.{refusal-of, zeros};
 
 // Every word becomes 0.
@@ -21,7 +21,7 @@ pub fn clear(s: &mut [i32])
 pub extern "C" fn refuse_set(set: &[i32], work: &mut [i32]) -> usize
     ensures { λ r. ⌜ (r ≡ refusal-of (accepted (length (now (work .entry))) (now (set .entry)))) × (now (work .exit) ≡ zeros (length (now (work .entry)))) ⌝ }
 {
-    let answer = limits::accept(set, work);
+    let answer = accept::accept(set, work);
     clear(work);
     match answer {
         Set::Ok(_) => 0,

@@ -14,12 +14,12 @@ use Rattle.syntax.specs.Words.{max-set-words, min-work-words}
 use Rattle.syntax.specs.Syntax.{Stmt, Problem}
 use Rattle.words.specs.Parse.{ok}
 use Rattle.read.specs.Read.{read-set}
-use Rattle.read.specs.declared.Declared.{Declared}
-use Rattle.read.specs.declared.Set.the-variants as taken
+use Rattle.reader.specs.declared.Declared.{Declared}
+use Rattle.reader.specs.declared.Set.the-variants as taken
 use Rattle.domains.specs.Declared.{bounds-words}
-use Rattle.limits.specs.Walk.{bounds-place}
-use Rattle.limits.specs.Accepted.{accepted, table-after}
-use Rattle.limits.specs.Taken.{Taken, accepted-ok, accepted-refused, taken-set, taken-table, declared-is}
+use Rattle.accept.specs.Walk.{bounds-place}
+use Rattle.accept.specs.Accepted.{accepted, table-after}
+use Rattle.accept.specs.Taken.{Taken, accepted-ok, accepted-refused, taken-set, taken-table, declared-is}
 use Rattle.fold.specs.Fold.{Fixed}
 use Rattle.fold.specs.Table.{state-num}
 use Rattle.fold.specs.Optimize.{Outcome, inconsistent, settled, optimize}

@@ -12,7 +12,7 @@ use Rattle.words.specs.Parse.{Parsed, ok, refuse}
 use Rattle.read.specs.Read.{read-set}
 use Rattle.read.specs.WellFormed.{WellFormed}
 use Rattle.limits.specs.Limits.{check}
-use Rattle.limits.specs.Accepted.{table-after}
+use Rattle.accept.specs.Accepted.{table-after}
 use Rattle.fold.specs.Fold.{Fixed}
 use Rattle.fold.specs.Optimize.{Outcome, inconsistent, settled, optimize}
 use Rattle.call.specs.Call.{zeros}

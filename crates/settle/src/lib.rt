@@ -1,5 +1,5 @@
 // Refusals 1 to 11, then folding and propagation: what a set's words give before its clauses.
-use read::Set;
+use reader::Set;
 ghost use mathlib.Core.Path.{_≡_};
 ghost use Rattle.settle.specs.Settle.{Some-taken, Fold-post, Settle-post};
 
@@ -39,7 +39,7 @@ pub fn settle(set: &[i32], work: &mut [i32]) -> Settling
     ensures { λ r. ⌜ Settle-post (now (set .entry)) (now (work .entry)) (now (work .exit)) r ⌝ }
 {
     refuse::clear(work);
-    match limits::accept(set, work) {
+    match accept::accept(set, work) {
         Set::Refused(k) => {
             refuse::clear(work);
             Settling::Refused(k)

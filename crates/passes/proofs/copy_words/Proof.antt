@@ -2,7 +2,7 @@ use Rattle.passes.proofs.copy_words.Statement.{statement}
 use Rattle.passes.proofs.copy_words.Tie as tie
 use Rattle.passes.proofs.copy_words.Reads as reads
 use Rattle.passes.proofs.copy_words.Lts as lts
-use Rattle.fold.proofs.copy_word.Reads as copy-word-reads
+use Rattle.folding.proofs.copy_word.Reads as copy-word-reads
 use borrow.Author.Needs.{needs}
 use mathlib.Core.Path.{_≡_}
 use native.Mathlib.Omega.{arith}

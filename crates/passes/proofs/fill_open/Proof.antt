@@ -2,7 +2,7 @@ use Rattle.passes.proofs.fill_open.Statement.{statement}
 use Rattle.passes.proofs.fill_open.Tie as tie
 use Rattle.passes.proofs.fill_open.Reads as reads
 use Rattle.passes.proofs.fill_open.Lts as lts
-use Rattle.fold.proofs.put.Reads as put-reads
+use Rattle.folding.proofs.put.Reads as put-reads
 use borrow.Author.Needs.{needs}
 use mathlib.Core.Path.{_≡_}
 use native.Mathlib.Omega.{arith}

@@ -2,7 +2,7 @@ use Rattle.passes.proofs.fold_columns.Statement.{statement}
 use Rattle.passes.proofs.fold_columns.Tie as tie
 use Rattle.passes.proofs.fold_columns.Reads as reads
 use Rattle.passes.proofs.fold_columns.Lts as lts
-use Rattle.fold.proofs.constant_folding_int.Reads as constant-folding-int-reads
+use Rattle.folding.proofs.constant_folding_int.Reads as constant-folding-int-reads
 use borrow.Author.Needs.{needs}
 use mathlib.Core.Path.{_≡_, refl, _∙_}
 use mathlib.Core.List.{List}

@@ -3,9 +3,9 @@ use Rattle.passes.proofs.fold_stmt.Statement.{statement}
 use Rattle.passes.proofs.fold_stmt.Tie as tie
 use Rattle.passes.proofs.fold_stmt.Reads as reads
 use Rattle.passes.proofs.fold_stmt.Lts as lts
-use Rattle.fold.proofs.constant_folding_bool.Reads as constant-folding-bool-reads
+use Rattle.folding.proofs.constant_folding_bool.Reads as constant-folding-bool-reads
 use Rattle.domains.proofs.number.Reads as number-reads
-use Rattle.fold.proofs.put.Reads as put-reads
+use Rattle.folding.proofs.put.Reads as put-reads
 use Rattle.passes.proofs.fold_table.Reads as fold-table-reads
 use mathlib.Core.Path.{_≡_, refl, sym, _∙_}
 use native.Mathlib.Omega.{arith}

@@ -3,8 +3,8 @@ use Rattle.passes.proofs.set_infeasible.Statement.{statement}
 use Rattle.passes.proofs.set_infeasible.Tie as tie
 use Rattle.passes.proofs.set_infeasible.Reads as reads
 use Rattle.passes.proofs.set_infeasible.Lts as lts
-use Rattle.fold.proofs.put.Reads as put-reads
-use Rattle.fold.proofs.state_at.Reads as state-at-reads
+use Rattle.folding.proofs.put.Reads as put-reads
+use Rattle.folding.proofs.state_at.Reads as state-at-reads
 use borrow.Author.Tests.{eq-eqb, ne-eqb, lt-ltb, le-ltb}
 use Rattle.passes.specs.Want.{set-status, set-words}
 use mathlib.Core.Path.{_≡_, refl, sym, ap, _∙_}

@@ -1,0 +1,61 @@
+-- The signed leaves: the size of a word and the distance of two. Assumes nothing.
+use mathlib.Core.Path.{_≡_, refl, ap}
+use mathlib.Core.Bool.{Bool, true, false}
+use Prim.Native.Nat.{ℕ, zero, suc, _+_, _*_, _<_, _≤_, min}
+use native.Mathlib.Omega.{arith}
+use native.Mathlib.Nat.{mul-le-mul}
+use lib.IntN.{ℤ, pos, negsuc, negℤ, natAbs, _-ℤ_}
+use lib.Signed.{ltZ}
+use mir.Syntax.{w32, w64}
+use borrow.Author.Tests.{ne-eqb, ltb-true}
+use Rattle.limits.specs.Total.{cap, joined, product}
+use mir.Val.{Fits, SFits}
+use Rattle.laws.specs.Ints.{natAbs-add, sfits-natAbs}
+
+natAbs-negℤ : (z : ℤ) → natAbs (negℤ z) ≡ natAbs z
+natAbs-negℤ (pos zero) = refl
+natAbs-negℤ (pos (suc n)) = refl
+natAbs-negℤ (negsuc n) = refl
+
+-- a negative number taken from 0
+pub minus-is : (z : ℤ) → ltZ z (pos 0) ≡ true → pos 0 -ℤ z ≡ pos (natAbs z)
+minus-is (pos n) h = absurd (omega (arith, ltb-true n 0 h))
+minus-is (negsuc n) h = ap pos (omega arith)
+
+pub minus-fits : (z : ℤ) → natAbs z < 9223372036854775808 → SFits w64 (pos 0 -ℤ z)
+minus-fits z h = sfits-natAbs w64 (pos 0 -ℤ z) (omega (arith, natAbs-add (pos 0) (negℤ z), natAbs-negℤ z))
+
+pub size-fits : (z : ℤ) → natAbs z < 9223372036854775808 → Fits w64 (natAbs z)
+size-fits z h = record { fits = omega arith }
+
+pub small : (z : ℤ) → SFits w32 z → natAbs z ≤ 2147483648
+small (pos n) f = omega (arith, f .sfits)
+small (negsuc n) f = omega (arith, f .sfits)
+
+pub distance-small : (a b : ℤ) → SFits w32 a → SFits w32 b → natAbs (a -ℤ b) < 9223372036854775808
+distance-small a b f g = omega (arith, natAbs-add a (negℤ b), natAbs-negℤ b, small a f, small b g)
+
+pub distance-fits : (a b : ℤ) → SFits w32 a → SFits w32 b → SFits w64 (a -ℤ b)
+distance-fits a b f g = sfits-natAbs w64 (a -ℤ b) (distance-small a b f g)
+
+-- a product of a word's size and a total
+pub product-small : (n t : ℕ) → n ≤ 2147483648 → t ≤ 1073741824 → n * t ≤ 2305843009213693952
+product-small n t h k = let l : n * t ≤ 2147483648 * 1073741824 = mul-le-mul h k in omega arith
+
+-- ---- `add_term`
+
+pub add-stuck : (weigh : Bool) (k t acc : ℕ) → weigh ≡ true → t ≡ cap → cap ≡ joined acc (product weigh k t)
+unfolding joined product
+add-stuck weigh k t acc h e = rw (h, e) (omega arith)
+
+add-plain : (acc n : ℕ) → min (acc + n) cap ≡ min (acc + min n cap) cap
+add-plain acc n = omega arith
+
+pub add-light : (weigh : Bool) (k t acc : ℕ) → (t ≡ cap → ⊥) → min (acc + k * t) cap ≡ joined acc (product weigh k t)
+unfolding joined product
+add-light true k t acc h = rw (ne-eqb t cap h) (add-plain acc (k * t))
+add-light false k t acc h = add-plain acc (k * t)
+
+pub add-width : (weigh : Bool) (k t acc : ℕ) → weigh ≡ false → min (acc + k * t) cap ≡ joined acc (product weigh k t)
+unfolding joined product
+add-width weigh k t acc h = rw h (add-plain acc (k * t))

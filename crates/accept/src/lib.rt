@@ -1,0 +1,442 @@
+// Refusals 1 to 11 over a set's words; `m` is the one of 9, 10 and 11 that is tested. `work` holds the table of bounds from 7936 on.
+// A walk that tests what it passes answers with the place behind, or with 0 where the test hits.
+use reader::Set;
+ghost use mathlib.Core.Path.{_≡_};
+ghost use mathlib.Core.Bool.{cond};
+ghost use Prim.Native.Nat.{_<_, _≤_, min, max};
+ghost use lib.IntN.{natAbs, _-ℤ_};
+ghost use lib.ListN.{length};
+ghost use Rattle.limits.specs.Total.{cap, joined, product, constant-total, bounds-total};
+ghost use Rattle.accept.specs.Accepted.{Ready-set, Limits-post, accepted, table-after};
+ghost use Rattle.accept.specs.Walk.{Ready-var, Var-post, Ready-int, Ready-terms, Int-post, Terms-post, Behind, Head-post, Writes-post, Either-post, Marked-post, Ready-pair, Pair-post, Ready-column, Column-post, Ready-columns, Columns-post, Ready-bool, Ready-bools, Step-post, Bools-post, Ready-stmt, Stmt-post, Ready-stmts, Stmts-post, Check-post};
+
+// ---- sizes
+
+fn wide_size(d: i64) -> usize
+    requires { ⌜ natAbs d < 9223372036854775808 ⌝ }
+    ensures { λ r. ⌜ r ≡ natAbs d ⌝ }
+{
+    if d < 0 {
+        let n = 0 - d;
+        return n as usize;
+    }
+    d as usize
+}
+
+fn size(w: i32) -> usize
+    ensures { λ r. ⌜ r ≡ natAbs w ⌝ }
+{
+    wide_size(w as i64)
+}
+
+// The distance of two words.
+fn distance(low: i32, high: i32) -> usize
+    ensures { λ r. ⌜ r ≡ natAbs (high -ℤ low) ⌝ }
+{
+    wide_size((high as i64) - (low as i64))
+}
+
+fn capped(n: usize) -> usize
+    ensures { λ r. ⌜ r ≡ min n cap ⌝ }
+{
+    if n < 1073741824 {
+        return n;
+    }
+    1073741824
+}
+
+fn larger(a: usize, b: usize) -> usize
+    ensures { λ r. ⌜ r ≡ max a b ⌝ }
+{
+    if a < b {
+        return b;
+    }
+    a
+}
+
+// ---- totals: weights (`weigh`) or distances
+
+fn constant_total(w: i32, weigh: bool) -> usize
+    ensures { λ r. ⌜ r ≡ constant-total weigh w ⌝ }
+{
+    if weigh {
+        let n = size(w);
+        return capped(n);
+    }
+    0
+}
+
+fn bounds_total(low: i32, high: i32, weigh: bool) -> usize
+    ensures { λ r. ⌜ r ≡ bounds-total weigh low high ⌝ }
+{
+    if weigh {
+        let a = size(low);
+        let b = size(high);
+        let c = larger(a, b);
+        let n = larger(1, c);
+        return capped(n);
+    }
+    let n = distance(low, high);
+    capped(n)
+}
+
+fn variable_total(work: &[i32], v: usize, weigh: bool) -> usize
+    requires { ⌜ Ready-var (now work) v ⌝ }
+    ensures { λ r. ⌜ Var-post (now (work .entry)) weigh v r ⌝ }
+{
+    let low = work[7936 + 2 * v];
+    let high = work[7936 + (2 * v + 1)];
+    bounds_total(low, high, weigh)
+}
+
+// A coefficient times a total, joined to what was totalled before.
+fn add_term(k: i32, t: usize, weigh: bool, acc: usize) -> usize
+    requires { ⌜ (t ≤ cap) × (acc ≤ cap) ⌝ }
+    ensures { λ r. ⌜ r ≡ joined acc (product weigh (natAbs k) t) ⌝ }
+{
+    if weigh {
+        if t == 1073741824 {
+            return 1073741824;
+        }
+    }
+    let n = size(k);
+    capped(acc + n * t)
+}
+
+pub struct Total {
+    pub next: usize,
+    pub total: usize,
+}
+
+// As many terms as `n` says.
+fn terms_total(set: &[i32], work: &[i32], at: usize, n: usize, weigh: bool) -> Total
+    requires { ⌜ Ready-terms (now set) (now work) at n ⌝ }
+    ensures { λ r. ⌜ Terms-post (now (set .entry)) (now (work .entry)) weigh at n 0 (r .next) (r .total) ⌝ }
+{
+    let mut next = at;
+    let mut total = 0;
+    let mut left = n;
+    while left != 0 {
+        let t = int_total(set, work, next + 1, weigh);
+        let k = set[next];
+        total = add_term(k, t.total, weigh, total);
+        next = t.next;
+        left = left - 1;
+    }
+    Total { next, total }
+}
+
+fn int_total(set: &[i32], work: &[i32], at: usize, weigh: bool) -> Total
+    requires { ⌜ Ready-int (now set) (now work) at ⌝ }
+    ensures { λ r. ⌜ Int-post (now (set .entry)) (now (work .entry)) weigh at (r .next) (r .total) ⌝ }
+{
+    let code = domains::number(set, at);
+    if code == 20 {
+        let c = set[at + 1];
+        let total = constant_total(c, weigh);
+        return Total {
+            next: at + 2,
+            total,
+        };
+    }
+    let v = domains::number(set, at + 1);
+    if code == 21 {
+        let total = variable_total(work, v, weigh);
+        return Total {
+            next: at + 2,
+            total,
+        };
+    }
+    terms_total(set, work, at + 2, v, weigh)
+}
+
+// ---- variables written
+
+pub struct Head {
+    pub hit: bool,
+    pub terms: usize,
+}
+
+// Whether the integer expression is variable v, and how many terms it has.
+fn int_head(set: &[i32], at: usize, v: usize) -> Head
+    requires { ⌜ Behind (now set) at ⌝ }
+    ensures { λ r. ⌜ Head-post (now (set .entry)) at v (r .hit) (r .terms) ⌝ }
+{
+    let code = domains::number(set, at);
+    if code == 20 {
+        return Head {
+            hit: false,
+            terms: 0,
+        };
+    }
+    let n = domains::number(set, at + 1);
+    if code == 21 {
+        let hit = v == n;
+        return Head { hit, terms: 0 };
+    }
+    Head {
+        hit: false,
+        terms: n,
+    }
+}
+
+// Whether the integer expression writes variable v. Every expression's two words are followed by a coefficient or by the end.
+fn writes(set: &[i32], at: usize, v: usize) -> bool
+    requires { ⌜ Behind (now set) at ⌝ }
+    ensures { λ r. ⌜ Writes-post (now (set .entry)) at v r ⌝ }
+{
+    let mut q = at - 1;
+    let mut rest = 1;
+    while rest != 0 {
+        let h = int_head(set, q + 1, v);
+        if h.hit {
+            return true;
+        }
+        rest = rest - 1 + h.terms;
+        q = q + 3;
+    }
+    false
+}
+
+// 1 where one of two integer expressions writes variable v, else 0.
+fn writes_either(set: &[i32], a: usize, b: usize, v: usize) -> usize
+    requires { ⌜ Behind (now set) a × Behind (now set) b ⌝ }
+    ensures { λ r. ⌜ Either-post (now (set .entry)) a b v r ⌝ }
+{
+    if writes(set, a, v) {
+        return 1;
+    }
+    if writes(set, b, v) {
+        return 1;
+    }
+    0
+}
+
+// How many of the first n variables two integer expressions write.
+fn different(set: &[i32], a: usize, b: usize, n: usize) -> usize
+    requires { ⌜ Behind (now set) a × Behind (now set) b × (n < 2147483648) ⌝ }
+    ensures { λ r. ⌜ Marked-post (now (set .entry)) a b n r ⌝ }
+{
+    let mut v = 0;
+    let mut count = 0;
+    while v < n {
+        let k = writes_either(set, a, b, v);
+        count = count + k;
+        v = v + 1;
+    }
+    count
+}
+
+// ---- the test of refusal m, on a comparison and on a column; below 128 words there are too few variables for 10
+
+fn unless(hit: bool, next: usize) -> usize
+    ensures { λ r. ⌜ r ≡ cond hit 0 next ⌝ }
+{
+    if hit {
+        return 0;
+    }
+    next
+}
+
+fn comparison(set: &[i32], work: &[i32], at: usize, ni: usize, m: usize) -> usize
+    requires { ⌜ Ready-pair (now set) (now work) at ni × (ni < 2147483648) ⌝ }
+    ensures { λ r. ⌜ Pair-post (now (set .entry)) (now (work .entry)) at ni m r ⌝ }
+{
+    let weigh = m == 9;
+    let a = int_total(set, work, at, weigh);
+    let b = int_total(set, work, a.next, weigh);
+    if m == 9 {
+        return unless(a.total + b.total > 1073741823, b.next);
+    }
+    if m == 10 {
+        let words = b.next - at;
+        if words < 128 {
+            return b.next;
+        }
+        let n = different(set, at, a.next, ni);
+        return unless(n > 64, b.next);
+    }
+    b.next
+}
+
+fn column(set: &[i32], work: &[i32], at: usize, ni: usize, m: usize) -> usize
+    requires { ⌜ Ready-column (now set) (now work) at ni × (ni < 2147483648) ⌝ }
+    ensures { λ r. ⌜ Column-post (now (set .entry)) (now (work .entry)) at ni m r ⌝ }
+{
+    let weigh = m == 9;
+    let a = int_total(set, work, at, weigh);
+    if m == 9 {
+        return unless(a.total > 1073741823, a.next);
+    }
+    if m == 10 {
+        let words = a.next - at;
+        if words < 128 {
+            return a.next;
+        }
+        let n = different(set, at, at, ni);
+        return unless(n > 63, a.next);
+    }
+    unless(a.total > 4095, a.next)
+}
+
+fn columns(set: &[i32], work: &[i32], at: usize, n: usize, ni: usize, m: usize) -> usize
+    requires { ⌜ Ready-columns (now set) (now work) at n ni × (ni < 2147483648) ⌝ }
+    ensures { λ r. ⌜ Columns-post (now (set .entry)) (now (work .entry)) at n ni m r ⌝ }
+{
+    let mut next = at;
+    let mut rest = n;
+    while rest != 0 {
+        let r = column(set, work, next, ni, m);
+        if r == 0 {
+            return 0;
+        }
+        next = r;
+        rest = rest - 1;
+    }
+    next
+}
+
+// ---- a rule: its expressions one after another, `rest` of them pending
+
+pub struct Step {
+    pub next: usize,
+    pub members: usize,
+}
+
+fn rule_step(set: &[i32], work: &[i32], at: usize, ni: usize, m: usize) -> Step
+    requires { ⌜ Ready-bool (now set) (now work) at ni × (ni < 2147483648) ⌝ }
+    ensures { λ r. ⌜ Step-post (now (set .entry)) (now (work .entry)) at ni m (r .next) (r .members) ⌝ }
+{
+    let code = domains::number(set, at);
+    if code < 12 {
+        return Step {
+            next: at + 2,
+            members: 0,
+        };
+    }
+    if code < 14 {
+        let n = domains::number(set, at + 1);
+        return Step {
+            next: at + 2,
+            members: n,
+        };
+    }
+    if code == 14 {
+        return Step {
+            next: at + 1,
+            members: 1,
+        };
+    }
+    if code < 18 {
+        return Step {
+            next: at + 1,
+            members: 2,
+        };
+    }
+    let next = comparison(set, work, at + 2, ni, m);
+    Step { next, members: 0 }
+}
+
+fn rules(set: &[i32], work: &[i32], at: usize, n: usize, ni: usize, m: usize) -> usize
+    requires { ⌜ Ready-bools (now set) (now work) at n ni × (ni < 2147483648) ⌝ }
+    ensures { λ r. ⌜ Bools-post (now (set .entry)) (now (work .entry)) at n ni m r ⌝ }
+{
+    let mut next = at;
+    let mut rest = n;
+    while rest != 0 {
+        let s = rule_step(set, work, next, ni, m);
+        let r = s.next;
+        if r == 0 {
+            return 0;
+        }
+        next = r;
+        rest = rest - 1 + s.members;
+    }
+    next
+}
+
+// ---- statements
+
+fn statement(set: &[i32], work: &[i32], at: usize, ni: usize, m: usize) -> usize
+    requires { ⌜ Ready-stmt (now set) (now work) at ni × (ni < 2147483648) ⌝ }
+    ensures { λ r. ⌜ Stmt-post (now (set .entry)) (now (work .entry)) at ni m r ⌝ }
+{
+    let code = domains::number(set, at);
+    if code == 1 {
+        return rules(set, work, at + 1, 1, ni, m);
+    }
+    let n = domains::number(set, at + 1);
+    let k = domains::number(set, at + 2);
+    let r = columns(set, work, at + 3, n, ni, m);
+    if r == 0 {
+        return 0;
+    }
+    r + n * k
+}
+
+fn statements(set: &[i32], work: &[i32], at: usize, n: usize, ni: usize, m: usize) -> bool
+    requires { ⌜ Ready-stmts (now set) (now work) at n ni × (ni < 2147483648) ⌝ }
+    ensures { λ r. ⌜ Stmts-post (now (set .entry)) (now (work .entry)) at n ni m r ⌝ }
+{
+    let mut next = at;
+    let mut rest = n;
+    while rest != 0 {
+        let r = statement(set, work, next, ni, m);
+        if r == 0 {
+            return true;
+        }
+        next = r;
+        rest = rest - 1;
+    }
+    false
+}
+
+// The refusal of n statements from `at` on, or 0.
+fn check(set: &[i32], work: &[i32], at: usize, n: usize, ni: usize) -> usize
+    requires { ⌜ Ready-stmts (now set) (now work) at n ni × (ni < 2147483648) ⌝ }
+    ensures { λ r. ⌜ Check-post (now (set .entry)) (now (work .entry)) at n ni r ⌝ }
+{
+    if statements(set, work, at, n, ni, 9) {
+        return 9;
+    }
+    if statements(set, work, at, n, ni, 10) {
+        return 10;
+    }
+    if statements(set, work, at, n, ni, 11) {
+        return 11;
+    }
+    0
+}
+
+// Refusals 9, 10 and 11 of a set that was read, or 0. The table of bounds stays in the work slice.
+pub fn check_limits(set: &[i32], work: &mut [i32]) -> usize
+    requires { ⌜ Ready-set (now set) (now work) ⌝ }
+    ensures { λ r. ⌜ Limits-post (now (set .entry)) (now (work .entry)) (now (work .exit)) r ⌝ }
+{
+    let ni = domains::number(set, 1);
+    let at = domains::write_bounds(set, 2, ni, work, 7936);
+    let n = domains::number(set, at);
+    check(set, work, at + 1, n, ni)
+}
+
+// Refusals 1 to 11 for any words and lengths: what the set declares, or the refusal.
+pub fn accept(set: &[i32], work: &mut [i32]) -> Set
+    ensures { λ r. ⌜ (r ≡ accepted (length (now (work .entry))) (now (set .entry))) × (now (work .exit) ≡ table-after (now (set .entry)) (now (work .entry))) ⌝ }
+{
+    if work.len() < 16384 {
+        return Set::Refused(1);
+    }
+    if set.len() > 4096 {
+        return Set::Refused(2);
+    }
+    match reader::read_set(set) {
+        Set::Refused(k) => Set::Refused(k),
+        Set::Ok(d) => {
+            let k = check_limits(set, work);
+            if k != 0 {
+                return Set::Refused(k);
+            }
+            Set::Ok(d)
+        }
+    }
+}

@@ -1,0 +1,135 @@
+-- A law for each answer of the integer reader, over variables. Assumes nothing.
+use mathlib.Core.Path.{_≡_, refl, ap, _∙_}
+use mathlib.Core.List.{List}
+use Prim.Native.Nat.{ℕ, zero, suc, _-_, _<_}
+use native.Mathlib.Omega.{arith}
+use native.Mathlib.Numerals.{sub-one}
+use lib.IntN.{ℤ, pos}
+use lib.ListN.{length, drop}
+use Rattle.syntax.specs.Syntax.{IntExpr, IConst, IVar, Linear, Terms, tmore}
+use Rattle.syntax.specs.Lengths.{int-long}
+use Rattle.words.specs.Parse.{Parsed, ok, refuse, Parser, bind, map-parser, word, number, up-to, count, index}
+use Rattle.words.specs.Exact.{word-ok, number-exact, count-exact, index-exact}
+use Rattle.words.specs.Cursor.{cursor, next-at, counted-at}
+use Rattle.words.specs.declared.Cursor.{Cursor}
+use Rattle.words.specs.declared.Next.the-variants as next
+use Rattle.words.specs.declared.Counted.the-variants as counted
+use Rattle.reader.specs.declared.Read.{Read}
+use Rattle.reader.specs.declared.Read.the-variants as read
+use Rattle.read.specs.Read.{IntKind, i-const, i-var, i-sum, i-unknown, kind-int, too-deep-int, read-terms, step-int, read-int}
+use Rattle.read.specs.ExactExpr.{terms-exact, int-exact}
+use Rattle.reader.specs.Position.{read-at, reads}
+use Rattle.reader.proofs.Tails.{Shortens, exact-shortens, ok-shortens, refuse-shortens, bind-shortens}
+use Rattle.reader.proofs.Laws.{reads-refused, bind-refused, reads-then, number-refused, number-then, word-refused, word-then, map-same, value-front, reads-falls}
+
+-- ---- terms
+
+module _ (p : Parser IntExpr) where
+  pub terms-none : (n : ℕ) (d : Cursor) (ws : List ℤ) → n ≡ 0 → read.Ok d ≡ reads (read-terms p n) (d .at) ws
+  unfolding reads read-at read-terms
+  terms-none n d ws h = rw h (ap (λ k. read.Ok (cursor k)) (omega arith))
+
+  abbrev rest-terms : ℕ → ℤ → Parser Terms
+  rest-terms n k xs = bind (p xs) (λ e. read-terms p n)
+
+  terms-suc : (n at : ℕ) (ws : List ℤ) → (n ≡ 0 → ⊥) → reads (λ xs. bind (number xs) (rest-terms (n - 1))) at ws ≡ reads (read-terms p n) at ws
+  unfolding reads read-at read-terms
+  terms-suc zero at ws h = absurd (h refl)
+  terms-suc (suc n) at ws h = rw sub-one (first (number (drop at ws)))
+    where
+      third : (k : ℤ) (e : IntExpr) (x : Parsed Terms) → read-at at (drop at ws) x ≡ read-at at (drop at ws) (bind x (λ ts t. ok (tmore k e ts) t))
+      third k e (ok ts t) = refl
+      third k e (refuse j) = refl
+
+      second : (k : ℤ) (x : Parsed IntExpr) → read-at at (drop at ws) (bind x (λ e. read-terms p n)) ≡ read-at at (drop at ws) (bind x (λ e s. bind (read-terms p n s) (λ ts t. ok (tmore k e ts) t)))
+      second k (ok e s) = third k e (read-terms p n s)
+      second k (refuse j) = refl
+
+      first : (x : Parsed ℤ) → read-at at (drop at ws) (bind x (rest-terms n)) ≡ read-at at (drop at ws) (bind x (λ k r. bind (p r) (λ e s. bind (read-terms p n s) (λ ts t. ok (tmore k e ts) t))))
+      first (ok k r) = second k (p r)
+      first (refuse j) = refl
+
+module _ (ni left n at : ℕ) (ws : List ℤ) (z : n ≡ 0 → ⊥) where
+  some-terms : Shortens (rest-terms (read-int ni left) (n - 1) (pos 0))
+  some-terms = bind-shortens (read-int ni left) (λ e. read-terms (read-int ni left) (n - 1)) (exact-shortens (int-exact ni left)) (λ e. exact-shortens (terms-exact ni left (read-int ni left) (int-exact ni left) (n - 1)))
+
+  pub terms-no-value : (k : ℕ) → next-at at (number (drop at ws)) ≡ next.Refused k → read.Refused k ≡ reads (read-terms (read-int ni left) n) at ws
+  terms-no-value k h = word-refused number value-front (rest-terms (read-int ni left) (n - 1)) at ws k h ∙ terms-suc (read-int ni left) n at ws z
+
+  module _ (w : ℤ) (d : Cursor) (h : next-at at (number (drop at ws)) ≡ next.Word w d) where
+    pub terms-no-int : (k : ℕ) → reads (read-int ni left) (d .at) ws ≡ read.Refused k → read.Refused k ≡ reads (read-terms (read-int ni left) n) at ws
+    terms-no-int k g =
+        word-then number value-front (rest-terms (read-int ni left) (n - 1)) at ws w d (read.Refused k) some-terms h
+        (bind-refused (read-int ni left) (λ e. read-terms (read-int ni left) (n - 1)) (d .at) ws k (reads-refused (read-int ni left) (d .at) ws k g))
+        ∙ terms-suc (read-int ni left) n at ws z
+
+    pub terms-more : (e : Cursor) → reads (read-int ni left) (d .at) ws ≡ read.Ok e → reads (read-terms (read-int ni left) (n - 1)) (e .at) ws ≡ reads (read-terms (read-int ni left) n) at ws
+    terms-more e g =
+        word-then number value-front (rest-terms (read-int ni left) (n - 1)) at ws w d _ some-terms h
+        (reads-then (read-int ni left) (λ e. read-terms (read-int ni left) (n - 1)) (d .at) ws e _ (exact-shortens (int-exact ni left)) (λ a. exact-shortens (terms-exact ni left (read-int ni left) (int-exact ni left) (n - 1))) g (λ a. refl))
+        ∙ terms-suc (read-int ni left) n at ws z
+
+-- ---- expressions
+
+step-shortens : (ni left : ℕ) (k : IntKind) → Shortens (step-int ni (read-int ni left) k)
+unfolding step-int
+step-shortens ni left i-const = bind-shortens number _ (exact-shortens number-exact) (λ c. ok-shortens (IConst c))
+step-shortens ni left i-var = bind-shortens (index ni) _ (exact-shortens (index-exact ni)) (λ v. ok-shortens (IVar v))
+step-shortens ni left i-sum =
+    bind-shortens count _ (exact-shortens count-exact) (λ n. bind-shortens (read-terms (read-int ni left) n) _ (exact-shortens (terms-exact ni left (read-int ni left) (int-exact ni left) n)) (λ ts. ok-shortens (Linear ts)))
+step-shortens ni left i-unknown = refuse-shortens 5
+
+abbrev next-int : ℕ → ℕ → Parser IntExpr
+next-int ni left xs = bind (word xs) (λ w r. step-int ni (read-int ni left) (kind-int w) r)
+
+int-suc : (ni left at : ℕ) (ws : List ℤ) → (left ≡ 0 → ⊥) → reads (next-int ni (left - 1)) at ws ≡ reads (read-int ni left) at ws
+unfolding read-int reads
+int-suc ni zero at ws h = absurd (h refl)
+int-suc ni (suc l) at ws h = rw sub-one refl
+
+pub int-end : (ni left at : ℕ) (ws : List ℤ) (k : ℕ) → next-at at (word (drop at ws)) ≡ next.Refused k → read.Refused k ≡ reads (read-int ni left) at ws
+unfolding read-int
+int-end ni zero at ws k h = word-refused word word-ok _ at ws k h
+int-end ni (suc l) at ws k h = word-refused word word-ok _ at ws k h
+
+module _ (ni left at : ℕ) (ws : List ℤ) (w : ℤ) (d : Cursor) (h : next-at at (word (drop at ws)) ≡ next.Word w d) where
+  pub int-deep : left ≡ 0 → read.Refused (too-deep-int (kind-int w)) ≡ reads (read-int ni left) at ws
+  unfolding read-int reads read-at
+  int-deep z = rw z (word-then word word-ok (λ w r. refuse (too-deep-int (kind-int w))) at ws w d _ (refuse-shortens _) h refl)
+
+  module _ (z : left ≡ 0 → ⊥) where
+    arm : (k : IntKind) (v : Read) → kind-int w ≡ k → v ≡ reads (step-int ni (read-int ni (left - 1)) k) (d .at) ws → v ≡ reads (read-int ni left) at ws
+    arm k v e hv =
+        word-then word word-ok (λ w r. step-int ni (read-int ni (left - 1)) (kind-int w) r) at ws w d v (step-shortens ni (left - 1) (kind-int w)) h (rw e hv)
+        ∙ int-suc ni left at ws z
+
+    pub int-const : (v : Read) → w ≡ pos 20 → v ≡ reads number (d .at) ws → v ≡ reads (read-int ni left) at ws
+    unfolding step-int kind-int
+    int-const v e hv = arm i-const v (rw e refl) (hv ∙ map-same IConst number (d .at) ws)
+
+    pub int-var : (v : Read) → w ≡ pos 21 → v ≡ reads (index ni) (d .at) ws → v ≡ reads (read-int ni left) at ws
+    unfolding step-int kind-int
+    int-var v e hv = arm i-var v (rw e refl) (hv ∙ map-same IVar (index ni) (d .at) ws)
+
+    sum-of : ℕ → Parser IntExpr
+    sum-of n = map-parser Linear (read-terms (read-int ni (left - 1)) n)
+
+    pub sum-refused : (k : ℕ) → w ≡ pos 22 → counted-at (d .at) (up-to 4096 4 (drop (d .at) ws)) ≡ counted.Refused k → read.Refused k ≡ reads (read-int ni left) at ws
+    unfolding step-int kind-int count sum-of
+    sum-refused k e g = arm i-sum (read.Refused k) (rw e refl) (number-refused count count-exact sum-of (d .at) ws k g)
+
+    pub sum-terms : (v : Read) (n : ℕ) (c : Cursor) → w ≡ pos 22 → counted-at (d .at) (up-to 4096 4 (drop (d .at) ws)) ≡ counted.Number n c
+        → v ≡ reads (read-terms (read-int ni (left - 1)) n) (c .at) ws → v ≡ reads (read-int ni left) at ws
+    unfolding step-int kind-int count sum-of
+    sum-terms v n c e g hv =
+        arm i-sum v (rw e refl)
+        (number-then count count-exact sum-of (d .at) ws n c v
+        (bind-shortens (read-terms (read-int ni (left - 1)) n) _ (exact-shortens (terms-exact ni (left - 1) (read-int ni (left - 1)) (int-exact ni (left - 1)) n)) (λ ts. ok-shortens (Linear ts))) g
+        (hv ∙ map-same Linear (read-terms (read-int ni (left - 1)) n) (c .at) ws))
+
+    pub int-none : kind-int w ≡ i-unknown → read.Refused 5 ≡ reads (read-int ni left) at ws
+    unfolding step-int reads read-at
+    int-none e = arm i-unknown (read.Refused 5) e refl
+
+pub int-falls : (ni left at : ℕ) (ws : List ℤ) (d : Cursor) → reads (read-int ni left) at ws ≡ read.Ok d → (at < d .at) × (at < length ws)
+int-falls ni left = reads-falls (read-int ni left) (int-exact ni left) (λ e h. omega (arith, int-long e))
