@@ -1,7 +1,7 @@
 -- What is written behind the emitted integers' words keeps them, and the statement that is to be written still stands.
 use mathlib.Core.Path.{_≡_, refl, sym, ap, _∙_, subst}
-use mathlib.Core.List.{List, [], _∷_, _++_, map}
-use Prim.Native.Nat.{ℕ, suc, _+_, _*_, _≤_, _<_, min}
+use mathlib.Core.List.{List, [], _∷_, map}
+use Prim.Native.Nat.{ℕ, suc, _+_, _*_, _≤_, _<_}
 use native.Mathlib.Omega.{arith}
 use lib.IntN.{ℤ, pos}
 use lib.ListN.{length, getD, set, length-append}
@@ -32,14 +32,14 @@ length-triples [] = refl
 length-triples (d ∷ ds) = omega (arith, length-append (domain-words d) (flat (map domain-words ds)), length-triples ds)
 
 -- the emitted integers' words
-pub triples-stay : (ds : List Domain) (L : Log) (triples : ℕ) (out out' : List ℤ) (o o' : ℕ) (vs : List ℤ) → triples + 3 * next-int L ≤ o → Wrote out o vs out' o'
+pub triples-stay : (ds : List Domain) (L : Log) (triples : ℕ) {out out' : List ℤ} {o o' : ℕ} {vs : List ℤ} → triples + 3 * next-int L ≤ o → Wrote out o vs out' o'
     → Has out triples (flat (map domain-words (emitted-domains ds L))) → Has out' triples (flat (map domain-words (emitted-domains ds L)))
-triples-stay ds L triples out out' o o' vs l w h =
+triples-stay ds L triples {out} {out'} {o} {o'} {vs} l w h =
     let e : length (flat (map domain-words (emitted-domains ds L))) ≡ 3 * next-int L = length-triples (emitted-domains ds L) ∙ ap (λ (i : ℕ). 3 * i) (length-emitted ds L) in
     has-below out out' o o' vs triples _ (omega (arith, e, l)) w h
 
-pub at-after : (x : Place) (t : Stmt) (set w : List ℤ) (q triples m : ℕ) (out : List ℤ) (o : ℕ) (vs out' : List ℤ) (o' : ℕ) → o ≤ cap → Wrote out o vs out' o' → At x t set w q triples m out o → At x t set w q triples m out' o'
-at-after x t set w q triples m out o vs out' o' l v h = record {
+pub at-after : {x : Place} {t : Stmt} {set w : List ℤ} {q triples m : ℕ} {out : List ℤ} {o : ℕ} {vs out' : List ℤ} {o' : ℕ} → o ≤ cap → Wrote out o vs out' o' → At x t set w q triples m out o → At x t set w q triples m out' o'
+at-after {x} {triples = triples} l v h = record {
   words = h .words;
   short = h .short;
   well = h .well;
@@ -49,13 +49,13 @@ at-after x t set w q triples m out o vs out' o' l v h = record {
   fit = h .fit;
   low = h .low;
   few = h .few;
-  domains = triples-stay (x .problem .domains) (x .whole) triples out out' o o' vs (h .behind) v (h .domains);
+  domains = triples-stay (x .problem .domains) (x .whole) triples (h .behind) v (h .domains);
   behind = omega (arith, h .behind, v .at);
   size = h .size;
 }
 
 -- a clause without literals and comparisons
-pub empty-one : (out a b : List ℤ) (o p q c : ℕ) → Behind out o c → (o ≡ cap → ⊥) → Wrote out o (pos 0 ∷ []) a p → Wrote a p (pos 0 ∷ []) b q → Clauses out o c (clause [] [] ∷ []) b q (c + 1)
-empty-one out a b o p q c h n x y =
+pub empty-one : {out a b : List ℤ} {o p q c : ℕ} → Behind out o c → (o ≡ cap → ⊥) → Wrote out o (pos 0 ∷ []) a p → Wrote a p (pos 0 ∷ []) b q → Clauses out o c (clause [] [] ∷ []) b q (c + 1)
+empty-one {o = o} h n x y =
     let l : o < cap = omega (arith, h .room .place, n) in
     clauses-one (clause [] []) (h .low) (omega (arith, x .at, y .at)) (wrote-then (h .room .part) x y)

@@ -1,8 +1,8 @@
 -- The domains of a table's columns: a declared variable has its own, any other column a range whose three words stand in the answer.
-use mathlib.Core.Path.{_≡_, refl, sym, ap, _∙_, subst}
-use mathlib.Core.Bool.{Bool, true, false, _||_}
+use mathlib.Core.Path.{_≡_, sym, ap, _∙_, subst}
+use mathlib.Core.Bool.{true, false}
 use mathlib.Core.Option.{some}
-use mathlib.Core.List.{List, [], _∷_, _++_, map}
+use mathlib.Core.List.{List, [], _∷_, map}
 use Prim.Native.Nat.{ℕ, zero, suc, _+_, _-_, _*_, _≤_, _<_}
 use native.Mathlib.Omega.{arith}
 use lib.IntN.{ℤ, pos}
@@ -14,7 +14,7 @@ use Rattle.syntax.specs.Syntax.{Domain, domain-of, IntExpr, IConst, IVar, Linea
 use Rattle.syntax.specs.Satisfies.{IVal}
 use Rattle.syntax.specs.Written.{EveryInt, EveryColumn, every-int-map}
 use Rattle.limits.specs.Limits.{heavy}
-use Rattle.sums.specs.LinearSum.{LinearSum, get-domain-linear-sum}
+use Rattle.sums.specs.LinearSum.{get-domain-linear-sum}
 use Rattle.sums.specs.Domain.{ordered}
 use Rattle.clauses.specs.Log.{Log, column, next-int, get-int-var, convert-int-var}
 use Rattle.clauses.specs.Normalize.{IntOut, normalize-int-expr}
@@ -24,7 +24,7 @@ use Rattle.tables.specs.Emitted.{length-emitted, new-column-domain, domain-stay
 use Rattle.tables.specs.ColumnMeaning.{Standing, columns-mean}
 use Rattle.answer.specs.Answer.{domain-words}
 use Rattle.walk.specs.Item.{nat, int-number}
-use Rattle.walk.specs.Grow.{Grows, Fit, back}
+use Rattle.walk.specs.Grow.{Fit, back}
 use Rattle.walk.specs.Ints.{var-found}
 use Rattle.statements.specs.Columns.{column-map, column-number, PlacedOne, Placed, grow-column, columns-grow}
 use Rattle.statements.specs.Statements.{Stable}

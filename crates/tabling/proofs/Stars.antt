@@ -1,20 +1,16 @@
 -- A starred table's clauses: none where a row is of stars only.
-use mathlib.Core.Path.{_≡_, refl, sym, ap, _∙_, subst}
-use mathlib.Core.Bool.{Bool, true, false}
-use mathlib.Core.List.{List, [], _∷_, map}
-use Prim.Native.Nat.{ℕ, zero, suc, _+_, _*_, _≤_, _<_}
-use native.Mathlib.Omega.{arith}
-use lib.IntN.{ℤ, pos}
+use mathlib.Core.Path.{_≡_, refl, sym, ap, _∙_}
+use mathlib.Core.Bool.{true}
+use mathlib.Core.List.{List}
+use Prim.Native.Nat.{ℕ, zero, suc}
+use lib.IntN.{ℤ}
 use lib.ListN.{length, drop}
 use Rattle.syntax.specs.Syntax.{Cell}
-use Rattle.clauses.specs.Log.{Log, next-bool}
 use Rattle.clauses.specs.Disjunction.{Out}
-use Rattle.tables.specs.Tables.{star-table}
-use Rattle.walk.specs.Item.{limit}
 use Rattle.rows.specs.Rows.{rows-of}
 use Rattle.rows.specs.Columns.{vars-of}
 use Rattle.rows.specs.Stars.{is-free, count-rows}
-use Rattle.rows.specs.Emit.{Clauses, Behind}
+use Rattle.rows.specs.Emit.{Behind}
 use Rattle.rows.proofs.Looping.{clauses-none, clauses-to}
 use Rattle.statements.specs.Star.{any-free, free-table}
 use Rattle.statements.specs.Table.{free-rows, free-is}
@@ -28,23 +24,23 @@ unfolding vars-of
 vars-length zero cs = refl
 vars-length (suc n) cs = ap suc (vars-length n (drop 3 cs))
 
-module _ (w : List ℤ) (p n k m : ℕ) (out : List ℤ) (o c : ℕ) where
-  abbrev vs : List ℕ
-  vs = vars-of n (drop column-words w)
+-- f: how many rows are of stars only
+free-are : {w : List ℤ} {p n k f : ℕ} → f ≡ count-rows is-free (rows-of n k (drop p w)) → (rows : List (List Cell)) → RowsStand w p n k rows → any-free (vars-of n (drop column-words w)) rows ≡ some-of f
+free-are {w} {p} {n} {k} {f} e rows r =
+    sym (free-is (vars-of n (drop column-words w)) rows)
+    ∙ ap (λ (i : ℕ). free-rows i rows) (vars-length n (drop column-words w))
+    ∙ sym (free-count n rows (r .well))
+    ∙ ap some-of (sym (counts-are w p n k rows r is-free f e))
 
-  -- f: how many rows are of stars only
-  free-are : (f : ℕ) → f ≡ count-rows is-free (rows-of n k (drop p w)) → (rows : List (List Cell)) → RowsStand w p n k rows → any-free vs rows ≡ some-of f
-  free-are f e rows r =
-      sym (free-is vs rows) ∙ ap (λ (i : ℕ). free-rows i rows) (vars-length n (drop column-words w)) ∙ sym (free-count n rows (r .well)) ∙ ap some-of (sym (counts-are w p n k rows r is-free f e))
-
-  pub stars-free : (f : ℕ) → f ≡ count-rows is-free (rows-of n k (drop p w)) → (f ≡ 0 → ⊥) → Behind out o c → StarsDid w p n k m out o c out o c
-  stars-free f e z b = record {
+module _ {w : List ℤ} {p n k m : ℕ} {out : List ℤ} {o c : ℕ} where
+  pub stars-free : {f : ℕ} → f ≡ count-rows is-free (rows-of n k (drop p w)) → (f ≡ 0 → ⊥) → Behind out o c → StarsDid w p n k m out o c out o c
+  stars-free {f} e z b = record {
     clauses = λ rows s r i l.
-        let a : any-free vs rows ≡ true = free-are f e rows r ∙ some-not f z in
-        clauses-to (sym (ap (λ (x : Out). x .0) (free-table vs rows s a))) (clauses-none b);
+        let a : any-free (vars-of n (drop column-words w)) rows ≡ true = free-are e rows r ∙ some-not f z in
+        clauses-to (sym (ap (λ (x : Out). x .0) (free-table (vars-of n (drop column-words w)) rows s a))) (clauses-none b);
   }
 
-  pub stars-some : (f : ℕ) → f ≡ count-rows is-free (rows-of n k (drop p w)) → f ≡ 0 → (out' : List ℤ) (o' c' : ℕ) → Starred w p n k column-words m out o c out' o' c' → StarsDid w p n k m out o c out' o' c'
-  stars-some f e z out' o' c' t = record {
-    clauses = λ rows s r i l. t .clauses rows s (r .stands) (r .count) (r .well) (free-are f e rows r ∙ ap some-of z) i l;
+  pub stars-some : {f : ℕ} → f ≡ count-rows is-free (rows-of n k (drop p w)) → f ≡ 0 → {out' : List ℤ} {o' c' : ℕ} → Starred w p n k column-words m out o c out' o' c' → StarsDid w p n k m out o c out' o' c'
+  stars-some e z t = record {
+    clauses = λ rows s r i l. t .clauses rows s (r .stands) (r .count) (r .well) (free-are e rows r ∙ ap some-of z) i l;
   }

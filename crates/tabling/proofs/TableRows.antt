@@ -1,26 +1,25 @@
 -- A table that stands in the work slice: where its cells are, that its columns can be described, and what its rows' clauses are.
 use mathlib.Core.Path.{_≡_, refl, sym, ap, _∙_, subst}
 use mathlib.Core.Bool.{Bool, true, false, cond}
-use mathlib.Core.List.{List, [], _∷_, _++_, map}
-use Prim.Native.Nat.{ℕ, zero, suc, _+_, _-_, _*_, _≤_, _<_}
+use mathlib.Core.List.{List, [], _∷_, map}
+use Prim.Native.Nat.{ℕ, zero, suc, _+_, _-_, _*_, _≤_}
 use native.Mathlib.Omega.{arith}
 use native.Mathlib.Nat.{suc-mul}
 use lib.IntN.{ℤ, pos}
-use lib.ListN.{length, take, drop, length-append, length-take}
+use lib.ListN.{length, take, drop, length-append}
 use lib.Seq.{take-append-seam}
 use Rattle.laws.specs.Ints.{eqZ}
 use Rattle.laws.specs.Lists.{any, flat, counted}
-use Rattle.laws.specs.Slices.{Has, has-front, has-back}
-use Rattle.syntax.specs.Words.{max-count, star-word}
-use Rattle.syntax.specs.Syntax.{Domain, domain-of, encode-domain, IntExpr, encode-int, Cell, encode-cell, Stmt, Table, encode-stmt, Problem, encode}
-use Rattle.syntax.specs.Written.{EveryColumn, EveryStmt}
+use Rattle.laws.specs.Slices.{Has, has-back}
+use Rattle.syntax.specs.Words.{star-word}
+use Rattle.syntax.specs.Syntax.{Domain, domain-of, encode-domain, IntExpr, encode-int, Cell, Table, encode-stmt, Problem, encode}
+use Rattle.syntax.specs.Written.{EveryStmt}
 use Rattle.words.specs.Exact.{Each}
 use Rattle.read.specs.WellFormed.{WellRow}
-use Rattle.clauses.specs.Clause.{Clause, clause}
-use Rattle.clauses.specs.Log.{Log, next-bool, next-int}
+use Rattle.clauses.specs.Clause.{clause}
+use Rattle.clauses.specs.Log.{Log, next-bool}
 use Rattle.clauses.specs.Disjunction.{Out}
-use Rattle.tables.specs.Tables.{Columns as ColumnVars, emitted-domains, equivalent-int-vars, star-table, plain-table, plain-clauses, sort-rows, normalize-extension-supports, normalize-table}
-use Rattle.tables.specs.ColumnMeaning.{Standing as StandingVar}
+use Rattle.tables.specs.Tables.{emitted-domains, star-table, plain-table, plain-clauses, sort-rows, normalize-extension-supports, normalize-table}
 use Rattle.answer.specs.Answer.{normalize-stmt}
 use Rattle.walk.specs.Item.{limit, bool-map}
 use Rattle.walk.specs.Grow.{Grows, Fit, then, back}
@@ -29,10 +28,10 @@ use Rattle.writer.specs.Rules.{has-part}
 use Rattle.rows.specs.Rows.{rows-of, row-at}
 use Rattle.rows.specs.Columns.{vars-of, domains-of}
 use Rattle.rows.specs.Stands.{cells-words, length-cells, rows-stand, starless-stand}
-use Rattle.rows.specs.Emit.{Starless, Clauses, Behind, Table as RowsTable, Tabled}
+use Rattle.rows.specs.Emit.{Clauses, Table as RowsTable, Tabled}
 use Rattle.rows.proofs.Looping.{clauses-to}
-use Rattle.statements.specs.Columns.{int-words, column-numbers, columns-clauses, Placed, columns-are}
-use Rattle.statements.specs.Table.{starred, Below, columns-below, domains-agree, supports-grow, columns-bools}
+use Rattle.statements.specs.Columns.{int-words, column-numbers, columns-clauses, columns-are}
+use Rattle.statements.specs.Table.{starred, columns-below, domains-agree, supports-grow, columns-bools}
 use Rattle.statements.specs.Statements.{Stable, supports-stable, table-words}
 use Rattle.statements.specs.Whole.{lowest}
 use Rattle.statements.specs.Saved.{Saved, saved-same, saved-below, saved-above, saved-then, saved-less, has-saved}
@@ -40,7 +39,7 @@ use Rattle.numbered.specs.Fresh.{RowsStand, rows-small, rows-wide, stars-are}
 use Rattle.columns.specs.Standing.{Standing}
 use Rattle.columns.specs.Describing.{column-words, AllKnown, Describable, SomeDescribable, Described}
 use Rattle.stars.specs.Stars.{StarRows}
-use Rattle.tabling.specs.Step.{Place, At}
+use Rattle.tabling.specs.Step.{Place}
 use Rattle.tabling.specs.TableRows.{TableAt, SomeTableAt, columns-of, RowsDid, StarsDid}
 use Rattle.tabling.proofs.Known.{all-known}
 
@@ -68,7 +67,7 @@ pub empty-rows : (ds : List Domain) (vs : List ℕ) (z : Log) → normalize-exte
 unfolding normalize-extension-supports plain-table plain-clauses sort-rows
 empty-rows ds vs z = refl
 
-module _ (x : Place) (es : List IntExpr) (rows : List (List Cell)) (set w : List ℤ) (q p n k triples m : ℕ) (out : List ℤ) (o : ℕ) (h : TableAt x es rows set w q p n k triples m out o) where
+module _ {x : Place} {es : List IntExpr} {rows : List (List Cell)} {set w : List ℤ} {q p n k triples m : ℕ} {out : List ℤ} {o : ℕ} (h : TableAt x es rows set w q p n k triples m out o) where
   abbrev ds : List Domain
   ds = x .problem .domains
 
@@ -154,8 +153,8 @@ module _ (x : Place) (es : List IntExpr) (rows : List (List Cell)) (set w : List
 
   -- ---- no rows
 
-  pub rows-none : k ≡ 0 → (c : ℕ) (out' : List ℤ) (o' c' : ℕ) → Clauses out o c (clause [] [] ∷ []) out' o' c' → RowsDid x es rows w p n k out o c w out' o' c'
-  rows-none e c out' o' c' t = record { clauses = clauses-to (go rows (h .height)) t; saved = saved-same (p + k * n) w }
+  pub rows-none : k ≡ 0 → {c : ℕ} {out' : List ℤ} {o' c' : ℕ} → Clauses out o c (clause [] [] ∷ []) out' o' c' → RowsDid x es rows w p n k out o c w out' o' c'
+  rows-none e t = record { clauses = clauses-to (go rows (h .height)) t; saved = saved-same (p + k * n) w }
     where
       go : (rs : List (List Cell)) → k ≡ length rs → clause [] [] ∷ [] ≡ normalize-extension-supports ds vs rs z .0
       go [] i = sym (empty-rows ds vs z)
@@ -163,7 +162,7 @@ module _ (x : Place) (es : List IntExpr) (rows : List (List Cell)) (set w : List
 
   -- ---- behind the description of its columns
 
-  module _ (w₁ : List ℤ) (some : k ≡ 0 → ⊥) (d : Described set w (q + 3) n out triples w₁) where
+  module _ {w₁ : List ℤ} (some : k ≡ 0 → ⊥) (d : Described set w (q + 3) n out triples w₁) where
     kept : Saved 0 w w₁
     kept = saved-below (d .below) (d .size)
 
@@ -200,9 +199,9 @@ module _ (x : Place) (es : List IntExpr) (rows : List (List Cell)) (set w : List
           rw t (starless-stand rows (rows-small n rows well) (star-seen false e));
     }
 
-    pub rows-plain : false ≡ any (λ u. eqZ u star-word) (row-at (k * n) p w₁) → (c : ℕ) (w' out' : List ℤ) (o' c' : ℕ) → length w' ≡ length w₁ → Tabled w₁ w' set p n k column-words out o c out' o' c' → RowsDid x es rows w p n k out o c w' out' o' c'
+    pub rows-plain : false ≡ any (λ u. eqZ u star-word) (row-at (k * n) p w₁) → {c : ℕ} {w' out' : List ℤ} {o' c' : ℕ} → length w' ≡ length w₁ → Tabled w₁ w' set p n k column-words out o c out' o' c' → RowsDid x es rows w p n k out o c w' out' o' c'
     unfolding normalize-extension-supports
-    rows-plain e c w' out' o' c' l t = record {
+    rows-plain e l t = record {
       clauses =
           let s : starred rows ≡ false = star-seen false e in
           let r : rows-of n k (drop p w₁) ≡ _ = ap (λ (i : ℕ). rows-of n i (drop p w₁)) (h .height) ∙ rows-stand n w₁ p rows (described-stand .stands) (rows-wide n rows well) s in
@@ -223,9 +222,9 @@ module _ (x : Place) (es : List IntExpr) (rows : List (List Cell)) (set w : List
       next = omega (arith, h .at .number, columns-bools (x .folded) ds es (x .before), z-grows .bools, h .at .low .bools);
     }
 
-    pub rows-starred : true ≡ any (λ u. eqZ u star-word) (row-at (k * n) p w₁) → (c : ℕ) (out' : List ℤ) (o' c' : ℕ) → StarsDid w₁ p n k m out o c out' o' c' → RowsDid x es rows w p n k out o c w₁ out' o' c'
+    pub rows-starred : true ≡ any (λ u. eqZ u star-word) (row-at (k * n) p w₁) → {c : ℕ} {out' : List ℤ} {o' c' : ℕ} → StarsDid w₁ p n k m out o c out' o' c' → RowsDid x es rows w p n k out o c w₁ out' o' c'
     unfolding normalize-extension-supports normalize-stmt normalize-table
-    rows-starred e c out' o' c' t = record {
+    rows-starred e t = record {
       clauses =
           let s : starred rows ≡ true = star-seen true e in
           let a : next-bool z ≡ m = columns-bools (x .folded) ds es (x .before) ∙ sym (h .at .number) in
@@ -239,27 +238,24 @@ module _ (x : Place) (es : List IntExpr) (rows : List (List Cell)) (set w : List
 
 -- ---- some table stands there
 
-module _ (set w : List ℤ) (q p n k triples m : ℕ) (out : List ℤ) (o : ℕ) (s : SomeTableAt set w q p n k triples m out o) where
+module _ {set w : List ℤ} {q p n k triples m : ℕ} {out : List ℤ} {o : ℕ} (s : SomeTableAt set w q p n k triples m out o) where
   pub some-inside : p + k * n ≤ bool-map
-  some-inside = table-inside (s .place) (s .exprs) (s .rows) set w q p n k triples m out o (s .it)
-
-  pub some-place : q + 3 ≤ bool-map
-  some-place = omega (arith, some-inside, s .it .cells)
+  some-inside = table-inside (s .it)
 
   pub some-describable : (k ≡ 0 → ⊥) → SomeDescribable set w (q + 3) n out triples
   some-describable c = record {
     domains = s .place .problem .domains;
     dom = domain-of (emitted-domains (s .place .problem .domains) (s .place .whole));
     exprs = s .exprs;
-    it = describable (s .place) (s .exprs) (s .rows) set w q p n k triples m out o (s .it) c;
+    it = describable (s .it) c;
   }
 
-  module _ (w₁ : List ℤ) (some : k ≡ 0 → ⊥) (d : Described set w (q + 3) n out triples w₁) where
+  module _ {w₁ : List ℤ} (some : k ≡ 0 → ⊥) (d : Described set w (q + 3) n out triples w₁) where
     pub some-fits : p + k * n ≤ length w₁
-    some-fits = described-fits (s .place) (s .exprs) (s .rows) set w q p n k triples m out o (s .it) w₁ some d
+    some-fits = described-fits (s .it) some d
 
     pub some-star-rows : StarRows w₁ p n k column-words m
-    some-star-rows = star-rows-at (s .place) (s .exprs) (s .rows) set w q p n k triples m out o (s .it) w₁ some d
+    some-star-rows = star-rows-at (s .it) some d
 
     pub some-plain-table : false ≡ any (λ u. eqZ u star-word) (row-at (k * n) p w₁) → RowsTable w₁ set p n k column-words
-    some-plain-table = plain-table-at (s .place) (s .exprs) (s .rows) set w q p n k triples m out o (s .it) w₁ some d
+    some-plain-table = plain-table-at (s .it) some d

@@ -1,20 +1,17 @@
 -- A table among the statements: its counts, the end of its columns, and what is written of it.
-use mathlib.Core.Path.{_≡_, refl, sym, ap, _∙_, subst}
-use mathlib.Core.List.{List, [], _∷_, _++_, map}
-use Prim.Native.Nat.{ℕ, suc, _+_, _*_, _≤_, _<_, min}
+use mathlib.Core.Path.{_≡_, sym, ap, _∙_}
+use mathlib.Core.List.{List, [], _∷_}
+use Prim.Native.Nat.{ℕ, _+_, _*_, _≤_}
 use native.Mathlib.Omega.{arith}
 use lib.IntN.{ℤ, pos}
-use lib.ListN.{length, getD, length-append}
-use Rattle.laws.specs.Lists.{flat}
-use Rattle.laws.specs.Slices.{Has, has-word, has-back, has-fits}
+use lib.ListN.{length}
+use Rattle.laws.specs.Slices.{Has, has-word, has-back}
 use Rattle.laws.specs.Writes.{cap, Wrote}
-use Rattle.syntax.specs.Syntax.{IntExpr, encode-int, Cell, Table, encode-stmt}
-use Rattle.clauses.specs.Log.{Log, next-bool}
-use Rattle.tables.specs.Tables.{equivalent-int-vars, normalize-extension-supports, normalize-table}
+use Rattle.syntax.specs.Syntax.{IntExpr, Cell, Table, encode-stmt}
+use Rattle.tables.specs.Tables.{normalize-table}
 use Rattle.answer.specs.Answer.{normalize-stmt}
-use Rattle.walk.specs.Item.{limit, bump, nat, bool-map}
+use Rattle.walk.specs.Item.{bump, nat, bool-map}
 use Rattle.walk.specs.Grow.{back}
-use Rattle.walk.specs.Num.{max-emitted}
 use Rattle.walk.specs.Two.{low-back}
 use Rattle.walk.specs.Decode.{word, read-part}
 use Rattle.rows.specs.Emit.{Clauses, Behind}
@@ -23,13 +20,13 @@ use Rattle.statements.specs.Columns.{columns-clauses}
 use Rattle.statements.specs.Table.{table-fresh}
 use Rattle.statements.specs.Statements.{stmt-count, stmt-passes, table-words, table-length}
 use Rattle.statements.specs.NumberColumns.{columns-end, columns-stop}
-use Rattle.numbered.specs.Fresh.{RowsStand, Freshens}
+use Rattle.numbered.specs.Fresh.{Freshens}
 use Rattle.columns.specs.Standing.{Standing}
 use Rattle.columns.specs.Equalities.{Equatable, Equated}
-use Rattle.tabling.specs.Step.{Place, after, At, SomeTable, Did}
-use Rattle.tabling.specs.TableRows.{TableAt, SomeTableAt, columns-of, RowsDid}
+use Rattle.tabling.specs.Step.{Place, At, SomeTable, Did}
+use Rattle.tabling.specs.TableRows.{TableAt, SomeTableAt, RowsDid}
 use Rattle.tabling.proofs.After.{at-after}
-use Rattle.tabling.proofs.TableRows.{table-end, table-stand, numbers-are, columns-stand}
+use Rattle.tabling.proofs.TableRows.{table-end, table-stand, numbers-are}
 
 -- ---- the counts of a table that stands at q
 
@@ -41,9 +38,9 @@ count-rows : (F : List ℤ) (q : ℕ) (es : List IntExpr) (rows : List (List Cel
 unfolding word nat encode-stmt
 count-rows F q es rows h = ap nat (has-word F (q + 2) (pos (length rows)) _ (pos 0) (has-back F q (pos 2 ∷ pos (length es) ∷ []) _ h))
 
-module _ (set w : List ℤ) (q triples m : ℕ) (out : List ℤ) (o : ℕ) where
-  module _ (x : Place) (es : List IntExpr) (rows : List (List Cell)) (h : At x (Table es rows) set w q triples m out o) (n : ℕ) (hn : n ≡ word (read-part w) (q + 1)) where
-    pub stands-at : Standing w (q + 3) n es
+module _ {set w : List ℤ} {q triples m : ℕ} {out : List ℤ} {o : ℕ} where
+  module _ {x : Place} {es : List IntExpr} {rows : List (List Cell)} (h : At x (Table es rows) set w q triples m out o) {n : ℕ} (hn : n ≡ word (read-part w) (q + 1)) where
+    stands-at : Standing w (q + 3) n es
     stands-at = record {
       words = table-words (read-part w) (x .problem .domains) q es rows (h .stands);
       counted = hn ∙ count-columns (read-part w) q es rows (h .stands);
@@ -61,10 +58,10 @@ module _ (set w : List ℤ) (q triples m : ℕ) (out : List ℤ) (o : ℕ) where
     }
 
     -- behind its equalities
-    module _ (k p : ℕ) (hk : k ≡ word (read-part w) (q + 2)) (hp : p ≡ columns-end (read-part w) n (q + 3)) (vs out' : List ℤ) (o' : ℕ) (l : o ≤ cap) (v : Wrote out o vs out' o') where
+    module _ {k p : ℕ} (hk : k ≡ word (read-part w) (q + 2)) (hp : p ≡ columns-end (read-part w) n (q + 3)) {vs out' : List ℤ} {o' : ℕ} (l : o ≤ cap) (v : Wrote out o vs out' o') where
       table-at : TableAt x es rows set w q p n k triples m out' o'
       table-at = record {
-        at = at-after x (Table es rows) set w q triples m out o vs out' o' l v h;
+        at = at-after l v h;
         width = stands-at .counted;
         height = hk ∙ count-rows (read-part w) q es rows (h .stands);
         cells = hp ∙ ap (λ (i : ℕ). columns-end (read-part w) i (q + 3)) (stands-at .counted) ∙ columns-stop (read-part w) es (q + 3) (stands-at .legal) (stands-at .words);
@@ -72,8 +69,8 @@ module _ (set w : List ℤ) (q triples m : ℕ) (out : List ℤ) (o : ℕ) where
 
   -- ---- some table stands there
 
-  pub some-equatable : SomeTable set w q triples m out o → (n : ℕ) → n ≡ word (read-part w) (q + 1) → Equatable w (q + 3) n
-  some-equatable s n hn = equatable-at (s .place) (s .exprs) (s .rows) (s .it) n hn
+  pub some-equatable : SomeTable set w q triples m out o → {n : ℕ} → n ≡ word (read-part w) (q + 1) → Equatable w (q + 3) n
+  some-equatable s hn = equatable-at (s .it) hn
 
   pub some-low : SomeTable set w q triples m out o → q + 3 ≤ bool-map
   some-low s = omega (arith, s .it .at .inside, table-length (s .place .folded) (s .place .problem .domains) (s .exprs) (s .rows))
@@ -81,30 +78,30 @@ module _ (set w : List ℤ) (q triples m : ℕ) (out : List ℤ) (o : ℕ) where
   pub some-size : SomeTable set w q triples m out o → 16384 ≤ length w
   some-size s = s .it .size
 
-  module _ (n k p : ℕ) (hn : n ≡ word (read-part w) (q + 1)) (hk : k ≡ word (read-part w) (q + 2)) (hp : p ≡ columns-end (read-part w) n (q + 3)) (c : ℕ) (b : Behind out o c) (out₁ : List ℤ) (o₁ c₁ : ℕ) (y : Equated w (q + 3) n out o c out₁ o₁ c₁) where
-    equalities : (x : Place) (es : List IntExpr) (rows : List (List Cell)) → At x (Table es rows) set w q triples m out o → Clauses out o c (columns-clauses w (q + 3) es) out₁ o₁ c₁
-    equalities x es rows h = y .clauses es (stands-at x es rows h n hn)
+  module _ {n k p : ℕ} (hn : n ≡ word (read-part w) (q + 1)) (hk : k ≡ word (read-part w) (q + 2)) (hp : p ≡ columns-end (read-part w) n (q + 3)) {c : ℕ} (b : Behind out o c) {out₁ : List ℤ} {o₁ c₁ : ℕ} (y : Equated w (q + 3) n out o c out₁ o₁ c₁) where
+    equalities : {x : Place} {es : List IntExpr} {rows : List (List Cell)} → At x (Table es rows) set w q triples m out o → Clauses out o c (columns-clauses w (q + 3) es) out₁ o₁ c₁
+    equalities {es = es} h = y .clauses es (stands-at h hn)
 
-    table-then : (x : Place) (es : List IntExpr) (rows : List (List Cell)) → At x (Table es rows) set w q triples m out o → TableAt x es rows set w q p n k triples m out₁ o₁
-    table-then x es rows h = table-at x es rows h n hn k p hk hp _ out₁ o₁ (b .room .place) (equalities x es rows h .words)
+    table-then : {x : Place} {es : List IntExpr} {rows : List (List Cell)} → At x (Table es rows) set w q triples m out o → TableAt x es rows set w q p n k triples m out₁ o₁
+    table-then h = table-at h hn hk hp (b .room .place) (equalities h .words)
 
     pub some-table-at : SomeTable set w q triples m out o → SomeTableAt set w q p n k triples m out₁ o₁
-    some-table-at s = record { place = s .place; exprs = s .exprs; rows = s .rows; it = table-then (s .place) (s .exprs) (s .rows) (s .it) }
+    some-table-at s = record { place = s .place; exprs = s .exprs; rows = s .rows; it = table-then (s .it) }
 
-    pub table-did : (f : ℕ) → Freshens w p n k f → (w' out' : List ℤ) (o' c' : ℕ)
+    pub table-did : {f : ℕ} → Freshens w p n k f → {w' out' : List ℤ} {o' c' : ℕ}
         → ((x : Place) (es : List IntExpr) (rows : List (List Cell)) → TableAt x es rows set w q p n k triples m out₁ o₁ → RowsDid x es rows w p n k out₁ o₁ c₁ w' out' o' c')
         → (x : Place) (es : List IntExpr) (rows : List (List Cell)) → At x (Table es rows) set w q triples m out o → Did x (Table es rows) w q out o c w' out' (p + k * n) (bump m f) o' c'
     unfolding normalize-stmt normalize-table stmt-count
-    table-did f hf w' out' o' c' g x es rows h =
-        let t = table-then x es rows h in
+    table-did {f} hf g x es rows h =
+        let t = table-then h in
         let r = g x es rows t in
-        let a = numbers-are x es rows set w q p n k triples m out₁ o₁ t .1 in
-        let e : f ≡ table-fresh (length es) rows = hf rows (table-stand x es rows set w q p n k triples m out₁ o₁ t) ∙ ap (λ (i : ℕ). table-fresh i rows) (t .width) in
+        let a = numbers-are t .1 in
+        let e : f ≡ table-fresh (length es) rows = hf rows (table-stand t) ∙ ap (λ (i : ℕ). table-fresh i rows) (t .width) in
         let i : m ≡ x .state .bools = h .number ∙ sym (h .at .numbered .bools) in
         let s = stmt-passes (x .folded) (x .problem .domains) q (Table es rows) (x .state) (x .before) (h .at .behind, h .at .inside) (h .at .stands) (h .at .legal) (h .at .numbered) (low-back (h .at .grows) (h .low)) (omega (arith, h .at .grows .ints, h .few)) in
         record {
-          clauses = clauses-then (b .room .part) (clauses-to a (equalities x es rows h)) (r .clauses);
-          next = table-end x es rows set w q p n k triples m out₁ o₁ t;
+          clauses = clauses-then (b .room .part) (clauses-to a (equalities h)) (r .clauses);
+          next = table-end t;
           bools = ap (λ (j : ℕ). bump j f) i ∙ ap (bump (x .state .bools)) e ∙ s .count w (back (h .at .grows) (h .fit));
           saved = r .saved;
         }

@@ -1,5 +1,4 @@
 // The clauses of a table: the equalities of its columns, then its rows.
-ghost use mathlib.Core.Path.{_≡_};
 ghost use mathlib.Core.List.{List, [], _∷_};
 ghost use Rattle.syntax.specs.Syntax.{IntExpr, Cell, Table};
 ghost use Rattle.clauses.specs.Clause.{clause};

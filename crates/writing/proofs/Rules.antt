@@ -1,14 +1,13 @@
 -- A rule among the statements: it may be written where it stands, and what is written are its clauses.
 use mathlib.Core.Path.{_≡_, refl, sym, ap, _∙_, subst}
-use mathlib.Core.Bool.{Bool, true, false, _||_}
-use mathlib.Core.List.{List, [], _∷_, _++_, map}
-use Prim.Native.Nat.{ℕ, suc, _+_, _*_, _≤_, _<_, min}
+use mathlib.Core.Bool.{Bool, false}
+use mathlib.Core.List.{List, [], _∷_}
+use Prim.Native.Nat.{ℕ, _+_, _*_, _≤_}
 use native.Mathlib.Omega.{arith}
 use lib.IntN.{ℤ, pos}
-use lib.ListN.{length, getD, length-append}
-use Rattle.laws.specs.Lists.{flat, counted}
+use lib.ListN.{length, length-append}
+use Rattle.laws.specs.Lists.{counted}
 use Rattle.laws.specs.Slices.{Has, has-word, has-rest}
-use Rattle.laws.specs.Writes.{cap}
 use Rattle.syntax.specs.Syntax.{IntExpr, BoolExpr, Const, Var, NVar, And, Or, Not, Xor, Iff, Imp, Cmp, Members, none, more, encode-bool, Cell, Stmt, Rule, Table, encode-stmt}
 use Rattle.limits.specs.Limits.{any-comparison, any-comparison-members}
 use Rattle.clauses.specs.Clause.{Clause, clause}
@@ -25,7 +24,7 @@ use Rattle.walk.specs.Rule.{LegalRule, true-rule, legal-rule}
 use Rattle.walk.specs.Decode.{word, read-part}
 use Rattle.writer.specs.Placed.{Placed, RuleWrote}
 use Rattle.writer.specs.Rules.{Writable, RuleIs, rule-written}
-use Rattle.rows.specs.Emit.{clauses-words, Clauses, Behind}
+use Rattle.rows.specs.Emit.{clauses-words, Behind}
 use Rattle.statements.specs.Columns.{ColumnRecord}
 use Rattle.statements.specs.Statements.{stmt-grows}
 use Rattle.statements.specs.Saved.{saved-same}
@@ -92,8 +91,8 @@ rule-length : (e : BoolExpr) → length (encode-stmt (Rule e)) ≡ 1 + length (e
 unfolding encode-stmt
 rule-length e = omega arith
 
-module _ (set w : List ℤ) (q triples m : ℕ) (out : List ℤ) (o : ℕ) where
-  module _ (x : Place) (e : BoolExpr) (h : At x (Rule e) set w q triples m out o) where
+module _ {set w : List ℤ} {q triples m : ℕ} {out : List ℤ} {o : ℕ} where
+  module _ {x : Place} {e : BoolExpr} (h : At x (Rule e) set w q triples m out o) where
     rule-low : Low (normalize-and-register-expr e (x .before) .1)
     rule-low = unfold normalize-stmt in low-back (h .at .grows) (h .low)
 
@@ -116,9 +115,9 @@ module _ (set w : List ℤ) (q triples m : ℕ) (out : List ℤ) (o : ℕ) where
     )
 
     -- k: the clauses before it
-    pub rule-did : (k : ℕ) → Behind out o k → (out' : List ℤ) (e' m' o' k' : ℕ) → RuleStep w q m out o k out' e' m' o' k' → Did x (Rule e) w q out o k w out' e' m' o' k'
+    pub rule-did : {k : ℕ} → Behind out o k → {out' : List ℤ} {e' m' o' k' : ℕ} → RuleStep w q m out o k out' e' m' o' k' → Did x (Rule e) w q out o k w out' e' m' o' k'
     unfolding normalize-stmt
-    rule-did k b out' e' m' o' k' r =
+    rule-did b {out'} {e'} {m'} {o'} r =
         let st : State = x .state in
         let n : m ≡ st .bools = h .number ∙ sym (h .at .numbered .bools) in
         let y : RuleWrote w (q + 1) (st .bools) out o out' e' m' (r .lines) o' = subst (λ (i : ℕ). RuleWrote w (q + 1) i out o out' e' m' (r .lines) o') n (r .wrote) in
@@ -141,7 +140,7 @@ module _ (set w : List ℤ) (q triples m : ℕ) (out : List ℤ) (o : ℕ) where
   is-rule x (Table es rows) h c f = absurd (omega (arith, c, code-table w q es rows (h .stands)))
 
   pub some-rule : SomeAt set w q triples m out o → word (read-part w) q ≡ 1 → Placed w (q + 1) m m × Writable w (q + 1) m
-  some-rule s c = is-rule (s .place) (s .stmt) (s .it) c (λ e h. rule-writable (s .place) e h)
+  some-rule s c = is-rule (s .place) (s .stmt) (s .it) c (λ e h. rule-writable h)
 
   -- it is a table's
   pub some-table : SomeAt set w q triples m out o → (word (read-part w) q ≡ 1 → ⊥) → SomeTable set w q triples m out o
@@ -151,12 +150,12 @@ module _ (set w : List ℤ) (q triples m : ℕ) (out : List ℤ) (o : ℕ) where
       go (Rule e) h = absurd (c (code-rule w q e (h .stands)))
       go (Table es rows) h = record { place = s .place; exprs = es; rows = rows; it = h }
 
-  module _ (k : ℕ) (w' out' : List ℤ) (e' m' o' k' : ℕ) where
+  module _ {k : ℕ} {out' : List ℤ} {e' m' o' k' : ℕ} where
     pub did-rule : word (read-part w) q ≡ 1 → Behind out o k → RuleStep w q m out o k out' e' m' o' k' → (x : Place) (t : Stmt) → At x t set w q triples m out o → Did x t w q out o k w out' e' m' o' k'
-    did-rule c b r x (Rule e) h = rule-did x e h k b out' e' m' o' k' r
+    did-rule c b r x (Rule e) h = rule-did h b r
     did-rule c b r x (Table es rows) h = absurd (omega (arith, c, code-table w q es rows (h .stands)))
 
-    pub did-table : (word (read-part w) q ≡ 1 → ⊥) → ((x : Place) (es : List IntExpr) (rows : List (List Cell)) → At x (Table es rows) set w q triples m out o → Did x (Table es rows) w q out o k w' out' e' m' o' k')
+    pub did-table : {w' : List ℤ} → (word (read-part w) q ≡ 1 → ⊥) → ((x : Place) (es : List IntExpr) (rows : List (List Cell)) → At x (Table es rows) set w q triples m out o → Did x (Table es rows) w q out o k w' out' e' m' o' k')
         → (x : Place) (t : Stmt) → At x t set w q triples m out o → Did x t w q out o k w' out' e' m' o' k'
     did-table c f x (Rule e) h = absurd (c (code-rule w q e (h .stands)))
     did-table c f x (Table es rows) h = f x es rows h

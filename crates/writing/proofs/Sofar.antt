@@ -1,18 +1,15 @@
 -- The loop over the statements: so far the clauses of those before q are written, and the words of the work slice from q on are as numbering left them.
-use mathlib.Core.Path.{_≡_, refl, sym, ap, _∙_, subst}
-use mathlib.Core.List.{List, [], _∷_, _++_, map, append-nil}
-use Prim.Native.Nat.{ℕ, zero, suc, _+_, _*_, _≤_, _<_, min}
+use mathlib.Core.Path.{_≡_, refl, sym, _∙_, subst}
+use mathlib.Core.List.{List, [], _∷_, _++_, append-nil}
+use Prim.Native.Nat.{ℕ, _+_, _*_, _≤_, _<_}
 use native.Mathlib.Omega.{arith}
 use lib.IntN.{ℤ}
 use lib.ListN.{length, length-append}
-use Rattle.laws.specs.Lists.{flat}
-use Rattle.laws.specs.Slices.{Has}
-use Rattle.laws.specs.Writes.{cap, wrote-length, wrote-low}
-use Rattle.syntax.specs.Syntax.{Domain, Stmt, Rule, Table, encode-stmt, Problem, encode}
+use Rattle.laws.specs.Writes.{wrote-length, wrote-low}
+use Rattle.syntax.specs.Syntax.{Domain, Stmt, Rule, Table, encode-stmt, Problem}
 use Rattle.fold.specs.Fold.{Fixed}
 use Rattle.clauses.specs.Clause.{Clause}
 use Rattle.clauses.specs.Log.{Log, next-bool, next-int}
-use Rattle.tables.specs.Tables.{emitted-domains}
 use Rattle.answer.specs.Answer.{normalize-stmts}
 use Rattle.walk.specs.Item.{State}
 use Rattle.walk.specs.Num.{numbered-fit}
@@ -47,7 +44,7 @@ unfolding encode-stmt
 stmt-words (Rule e) = omega arith
 stmt-words (Table es rows) = omega arith
 
-module _ (set w₀ : List ℤ) (end triples : ℕ) (out₀ : List ℤ) (o₀ : ℕ) (p : Problem) (f : Fixed) (ss : List Stmt) (c : Counters) (h : Writable p f ss c set w₀ end triples out₀ o₀) where
+module _ {set w₀ : List ℤ} {end triples : ℕ} {out₀ : List ℤ} {o₀ : ℕ} {p : Problem} {f : Fixed} {ss : List Stmt} {c : Counters} (h : Writable p f ss c set w₀ end triples out₀ o₀) where
   abbrev ds : List Domain
   ds = p .domains
 
@@ -69,7 +66,7 @@ module _ (set w₀ : List ℤ) (end triples : ℕ) (out₀ : List ℤ) (o₀ : �
     saved = saved-same 512 w₀;
   }
 
-  module _ (w out : List ℤ) (q m o k : ℕ) (v : Sofar w₀ out₀ o₀ p ss w out q m o k) where
+  module _ {w out : List ℤ} {q m o k : ℕ} (v : Sofar w₀ out₀ o₀ p ss w out q m o k) where
     pub sofar-behind : Behind out o k
     sofar-behind = record { room = record { place = wrote-low (v .wrote .words); part = omega (arith, wrote-length (v .wrote .words), h .room .room .part) }; low = v .wrote .low }
 
@@ -111,7 +108,7 @@ module _ (set w₀ : List ℤ) (end triples : ℕ) (out₀ : List ℤ) (o₀ : �
           fit = fit-saved L (omega (arith, a .inside)) (n .low) (n .low-int) (v .saved) (numbered-fit (ColumnRecord F ds) (state-of w₀ c) L n (low .bools));
           low = low;
           few = log-few p f ss (h .ready .set) F w₀ (h .ready .stands);
-          domains = triples-stay ds L triples out₀ out o₀ o _ b (v .wrote .words) (h .domains);
+          domains = triples-stay ds L triples b (v .wrote .words) (h .domains);
           behind = omega (arith, b, v .wrote .words .at, h .room .room .place);
           size = omega (arith, n .size, v .saved .size);
         }
@@ -123,7 +120,7 @@ module _ (set w₀ : List ℤ) (end triples : ℕ) (out₀ : List ℤ) (o₀ : �
     pub sofar-at : q < end → SomeAt set w q triples m out o
     sofar-at l = some-left l (v .rest) (v .left) (λ t ts r. record { place = place; stmt = t; it = next-at t ts r })
 
-    module _ (w' out' : List ℤ) (e m' o' k' : ℕ) (g : (x : Place) (t : Stmt) → At x t set w q triples m out o → Did x t w q out o k w' out' e m' o' k') where
+    module _ {w' out' : List ℤ} {e m' o' k' : ℕ} (g : (x : Place) (t : Stmt) → At x t set w q triples m out o → Did x t w q out o k w' out' e m' o' k') where
       next : (t : Stmt) (ts : List Stmt) → Rest p ss F w₀ q (t ∷ ts) (v .log) (v .state) (v .done) → Sofar w₀ out₀ o₀ p ss w' out' e m' o' k' × ((q < e) × (e ≤ end))
       next t ts r =
           let d : Did place t w q out o k w' out' e m' o' k' = g place t (next-at t ts r) in

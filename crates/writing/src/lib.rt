@@ -1,5 +1,4 @@
 // The clauses of all statements, in order, behind the answer's header.
-ghost use mathlib.Core.Path.{_≡_};
 ghost use Prim.Native.Nat.{_+_};
 ghost use Rattle.syntax.specs.Syntax.{Stmt};
 ghost use Rattle.writer.specs.Placed.{Placed};

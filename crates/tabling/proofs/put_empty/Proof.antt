@@ -1,16 +1,10 @@
-use mathlib.Core.Path.{_≡_, refl, sym, ap, _∙_}
-use mathlib.Core.List.{List, [], _∷_}
-use Prim.Native.Nat.{ℕ, _+_, _*_, _≤_, _<_}
-use native.Mathlib.Omega.{arith}
+use mathlib.Core.List.{[], _∷_}
 use Rattle.clauses.specs.Clause.{clause}
 use Rattle.rows.proofs.Looping.{clauses-stop}
 use Rattle.tabling.proofs.After.{empty-one}
 use borrow.Author.Needs.{needs}
 use Rattle.tabling.proofs.put_empty.Statement.{statement}
 use Rattle.tabling.proofs.put_empty.Tie as tie
-use Rattle.tabling.proofs.put_empty.Reads as reads
-use Rattle.tabling.proofs.put_empty.Lts as lts
-use Rattle.writer.proofs.put.Reads as put-reads
 
 returns : tie.Need-returns
 returns c = clauses-stop (c .before .pre) (c .if1 .taken) (clause [] [] ∷ [])
@@ -28,7 +22,7 @@ same-length : tie.Need-same-length
 same-length c = search needs
 
 returns-2 : tie.Need-returns-2
-returns-2 c = empty-one (c .before .before .before .before .before .before .before .args .out .now) (c .before .before .before .before .put .last .0) (c .before .put2 .last .0) (c .before .before .before .before .before .before .before .args .o) _ _ (c .before .before .before .before .before .before .before .args .k) (c .before .before .before .before .before .before .before .pre) (c .before .before .before .before .before .before .if1 .left) (c .before .before .before .before .put .ensures) (c .before .put2 .ensures)
+returns-2 c = empty-one (c .before .before .before .before .before .before .before .pre) (c .before .before .before .before .before .before .if1 .left) (c .before .before .before .before .put .ensures) (c .before .put2 .ensures)
 
 pub put-empty-spec : {M : Type 1} → statement M
 put-empty-spec =

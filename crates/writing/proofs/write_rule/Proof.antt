@@ -1,12 +1,7 @@
-use mathlib.Core.Path.{_≡_, refl, sym, ap, _∙_}
 use native.Mathlib.Omega.{arith}
 use borrow.Author.Needs.{needs}
 use Rattle.writing.proofs.write_rule.Statement.{statement}
 use Rattle.writing.proofs.write_rule.Tie as tie
-use Rattle.writing.proofs.write_rule.Reads as reads
-use Rattle.writing.proofs.write_rule.Lts as lts
-use Rattle.number.proofs.bump.Reads as bump-reads
-use Rattle.writer.proofs.write_rule.Reads as write-rule-reads
 
 add-write-rule : tie.Need-add-write-rule
 add-write-rule c = search needs

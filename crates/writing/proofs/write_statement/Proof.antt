@@ -1,20 +1,14 @@
-use mathlib.Core.Path.{_≡_, refl, sym, ap, _∙_}
-use native.Mathlib.Omega.{arith}
+use mathlib.Core.Path.{sym, _∙_}
 use Rattle.writing.proofs.Rules.{some-rule, some-table, did-rule, did-table}
 use borrow.Author.Needs.{needs}
 use Rattle.writing.proofs.write_statement.Statement.{statement}
 use Rattle.writing.proofs.write_statement.Tie as tie
-use Rattle.writing.proofs.write_statement.Reads as reads
-use Rattle.writing.proofs.write_statement.Lts as lts
-use Rattle.number.proofs.word.Reads as word-reads
-use Rattle.writing.proofs.write_rule.Reads as write-rule-reads
-use Rattle.tabling.proofs.write_table.Reads as write-table-reads
 
 word-requires : tie.Need-word-requires
 word-requires c κs = search needs
 
 write-rule-requires : tie.Need-write-rule-requires
-write-rule-requires c κs = let r = some-rule (c .before .before .before .before .before .args .set .now) (c .before .before .before .before .before .args .work .now) (c .before .before .before .before .before .args .at) (c .before .before .before .before .before .args .triples) (c .before .before .before .before .before .args .m) (c .before .before .before .before .before .args .out .now) (c .before .before .before .before .before .args .o) (c .before .before .before .before .before .pre .0) (sym (c .before .before .before .word .ensures) ∙ c .before .before .if1 .taken) in (r .0, r .1, c .before .before .before .before .before .pre .1)
+write-rule-requires c κs = let r = some-rule (c .before .before .before .before .before .pre .0) (sym (c .before .before .before .word .ensures) ∙ c .before .before .if1 .taken) in (r .0, r .1, c .before .before .before .before .before .pre .1)
 
 same-length : tie.Need-same-length
 same-length c = search needs
@@ -23,10 +17,10 @@ same-length-2 : tie.Need-same-length-2
 same-length-2 c = search needs
 
 returns : tie.Need-returns
-returns c = did-rule (c .before .before .before .before .before .before .before .args .set .now) (c .before .before .before .before .before .before .before .args .work .now) (c .before .before .before .before .before .before .before .args .at) (c .before .before .before .before .before .before .before .args .triples) (c .before .before .before .before .before .before .before .args .m) (c .before .before .before .before .before .before .before .args .out .now) (c .before .before .before .before .before .before .before .args .o) (c .before .before .before .before .before .before .before .args .k) (c .before .before .before .before .before .before .before .args .work .now) (c .before .write-rule .last .1 .1 .1 .0) _ _ _ _ (sym (c .before .before .before .before .before .word .ensures) ∙ c .before .before .before .before .if1 .taken) (c .before .before .before .before .before .before .before .pre .1) (c .before .write-rule .ensures)
+returns c = did-rule (sym (c .before .before .before .before .before .word .ensures) ∙ c .before .before .before .before .if1 .taken) (c .before .before .before .before .before .before .before .pre .1) (c .before .write-rule .ensures)
 
 write-table-requires : tie.Need-write-table-requires
-write-table-requires c κs = (some-table (c .before .before .before .before .before .args .set .now) (c .before .before .before .before .before .args .work .now) (c .before .before .before .before .before .args .at) (c .before .before .before .before .before .args .triples) (c .before .before .before .before .before .args .m) (c .before .before .before .before .before .args .out .now) (c .before .before .before .before .before .args .o) (c .before .before .before .before .before .pre .0) (λ z. c .before .before .if1 .left (c .before .before .before .word .ensures ∙ z)), c .before .before .before .before .before .pre .1)
+write-table-requires c κs = (some-table (c .before .before .before .before .before .pre .0) (λ z. c .before .before .if1 .left (c .before .before .before .word .ensures ∙ z)), c .before .before .before .before .before .pre .1)
 
 same-length-3 : tie.Need-same-length-3
 same-length-3 c = search needs
@@ -35,7 +29,7 @@ same-length-4 : tie.Need-same-length-4
 same-length-4 c = search needs
 
 returns-2 : tie.Need-returns-2
-returns-2 c = did-table (c .before .before .before .before .before .before .before .before .args .set .now) (c .before .before .before .before .before .before .before .before .args .work .now) (c .before .before .before .before .before .before .before .before .args .at) (c .before .before .before .before .before .before .before .before .args .triples) (c .before .before .before .before .before .before .before .before .args .m) (c .before .before .before .before .before .before .before .before .args .out .now) (c .before .before .before .before .before .before .before .before .args .o) (c .before .before .before .before .before .before .before .before .args .k) (c .before .before .write-table .last .1 .0) (c .before .before .write-table .last .1 .1 .1 .1 .1 .0) _ _ _ _ (λ z. c .before .before .before .before .before .if1 .left (c .before .before .before .before .before .before .word .ensures ∙ z)) (c .before .before .write-table .ensures)
+returns-2 c = did-table (λ z. c .before .before .before .before .before .if1 .left (c .before .before .before .before .before .before .word .ensures ∙ z)) (c .before .before .write-table .ensures)
 
 pub write-statement-spec : {M : Type 1} → statement M
 write-statement-spec =
