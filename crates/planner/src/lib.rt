@@ -31,7 +31,7 @@ fn write_answer(
     let w = writing::write_statements(set, work, end, 2 * bools + ints + 2, part, count + 1);
     let at = w.at;
     if at <= part.len() {
-        fold::put(part, count, w.clauses);
+        folding::put(part, count, w.clauses);
     }
     at
 }

@@ -6,7 +6,7 @@ use Rattle.planner.proofs.write_answer.Statement.{statement}
 use Rattle.planner.proofs.write_answer.Tie as tie
 use Rattle.planner.proofs.write_answer.Reads as reads
 use Rattle.planner.proofs.write_answer.Lts as lts
-use Rattle.fold.proofs.put.Reads as put-reads
+use Rattle.folding.proofs.put.Reads as put-reads
 use Rattle.header.proofs.write_header.Reads as write-header-reads
 use Rattle.writing.proofs.write_statements.Reads as write-statements-reads
 
