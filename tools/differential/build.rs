@@ -1,7 +1,9 @@
-// Links the static library that `rt staticlib refuse` writes below the repository's target/.
+// Each program links the static library that `rt staticlib NAME` writes below the repository's target/.
 fn main() {
     let root = std::path::Path::new(env!("CARGO_MANIFEST_DIR")).join("../../target/staticlib");
-    println!("cargo:rustc-link-search=native={}", root.display());
-    println!("cargo:rustc-link-lib=static=refuse");
-    println!("cargo:rerun-if-changed={}", root.join("librefuse.a").display());
+    for (program, library) in [("refusals", "refuse"), ("settled", "remaining"), ("calls", "planner"), ("bench", "planner")] {
+        let file = root.join(format!("lib{library}.a"));
+        println!("cargo:rustc-link-arg-bin={program}={}", file.display());
+        println!("cargo:rerun-if-changed={}", file.display());
+    }
 }

@@ -1,0 +1,93 @@
+//! The port's call against the Rust, in time. `bench SEED COUNT`: COUNT accepted sets of each family.
+//! The port's time is a whole call: clearing both slices, reading, refusals, answer, clearing the work slice.
+//! The Rust's is building its problem from a set that was read, `optimize`, `normalize`, and writing the answer's words.
+
+use reference::call::timed;
+use reference::generate::{self, Case};
+use reference::{call, refuse, Outcome};
+use std::hint::black_box;
+use std::time::Instant;
+
+extern "C" {
+    fn compile_set(set: *const i32, set_len: usize, out: *mut i32, out_len: usize, work: *mut i32, work_len: usize) -> i64;
+}
+
+const FAMILIES: [&str; 5] = ["rules", "chains", "comparisons", "tables", "mixed"];
+const ROUNDS: u32 = 5;
+
+/// The least time of some rounds, in nanoseconds.
+fn least(mut work: impl FnMut()) -> f64 {
+    let round = |work: &mut dyn FnMut()| {
+        let start = Instant::now();
+        work();
+        start.elapsed().as_nanos() as f64
+    };
+    (0..ROUNDS).map(|_| round(&mut work)).fold(f64::INFINITY, f64::min)
+}
+
+/// Times of the Rust and of the port on one set with an output slice of the answer's length; nothing for a set that is refused.
+fn times(case: &Case, work: &mut [i32]) -> Option<(f64, f64)> {
+    let length = match call(&case.set, 1 << 22, work.len()) {
+        Outcome::Compiled(words) => words.len(),
+        Outcome::Contradiction => 0,
+        _ => return None,
+    };
+    let read = refuse::accept(&case.set, work.len()).ok()?;
+    let mut out = vec![0; length];
+    let rust = least(|| {
+        black_box(timed(black_box(&read)));
+    });
+    let port = least(|| {
+        let set = black_box(&case.set);
+        black_box(unsafe { compile_set(set.as_ptr(), set.len(), out.as_mut_ptr(), out.len(), work.as_mut_ptr(), work.len()) });
+    });
+    Some((rust, port))
+}
+
+fn at(sorted: &[f64], part: f64) -> f64 {
+    sorted[((sorted.len() - 1) as f64 * part) as usize]
+}
+
+/// Sets by size: up to 64 words, up to 512, larger.
+fn size(words: usize) -> usize {
+    match words {
+        0..=64 => 0,
+        65..=512 => 1,
+        _ => 2,
+    }
+}
+
+fn line(family: &str, sizes: &str, times: &[(f64, f64)]) {
+    let mut ratios: Vec<f64> = times.iter().map(|(rust, port)| rust / port).collect();
+    if ratios.is_empty() {
+        return;
+    }
+    ratios.sort_by(f64::total_cmp);
+    let (rust, port) = times.iter().fold((0.0, 0.0), |(r, p), (rust, port)| (r + rust, p + port));
+    println!(
+        "{family:12} {sizes:12} {:6} sets  Rust {:9.1} us  port {:9.1} us  ratio of sums {:6.2}  median {:6.2}  tenth {:6.2}  nine tenths {:6.2}",
+        times.len(), rust / 1e3 / times.len() as f64, port / 1e3 / times.len() as f64, rust / port, at(&ratios, 0.5), at(&ratios, 0.1), at(&ratios, 0.9)
+    );
+}
+
+fn main() {
+    let numbers: Vec<u64> = std::env::args().skip(1).filter_map(|a| a.parse().ok()).collect();
+    let [seed, count] = numbers[..] else {
+        eprintln!("usage: bench SEED COUNT");
+        std::process::exit(1);
+    };
+    let mut work = vec![0; 16384];
+    for family in FAMILIES {
+        let mut groups: [Vec<(f64, f64)>; 3] = Default::default();
+        for index in 0..count {
+            let Some(case) = generate::case(family, seed, index) else { continue };
+            if let Some(both) = times(&case, &mut work) {
+                groups[size(case.set.len())].push(both);
+            }
+        }
+        for (group, sizes) in groups.iter().zip(["to 64 words", "to 512", "over 512"]) {
+            line(family, sizes, group);
+        }
+        line(family, "all", &groups.concat());
+    }
+}
