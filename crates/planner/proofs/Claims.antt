@@ -1,4 +1,4 @@
--- From the answer and the output to the whole contract: demand 3 of the words written, and the number for stations.
+-- From the answer and the output to the whole contract: demand 3 of the words written.
 use mathlib.Core.Path.{_≡_, refl, sym, ap, _∙_, subst}
 use mathlib.Core.Logic.{_↔_}
 use mathlib.Core.Bool.{Bool, true, false}

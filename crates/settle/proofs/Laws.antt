@@ -13,7 +13,6 @@ use Rattle.laws.specs.Slices.{Has}
 use Rattle.syntax.specs.Words.{max-set-words, min-work-words}
 use Rattle.syntax.specs.Syntax.{Stmt, Problem}
 use Rattle.words.specs.Parse.{ok}
-use Rattle.read.specs.Read.{read-set}
 use Rattle.reader.specs.declared.Declared.{Declared}
 use Rattle.reader.specs.declared.Set.the-variants as taken
 use Rattle.domains.specs.Declared.{bounds-words}
@@ -30,10 +29,9 @@ use Rattle.walk.specs.Item.{nat, bool-entry, int-entry}
 use Rattle.walk.specs.Decode.{read-part}
 use Rattle.statements.specs.Whole.{Empty}
 use Rattle.statements.specs.Ready.{stmts-words, Folded}
-use Rattle.settle.specs.declared.Places.{Places}
 use Rattle.settle.specs.declared.Settling.{Settling}
 use Rattle.settle.specs.declared.Settling.the-variants as settling
-use Rattle.settle.specs.Settle.{settling-of, settling-checked, settling-read, settling as settling-words, Holds, Left, Settle-post, Taken-in, Some-taken, Left-of, Folds, Fold-post}
+use Rattle.settle.specs.Settle.{settling-of, settling-checked, settling-read, settling as settling-words, Left, Settle-post, Taken-in, Some-taken, Left-of, Folds, Fold-post}
 
 -- ---- refusals 1 to 11
 

@@ -18,7 +18,6 @@ use Rattle.fold.specs.Optimize.{Outcome, inconsistent, settled, optimize}
 use Rattle.call.specs.Call.{zeros}
 use Rattle.statements.specs.Whole.{Empty}
 use Rattle.statements.specs.Ready as ready
-use Rattle.settle.specs.declared.Places.{Places}
 use Rattle.settle.specs.declared.Settling.{Settling}
 use Rattle.settle.specs.declared.Settling.the-variants.{Refused, Contradiction, Folded}
 
