@@ -1,17 +1,13 @@
 -- What the numbered work slice says of a set's emitted integers: there are few, and each has its entry (Records).
-use mathlib.Core.Path.{_≡_, refl, sym, ap, _∙_}
-use mathlib.Core.Bool.{Bool, true, false}
-use mathlib.Core.List.{List, [], _∷_, map}
-use Prim.Native.Nat.{ℕ, zero, suc, _+_, _*_, _≤_, _<_}
+use mathlib.Core.List.{List, [], _∷_}
+use Prim.Native.Nat.{ℕ, _+_, _*_, _≤_, _<_}
 use native.Mathlib.Omega.{arith}
-use lib.IntN.{ℤ, pos}
+use lib.IntN.{ℤ}
 use lib.ListN.{length}
-use Rattle.syntax.specs.Syntax.{Domain, Stmt, Problem}
-use Rattle.syntax.specs.Satisfies.{IVal}
+use Rattle.syntax.specs.Syntax.{Stmt, Problem}
 use Rattle.fold.specs.Fold.{Fixed}
-use Rattle.clauses.specs.Log.{Log, next-int}
+use Rattle.clauses.specs.Log.{next-int}
 use Rattle.clauses.specs.Grow.{Grows as GrowsFrom, same}
-use Rattle.answer.specs.Declared.{Declared}
 use Rattle.walk.specs.Grow.{Fit}
 use Rattle.walk.specs.Decode.{read-part}
 use Rattle.walk.specs.Meets.{state-of}

@@ -1,7 +1,7 @@
 -- Words from 12032 on are free: what is known of the numbered work slice holds of any slice with the same words below them.
-use mathlib.Core.Path.{_≡_, refl, sym, ap, _∙_, subst}
-use mathlib.Core.List.{List, [], _∷_, _++_, map}
-use Prim.Native.Nat.{ℕ, zero, suc, _+_, _≤_, _<_}
+use mathlib.Core.Path.{_≡_, sym, ap, _∙_, subst}
+use mathlib.Core.List.{List, [], _∷_, map}
+use Prim.Native.Nat.{ℕ, _+_, _≤_, _<_}
 use native.Mathlib.Omega.{arith}
 use lib.IntN.{ℤ, pos}
 use lib.ListN.{length, getD, take, length-append}
@@ -12,7 +12,6 @@ use Rattle.syntax.specs.Syntax.{Domain, IntExpr, IConst, IVar, Linear, encode-i
 use Rattle.fold.specs.Fold.{Fixed}
 use Rattle.sums.specs.LinearSum.{LinearSum}
 use Rattle.clauses.specs.Log.{declared, aux, side, declared-int, column, Log, next-int}
-use Rattle.clauses.specs.Normalize.{normalize-int-expr}
 use Rattle.tables.specs.Tables.{equivalent-int-var}
 use Rattle.answer.specs.Answer.{normalize-stmt}
 use Rattle.walk.specs.Item.{nat, bool-map, int-map, emitted-ints, bool-entry, int-entry}
