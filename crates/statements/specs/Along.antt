@@ -1,21 +1,18 @@
 -- The statements of a settled set taken one by one: what is known of the next one and of those behind it.
 -- F: the folded words as numbering left them; w: the work slice with the maps and the columns' numbers of the whole log.
 use mathlib.Core.Path.{_≡_, refl, sym, ap, _∙_, subst}
-use mathlib.Core.Bool.{Bool, true, false}
-use mathlib.Core.List.{List, [], _∷_, _++_, map, append-assoc}
-use Prim.Native.Nat.{ℕ, zero, suc, _+_, _*_, _≤_, _<_}
+use mathlib.Core.List.{List, [], _∷_, _++_, append-assoc}
+use Prim.Native.Nat.{ℕ, _+_, _≤_, _<_}
 use native.Mathlib.Omega.{arith}
 use lib.IntN.{ℤ, pos}
-use lib.ListN.{length, getD, replicate, length-replicate, getD-replicate, length-append}
-use Rattle.laws.specs.Lists.{flat}
+use lib.ListN.{length, replicate, length-replicate, getD-replicate, length-append}
 use Rattle.laws.specs.Slices.{Has, has-front, has-back}
-use Rattle.syntax.specs.Syntax.{Domain, domain-of, Stmt, Rule, Table, encode-stmt, Problem, encode}
-use Rattle.syntax.specs.Satisfies.{IVal}
+use Rattle.syntax.specs.Syntax.{Domain, domain-of, Stmt, encode-stmt, Problem}
 use Rattle.syntax.specs.Written.{EveryStmt, EveryStmts}
 use Rattle.words.specs.Exact.{Each}
 use Rattle.fold.specs.Fold.{Fixed}
 use Rattle.clauses.specs.Clause.{Clause}
-use Rattle.clauses.specs.Log.{Log, next-bool, next-int}
+use Rattle.clauses.specs.Log.{Log, next-int}
 use Rattle.clauses.specs.Disjunction.{Out}
 use Rattle.tables.specs.Tables.{emitted-domains}
 use Rattle.tables.specs.ColumnMeaning.{Standing}
@@ -24,11 +21,12 @@ use Rattle.call.specs.Ready.{Plain}
 use Rattle.walk.specs.Item.{bool-map, bool-entry, int-entry, nat, State}
 use Rattle.walk.specs.Grow.{Grows}
 use Rattle.walk.specs.Num.{max-emitted, Numbered}
-use Rattle.walk.specs.Two.{Low, low-back}
+use Rattle.walk.specs.Two.{low-back}
 use Rattle.statements.specs.Columns.{ColumnRecord}
 use Rattle.statements.specs.Statements.{LegalStmt, LegalStmts, Stable, InPlace, AllInPlace, meet-stmt, stmts-grow, stable-back, stmt-passes}
 use Rattle.statements.specs.Settled.{settled-legal, settled-plain}
-use Rattle.statements.specs.Whole.{Empty, start, start-numbered, lowest, standing, low, roomy}
+use Rattle.statements.specs.Whole.{Empty, start, start-numbered, lowest, log-standing}
+use Rattle.statements.specs.ReadyEntry.{settled-emitted, settled-low}
 use Rattle.statements.specs.Ready.{stmts-words, Settled, clauses-of, log-of, StmtFacts, settled-facts, settled-short}
 
 -- ---- a work slice of zeros, from which the numbering of a set may start
@@ -74,25 +72,15 @@ pub record Rest (p : Problem) (ss : List Stmt) (F w : List ℤ) (q : ℕ) (rest 
   pub numbered : Numbered (ColumnRecord F (p .domains)) st s
   pub placed : AllInPlace F (p .domains) w q rest s
 
-module _ (p : Problem) (f : Fixed) (ss : List Stmt) (set : Settled p f ss) (F w : List ℤ) (stands : Has F 512 (stmts-words ss)) where
+module _ {p : Problem} {f : Fixed} {ss : List Stmt} (set : Settled p f ss) where
   abbrev ds : List Domain
   ds = p .domains
 
   short : length (stmts-words ss) ≤ 4096
   short = omega (arith, settled-short p f ss set)
 
-  few : 2 * length ds + length (stmts-words ss) ≤ 4608
-  few = omega (arith, settled-short p f ss set)
-
-  -- the numbers of the set are few
-  pub log-low : Low (log-of p ss)
-  log-low = low p (set .well) f ss (set .ends) (set .unrefused) F stands short few zeros zeros-empty
-
-  pub log-few : next-int (log-of p ss) < max-emitted
-  log-few = roomy p (set .well) f ss (set .ends) (set .unrefused) F stands short few zeros zeros-empty
-
-  pub rest-start : AllInPlace F ds w 512 ss [] → Rest p ss F w 512 ss [] (start zeros) []
-  rest-start h = record {
+  pub rest-start : {F w : List ℤ} → Has F 512 (stmts-words ss) → AllInPlace F ds w 512 ss [] → Rest p ss F w 512 ss [] (start zeros) []
+  rest-start {F} stands h = record {
     joins = refl;
     ends = refl;
     stands = stands;
@@ -101,12 +89,12 @@ module _ (p : Problem) (f : Fixed) (ss : List Stmt) (set : Settled p f ss) (F w 
     facts = settled-facts p f ss set;
     legal = settled-legal p (set .well) f ss (set .ends) (set .unrefused) F;
     plain = settled-plain p (set .well) f ss (set .ends);
-    standing = standing p (set .well) f ss (set .ends) (set .unrefused) F stands short few zeros zeros-empty;
+    standing = log-standing p (set .well) f ss (set .ends);
     numbered = start-numbered F ds zeros zeros-empty;
     placed = h;
   }
 
-  module _ (q : ℕ) (t : Stmt) (ts : List Stmt) (s : Log) (st : State) (cs : List Clause) (r : Rest p ss F w q (t ∷ ts) s st cs) where
+  module _ {F w : List ℤ} {q : ℕ} {t : Stmt} {ts : List Stmt} {s : Log} {st : State} {cs : List Clause} (r : Rest p ss F w q (t ∷ ts) s st cs) where
     abbrev here : Out
     here = normalize-stmt ds t s
 
@@ -145,7 +133,7 @@ module _ (p : Problem) (f : Fixed) (ss : List Stmt) (set : Settled p f ss) (F w 
     unfolding AllInPlace EveryStmts normalize-stmts
     rest-next =
         let has = has-front F q (encode-stmt t) (stmts-words ts) (r .stands) in
-        let fewer : next-int (here .1) < max-emitted = omega (arith, grows .ints, log-few) in
+        let fewer : next-int (here .1) < max-emitted = omega (arith, grows .ints, settled-emitted set) in
         record {
           joins = append-assoc cs (here .0) (normalize-stmts ds ts (here .1) .0) ∙ r .joins;
           ends = r .ends;
@@ -156,6 +144,6 @@ module _ (p : Problem) (f : Fixed) (ss : List Stmt) (set : Settled p f ss) (F w 
           legal = r .legal .1;
           plain = r .plain .1;
           standing = r .standing .1;
-          numbered = stmt-passes F ds q t st s (r .behind, room) has (r .legal .0) (r .numbered) (low-back grows log-low) fewer .numbered;
+          numbered = stmt-passes F ds q t st s (r .behind, room) has (r .legal .0) (r .numbered) (low-back grows (settled-low set)) fewer .numbered;
           placed = r .placed .1;
         }

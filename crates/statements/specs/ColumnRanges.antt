@@ -1,18 +1,17 @@
 -- The domain of a new column: a range of values in order, within refusal 9.
 use mathlib.Core.Path.{_≡_, refl, sym, ap, _∙_, subst}
-use mathlib.Core.Bool.{Bool, true, false, _&&_}
-use mathlib.Core.List.{List, [], _∷_, _++_}
-use Prim.Native.Nat.{ℕ, zero, suc, _+_, _≤_, _<_}
+use mathlib.Core.Bool.{true, false}
+use mathlib.Core.List.{List}
+use Prim.Native.Nat.{ℕ, _≤_}
 use native.Mathlib.Omega.{arith}
 use lib.IntN.{ℤ, natAbs}
 use lib.Signed.{leZ}
-use lib.ListN.{length, take}
+use lib.ListN.{length}
 use lib.Seq.{take-length}
 use Rattle.laws.specs.Bools.{never, and-l, and-r}
 use Rattle.laws.specs.Order.{leZ-trans}
 use Rattle.syntax.specs.Words.{max-value, max-weight}
 use Rattle.syntax.specs.Syntax.{Domain, Range, lower-bound, in-domain, domain-of, IntExpr, IConst, IVar, Linear, Terms, tnil, tmore}
-use Rattle.syntax.specs.Satisfies.{IVal}
 use Rattle.syntax.specs.Written.{EveryInt, EveryTerm}
 use Rattle.limits.specs.Limits.{heavy, written, written-terms}
 use Rattle.sums.specs.LinearSum.{LinearSum, linear-sum, lowest, highest, sum-value, get-domain-linear-sum}
@@ -20,7 +19,7 @@ use Rattle.sums.specs.Linear.{linear-of}
 use Rattle.sums.specs.Rising.{constant-of, terms-of, Among}
 use Rattle.sums.specs.Domain.{ordered, linear-of-domain}
 use Rattle.sums.specs.Bounds.{domain-bounds-fit}
-use Rattle.clauses.specs.Log.{Log, next-int, get-int-var}
+use Rattle.clauses.specs.Log.{Log}
 use Rattle.clauses.specs.Normalize.{normalize-int-expr}
 use Rattle.tables.specs.Tables.{emitted-domains}
 use Rattle.tables.specs.Emitted.{int-var-domain}

@@ -181,7 +181,7 @@ module _ (ds : List Domain) where
       go true = unfold star-table in disj-columns (map (star-row vs) rows) z
       go false = refl
 
-  column-words : (es : List IntExpr) → 2 * length es ≤ length (flat (map encode-int es))
+  pub column-words : (es : List IntExpr) → 2 * length es ≤ length (flat (map encode-int es))
   column-words [] = omega arith
   column-words (e ∷ es) = omega (arith, column-words es, int-long e, length-append (encode-int e) (flat (map encode-int es)))
 

@@ -1,9 +1,9 @@
 -- What of the work slice must stay while clauses are written: the words from a place on, up to the free region.
 -- The maps, the columns' numbers and the statements that are left are then as they were.
-use mathlib.Core.Path.{_≡_, refl, sym, ap, _∙_, subst}
+use mathlib.Core.Path.{_≡_, refl, sym, ap, _∙_}
 use mathlib.Core.Option.{some}
-use mathlib.Core.List.{List, [], _∷_, _++_, map}
-use Prim.Native.Nat.{ℕ, zero, suc, _+_, _-_, _≤_, _<_, min}
+use mathlib.Core.List.{List, [], _∷_, map}
+use Prim.Native.Nat.{ℕ, _+_, _-_, _≤_, _<_}
 use native.Mathlib.Omega.{arith}
 use lib.IntN.{ℤ, pos}
 use lib.ListN.{length, getD, take, drop, length-append, length-take, length-drop}
@@ -17,15 +17,15 @@ use Rattle.walk.specs.Item.{nat, bool-map, int-map, bool-entry, int-entry}
 use Rattle.walk.specs.Grow.{Fit}
 use Rattle.walk.specs.Decode.{read-part}
 use Rattle.walk.specs.Meets.{part-short}
-use Rattle.statements.specs.Columns.{column-map, Placed, int-words}
+use Rattle.statements.specs.Columns.{column-map, PlacedOne, Placed, int-words}
 use Rattle.statements.specs.Statements.{InPlace, table-length}
 
 -- where the free region begins
-abbrev pub free-part : ℕ
-free-part = 12032
+abbrev pub free-from : ℕ
+free-from = 12032
 
 pub record Saved (e : ℕ) (w w' : List ℤ) : Type 0 where
-  pub cells : (j : ℕ) → e ≤ j → j < free-part → getD w' j (pos 0) ≡ getD w j (pos 0)
+  pub cells : (j : ℕ) → e ≤ j → j < free-from → getD w' j (pos 0) ≡ getD w j (pos 0)
   pub size : length w' ≡ length w
 
 pub saved-same : (e : ℕ) (w : List ℤ) → Saved e w w
@@ -38,9 +38,9 @@ pub saved-less : {d e : ℕ} {u v : List ℤ} → d ≤ e → Saved d u v → Sa
 saved-less l a = record { cells = λ j h k. a .cells j (omega arith) k; size = a .size }
 
 -- all below the free region
-pub saved-below : {w w' : List ℤ} → take free-part w' ≡ take free-part w → length w' ≡ length w → Saved 0 w w'
+pub saved-below : {w w' : List ℤ} → take free-from w' ≡ take free-from w → length w' ≡ length w → Saved 0 w w'
 saved-below {w} {w'} h l = record {
-  cells = λ j a b. sym (getD-take free-part w' j (pos 0) b) ∙ ap (λ (x : List ℤ). getD x j (pos 0)) h ∙ getD-take free-part w j (pos 0) b;
+  cells = λ j a b. sym (getD-take free-from w' j (pos 0) b) ∙ ap (λ (x : List ℤ). getD x j (pos 0)) h ∙ getD-take free-from w j (pos 0) b;
   size = l;
 }
 
@@ -93,20 +93,17 @@ fit-saved L l low low-int s f = record {
 -- ---- the columns' numbers
 
 module _ (F : List ℤ) (ds : List Domain) where
-  pub placed-saved : {e : ℕ} {w w' : List ℤ} (p : ℕ) (es : List IntExpr) (s : Log) → e ≤ column-map + p → p + length (flat (map encode-int es)) ≤ bool-map → Saved e w w' → Placed F ds w p es s → Placed F ds w' p es s
+  one-saved : {e : ℕ} {w w' : List ℤ} (p : ℕ) (x : IntExpr) (s : Log) → e ≤ column-map + p → p < bool-map → Saved e w w' → PlacedOne F ds w p x s → PlacedOne F ds w' p x s
+  one-saved p (IConst c) s l k v h = v .cells (column-map + p) l (omega arith) ∙ h
+  one-saved p (IVar x) s l k v h = tt
+  one-saved p (Linear ts) s l k v h = v .cells (column-map + p) l (omega arith) ∙ h
+
+  placed-saved : {e : ℕ} {w w' : List ℤ} (p : ℕ) (es : List IntExpr) (s : Log) → e ≤ column-map + p → p + length (flat (map encode-int es)) ≤ bool-map → Saved e w w' → Placed F ds w p es s → Placed F ds w' p es s
   unfolding Placed
   placed-saved p [] s l k v h = tt
-  placed-saved {e} {w} {w'} p (IConst c ∷ es) s l k v h =
-      let n = length-append (encode-int (IConst c)) (flat (map encode-int es)) in
-      let m = int-words (IConst c) in
-      (v .cells (column-map + p) l (omega arith) ∙ h .0, placed-saved (p + length (encode-int (IConst c))) es (equivalent-int-var ds (IConst c) s .log) (omega arith) (omega (arith, n)) v (h .1))
-  placed-saved {e} {w} {w'} p (IVar x ∷ es) s l k v h =
-      let n = length-append (encode-int (IVar x)) (flat (map encode-int es)) in
-      (tt, placed-saved (p + length (encode-int (IVar x))) es (equivalent-int-var ds (IVar x) s .log) (omega arith) (omega (arith, n)) v (h .1))
-  placed-saved {e} {w} {w'} p (Linear ts ∷ es) s l k v h =
-      let n = length-append (encode-int (Linear ts)) (flat (map encode-int es)) in
-      let m = int-words (Linear ts) in
-      (v .cells (column-map + p) l (omega arith) ∙ h .0, placed-saved (p + length (encode-int (Linear ts))) es (equivalent-int-var ds (Linear ts) s .log) (omega arith) (omega (arith, n)) v (h .1))
+  placed-saved p (x ∷ es) s l k v h =
+      let n = length-append (encode-int x) (flat (map encode-int es)) in
+      (one-saved p x s l (omega (arith, n, int-words x)) v (h .0), placed-saved (p + length (encode-int x)) es (equivalent-int-var ds x s .log) (omega arith) (omega (arith, n)) v (h .1))
 
   pub in-place-saved : {e : ℕ} {w w' : List ℤ} (q : ℕ) (t : Stmt) (s : Log) → e ≤ q → q + length (encode-stmt t) ≤ bool-map → Saved e w w' → InPlace F ds w q t s → InPlace F ds w' q t s
   in-place-saved q (Rule x) s l k v h = tt

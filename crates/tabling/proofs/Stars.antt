@@ -1,16 +1,17 @@
 -- A starred table's clauses: none where a row is of stars only.
-use mathlib.Core.Path.{_≡_, refl, sym, ap, _∙_}
+use mathlib.Core.Path.{_≡_, sym, ap, _∙_}
 use mathlib.Core.Bool.{true}
 use mathlib.Core.List.{List}
-use Prim.Native.Nat.{ℕ, zero, suc}
+use Prim.Native.Nat.{ℕ}
 use lib.IntN.{ℤ}
-use lib.ListN.{length, drop}
+use lib.ListN.{drop}
 use Rattle.syntax.specs.Syntax.{Cell}
 use Rattle.clauses.specs.Disjunction.{Out}
 use Rattle.rows.specs.Rows.{rows-of}
 use Rattle.rows.specs.Columns.{vars-of}
 use Rattle.rows.specs.Stars.{is-free, count-rows}
 use Rattle.rows.specs.Emit.{Behind}
+use Rattle.rows.proofs.Whole.{length-vars}
 use Rattle.rows.proofs.Looping.{clauses-none, clauses-to}
 use Rattle.statements.specs.Star.{any-free, free-table}
 use Rattle.statements.specs.Table.{free-rows, free-is}
@@ -19,16 +20,11 @@ use Rattle.columns.specs.Describing.{column-words}
 use Rattle.stars.specs.Stars.{Starred}
 use Rattle.tabling.specs.TableRows.{StarsDid}
 
-pub vars-length : (n : ℕ) (cs : List ℤ) → length (vars-of n cs) ≡ n
-unfolding vars-of
-vars-length zero cs = refl
-vars-length (suc n) cs = ap suc (vars-length n (drop 3 cs))
-
 -- f: how many rows are of stars only
 free-are : {w : List ℤ} {p n k f : ℕ} → f ≡ count-rows is-free (rows-of n k (drop p w)) → (rows : List (List Cell)) → RowsStand w p n k rows → any-free (vars-of n (drop column-words w)) rows ≡ some-of f
 free-are {w} {p} {n} {k} {f} e rows r =
     sym (free-is (vars-of n (drop column-words w)) rows)
-    ∙ ap (λ (i : ℕ). free-rows i rows) (vars-length n (drop column-words w))
+    ∙ ap (λ (i : ℕ). free-rows i rows) (length-vars n (drop column-words w))
     ∙ sym (free-count n rows (r .well))
     ∙ ap some-of (sym (counts-are w p n k rows r is-free f e))
 

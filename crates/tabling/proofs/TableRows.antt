@@ -30,7 +30,8 @@ use Rattle.rows.specs.Columns.{vars-of, domains-of}
 use Rattle.rows.specs.Stands.{cells-words, length-cells, rows-stand, starless-stand}
 use Rattle.rows.specs.Emit.{Clauses, Table as RowsTable, Tabled}
 use Rattle.rows.proofs.Looping.{clauses-to}
-use Rattle.statements.specs.Columns.{int-words, column-numbers, columns-clauses, columns-are}
+use Rattle.statements.specs.Columns.{column-numbers, columns-clauses, columns-are}
+use Rattle.statements.specs.Emitted.{column-words as columns-two}
 use Rattle.statements.specs.Table.{starred, columns-below, domains-agree, supports-grow, columns-bools}
 use Rattle.statements.specs.Statements.{Stable, supports-stable, table-words}
 use Rattle.statements.specs.Whole.{lowest}
@@ -44,10 +45,6 @@ use Rattle.tabling.specs.TableRows.{TableAt, SomeTableAt, columns-of, Ro
 use Rattle.tabling.proofs.Known.{all-known}
 
 -- ---- words
-
-columns-two : (es : List IntExpr) → 2 * length es ≤ length (flat (map encode-int es))
-columns-two [] = omega arith
-columns-two (e ∷ es) = omega (arith, int-words e, columns-two es, length-append (encode-int e) (flat (map encode-int es)))
 
 table-cells : (F : List ℤ) (q : ℕ) (es : List IntExpr) (rows : List (List Cell)) → Has F q (encode-stmt (Table es rows)) → Has F (q + 3 + length (flat (map encode-int es))) (cells-words rows)
 unfolding encode-stmt
@@ -97,7 +94,7 @@ module _ {x : Place} {es : List IntExpr} {rows : List (List Cell)} {set w : List
   -- a table with rows has two words for each column and a cell at least
   narrow : (k ≡ 0 → ⊥) → 3 * n ≤ 4096
   narrow c =
-      let d : 2 * n ≤ length (flat (map encode-int es)) = omega (arith, columns-two es, h .width) in
+      let d : 2 * n ≤ length (flat (map encode-int es)) = omega (arith, columns-two ds es, h .width) in
       let e : n ≤ k * n = at-least k n c in
       omega (arith, table-inside, h .cells, h .at .at .behind)
     where

@@ -12,17 +12,15 @@ use Rattle.clauses.specs.Clause.{Clause}
 use Rattle.clauses.specs.Log.{Log, next-bool, next-int}
 use Rattle.answer.specs.Answer.{normalize-stmts}
 use Rattle.walk.specs.Item.{State}
-use Rattle.walk.specs.Num.{numbered-fit}
-use Rattle.walk.specs.Meets.{state-of}
 use Rattle.walk.specs.Decode.{read-part}
 use Rattle.walk.specs.declared.Counters.{Counters}
 use Rattle.rows.specs.Emit.{Clauses, Behind}
 use Rattle.rows.proofs.Looping.{clauses-none, clauses-then, clauses-to}
-use Rattle.statements.specs.Columns.{ColumnRecord}
 use Rattle.statements.specs.Statements.{meet-stmt}
 use Rattle.statements.specs.Whole.{start}
 use Rattle.statements.specs.Ready.{stmts-words, clauses-of, log-of}
-use Rattle.statements.specs.Along.{zeros, StmtAt, Rest, log-low, log-few, rest-start, rest-first, rest-next}
+use Rattle.statements.specs.ReadyEntry.{settled-emitted, settled-low, ready-fit}
+use Rattle.statements.specs.Along.{zeros, StmtAt, Rest, rest-start, rest-first, rest-next}
 use Rattle.statements.specs.Saved.{Saved, saved-same, saved-then, has-saved, fit-saved, in-place-saved}
 use Rattle.tabling.proofs.After.{triples-stay}
 use Rattle.tabling.specs.Step.{Place, after, At, SomeAt, Did}
@@ -60,7 +58,7 @@ module _ {set w₀ : List ℤ} {end triples : ℕ} {out₀ : List ℤ} {o₀ : �
     log = [];
     state = start zeros;
     done = [];
-    left = rest-start p f ss (h .ready .set) F w₀ (h .ready .stands) (h .ready .placed);
+    left = rest-start (h .ready .set) (h .ready .stands) (h .ready .placed);
     number = refl;
     wrote = clauses-none (h .room);
     saved = saved-same 512 w₀;
@@ -82,8 +80,7 @@ module _ {set w₀ : List ℤ} {end triples : ℕ} {out₀ : List ℤ} {o₀ : �
 
     next-at : (t : Stmt) (ts : List Stmt) → Rest p ss F w₀ q (t ∷ ts) (v .log) (v .state) (v .done) → At place t set w q triples m out o
     next-at t ts r =
-        let a : StmtAt ds F w₀ L q t (v .log) (v .state) = rest-first p f ss (h .ready .set) F w₀ (h .ready .stands) q t ts (v .log) (v .state) (v .done) r in
-        let low = log-low p f ss (h .ready .set) F w₀ (h .ready .stands) in
+        let a : StmtAt ds F w₀ L q t (v .log) (v .state) = rest-first (h .ready .set) r in
         let n = h .ready .numbered in
         let b : triples + 3 * next-int L ≤ o₀ = omega (arith, h .behind, n .ints) in
         record {
@@ -105,9 +102,9 @@ module _ {set w₀ : List ℤ} {end triples : ℕ} {out₀ : List ℤ} {o₀ : �
           };
           stands = has-saved q (encode-stmt t) (omega arith) (v .saved) (a .stands);
           number = v .number;
-          fit = fit-saved L (omega (arith, a .inside)) (n .low) (n .low-int) (v .saved) (numbered-fit (ColumnRecord F ds) (state-of w₀ c) L n (low .bools));
-          low = low;
-          few = log-few p f ss (h .ready .set) F w₀ (h .ready .stands);
+          fit = fit-saved L (omega (arith, a .inside)) (n .low) (n .low-int) (v .saved) (ready-fit (h .ready));
+          low = settled-low (h .ready .set);
+          few = omega (arith, settled-emitted (h .ready .set));
           domains = triples-stay ds L triples b (v .wrote .words) (h .domains);
           behind = omega (arith, b, v .wrote .words .at, h .room .room .place);
           size = omega (arith, n .size, v .saved .size);
@@ -124,7 +121,7 @@ module _ {set w₀ : List ℤ} {end triples : ℕ} {out₀ : List ℤ} {o₀ : �
       next : (t : Stmt) (ts : List Stmt) → Rest p ss F w₀ q (t ∷ ts) (v .log) (v .state) (v .done) → Sofar w₀ out₀ o₀ p ss w' out' e m' o' k' × ((q < e) × (e ≤ end))
       next t ts r =
           let d : Did place t w q out o k w' out' e m' o' k' = g place t (next-at t ts r) in
-          let r' = rest-next p f ss (h .ready .set) F w₀ (h .ready .stands) q t ts (v .log) (v .state) (v .done) r in
+          let r' = rest-next (h .ready .set) r in
           let n : q + length (encode-stmt t) ≡ e = sym (d .next) in (
             record {
               rest = ts;
