@@ -26,14 +26,15 @@ words-of (refused k) = []
 unfoldable pub print-result : List ℤ → Result → List ℕ
 print-result set r = print-answer (kind-of r) (count-word set) (count-word (drop 1 set)) (words-of r)
 
--- the words that the program lends for the output, and for the work
-abbrev pub lent : ℕ
-lent = 16384
+-- of the words of a set, if the text was read
+unfoldable pub list-words : ℕ → ℕ → Option (List ℤ) → List ℕ
+list-words out-length work-length none = unread-line
+list-words out-length work-length (some ws) = print-result ws (call ws out-length work-length)
 
-unfoldable pub list-words : Option (List ℤ) → List ℕ
-list-words none = unread-line
-list-words (some ws) = print-result ws (call ws lent lent)
+-- of a text, with an output and a work slice of these lengths
+unfoldable pub list-text : (out-length work-length : ℕ) → List ℕ → List ℕ
+list-text out-length work-length t = list-words out-length work-length (read-text t)
 
--- what the program prints for a text
+-- what the program prints for a text: it lends 16384 output words and as many work words
 unfoldable pub listing : List ℕ → List ℕ
-listing t = list-words (read-text t)
+listing t = list-text 16384 16384 t
