@@ -1,0 +1,194 @@
+#!/usr/bin/env python3
+"""Writes crates/cases/stdin and stdout: texts with the listings that tools/reference gives them.
+
+Run at the repository's root, after `cargo build --release --manifest-path tools/reference/Cargo.toml`.
+The named cases are document 01's P1 to P12 and "Also" cases, each refusal that a text can reach, and texts of
+each form that is unread; the others are generated sets of each family, and generated texts, good and damaged.
+Nothing here is taken from the port."""
+import re
+import subprocess
+
+REFERENCE = "tools/reference/target/release/reference"
+MOST = 262000  # what the program's buffer holds, with some to spare
+
+
+def reference(*args, text=b""):
+    return subprocess.run([REFERENCE, *args], input=text, capture_output=True, check=True).stdout
+
+
+def text(bools, ints, domains, statements):
+    lines = [f"bools={bools}", f"ints={ints}"]
+    lines += ["int=" + d for d in domains]
+    lines += [f"statements={len(statements)}"]
+    lines += ["statement=" + s for s in statements]
+    return ("\n".join(lines) + "\n").encode()
+
+
+def rules(bools, *statements):
+    return text(bools, 0, [], ["1," + s for s in statements])
+
+
+def column(rows, cells):
+    return text(0, 1, ["0,0,2"], [f"2,1,{rows},21,0,{cells}"])
+
+
+def ands(*pairs):
+    return ",".join(f"12,2,11,{a},11,{b}" for a, b in pairs)
+
+
+STAR = "-2147483648"
+NONE = text(0, 0, [], [])
+WIDE = "13,2045," + ",".join(["11,0"] * 2045)
+LONG = b"bools=0\nints=0\nstatements=0\nstatement="
+
+
+def many_variables(count, kind):
+    """A comparison of, or a column over, a sum of so many different variables."""
+    terms = ",".join(f"1,21,{i}" for i in range(count))
+    domains = ["0,0,1"] * count
+    if kind == "comparison":
+        return text(0, count, domains, [f"1,18,0,22,{count},{terms},20,0"])
+    return text(0, count, domains, [f"2,1,0,22,{count},{terms}"])
+
+
+def wide_table():
+    """Eight columns, a hundred rows: the answer is longer than 16384 words."""
+    columns = ",".join(f"21,{i}" for i in range(8))
+    cells = ",".join(str((r * (i + 1) + i) % 100) for r in range(100) for i in range(8))
+    return text(0, 8, ["0,0,99"] * 8, [f"2,8,100,{columns},{cells}"])
+
+
+# name, text, what document 01 says of the answer (its first line, or all of it)
+NAMED = [
+    ("P1", rules(3, "16,11,0,12,2,11,1,11,2"), "answer=compiled\nfixed=2,2,2\nbools=1,2,3\nints=\nemitted=3,0\nclause=1,-2,-3\nclause=2,-1\nclause=3,-1\nclauses=3\ntotal=7\n"),
+    ("P2", rules(4, "13,2," + ands((0, 1), (2, 3))), "answer=compiled"),
+    ("P3", rules(6, "13,3," + ands((0, 1), (2, 3), (4, 5))), "answer=compiled"),
+    ("P4", rules(2, "11,0", "13,2,14,11,0,11,1"), "answer=compiled"),
+    ("P5", rules(1, "11,0", "14,11,0"), "answer=contradiction\n"),
+    ("P6", NONE, "answer=compiled"),
+    ("P7", rules(0, "13,0"), "answer=contradiction\n"),
+    ("P8", rules(0, "12,0"), "answer=compiled"),
+    ("P9", column(2, "0,2"), "answer=compiled"),
+    ("P10", column(3, "0,1,2"), "answer=compiled"),
+    ("P11", column(1, "5"), "answer=compiled"),
+    ("P12", text(0, 2, ["0,0,1", "0,0,1"], ["2,2,2,21,0,21,1,0,0,1,1"]), "answer=compiled"),
+    ("1 = 2", rules(0, "18,0,20,1,20,2"), "answer=compiled"),
+    ("1073741823 against 0", rules(0, "18,0,20,1073741823,20,0"), "answer=compiled"),
+    ("1073741823 against 1", rules(0, "18,0,20,1073741823,20,1"), "answer=refused,9\n"),
+    ("depth 64", rules(1, "14," * 63 + "11,0"), "answer=compiled"),
+    ("depth 65", rules(1, "14," * 64 + "11,0"), "answer=refused,8\n"),
+    ("4096 words", rules(1, WIDE), "answer=compiled"),
+    ("4097 words", rules(1, WIDE + ",0"), "answer=refused,2\n"),
+    ("stars only", column(1, STAR), "answer=compiled"),
+    ("stars and values", text(0, 2, ["0,0,1", "1,2,0,5"], [f"2,2,2,21,0,21,1,0,{STAR},{STAR},5"]), "answer=compiled"),
+    ("rule and table", text(1, 1, ["0,0,2"], ["1,17,11,0,18,2,21,0,20,1", "2,1,2,21,0,0,2"]), "answer=compiled"),
+    ("ends early", rules(1, "11"), "answer=refused,3\n"),
+    ("words after the last", text(0, 0, [], ["1,12,0"]).replace(b"12,0", b"12,0,7"), "answer=refused,3\n"),
+    ("statement missing", b"bools=0\nints=0\nstatements=1\n", "answer=refused,3\n"),
+    ("negative count", rules(1, "12,-1"), "answer=refused,4\n"),
+    ("513 Booleans", text(513, 0, [], []), "answer=refused,4\n"),
+    ("operator 6", rules(0, "18,6,20,0,20,0"), "answer=refused,4\n"),
+    ("unknown code", rules(0, "19"), "answer=refused,5\n"),
+    ("integer for Boolean", rules(0, "20,1"), "answer=refused,5\n"),
+    ("index not declared", rules(1, "11,1"), "answer=refused,6\n"),
+    ("low above high", text(0, 1, ["0,2,1"], []), "answer=refused,7\n"),
+    ("values not rising", text(0, 1, ["1,2,3,3"], []), "answer=refused,7\n"),
+    ("65 in a comparison", many_variables(65, "comparison"), "answer=refused,10\n"),
+    ("64 in a comparison", many_variables(64, "comparison"), "answer=compiled"),
+    ("64 in a column", many_variables(64, "column"), "answer=refused,10\n"),
+    ("span 4097", text(0, 1, ["0,0,4096"], ["2,1,0,21,0"]), "answer=refused,11\n"),
+    ("span 4096", text(0, 1, ["0,0,4095"], ["2,1,0,21,0"]), "answer=compiled"),
+    ("answer too long", wide_table(), "answer=refused,12\n"),
+    ("lines divided", b"bools=0\nints=2\nint=0\nint=0,1,0,0\nint=1\nstatements=0\n", "answer=compiled"),
+    ("nothing", b"", "answer=unread\n"),
+    ("a line feed", b"\n", "answer=unread\n"),
+    ("last line unended", NONE[:-1], "answer=unread\n"),
+    ("empty line", NONE + b"\n", "answer=unread\n"),
+    ("empty line first", b"\n" + NONE, "answer=unread\n"),
+    ("carriage returns", NONE.replace(b"\n", b"\r\n"), "answer=unread\n"),
+    ("blank", NONE.replace(b"=0\ni", b"= 0\ni"), "answer=unread\n"),
+    ("blank at the end", NONE.replace(b"=0\ni", b"=0 \ni"), "answer=unread\n"),
+    ("leading zero", rules(1, "11,00"), "answer=unread\n"),
+    ("minus zero", rules(1, "11,-0"), "answer=unread\n"),
+    ("plus", rules(1, "11,+0"), "answer=unread\n"),
+    ("minus alone", rules(1, "11,-"), "answer=unread\n"),
+    ("letter", rules(1, "11,a"), "answer=unread\n"),
+    ("2147483648", rules(1, "11,2147483648"), "answer=unread\n"),
+    ("-2147483649", rules(1, "11,-2147483649"), "answer=unread\n"),
+    ("2147483647", rules(1, "11,2147483647"), "answer=refused,6\n"),
+    ("-2147483648", rules(1, "11,-2147483648"), "answer=refused,6\n"),
+    ("twenty digits", rules(1, "11,18446744073709551616"), "answer=unread\n"),
+    ("two counts", NONE.replace(b"bools=0", b"bools=0,0"), "answer=unread\n"),
+    ("no count", NONE.replace(b"bools=0", b"bools="), "answer=unread\n"),
+    ("no number", NONE + b"statement=\n", "answer=unread\n"),
+    ("comma at the end", rules(1, "11,0,"), "answer=unread\n"),
+    ("comma in front", NONE + b"statement=,1\n", "answer=unread\n"),
+    ("keys in another order", b"ints=0\nbools=0\nstatements=0\n", "answer=unread\n"),
+    ("a key missing", b"bools=0\nstatements=0\n", "answer=unread\n"),
+    ("unknown key", NONE + b"rule=1\n", "answer=unread\n"),
+    ("domain after statements", NONE + b"int=0,0,1\n", "answer=unread\n"),
+    ("key in capitals", NONE.replace(b"bools", b"Bools"), "answer=unread\n"),
+    ("byte 255", NONE + b"\xff\n", "answer=unread\n"),
+    ("65536 bytes", LONG + b"1" + b",1" * ((65536 - len(LONG) - 2) // 2) + b"\n", "answer=refused,2\n"),
+    ("65537 bytes", LONG + b"11" + b",1" * ((65536 - len(LONG) - 2) // 2) + b"\n", "answer=unread\n"),
+]
+
+
+FAMILIES = ["rules", "chains", "comparisons", "tables", "mixed"]
+
+
+def sets(family, seed, count):
+    """Generated sets as texts, the domains in one line and the statements in another."""
+    for index, line in enumerate(reference("generate", str(seed), family, str(count)).decode().splitlines()):
+        words = re.match(r"set=(\S*) ", line).group(1).split(",")
+        at = 2
+        for _ in range(int(words[1])):
+            at += 3 if words[at] == "0" else 2 + int(words[at + 1])
+        lines = [f"bools={words[0]}", f"ints={words[1]}"]
+        lines += ["int=" + ",".join(words[2:at])] * (at > 2)
+        lines += [f"statements={words[at]}"]
+        lines += ["statement=" + ",".join(words[at + 1 :])] * (at + 1 < len(words))
+        yield f"{family} {index}", ("\n".join(lines) + "\n").encode()
+
+
+def recorded(seed, count):
+    """Generated texts, good and damaged."""
+    for index, line in enumerate(reference("record", str(seed), "text", str(count)).decode().splitlines()):
+        found = re.fullmatch(r"text=(.*) listing=(.*)", line)
+        yield f"text {index}", unescape(found.group(1)), unescape(found.group(2))
+
+
+def unescape(s):
+    return s.encode("latin-1").decode("unicode_escape").encode("latin-1")
+
+
+def case(name, given, expected):
+    assert len(name) <= 24 and len(given) <= 65537 and len(expected) <= 262144, name
+    return f"{name:<24} {len(given):06} {len(expected):06}\n".encode() + given + expected
+
+
+def main():
+    all_cases = []
+    for name, given, said in NAMED:
+        expected = reference("listing", text=given)
+        assert expected.decode().startswith(said) and (not said.endswith("\n") or expected.decode() == said), (name, expected)
+        all_cases.append(case(name, given, expected))
+    for family in FAMILIES:
+        short = [(n, t) for n, t in sets(family, 7, 60) if len(t) <= 700]
+        listed = [(n, t, reference("listing", text=t)) for n, t in short]
+        all_cases += [case(*c) for c in listed if len(c[2]) <= 2000][:20]
+    size = sum(map(len, all_cases))
+    unread = 0
+    for name, given, expected in recorded(7, 600):
+        unread += expected == b"answer=unread\n"
+        if len(given) + len(expected) > 1500 or size + len(given) + len(expected) + 39 > MOST or (expected == b"answer=unread\n" and unread > 60):
+            continue
+        all_cases.append(case(name, given, expected))
+        size += len(all_cases[-1])
+    with open("crates/cases/stdin", "wb") as out:
+        out.write(b"".join(all_cases))
+    with open("crates/cases/stdout", "w") as out:
+        out.write(f"{len(all_cases)} cases agree, 0 differ\n")
+
+
+main()
