@@ -605,7 +605,7 @@ pub fn number_ties(
     }
 }
 
-// The rule at a place: the splitting's numbers first, then its extras and itself.
+// The rule at a place: the splitting's numbers first, then its extras and itself. Where the splitting takes none, there are no extras.
 pub fn number_rule(work: &mut [i32], at: usize, c: Counters) -> Counters
     requires { do ⌜ (4608 ≤ (← ⟦work.len()⟧)) × ((at ≤ 4608) × ((c .bools ≤ limit) × (c .ints ≤ limit))) ⌝ }
     ensures { λ r. ⌜ Met (meet-rule (read-part (now (work .entry))) at) (now (work .entry)) c (now (work .exit)) r ⌝ }
@@ -616,6 +616,11 @@ pub fn number_rule(work: &mut [i32], at: usize, c: Counters) -> Counters
         bools: s.base,
         ints: c.ints,
     };
+    if s.base == n {
+        if n < 1073741824 {
+            return number(work, at, 64, false, n, false, d);
+        }
+    }
     let e = number_ties(work, at, 64, false, n, d);
     number(work, at, 64, false, n, false, e)
 }

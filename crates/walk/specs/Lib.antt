@@ -13,5 +13,6 @@ pub mod Rule
 pub mod Standing
 pub mod Steps
 pub mod Meets
+pub mod NoTies
 pub mod MeetTies
 pub mod MeetColumns

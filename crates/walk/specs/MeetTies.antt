@@ -15,6 +15,7 @@ use Rattle.walk.specs.Decode.{word, node-of, Read, Reader, decode, many-
 use Rattle.walk.specs.Resolve.{rule-trees}
 use Rattle.walk.specs.Rule.{LegalRule}
 use Rattle.walk.specs.Standing.{rule-at, RuleStands, rule-stands}
+use Rattle.walk.specs.NoTies.{no-ties}
 use Rattle.walk.specs.Meets.{state-of, Met, met-none, met-to, met-after, part-short}
 use Rattle.walk.specs.declared.Node.{Node}
 use Rattle.walk.specs.declared.Node.the-variants.{Var, Cmp, Not, Join, Cross}
@@ -174,6 +175,16 @@ met-rule w w₁ w₂ c d c₁ c₂ at m s v hd a b =
       low = x .low;
       low-ints = x .low-ints;
     }
+
+-- where the splitting takes no number, only the rule
+pub met-bare-rule : (w w' : List ℤ) (c d e : Counters) (at m : ℕ) (s : Surveyed) → Surveys w 64 false false at (c .bools) m s → d ≡ record { bools = s .base; ints = c .ints } → s .base ≡ c .bools → c .bools < limit → c .ints ≤ limit
+    → Met (item (decode (read-part w) 64 false false at (c .bools) .tree) .met) w d w' e → Met (meet-rule (read-part w) at) w c w' e
+unfolding items mets
+met-bare-rule w w' c d e at m s v hd hs i j x =
+    let none = no-ties (read-part w) 64 false false at (c .bools) i (sym (v .splits) ∙ hs) in
+    let a : d .bools ≤ limit = rw hd (v .low-base) in
+    let b : d .ints ≤ limit = rw hd j in
+    met-rule w w w' c d d e at m s v hd (met-to (ap (λ (ts : Trees). mets (items ts) (state-of w d)) (sym none)) (met-none w d a b)) x
 
 -- where a legal rule stands, that is the numbering of its trees
 pub meet-rule-is : (e : BoolExpr) (ws : List ℤ) (at : ℕ) (s : State) → LegalRule e 64 → Has ws at (encode-bool e) → s .bools + splits e false ≤ limit → meet-rule ws at s ≡ mets (items (rule-trees e at (s .bools))) (pass-bools (splits e false) s)
