@@ -1,7 +1,7 @@
 -- Two runs of words copied one behind the other; and what a folded set leaves, copied in two such runs.
 use mathlib.Core.Path.{_≡_, refl, sym, ap, _∙_, subst}
 use mathlib.Core.Bool.{Bool, true, false, cond}
-use mathlib.Core.List.{List, [], _∷_, _++_, map}
+use mathlib.Core.List.{List, [], _++_, map}
 use Prim.Native.Nat.{ℕ, zero, suc, _+_, _-_, _≤_, _<_}
 use native.Mathlib.Omega.{arith}
 use lib.IntN.{ℤ, pos}
@@ -23,7 +23,6 @@ use Rattle.fold.specs.Optimize.{Outcome, inconsistent, settled, optimize}
 use Rattle.answer.specs.Answer.{fixed-word}
 use Rattle.call.specs.Call.{zeros}
 use Rattle.statements.specs.Ready.{stmts-words, Folded, settled-short}
-use Rattle.statements.specs.Whole.{Empty}
 use Rattle.writer.specs.Rules.{has-part}
 use Rattle.settle.specs.Settle.{settling-of, settling-checked, settling-read, settling, Holds, Left, Settle-post}
 use Rattle.settle.specs.declared.Places.{Places}

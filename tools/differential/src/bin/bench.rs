@@ -9,7 +9,14 @@ use std::hint::black_box;
 use std::time::Instant;
 
 extern "C" {
-    fn compile_set(set: *const i32, set_len: usize, out: *mut i32, out_len: usize, work: *mut i32, work_len: usize) -> i64;
+    fn compile_set(
+        set: *const i32,
+        set_len: usize,
+        out: *mut i32,
+        out_len: usize,
+        work: *mut i32,
+        work_len: usize,
+    ) -> i64;
 }
 
 const FAMILIES: [&str; 5] = ["rules", "chains", "comparisons", "tables", "mixed"];
@@ -39,7 +46,9 @@ fn times(case: &Case, work: &mut [i32]) -> Option<(f64, f64)> {
     });
     let port = least(|| {
         let set = black_box(&case.set);
-        black_box(unsafe { compile_set(set.as_ptr(), set.len(), out.as_mut_ptr(), out.len(), work.as_mut_ptr(), work.len()) });
+        black_box(unsafe {
+            compile_set(set.as_ptr(), set.len(), out.as_mut_ptr(), out.len(), work.as_mut_ptr(), work.len())
+        });
     });
     Some((rust, port))
 }

@@ -7,7 +7,14 @@ use reference::{call, Outcome};
 use std::collections::BTreeMap;
 
 extern "C" {
-    fn compile_set(set: *const i32, set_len: usize, out: *mut i32, out_len: usize, work: *mut i32, work_len: usize) -> i64;
+    fn compile_set(
+        set: *const i32,
+        set_len: usize,
+        out: *mut i32,
+        out_len: usize,
+        work: *mut i32,
+        work_len: usize,
+    ) -> i64;
 }
 
 /// The slices that are lent, full of noise before every call.
@@ -96,7 +103,8 @@ fn run(seed: u64, count: u64, families: &[&str]) -> Result<(), String> {
         let mut calls = 0;
         for index in 0..count {
             let case = generate::case(family, seed, index).ok_or("no case")?;
-            let (kind, n) = check(&mut slices, &case, index).map_err(|e| format!("{family} seed {seed} index {index}: {e}\nset {:?}", case.set))?;
+            let (kind, n) = check(&mut slices, &case, index)
+                .map_err(|e| format!("{family} seed {seed} index {index}: {e}\nset {:?}", case.set))?;
             *tallies.entry(kind).or_insert(0u64) += 1;
             calls += n;
         }
