@@ -6,8 +6,8 @@ use mathlib.Core.List.{List, [], _∷_, _++_}
 use Prim.Native.Nat.{ℕ, zero, suc, _+_, _≤_, _<_}
 use native.Mathlib.Omega.{arith}
 use lib.IntN.{ℤ, pos}
-use lib.ListN.{length, take, drop, getD, set, take-append-drop, length-replicate, getD-replicate, length-drop}
-use lib.Seq.{sets, length-sets, getD-set-other, getD-drop, length-take-le, take-append-le, drop-append-le}
+use lib.ListN.{length, take, drop, getD, take-append-drop, length-append, length-replicate, getD-replicate, length-drop, List·getD-append}
+use lib.Seq.{length-sets, getD-drop, drop-drop, drop-at, length-take-le, take-append-le, drop-append-le}
 use borrow.Author.Tests.{ltb-false}
 use Rattle.laws.specs.Slices.{Has}
 use Rattle.syntax.specs.Words.{max-set-words, min-work-words}
@@ -31,7 +31,7 @@ use Rattle.statements.specs.Whole.{Empty}
 use Rattle.statements.specs.Ready.{stmts-words, Folded}
 use Rattle.settle.specs.declared.Settling.{Settling}
 use Rattle.settle.specs.declared.Settling.the-variants as settling
-use Rattle.settle.specs.Settle.{settling-of, settling-checked, settling-read, settling as settling-words, Left, Settle-post, Taken-in, Some-taken, Left-of, Folds, Fold-post}
+use Rattle.settle.specs.Settle.{settling-of, settling-checked, settling-read, settling as settling-words, maps-empty, Left, Settle-post, Taken-in, Some-taken, Left-of, Folds, Fold-post}
 
 -- ---- refusals 1 to 11
 
@@ -49,82 +49,106 @@ module _ (n : ℕ) (ws : List ℤ) where
   unfolding settling-words settling-read settling-checked
   taken-is d t = rw (t .enough, t .short, t .says, t .unrefused) refl
 
--- ---- an accepted set, over a work slice of zeros
+-- ---- the maps emptied
 
-getD-below : (l : List ℤ) (i o : ℕ) (vs : List ℤ) (d : ℤ) → i < o → getD (sets l o vs) i d ≡ getD l i d
-getD-below l i o [] d h = refl
-getD-below l i o (v ∷ vs) d h = getD-below (set l o v) i (suc o) vs d (omega arith) ∙ getD-set-other l o i v d (λ e. omega arith)
+pub cleared-is : (w ys : List ℤ) → 5376 ≤ length w → ys ≡ zeros (length (take 768 (drop 4608 w))) → take 4608 w ++ (ys ++ drop 768 (drop 4608 w)) ≡ maps-empty w
+unfolding maps-empty
+cleared-is w ys h e =
+    let n : length (take 768 (drop 4608 w)) ≡ 768 = length-take-le 768 (drop 4608 w) (omega (arith, length-drop 4608 w)) in
+    ap (λ (z : List ℤ). take 4608 w ++ (z ++ drop 768 (drop 4608 w))) (e ∙ ap zeros n)
+    ∙ ap (λ (z : List ℤ). take 4608 w ++ (zeros 768 ++ z)) (drop-drop 768 4608 w)
 
-module _ (n : ℕ) (ws : List ℤ) (d : Declared) (t : Taken n ws d) where
-  table : table-after ws (zeros n) ≡ sets (zeros n) bounds-place (bounds-words (t .it .domains))
-  table = taken-table n ws d t (zeros n) (length-replicate n (pos 0))
+module _ (w : List ℤ) (h : 16384 ≤ length w) where
+  pub empty-above : drop 4608 (maps-empty w) ≡ zeros 768 ++ drop 5376 w
+  unfolding maps-empty
+  empty-above = drop-at (take 4608 w) (zeros 768 ++ drop 5376 w) 4608 (length-take-le 4608 w (omega arith))
 
-  pub table-length : length (table-after ws (zeros n)) ≡ n
-  table-length = ap length table ∙ length-sets (zeros n) bounds-place (bounds-words (t .it .domains)) ∙ length-replicate n (pos 0)
+  pub empty-length : length (maps-empty w) ≡ length w
+  unfolding maps-empty
+  empty-length =
+      omega (
+        arith,
+        length-append (take 4608 w) (zeros 768 ++ drop 5376 w),
+        length-take-le 4608 w (omega arith),
+        length-append (zeros 768) (drop 5376 w),
+        length-replicate 768 (pos 0),
+        length-drop 5376 w,
+        h,
+      )
 
-  zero-at : (v : ℕ) → v < 3328 → getD (table-after ws (zeros n)) (4608 + v) (pos 0) ≡ pos 0
-  zero-at v h =
-      ap (λ (l : List ℤ). getD l (4608 + v) (pos 0)) table
-      ∙ getD-below (zeros n) (4608 + v) bounds-place (bounds-words (t .it .domains)) (pos 0) (omega arith)
-      ∙ getD-replicate n (4608 + v) (pos 0) (pos 0) (omega (arith, ltb-false n min-work-words (t .enough)))
+  zero-at : (v : ℕ) → v < 768 → getD (maps-empty w) (4608 + v) (pos 0) ≡ pos 0
+  zero-at v k =
+      sym (getD-drop 4608 (maps-empty w) v (pos 0))
+      ∙ ap (λ (l : List ℤ). getD l v (pos 0)) empty-above
+      ∙ List·getD-append (zeros 768) (drop 5376 w) (pos 0) v (omega (arith, k, length-replicate 768 (pos 0)))
+      ∙ getD-replicate 768 v (pos 0) (pos 0) k
 
-  taken-empty : Empty (table-after ws (zeros n))
+  pub emptied : Empty (maps-empty w)
   unfolding bool-entry int-entry nat
-  taken-empty = record {
-    bools = λ v h. ap nat (zero-at v (omega arith));
-    ints = λ v h. let e : 5120 + v ≡ 4608 + (512 + v) = omega arith in ap nat (ap (λ (i : ℕ). getD (table-after ws (zeros n)) i (pos 0)) e ∙ zero-at (512 + v) (omega arith));
-    size = omega (arith, table-length, ltb-false n min-work-words (t .enough));
+  emptied = record {
+    bools = λ v k. ap nat (zero-at v (omega arith));
+    ints = λ v k. let e : 5120 + v ≡ 4608 + (512 + v) = omega arith in ap nat (ap (λ (i : ℕ). getD (maps-empty w) i (pos 0)) e ∙ zero-at (512 + v) (omega arith));
+    size = omega (arith, empty-length, h);
   }
 
-  pub taken-in : (work : List ℤ) → work ≡ table-after ws (zeros n) → Taken-in (t .it) ws work (d .bools) (d .ints)
-  taken-in work e =
-      let s = taken-set n ws d t in
-      let q = declared-is n ws d t in
+-- ---- an accepted set, over any work slice
+
+module _ (ws work : List ℤ) (d : Declared) (t : Taken (length work) ws d) where
+  table-length : length (table-after ws work) ≡ length work
+  table-length = ap length (taken-table (length work) ws d t work refl) ∙ length-sets work bounds-place (bounds-words (t .it .domains))
+
+  table-long : 16384 ≤ length (table-after ws work)
+  table-long = omega (arith, table-length, ltb-false (length work) min-work-words (t .enough))
+
+  taken-in : (w : List ℤ) → w ≡ maps-empty (table-after ws work) → Taken-in (t .it) ws w (d .bools) (d .ints)
+  taken-in w e =
+      let s = taken-set (length work) ws d t in
+      let q = declared-is (length work) ws d t in
       record {
         words = s .words;
         well = s .well;
         unrefused = t .unrefused;
         short = omega (arith, ltb-false max-set-words (length ws) (t .short));
-        empty = rw e taken-empty;
+        empty = rw e (emptied (table-after ws work) table-long);
         bools = ap (λ (x : Declared). x .bools) q;
         ints = ap (λ (x : Declared). x .ints) q;
       }
 
-  left-to : (r : Settling) (work work' : List ℤ) → length work ≡ n → Left-of (t .it) r (table-after ws (zeros n)) work' → Left r ws work work'
-  left-to (settling.Refused k) work work' l h = h ∙ ap zeros (table-length ∙ sym l)
-  left-to settling.Contradiction work work' l h = h ∙ ap zeros (table-length ∙ sym l)
-  left-to (settling.Folded q) work work' l h = record {
+  same : length (maps-empty (table-after ws work)) ≡ length work
+  same = empty-length (table-after ws work) table-long ∙ table-length
+
+  left-to : (r : Settling) (work' : List ℤ) → Left-of (t .it) r (maps-empty (table-after ws work)) work' → Left r ws work work'
+  left-to (settling.Refused k) work' h = h ∙ ap zeros same
+  left-to settling.Contradiction work' h = h ∙ ap zeros same
+  left-to (settling.Folded q) work' h = record {
     folded = λ p f ss e o. let m : t .it ≡ p = (let z : ok (t .it) [] ≡ ok p [] = sym (t .says) ∙ e in cc) in subst (λ (x : Problem). Folded x f ss work') m (h .0 f ss (ap optimize m ∙ o));
-    above = h .1 ∙ ap (λ (m : ℕ). drop 4608 (table-after ws (zeros m))) (sym l);
+    above = h .1 ∙ empty-above (table-after ws work) table-long;
   }
 
-  pub taken-post : (work work' : List ℤ) (r : Settling) → length work ≡ n → Folds (t .it) (table-after ws (zeros n)) work' r → Settle-post ws work work' r
-  taken-post work work' r l h = record {
-    answer = h .answer ∙ sym (taken-is n ws d t) ∙ ap (λ (m : ℕ). settling-words m ws) (sym l);
-    left = left-to r work work' l (h .left);
-  }
+-- ---- the two answers of `accept`
 
--- ---- the two answers of `accept` on a slice that was cleared
+module _ (ws work : List ℤ) where
+  pub settle-refused : (k : ℕ) → accepted (length work) ws ≡ taken.Refused k → (after last : List ℤ) → length after ≡ length work → last ≡ zeros (length after) → Settle-post ws work last (settling.Refused k)
+  settle-refused k e after last l z = record { answer = refused-is (length work) ws k e; left = z ∙ ap zeros l }
 
-module _ (ws work cleared : List ℤ) (zeroed : cleared ≡ zeros (length work)) where
-  same : length cleared ≡ length work
-  same = ap length zeroed ∙ length-replicate (length work) (pos 0)
-
-  pub settle-refused : (k : ℕ) → accepted (length cleared) ws ≡ taken.Refused k → (after last : List ℤ) → length after ≡ length cleared → last ≡ zeros (length after) → Settle-post ws work last (settling.Refused k)
-  settle-refused k e after last l z = record { answer = refused-is (length work) ws k (ap (λ (n : ℕ). accepted n ws) (sym same) ∙ e); left = z ∙ ap zeros (l ∙ same) }
-
-  module _ (d : Declared) (e : accepted (length cleared) ws ≡ taken.Ok d) (after : List ℤ) (after-is : after ≡ table-after ws cleared) where
+  module _ (d : Declared) (e : accepted (length work) ws ≡ taken.Ok d) (after : List ℤ) (after-is : after ≡ table-after ws work) where
     t : Taken (length work) ws d
-    t = accepted-ok (length work) ws d (ap (λ (n : ℕ). accepted n ws) (sym same) ∙ e)
+    t = accepted-ok (length work) ws d e
 
-    table-is : after ≡ table-after ws (zeros (length work))
-    table-is = after-is ∙ ap (table-after ws) zeroed
+    pub settle-room : 5376 ≤ length after
+    settle-room = omega (arith, ap length after-is, table-long ws work d t)
 
-    pub settle-taken : Some-taken ws after (d .bools) (d .ints)
-    settle-taken = record { it = t .it; taken = taken-in (length work) ws d t after table-is }
+    module _ (w : List ℤ) (w-is : w ≡ maps-empty after) where
+      emptied-is : w ≡ maps-empty (table-after ws work)
+      emptied-is = w-is ∙ ap maps-empty after-is
 
-    pub settle-post : (last : List ℤ) (r : Settling) → Fold-post ws after (d .bools) (d .ints) last r → Settle-post ws work last r
-    settle-post last r h = taken-post (length work) ws d t work last r refl (subst (λ (l : List ℤ). Folds (t .it) l last r) table-is (h (t .it) (taken-in (length work) ws d t after table-is)))
+      pub settle-taken : Some-taken ws w (d .bools) (d .ints)
+      settle-taken = record { it = t .it; taken = taken-in ws work d t w emptied-is }
+
+      pub settle-post : (last : List ℤ) (r : Settling) → Fold-post ws w (d .bools) (d .ints) last r → Settle-post ws work last r
+      settle-post last r h =
+          let f : Folds (t .it) (maps-empty (table-after ws work)) last r = subst (λ (l : List ℤ). Folds (t .it) l last r) emptied-is (h (t .it) (taken-in ws work d t w emptied-is)) in
+          record { answer = f .answer ∙ sym (taken-is (length work) ws d t); left = left-to ws work d t r last (f .left) }
 
 -- ---- folding and propagation
 

@@ -1,11 +1,11 @@
 -- What a set's words give before its clauses: a refusal (1 to 11), a contradiction, or folded statements in the work slice.
 use mathlib.Core.Path.{_≡_}
 use mathlib.Core.Bool.{cond}
-use mathlib.Core.List.{List, []}
+use mathlib.Core.List.{List, [], _++_}
 use Prim.Native.Nat.{ℕ, zero, suc, _+_, _≤_}
 use lib.IntN.{ℤ}
 use lib.Dec.{ltb}
-use lib.ListN.{length, drop}
+use lib.ListN.{length, take, drop}
 use Rattle.syntax.specs.Words.{max-set-words, min-work-words}
 use Rattle.syntax.specs.Syntax.{Stmt, Problem, encode}
 use Rattle.words.specs.Parse.{Parsed, ok, refuse}
@@ -44,11 +44,15 @@ settling work-length set =
 
 -- ---- the work slice
 
--- the fixed values, the folded statements and empty maps. From 4608 on it is as refusals 9 to 11 left it;
--- what lies between the statements' end and there is left over from earlier passes
+-- the maps of variables (the words from 4608 to 5376) emptied
+unfoldable pub maps-empty : List ℤ → List ℤ
+maps-empty work = take 4608 work ++ (zeros 768 ++ drop 5376 work)
+
+-- the fixed values, the folded statements and empty maps. From 5376 on it is as refusals 9 to 11 left it;
+-- what lies between the statements' end and 4608 is left over from earlier passes or was lent so
 pub record Holds (set work work' : List ℤ) : Type 0 where
   pub folded : (p : Problem) (f : Fixed) (ss : List Stmt) → read-set set ≡ ok p [] → optimize p ≡ settled f ss → ready.Folded p f ss work'
-  pub above : drop 4608 work' ≡ drop 4608 (table-after set (zeros (length work)))
+  pub above : drop 4608 work' ≡ zeros 768 ++ drop 5376 (table-after set work)
 
 abbrev pub Left : Settling → List ℤ → List ℤ → List ℤ → Type 0
 Left (Refused k) set work work' = work' ≡ zeros (length work)
@@ -59,7 +63,7 @@ pub record Settle-post (set work work' : List ℤ) (r : Settling) : Type 0 where
   pub answer : r ≡ settling (length work) set
   pub left : Left r set work work'
 
--- ---- an accepted set, its bounds in a work slice of zeros
+-- ---- an accepted set, and a work slice whose maps are empty
 
 pub record Taken-in (p : Problem) (set work : List ℤ) (b i : ℕ) : Type 0 where
   pub words : set ≡ encode p

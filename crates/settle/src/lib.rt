@@ -1,7 +1,9 @@
 // Refusals 1 to 11, then folding and propagation: what a set's words give before its clauses.
 use reader::Set;
 ghost use mathlib.Core.Path.{_≡_};
-ghost use Rattle.settle.specs.Settle.{Some-taken, Fold-post, Settle-post};
+ghost use Prim.Native.Nat.{_≤_};
+ghost use lib.ListN.{length};
+ghost use Rattle.settle.specs.Settle.{Some-taken, Fold-post, maps-empty, Settle-post};
 
 // Where the folded statements end, and how many variables the set declares.
 pub struct Places {
@@ -34,16 +36,26 @@ fn fold_taken(set: &[i32], work: &mut [i32], bools: usize, ints: usize) -> Settl
     })
 }
 
+// The maps of variables are emptied; every other word stays.
+fn clear_maps(work: &mut [i32])
+    requires { ⌜ 5376 ≤ length (now work) ⌝ }
+    ensures { λ _. ⌜ now (work .exit) ≡ maps-empty (now (work .entry)) ⌝ }
+{
+    refuse::clear(&mut work[4608..5376]);
+}
+
 // Of any words, whatever the work slice holds. A refusal or a contradiction leaves zeros.
 pub fn settle(set: &[i32], work: &mut [i32]) -> Settling
     ensures { λ r. ⌜ Settle-post (now (set .entry)) (now (work .entry)) (now (work .exit)) r ⌝ }
 {
-    refuse::clear(work);
     match accept::accept(set, work) {
         Set::Refused(k) => {
             refuse::clear(work);
             Settling::Refused(k)
         }
-        Set::Ok(d) => fold_taken(set, work, d.bools, d.ints),
+        Set::Ok(d) => {
+            clear_maps(work);
+            fold_taken(set, work, d.bools, d.ints)
+        }
     }
 }
