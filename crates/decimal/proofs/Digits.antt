@@ -1,20 +1,19 @@
 -- A law for each answer of the functions that read numbers, over variables. Assumes nothing.
-use mathlib.Core.Path.{_≡_, refl, sym, ap, _∙_}
-use mathlib.Core.Bool.{Bool, true, false, cond, not, _&&_}
+use mathlib.Core.Path.{_≡_, refl, ap}
+use mathlib.Core.Bool.{Bool, true, false, cond, _&&_}
 use mathlib.Core.List.{List, [], _∷_}
 use mathlib.Core.Option.{Option, none, some}
 use Prim.Native.Nat.{ℕ, zero, suc, _+_, _-_, _*_, _≤_, _<_}
 use native.Mathlib.Omega.{arith}
-use lib.IntN.{ℤ, pos, negsuc, _-ℤ_}
-use lib.Dec.{eqb, leb}
+use lib.IntN.{pos, negsuc, _-ℤ_}
+use lib.Dec.{leb}
 use lib.ListN.{length, drop, getD, drop-of-length-le}
 use borrow.Author.Tests.{le-leb, lt-leb, leb-true, leb-false, eq-eqb, ne-eqb}
 use mir.Syntax.{w32}
 use mir.Val.{SFits, ofZ, toZ}
 use mir.Facts.{toZ-ofZ, toZ-pos}
-use Rattle.decimal.specs.Bytes.{minus}
 use Rattle.decimal.specs.Puts.{cons-at}
-use Rattle.decimal.specs.Decimal.{is-digit, is-empty, read-digits, read-natural, positive, negative, read-number}
+use Rattle.decimal.specs.Decimal.{is-digit, read-digits, read-natural, positive, negative, read-number}
 use Rattle.decimal.specs.Numbers.{limited, natural-of, number-of}
 use Rattle.decimal.specs.declared.Natural.the-variants as natural
 use Rattle.decimal.specs.declared.Number.the-variants as number

@@ -9,7 +9,7 @@ use lib.IntN.{ℤ, pos, negsuc, natAbs, _-ℤ_}
 use lib.Dec.{T, leb}
 use lib.Signed.{ltZ, nonNeg, mag}
 use lib.ListN.{length, drop, getD, drop-of-length-le}
-use borrow.Author.Tests.{ltb-true, le-ltb, leb-true, leb-false, le-leb, lt-leb}
+use borrow.Author.Tests.{ltb-true, le-ltb, leb-true, le-leb, lt-leb}
 use mir.Syntax.{w32, w64}
 use mir.Val.{SFits, Fits}
 use Rattle.decimal.specs.Bytes.{minus}

@@ -1,7 +1,7 @@
 -- A law for each answer of the functions that read lines, over variables. Assumes nothing.
 use mathlib.Core.Path.{_≡_, refl, sym, ap, _∙_, subst}
 use mathlib.Core.Bool.{Bool, true, false, cond}
-use mathlib.Core.List.{List, [], _∷_, _++_, append-nil, append-assoc}
+use mathlib.Core.List.{List, [], _∷_, _++_, append-nil}
 use mathlib.Core.Option.{Option, none, some}
 use Prim.Native.Nat.{ℕ, zero, suc, _+_, _-_, _≤_, _<_}
 use native.Mathlib.Omega.{arith}
@@ -9,15 +9,15 @@ use native.Mathlib.Numerals.{add-one}
 use lib.IntN.{ℤ, pos}
 use lib.Dec.{eqb, ltb}
 use lib.ListN.{length, take, drop, getD, set, replicate, length-append, length-take, length-drop, length-set, drop-of-length-le}
-use lib.Seq.{drop-cons, take-suc, getD-drop, sets, length-sets, set-out, take-all}
-use borrow.Author.Tests.{ltb-true, ltb-false, eq-eqb, ne-eqb, le-ltb, lt-ltb}
+use lib.Seq.{take-suc, getD-drop, sets, set-out, take-all}
+use borrow.Author.Tests.{ltb-true, ltb-false, eq-eqb, ne-eqb}
 use mir.Syntax.{w32}
 use mir.Val.{SFits, ofZ, toZ}
 use mir.Facts.{toZ-ofZ}
 use Rattle.laws.specs.Writes.{sets-append}
 use Rattle.decimal.specs.Bytes.{comma, line-feed}
 use Rattle.decimal.specs.Decimal.{read-number}
-use Rattle.input.specs.ReadText.{onto, split, after, join, single, read-numbers, Reader, count-of, count-line, line-or, lines, end}
+use Rattle.input.specs.ReadText.{onto, split, after, join, single, read-numbers, Reader, count-of, count-line, lines, end}
 use Rattle.decimal.specs.Numbers.{number-of, number-read}
 use Rattle.input.specs.Input.{fill, filled, Found, left-at, left-step, left-line, InWords, Filled, Stepped, Lined}
 use Rattle.decimal.specs.declared.Number.{Number}

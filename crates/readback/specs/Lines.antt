@@ -1,24 +1,22 @@
 -- The lines of a listing are read back: domains, clauses, the last two. Assumes nothing.
 use mathlib.Core.Path.{_≡_, refl, sym, ap, _∙_}
-use mathlib.Core.Bool.{Bool, true, false, cond}
+use mathlib.Core.Bool.{true}
 use mathlib.Core.List.{List, [], _∷_, _++_, map, append-assoc, append-nil}
-use mathlib.Core.Option.{Option, none, some}
-use Prim.Native.Nat.{ℕ, _+_, _≤_}
+use mathlib.Core.Option.{Option, some}
+use Prim.Native.Nat.{ℕ, _+_}
 use native.Mathlib.Omega.{arith}
 use lib.IntN.{ℤ, pos}
-use lib.Dec.{eqb}
 use lib.ListN.{length, length-map}
 use borrow.Author.Tests.{eq-eqb}
-use Rattle.laws.specs.Lists.{flat, counted}
-use Rattle.syntax.specs.Syntax.{Domain}
+use Rattle.laws.specs.Lists.{flat}
 use Rattle.sums.specs.LinearSum.{linear-sum}
 use Rattle.clauses.specs.Clause.{BoolLit, LinearLit, linear, Clause, clause}
-use Rattle.answer.specs.Answer.{domain-words, lit-words, linear-words, clause-words}
-use Rattle.decimal.specs.Bytes.{comma, semicolon, colon, line-feed, domain-key, clause-key, clauses-key, total-key}
+use Rattle.answer.specs.Answer.{linear-words, clause-words}
+use Rattle.decimal.specs.Bytes.{semicolon, line-feed, clause-key, clauses-key, total-key}
 use Rattle.decimal.specs.Decimal.{print-natural}
 use Rattle.input.specs.ReadText.{split, after, join, Reader}
-use Rattle.lines.specs.Lines.{count-word, print-numbers, print-line}
-use Rattle.readback.specs.ReadListing.{read-part, sized, headed, read-comparisons, read-clause, Tail, read-last, and-clause, read-tail, read-clauses, tail-words, one-line, each-line}
+use Rattle.lines.specs.Lines.{print-numbers, print-line}
+use Rattle.readback.specs.ReadListing.{read-comparisons, read-clause, Tail, read-last, read-tail, read-clauses, one-line}
 use Rattle.readback.specs.Numbers.{natural-back}
 use Rattle.readback.specs.Split.{avoids, split-at, split-end, avoids-append, after-key, natural-avoids, numbers-avoid, part-back, one-back, body-avoids, comparison-back}
 use Rattle.readback.specs.Shown.{terms-words, terms-length, linear-body, linear-text, lits-words, lits-length, clause-line, clause-text, literals-in}

@@ -21,18 +21,18 @@ use Rattle.fold.specs.Optimize.{Outcome, inconsistent, settled, optimize}
 use Rattle.clauses.specs.Clause.{Clause, clause}
 use Rattle.answer.specs.Answer.{Answer, layout, answer-of, normalize, fixed-word, map-word, domain-words, clause-words}
 use Rattle.call.specs.Call.{Result, compiled, contradiction, refused, measured, answered, checked, when-read, call}
-use Rattle.decimal.specs.Bytes.{line-feed, bools-key, ints-key, fixed-key, emitted-key, domain-key, clause-key, clauses-key, compiled-line, contradiction-line, refused-start}
+use Rattle.decimal.specs.Bytes.{line-feed, bools-key, ints-key, fixed-key, emitted-key, domain-key, compiled-line}
 use Rattle.decimal.specs.Decimal.{print-natural}
 use Rattle.input.specs.ReadText.{split, after, join, Reader}
-use Rattle.lines.specs.Lines.{Shown, count-word, print-numbers, print-line, times, print-domain, print-clause, total}
+use Rattle.lines.specs.Lines.{count-word, print-numbers, print-line, times, print-domain, print-clause, total}
 use Rattle.text.specs.Listing.{print-clauses, print-emitted, print-compiled, print-answer}
 use Rattle.text.specs.declared.Answer.the-variants as answer
-use Rattle.readback.specs.ReadListing.{read-clauses, one-line, each-line, read-compiled, compiled-of, read-refused, read-listing}
+use Rattle.readback.specs.ReadListing.{read-clauses, one-line, each-line, read-compiled, read-refused, read-listing}
 use Rattle.readback.specs.Numbers.{natural-back}
 use Rattle.readback.specs.Split.{split-at, after-key, natural-avoids, part-back}
 use Rattle.readback.specs.Shown.{times-shown, domain-filled, domain-shown, clause-line, clause-text, clause-filled, clause-shown, literals-in, total-shown}
 use Rattle.readback.specs.Lines.{line-split, one-back-line, last-text, last-split, clauses-split, clauses-back}
-use Rattle.readback.specs.Listed.{kind-of, words-of, print-result}
+use Rattle.readback.specs.Listed.{print-result}
 
 -- ---- the domains
 

@@ -1,6 +1,6 @@
 -- The listing of an answer of at most 16384 words, each within i32, has at most 262144 bytes. Assumes nothing.
 use mathlib.Core.Path.{_≡_, refl, sym, ap, _∙_}
-use mathlib.Core.Bool.{Bool, true, false, _&&_, _||_, cond}
+use mathlib.Core.Bool.{Bool, true, false, _||_, cond}
 use mathlib.Core.List.{List, [], _∷_, _++_, map}
 use Prim.Native.Nat.{ℕ, zero, suc, _+_, _*_, _/_, _%_, _≤_, _<_}
 use native.Mathlib.Omega.{arith}
@@ -8,7 +8,7 @@ use native.Mathlib.Nat.{div-add-mod'}
 use lib.IntN.{ℤ, pos, negsuc, natAbs}
 use lib.Dec.{leb, ltb}
 use lib.ListN.{length, drop, length-append, length-map}
-use borrow.Author.Tests.{leb-true, leb-false, ltb-false}
+use borrow.Author.Tests.{leb-true, ltb-false}
 use Rattle.laws.specs.Bools.{and-l, and-r}
 use Rattle.laws.specs.Lists.{all, flat, counted, below}
 use Rattle.syntax.specs.Words.{max-set-words, min-work-words, max-answer-words}
@@ -28,7 +28,7 @@ use Rattle.lines.specs.Lines.{count-word, print-more, print-numbers, print-line
 use Rattle.text.specs.Listing.{print-compiled, print-answer}
 use Rattle.readback.specs.Shown.{terms-words, linear-text, lits-words, lits-length, clause-text, literals-in}
 use Rattle.readback.specs.Lines.{last-text}
-use Rattle.readback.specs.Listed.{kind-of, words-of, print-result}
+use Rattle.readback.specs.Listed.{print-result}
 use Rattle.readback.specs.ListingBack.{domain-text, tail-text, clauses-text, compiled-printed, whole, length-from, bools-word, ints-word}
 
 -- ---- numbers

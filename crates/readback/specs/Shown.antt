@@ -1,7 +1,7 @@
 -- What the listing prints of an answer's domains, comparisons and clauses, from the words that they are laid out as. Assumes nothing.
 use mathlib.Core.Path.{_≡_, refl, sym, ap, _∙_}
 use mathlib.Core.List.{List, [], _∷_, _++_, map, append-assoc}
-use Prim.Native.Nat.{ℕ, zero, suc, _+_, _≤_, _<_}
+use Prim.Native.Nat.{ℕ, suc, _+_, _<_}
 use native.Mathlib.Omega.{arith}
 use lib.IntN.{ℤ, pos}
 use lib.ListN.{length, take, drop, length-append}
@@ -13,7 +13,7 @@ use Rattle.sums.specs.LinearSum.{Term, term, linear-sum}
 use Rattle.clauses.specs.Clause.{BoolLit, lit, LinearLit, linear, Clause, clause}
 use Rattle.answer.specs.Answer.{domain-words, lit-words, term-words, linear-words, clause-words}
 use Rattle.decimal.specs.Bytes.{semicolon, line-feed, domain-key, clause-key}
-use Rattle.lines.specs.Lines.{Shown, count-word, print-more, print-numbers, print-line, times, print-domain, print-comparison, literals, after-literals, print-comparisons, print-clause, total}
+use Rattle.lines.specs.Lines.{Shown, print-numbers, print-line, times, print-domain, print-comparison, literals, after-literals, print-comparisons, print-clause, total}
 use Rattle.readback.specs.Split.{body}
 
 -- ---- several of a kind

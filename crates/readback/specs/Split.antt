@@ -1,21 +1,21 @@
 -- What was joined by a byte is split at it again: numbers, comparisons and lines are read back. Assumes nothing.
-use mathlib.Core.Path.{_≡_, refl, sym, ap, _∙_}
+use mathlib.Core.Path.{_≡_, refl, ap, _∙_}
 use mathlib.Core.Bool.{Bool, true, false, _&&_, not, cond, false≢true}
 use mathlib.Core.List.{List, [], _∷_, _++_, map, append-nil}
-use mathlib.Core.Option.{Option, none, some}
+use mathlib.Core.Option.{none, some}
 use Prim.Native.Nat.{ℕ, zero, suc, _+_, _-_, _/_, _%_, _≤_, _<_}
 use native.Mathlib.Omega.{arith}
 use native.Mathlib.Nat.{div-add-mod', mod-lt}
 use lib.IntN.{ℤ, pos, negsuc}
 use lib.Dec.{eqb, leb}
 use lib.ListN.{length}
-use borrow.Author.Tests.{leb-true, leb-false, eq-eqb, ne-eqb}
+use borrow.Author.Tests.{leb-false, eq-eqb, ne-eqb}
 use Rattle.laws.specs.Lists.{all, all-append}
-use Rattle.decimal.specs.Bytes.{comma, semicolon, colon, line-feed}
-use Rattle.decimal.specs.Decimal.{digit, print-steps, print-natural, print-number, is-empty}
-use Rattle.input.specs.ReadText.{onto, split, after, join, single}
+use Rattle.decimal.specs.Bytes.{comma, semicolon, colon}
+use Rattle.decimal.specs.Decimal.{digit, print-steps, print-natural, print-number}
+use Rattle.input.specs.ReadText.{onto, split, after}
 use Rattle.lines.specs.Lines.{print-more, print-numbers}
-use Rattle.readback.specs.ReadListing.{read-integer, read-integers, read-part, paired, read-comparison}
+use Rattle.readback.specs.ReadListing.{read-integer, read-integers, read-part, read-comparison}
 use Rattle.readback.specs.Numbers.{integer-back, number-some}
 
 -- ---- splitting

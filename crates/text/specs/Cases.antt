@@ -1,7 +1,7 @@
 -- Document 01's listing of P1 and the listing of P9, byte for byte, by computing; the one-line answers. Assumes nothing.
 use mathlib.Core.Path.{_≡_, refl}
 use mathlib.Core.List.{[], _∷_}
-use lib.IntN.{ℤ, pos, negsuc}
+use lib.IntN.{pos, negsuc}
 use Rattle.decimal.specs.Decimal.{print-steps, print-natural, print-number}
 use Rattle.lines.specs.Lines.{print-more, print-numbers, print-line, times, print-domain, print-comparison, print-comparisons, print-clause, total}
 use Rattle.text.specs.Listing.{print-clauses, print-emitted, print-compiled, print-answer}
