@@ -5,7 +5,7 @@ ghost use mathlib.Core.List.{List};
 ghost use Prim.Native.Nat.{ℕ, _+_, _*_, _-_, _≤_, _<_, min};
 ghost use lib.IntN.{ℤ, pos, negsuc};
 ghost use lib.ListN.{length, getD, set, take};
-ghost use Rattle.walk.specs.Item.{limit, bump as bump-of, nat, mode-in, fresh-in, lines-in, var-item, fresh as fresh-tally, meet-bool, meet-int-var, meet-int, pass-bools, tallies, mets, item, items};
+ghost use Rattle.walk.specs.Item.{limit, bump as bump-of, nat, mode-in, fresh-in, lines-in, var-item, fresh as fresh-tally, meet-bool, meet-int-var, meet-int, tallies, mets, item, items};
 ghost use Rattle.walk.specs.Decode.{word as word-in, past, below as below-of, int-end as int-end-of, node-of, constant-node, comparison-node, read-part, surveyed, closed-disj, closed-cross, added, Surveys, SurveysAll, int-at, item-at, items-at, decode, many-ties, tie-at, cross-ties, ties-at};
 ghost use Rattle.walk.specs.Meets.{Met};
 ghost use Rattle.walk.specs.MeetTies.{meet-rule};
@@ -420,29 +420,24 @@ pub fn number_int(work: &mut [i32], at: usize, left: usize, c: Counters) -> Coun
     d
 }
 
-// The counter passes the new numbers of a disjunction of so many members.
-fn pass(
-    work: &[i32],
-    at: usize,
-    left: usize,
-    t: bool,
-    count: usize,
-    base: usize,
-    g: bool,
-    h: bool,
-    c: Counters,
-) -> Counters
-    requires { do ⌜ (4608 ≤ (← ⟦work.len()⟧)) × ((at ≤ 4608) × ((base ≤ limit) × ((c .bools ≤ limit) × (c .ints ≤ limit)))) ⌝ }
-    ensures { λ r. ⌜ Met (pass-bools (fresh-tally (tallies (items-at (read-part (now (work .entry))) left t count g h at base)))) (now (work .entry)) c (now (work .entry)) r ⌝ }
+// What the numbering of so many members leaves: the counters, and how many new numbers a disjunction of them takes.
+pub struct Numbered {
+    pub counters: Counters,
+    pub fresh: usize,
+}
+
+// The counter passes so many new numbers.
+fn pass(c: Counters, k: usize) -> Counters
+    ensures { λ r. ⌜ r ≡ record { bools = bump-of (c .bools) k; ints = c .ints } ⌝ }
 {
-    let s = surveys(work, at, left, t, count, base, g, h, 0);
-    let n = bump(c.bools, fresh(s.longs, s.lits, s.cmps));
+    let n = bump(c.bools, k);
     Counters {
         bools: n,
         ints: c.ints,
     }
 }
 
+// So many members, the first negated if g, the others if h; each is surveyed once, for the next one's place and the tally.
 pub fn numbers(
     work: &mut [i32],
     at: usize,
@@ -453,24 +448,35 @@ pub fn numbers(
     g: bool,
     h: bool,
     c: Counters,
-) -> Counters
+) -> Numbered
     requires { do ⌜ (4608 ≤ (← ⟦work.len()⟧)) × ((at ≤ 4608) × ((base ≤ limit) × ((c .bools ≤ limit) × (c .ints ≤ limit)))) ⌝ }
-    ensures { λ r. ⌜ Met (mets (items-at (read-part (now (work .entry))) left t count g h at base)) (now (work .entry)) c (now (work .exit)) r ⌝ }
+    ensures { λ r. ⌜ Met (mets (items-at (read-part (now (work .entry))) left t count g h at base)) (now (work .entry)) c (now (work .exit)) (r .counters) × (r .fresh ≡ fresh-tally (tallies (items-at (read-part (now (work .entry))) left t count g h at base))) ⌝ }
 {
-    let mut q = at;
-    let mut b = base;
+    let mut r = Surveyed {
+        at: at,
+        base: base,
+        n: 0,
+        longs: 0,
+        lits: 0,
+        cmps: 0,
+        lines: 0,
+        all: 0,
+    };
     let mut rest = count;
     let mut f = g;
     let mut d = c;
     while rest != 0 {
-        d = number(work, q, left, t, b, f, d);
-        let s = survey(work, q, left, t, b, f, 0);
-        q = s.at;
-        b = s.base;
+        d = number(work, r.at, left, t, r.base, f, d);
+        let s = survey(work, r.at, left, t, r.base, f, 0);
+        r = add_member(r, s);
         rest = rest - 1;
         f = h;
     }
-    d
+    let k = fresh(r.longs, r.lits, r.cmps);
+    Numbered {
+        counters: d,
+        fresh: k,
+    }
 }
 
 pub fn number(
@@ -497,9 +503,10 @@ pub fn number(
         }
         Node::Not(q) => number(work, q, under, t, base, !g, c),
         Node::Join(d, k, a, b, q) => {
-            let p = numbers(work, q, under, t, k, base, a, b, c);
+            let m = numbers(work, q, under, t, k, base, a, b, c);
+            let p = m.counters;
             if d {
-                return pass(work, q, under, t, k, base, a, b, p);
+                return pass(p, m.fresh);
             }
             p
         }
@@ -508,9 +515,11 @@ pub fn number(
                 return c;
             }
             let a = numbers(work, q, under, true, 2, base, false, h, c);
-            let b = numbers(work, q, under, true, 2, base, true, !h, a);
-            let p = pass(work, q, under, true, 2, base, false, h, b);
-            pass(work, q, under, true, 2, base, true, !h, p)
+            let d = a.counters;
+            let b = numbers(work, q, under, true, 2, base, true, !h, d);
+            let e = b.counters;
+            let p = pass(e, a.fresh);
+            pass(p, b.fresh)
         }
     }
 }
