@@ -2,7 +2,7 @@
 use mathlib.Core.Path.{_≡_, refl, sym, ap, _∙_, subst}
 use mathlib.Core.Bool.{Bool, true, false}
 use mathlib.Core.List.{List, [], _∷_, _++_, append-nil, append-assoc}
-use Prim.Native.Nat.{ℕ, zero, suc, _+_, _-_, _≤_}
+use Prim.Native.Nat.{ℕ, zero, suc, _+_, _-_, _≤_, _<_}
 use native.Mathlib.Omega.{arith}
 use native.Mathlib.Numerals.{sub-one}
 use lib.IntN.{ℤ}
@@ -16,6 +16,7 @@ use Rattle.walk.specs.declared.Node.{Node}
 use Rattle.walk.specs.declared.Node.the-variants.{Var, Cmp, Not, Join, Cross}
 use Rattle.walk.specs.declared.Surveyed.{Surveyed}
 use Rattle.walk.specs.Steps.{lines-all-low}
+use Rattle.walk.specs.NoTies.{no-ties}
 use Rattle.writer.specs.Suffix.{Open}
 use Rattle.writer.specs.Fine.{Fine, Fines}
 use Rattle.writer.specs.Placed.{Placed, Listed, RuleWrote}
@@ -312,3 +313,14 @@ module _ (w : List ℤ) (at n : ℕ) where
         count = r .count ∙ ap (counts (items (rule-at (read-part w) 64 at n)) w) (hx .splits);
         lines = hj ∙ r .lines;
       }
+
+  -- where the splitting takes no number, only the rule is written
+  pub bare-rule-wrote : (x : Surveyed) → Surveys w 64 false false at n n x → x .base ≡ n → n < limit → {out b : List ℤ} {o q : ℕ} → Open out o
+      → (s : List ℤ) → s ≡ [] → Wrote out o (item-at (read-part w) 64 false false at n .text w n s) b q → RuleWrote w at n out o b (x .at) (x .n) (x .all) q
+  unfolding items
+  bare-rule-wrote x v hb i {out} {b} {o} {q} h s e t =
+      let none : E ≡ nil = no-ties (read-part w) 64 false false at n i (sym (v .splits) ∙ hb) in
+      let l : Listed w (items nil) n out o out n 0 o = listed-none h (omega arith) in
+      let l₁ : Listed w (items nil) (x .base) out o out n 0 o = subst (λ (k : ℕ). Listed w (items nil) k out o out n 0 o) (sym hb) l in
+      let l₂ : Listed w (items E) (x .base) out o out n 0 o = subst (λ (ts : Trees). Listed w (items ts) (x .base) out o out n 0 o) (sym none) l₁ in
+      rule-wrote x x v v h l₂ s e t (x .all) (omega (arith, v .low-all))

@@ -785,13 +785,24 @@ pub struct Ruled {
     pub o: usize,
 }
 
-// The rule at a place: its extras, then its own clauses. n: the next number before it.
+// The rule at a place: its extras, then its own clauses. Where the splitting takes no number, there are no extras. n: the next number before it.
 pub fn write_rule(work: &[i32], at: usize, n: usize, out: &mut [i32], o: usize) -> Ruled
     requires { ⌜ Placed (now work) at n n × Open (now out) o × Writable (now work) at n ⌝ }
     ensures { λ r. ⌜ RuleWrote (now (work .entry)) at n (now (out .entry)) o (now (out .exit)) (r .at) (r .n) (r .lines) (r .o) ⌝ }
 {
     let x = number::survey(work, at, 64, false, n, false, n);
     let m = x.base;
+    if m == n {
+        if n < 1073741824 {
+            let q = write(work, at, 64, false, n, false, n, no_suffix(), out, o);
+            return Ruled {
+                at: x.at,
+                n: x.n,
+                lines: x.all,
+                o: q,
+            };
+        }
+    }
     let a = write_ties(work, at, 64, false, n, m, out, o);
     let e = a.n;
     let p = a.o;

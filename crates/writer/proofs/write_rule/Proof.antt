@@ -4,7 +4,7 @@ use Rattle.laws.specs.Writes.{wrote-length}
 use Rattle.writer.specs.Rules.{writable-fine}
 use Rattle.writer.proofs.Laws.{open-next}
 use Rattle.writer.proofs.Steps.{placed-with}
-use Rattle.writer.proofs.Extras.{rule-ties-fine, rule-tree-fine, rule-wrote}
+use Rattle.writer.proofs.Extras.{rule-ties-fine, rule-tree-fine, rule-wrote, bare-rule-wrote}
 use borrow.Author.Needs.{needs}
 use Rattle.writer.proofs.write_rule.Statement.{statement}
 use Rattle.writer.proofs.write_rule.Tie as tie
@@ -12,36 +12,63 @@ use Rattle.writer.proofs.write_rule.Tie as tie
 survey-requires : tie.Need-survey-requires
 survey-requires c κs = let p = c .pre .0 in omega (arith, p .size, p .inside, p .low, p .low-base)
 
-write-ties-requires : tie.Need-write-ties-requires
-write-ties-requires c κs = ((placed-with _ (c .before .before .pre .0) (c .before .survey .ensures .low-base), c .before .before .pre .1, rule-ties-fine (c .before .before .args .work .now) _ _ (writable-fine _ _ _ (c .before .before .pre .2))), omega arith)
-
-survey-requires-2 : tie.Need-survey-requires-2
-survey-requires-2 c κs = let p = c .before .before .before .before .pre .0 in omega (arith, p .size, p .inside, c .before .write-ties .ensures .low, p .low-base)
-
 no-suffix-requires : tie.Need-no-suffix-requires
 no-suffix-requires c κs = search needs
 
 write-requires : tie.Need-write-requires
-write-requires c κs = ((placed-with _ (c .before .before .before .before .before .before .before .pre .0) (c .before .before .before .before .write-ties .ensures .low), open-next (c .before .before .before .before .before .before .before .pre .1) (c .before .before .before .before .write-ties .ensures .wrote), rule-tree-fine (c .before .before .before .before .before .before .before .args .work .now) _ _ (writable-fine _ _ _ (c .before .before .before .before .before .before .before .pre .2))), c .before .no-suffix .ensures .1)
+write-requires c κs =
+    let s = c .before .before .before .before .before in
+    ((s .pre .0, s .pre .1, rule-tree-fine (s .args .work .now) _ _ (writable-fine _ _ _ (s .pre .2))), c .before .no-suffix .ensures .1)
+
+same-length : tie.Need-same-length
+same-length c = wrote-length (c .before .write .ensures)
+
+returns : tie.Need-returns
+returns c =
+    let s = c .before .before .before .before .before .before .before in
+    bare-rule-wrote (s .args .work .now) _ _ _ (c .before .before .before .before .before .before .survey .ensures) (c .before .before .before .before .before .if1 .taken) (c .before .before .before .before .if2 .taken) (s .pre .1) _ (c .before .before .before .no-suffix .ensures .0) (c .before .write .ensures)
+
+write-ties-requires : tie.Need-write-ties-requires
+write-ties-requires c κs =
+    let s = c .before .before .before in
+    ((placed-with _ (s .pre .0) (c .before .before .survey .ensures .low-base), s .pre .1, rule-ties-fine (s .args .work .now) _ _ (writable-fine _ _ _ (s .pre .2))), omega arith)
+
+survey-requires-2 : tie.Need-survey-requires-2
+survey-requires-2 c κs = let p = c .before .before .before .before .before .pre .0 in omega (arith, p .size, p .inside, c .before .write-ties .ensures .low, p .low-base)
+
+no-suffix-requires-2 : tie.Need-no-suffix-requires-2
+no-suffix-requires-2 c κs = search needs
+
+write-requires-2 : tie.Need-write-requires-2
+write-requires-2 c κs =
+    let s = c .before .before .before .before .before .before .before .before in
+    let e = c .before .before .before .before .write-ties .ensures in
+    ((placed-with _ (s .pre .0) (e .low), open-next (s .pre .1) (e .wrote), rule-tree-fine (s .args .work .now) _ _ (writable-fine _ _ _ (s .pre .2))), c .before .no-suffix2 .ensures .1)
 
 bump-requires : tie.Need-bump-requires
 bump-requires c κs = search needs
 
-same-length : tie.Need-same-length
-same-length c = wrote-length (c .before .before .write .ensures) ∙ wrote-length (c .before .before .before .before .before .before .before .write-ties .ensures .wrote)
+same-length-2 : tie.Need-same-length-2
+same-length-2 c = wrote-length (c .before .before .write2 .ensures) ∙ wrote-length (c .before .before .before .before .before .before .before .write-ties .ensures .wrote)
 
-returns : tie.Need-returns
-returns c = rule-wrote (c .before .before .before .before .before .before .before .before .before .before .args .work .now) _ _ _ _ (c .before .before .before .before .before .before .before .before .before .survey .ensures) (c .before .before .before .before .before .survey2 .ensures) (c .before .before .before .before .before .before .before .before .before .before .pre .1) (c .before .before .before .before .before .before .before .write-ties .ensures) _ (c .before .before .before .before .no-suffix .ensures .0) (c .before .before .write .ensures) _ (c .bump .ensures)
+returns-2 : tie.Need-returns-2
+returns-2 c =
+    let s = c .before .before .before .before .before .before .before .before .before .before .before in
+    rule-wrote (s .args .work .now) _ _ _ _ (c .before .before .before .before .before .before .before .before .before .before .survey .ensures) (c .before .before .before .before .before .survey2 .ensures) (s .pre .1) (c .before .before .before .before .before .before .before .write-ties .ensures) _ (c .before .before .before .before .no-suffix2 .ensures .0) (c .before .before .write2 .ensures) _ (c .bump .ensures)
 
 pub write-rule-spec : {M : Type 1} → statement M
 write-rule-spec =
     tie.close
     (tie.spec
     survey-requires
-    write-ties-requires
-    survey-requires-2
     no-suffix-requires
     write-requires
-    bump-requires
     same-length
-    returns)
+    returns
+    write-ties-requires
+    survey-requires-2
+    no-suffix-requires-2
+    write-requires-2
+    bump-requires
+    same-length-2
+    returns-2)
