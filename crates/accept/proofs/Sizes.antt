@@ -10,12 +10,7 @@ use mir.Syntax.{w32, w64}
 use borrow.Author.Tests.{ne-eqb, ltb-true}
 use Rattle.limits.specs.Total.{cap, joined, product}
 use mir.Val.{Fits, SFits}
-use Rattle.laws.specs.Ints.{natAbs-add, sfits-natAbs}
-
-natAbs-negℤ : (z : ℤ) → natAbs (negℤ z) ≡ natAbs z
-natAbs-negℤ (pos zero) = refl
-natAbs-negℤ (pos (suc n)) = refl
-natAbs-negℤ (negsuc n) = refl
+use Rattle.laws.specs.Ints.{natAbs-add, sfits-natAbs, natAbs-negℤ}
 
 -- a negative number taken from 0
 pub minus-is : (z : ℤ) → ltZ z (pos 0) ≡ true → pos 0 -ℤ z ≡ pos (natAbs z)

@@ -11,7 +11,7 @@ use lib.Signed.{ltZ}
 use lib.Dec.{ltb}
 use lib.ListN.{length, length-map, getD}
 use Rattle.laws.specs.Bools.{and-i}
-use Rattle.laws.specs.Lists.{all, from, below}
+use Rattle.laws.specs.Lists.{all, from, below, length-from}
 use Rattle.syntax.specs.Words.{min-work-words, max-set-words, max-answer-words}
 use Rattle.syntax.specs.Syntax.{Domain, Range, Enumerative, domain-of, IntExpr, Cell, Stmt, Rule, Table, Problem}
 use Rattle.syntax.specs.Satisfies.{Val, IVal, stmt-holds, in-domains, satisfies}
@@ -83,10 +83,6 @@ pub domains-ordered : (ds : List Domain) → Each WellDomain ds → (v : ℕ) �
 domains-ordered [] h v k = absurd (omega arith)
 domains-ordered (d ∷ ds) h zero k = domain-ordered d (h .0)
 domains-ordered (d ∷ ds) h (suc v) k = domains-ordered ds (h .1) v (omega arith)
-
-length-from : (k n : ℕ) → length (from k n) ≡ n
-length-from k zero = refl
-length-from k (suc n) = ap suc (length-from (suc k) n)
 
 -- ---- a set that settles: satisfying is passing its answer
 

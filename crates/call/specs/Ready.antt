@@ -59,7 +59,7 @@ abbrev pub Plain : Stmt → Type 0
 Plain (Rule e) = expr-bound e ≤ 0
 Plain (Table es rows) = all (wide (length es)) rows ≡ true
 
-rows-wide : (n : ℕ) (rows : List (List Cell)) → Each (WellRow n) rows → all (wide n) rows ≡ true
+pub rows-wide : (n : ℕ) (rows : List (List Cell)) → Each (WellRow n) rows → all (wide n) rows ≡ true
 rows-wide n [] h = refl
 rows-wide n (r ∷ rows) h = and-i (wide n r) (all (wide n) rows) (eq-eqb (length r) n (h .0 .0)) (rows-wide n rows (h .1))
 

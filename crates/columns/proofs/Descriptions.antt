@@ -11,7 +11,7 @@ use borrow.Author.Tests.{le-leb}
 use mir.Syntax.{w32}
 use mir.Val.{SFits}
 use Rattle.laws.specs.Bools.{never}
-use Rattle.laws.specs.Ints.{natAbs-add, sfits-natAbs}
+use Rattle.laws.specs.Ints.{natAbs-add, sfits-natAbs, natAbs-negℤ}
 use Rattle.laws.specs.Slices.{Has, has-fits, has-back, has-word, has-rest, has-nth}
 use Rattle.syntax.specs.Words.{max-value, max-set-words}
 use Rattle.syntax.specs.Lengths.{int-long, int-fits}
@@ -35,13 +35,8 @@ use Rattle.columns.proofs.Equations.{code-is}
 
 -- ---- a range
 
-neg-abs : (z : ℤ) → natAbs (negℤ z) ≡ natAbs z
-neg-abs (pos zero) = refl
-neg-abs (pos (suc n)) = refl
-neg-abs (negsuc n) = refl
-
 pub candidates-small : (lo hi : ℤ) → natAbs lo ≤ max-value → natAbs hi ≤ max-value → natAbs (num-candidates (Range lo hi)) ≤ 2147483647
-candidates-small lo hi l h = omega (arith, natAbs-add (hi -ℤ lo) (pos 1), natAbs-add hi (negℤ lo), neg-abs lo)
+candidates-small lo hi l h = omega (arith, natAbs-add (hi -ℤ lo) (pos 1), natAbs-add hi (negℤ lo), natAbs-negℤ lo)
 
 module _ (set : List ℤ) (lo hi : ℤ) (l : natAbs lo ≤ max-value) (h : natAbs hi ≤ max-value) (o : leZ lo hi ≡ true) where
   abbrev many : ℤ
@@ -150,7 +145,7 @@ module _ (set : List ℤ) (v : ℕ) where
 
 -- the negated count fits a word
 pub minus-fits : (c : ℤ) → natAbs c ≤ 2147483647 → SFits w32 (pos 0 -ℤ c)
-minus-fits c h = sfits-natAbs w32 (pos 0 -ℤ c) (omega (arith, natAbs-add (pos 0) (negℤ c), neg-abs c))
+minus-fits c h = sfits-natAbs w32 (pos 0 -ℤ c) (omega (arith, natAbs-add (pos 0) (negℤ c), natAbs-negℤ c))
 
 -- ---- the column at p
 

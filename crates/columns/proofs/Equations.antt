@@ -34,26 +34,13 @@ use Rattle.walk.specs.Decode.{word, read-part}
 use Rattle.walk.specs.Meets.{part-short}
 use Rattle.writer.specs.Suffix.{Open}
 use Rattle.writer.specs.Rules.{has-part}
-use Rattle.writer.proofs.Differences.{numbers}
+use Rattle.writer.proofs.Differences.{numbers, number-is}
 use Rattle.rows.specs.Emit.{Clauses, Behind}
 use Rattle.rows.proofs.Looping.{clauses-none, clauses-one, clauses-then, clauses-to, clauses-stop}
 use Rattle.statements.specs.Columns.{column-map, column-number, equality, column-clause, columns-clauses}
 use Rattle.columns.specs.Standing.{Standing}
 use Rattle.columns.specs.Equalities.{Column, Equality, EquatedOne, Equatable, Equated}
 use Rattle.columns.proofs.Walking.{first-stands, rest-stands, same-columns}
-
--- ---- the map's numbers
-
-count-nat : (z : ℤ) → count-of z ≡ nat z
-unfolding nat
-count-nat (pos n) = refl
-count-nat (negsuc n) = refl
-
-number-is : (w : List ℤ) (v : ℕ) → number-at (numbers w) v ≡ int-number w v
-unfolding int-entry
-number-is w v =
-    let e : numbers w ≡ drop 5120 w = take-all (length w - 5120) (drop 5120 w) (omega (arith, length-drop 5120 w)) in
-    ap (λ (l : List ℤ). number-at l v) e ∙ number-behind w 5120 v ∙ ap (λ (n : ℕ). n - 1) (count-nat (getD w (5120 + v) (pos 0)))
 
 -- ---- the clause of one column
 

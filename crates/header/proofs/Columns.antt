@@ -9,7 +9,7 @@ use lib.Seq.{take-all, getD-drop}
 use borrow.Author.Tests.{ltb-false}
 use mir.Syntax.{w32}
 use mir.Val.{SFits}
-use Rattle.laws.specs.Ints.{natAbs-add, sfits-natAbs}
+use Rattle.laws.specs.Ints.{natAbs-add, sfits-natAbs, natAbs-negℤ}
 use Rattle.laws.specs.Lists.{different}
 use Rattle.syntax.specs.Words.{max-weight, max-column-vars}
 use Rattle.syntax.specs.Syntax.{Domain, Range, lower-bound, upper-bound, num-candidates, domain-of, IntExpr}
@@ -28,6 +28,7 @@ use Rattle.nest.specs.Column.{Same-bounds, column-bounded, column-domain}
 use Rattle.walk.specs.Item.{nat, int-map, int-entry, int-number}
 use Rattle.statements.specs.ReadyKeeps.{free-from}
 use Rattle.header.specs.Emitted.{Column, SomeColumn, ColumnDomain}
+use Rattle.writer.proofs.Differences.{count-nat}
 
 -- ---- the parts of the work slice that are lent
 
@@ -39,11 +40,6 @@ part-is w from = take-all (length w - from) (drop from w) (omega (arith, length-
 
 part-word : (w : List ℤ) (from k : ℕ) → getD (part w from) k (pos 0) ≡ getD w (from + k) (pos 0)
 part-word w from k = ap (λ (l : List ℤ). getD l k (pos 0)) (part-is w from) ∙ getD-drop from w k (pos 0)
-
-count-nat : (z : ℤ) → count-of z ≡ nat z
-unfolding nat
-count-nat (pos n) = refl
-count-nat (negsuc n) = refl
 
 number-is : (w : List ℤ) (v : ℕ) → number-at (part w int-map) v ≡ int-number w v
 unfolding int-entry
@@ -104,13 +100,8 @@ module _ {w : List ℤ} {place : ℕ} {e : IntExpr} {ds : List Domain} {dom : �
   pub small : (natAbs (lower-bound domain) ≤ max-weight) × (natAbs (upper-bound domain) ≤ max-weight)
   small = let l = linear-of (int-number w) e in whole-bounds l max-weight (domain-bounds-fit dom ds (int-number w) e (c .known) (c .light) (length (terms-of l)))
 
-natAbs-neg : (z : ℤ) → natAbs (negℤ z) ≡ natAbs z
-natAbs-neg (pos zero) = refl
-natAbs-neg (pos (suc n)) = refl
-natAbs-neg (negsuc n) = refl
-
 pub apart-size : (low high : ℤ) → natAbs (high -ℤ low) ≤ natAbs high + natAbs low
-apart-size low high = omega (arith, natAbs-add high (negℤ low), natAbs-neg low)
+apart-size low high = omega (arith, natAbs-add high (negℤ low), natAbs-negℤ low)
 
 module _ (low high : ℤ) (l : natAbs low ≤ max-weight) (h : natAbs high ≤ max-weight) where
   pub apart-fits : SFits w32 (high -ℤ low)

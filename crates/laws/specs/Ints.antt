@@ -56,6 +56,11 @@ natAbs-neg : (n : ℕ) → natAbs (negℤ (pos n)) ≡ n
 natAbs-neg zero = refl
 natAbs-neg (suc n) = refl
 
+pub natAbs-negℤ : (z : ℤ) → natAbs (negℤ z) ≡ natAbs z
+natAbs-negℤ (pos zero) = refl
+natAbs-negℤ (pos (suc n)) = refl
+natAbs-negℤ (negsuc n) = refl
+
 pub natAbs-mul : (m k : ℤ) → natAbs (m *ℤ k) ≡ natAbs m * natAbs k
 natAbs-mul (pos a) (pos b) = refl
 natAbs-mul (pos a) (negsuc b) = natAbs-neg (a * suc b)

@@ -96,6 +96,14 @@ module _ {A : Type 0} where
   none-of f g [] h k = refl
   none-of f g (x ∷ xs) h k = rw (h x (and-l (f x) (all f xs) k), none-of f g xs h (and-r (f x) (all f xs) k))
 
+  pub length-filter : (f : A → Bool) (xs : List A) → length (filter f xs) ≤ length xs
+  length-filter f [] = omega arith
+  length-filter f (x ∷ xs) = go (f x) (length-filter f xs)
+    where
+      go : (t : Bool) → length (filter f xs) ≤ length xs → length (keep-if t x (filter f xs)) ≤ suc (length xs)
+      go true h = omega arith
+      go false h = omega arith
+
   pub all-filter : (f g : A → Bool) (xs : List A) → all f xs ≡ true → all f (filter g xs) ≡ true
   all-filter f g [] h = refl
   all-filter f g (x ∷ xs) h = go (g x) (all-filter f g xs (and-r (f x) (all f xs) h))
@@ -138,3 +146,7 @@ from-all f i (suc n) h = and-i (f i) (all f (from (suc i) n)) (h i (omega arith)
 
 pub below-all : (f : ℕ → Bool) (n : ℕ) → ((v : ℕ) → v < n → f v ≡ true) → all f (below n) ≡ true
 below-all f n h = from-all f 0 n (λ v k. h v (omega arith))
+
+pub length-from : (k n : ℕ) → length (from k n) ≡ n
+length-from k zero = refl
+length-from k (suc n) = ap suc (length-from (suc k) n)

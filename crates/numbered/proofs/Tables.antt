@@ -21,7 +21,8 @@ use Rattle.writer.specs.Rules.{has-part}
 use Rattle.statements.specs.NumberColumns.{columns-end, columns-are, columns-stop}
 use Rattle.statements.specs.Table.{table-fresh, meet-table}
 use Rattle.statements.specs.Columns.{meet-columns}
-use Rattle.numbered.specs.Fresh.{RowsStand, Freshens, rows-wide}
+use Rattle.call.specs.Ready.{rows-wide}
+use Rattle.numbered.specs.Fresh.{RowsStand, Freshens}
 use Rattle.numbered.specs.Stands.{Stands, SomeTable}
 
 -- ---- the end of the columns

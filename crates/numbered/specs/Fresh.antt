@@ -24,6 +24,7 @@ use Rattle.rows.specs.Stars.{values-in, is-free, is-single, is-longer, count-ro
 use Rattle.rows.specs.Stands.{small, cells-words, length-cells, stars-stand, values-stand}
 use Rattle.walk.specs.Item.{mode-in, fresh-in}
 use Rattle.statements.specs.Table.{values, is-long, is-one, long-rows, single-rows, star-fresh, free-rows, starred, table-fresh}
+use Rattle.call.specs.Ready.{rows-wide}
 
 -- k rows of n cells stand at a place of the work slice
 pub record RowsStand (w : List ℤ) (at n k : ℕ) (rows : List (List Cell)) : Type 0 where
@@ -45,10 +46,6 @@ well-cells (value x ∷ cs) h = and-i (leb (natAbs x) max-value) (all small cs) 
 pub rows-small : (n : ℕ) (rows : List (List Cell)) → Each (WellRow n) rows → all (all small) rows ≡ true
 rows-small n [] h = refl
 rows-small n (cs ∷ rows) h = and-i (all small cs) (all (all small) rows) (well-cells cs (h .0 .1)) (rows-small n rows (h .1))
-
-pub rows-wide : (n : ℕ) (rows : List (List Cell)) → Each (WellRow n) rows → all (wide n) rows ≡ true
-rows-wide n [] h = refl
-rows-wide n (cs ∷ rows) h = and-i (wide n cs) (all (wide n) rows) (eq-eqb (length cs) n (h .0 .0)) (rows-wide n rows (h .1))
 
 -- ---- the rows that stand
 

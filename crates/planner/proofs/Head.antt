@@ -6,7 +6,7 @@ use native.Mathlib.Omega.{arith}
 use lib.IntN.{ℤ, pos}
 use lib.ListN.{length, length-append, length-map}
 use lib.Seq.{sets}
-use Rattle.laws.specs.Lists.{flat, from, below}
+use Rattle.laws.specs.Lists.{flat, from, below, length-from}
 use Rattle.laws.specs.Slices.{Has, has-back, has-sets}
 use Rattle.syntax.specs.Syntax.{Domain, Stmt, Problem}
 use Rattle.fold.specs.Fold.{Fixed}
@@ -15,10 +15,6 @@ use Rattle.tables.specs.Tables.{emitted-domains}
 use Rattle.tables.specs.Emitted.{length-emitted}
 use Rattle.answer.specs.Answer.{fixed-word, map-word, domain-words}
 use Rattle.statements.specs.Ready.{log-of, head-words}
-
-length-from : (k n : ℕ) → length (from k n) ≡ n
-length-from k zero = refl
-length-from k (suc n) = ap suc (length-from (suc k) n)
 
 triples-length : (ds : List Domain) → length (flat (map domain-words ds)) ≡ 3 * length ds
 triples-length [] = refl

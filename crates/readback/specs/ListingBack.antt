@@ -9,7 +9,7 @@ use lib.IntN.{ℤ, pos}
 use lib.Dec.{ltb}
 use lib.ListN.{length, take, drop, length-map}
 use lib.Seq.{take-append-seam, drop-append-seam}
-use Rattle.laws.specs.Lists.{flat, counted, from, below}
+use Rattle.laws.specs.Lists.{flat, counted, from, below, length-from}
 use Rattle.syntax.specs.Words.{max-set-words, min-work-words, max-answer-words}
 use Rattle.syntax.specs.Syntax.{Domain, Stmt, Problem, encode}
 use Rattle.words.specs.Parse.{Parsed, ok, refuse}
@@ -158,10 +158,6 @@ abbrev Back : List ℤ → Result → Type 0
 Back set r = read-listing (print-result set r) ≡ some r
 
 -- the counts of declared variables are the set's first words, and the answer's maps are as long
-pub length-from : (k n : ℕ) → length (from k n) ≡ n
-length-from k zero = refl
-length-from k (suc n) = ap suc (length-from (suc k) n)
-
 module _ (set : List ℤ) (p : Problem) (r : List ℤ) (read : read-set set ≡ ok p r) where
   pub bools-word : count-word set ≡ p .bools
   unfolding encode

@@ -10,7 +10,7 @@ use lib.Dec.{leb, ltb}
 use lib.ListN.{length, drop, length-append, length-map}
 use borrow.Author.Tests.{leb-true, ltb-false}
 use Rattle.laws.specs.Bools.{and-l, and-r}
-use Rattle.laws.specs.Lists.{all, flat, counted, below}
+use Rattle.laws.specs.Lists.{all, flat, counted, below, length-from}
 use Rattle.syntax.specs.Words.{max-set-words, min-work-words, max-answer-words}
 use Rattle.syntax.specs.Syntax.{Domain, encode-op, Stmt, Problem}
 use Rattle.words.specs.Parse.{Parsed, ok, refuse}
@@ -29,7 +29,7 @@ use Rattle.text.specs.Listing.{print-compiled, print-answer}
 use Rattle.readback.specs.Shown.{terms-words, linear-text, lits-words, lits-length, clause-text, literals-in}
 use Rattle.readback.specs.Lines.{last-text}
 use Rattle.readback.specs.Listed.{print-result}
-use Rattle.readback.specs.ListingBack.{domain-text, tail-text, clauses-text, compiled-printed, whole, length-from, bools-word, ints-word}
+use Rattle.readback.specs.ListingBack.{domain-text, tail-text, clauses-text, compiled-printed, whole, bools-word, ints-word}
 
 -- ---- numbers
 

@@ -8,7 +8,7 @@ use lib.IntN.{ℤ, pos}
 use lib.Signed.{leZ}
 use lib.ListN.{length, drop}
 use lib.Seq.{getD-drop}
-use Rattle.laws.specs.Lists.{keep-if, filter}
+use Rattle.laws.specs.Lists.{keep-if, filter, length-filter}
 use Rattle.laws.specs.Writes.{cap, wrote-low}
 use Rattle.syntax.specs.Syntax.{encode-cell}
 use Rattle.tables.specs.Tables.{Row}
@@ -23,23 +23,11 @@ use Rattle.stars.specs.Lines.{long-lines, single-linears, pool-line, poo
 use Rattle.stars.specs.Stars.{RowsAt, StarRows, Starred}
 use Rattle.stars.proofs.Laws.{lines-then, lines-to}
 use Rattle.stars.proofs.Table.{table-clauses}
-
-filter-few : {A : Type 0} (f : A → Bool) (xs : List A) → length (filter f xs) ≤ length xs
-filter-few f [] = omega arith
-filter-few f (x ∷ xs) = go (f x) (filter-few f xs)
-  where
-    go : (t : Bool) → length (filter f xs) ≤ length xs → length (keep-if t x (filter f xs)) ≤ suc (length xs)
-    go true h = omega arith
-    go false h = omega arith
+use Rattle.rows.proofs.Whole.{length-vars}
 
 pub count-few : (f : ℕ → Bool) (n k : ℕ) (xs : List ℤ) → count-rows f (rows-of n k xs) ≤ k
 unfolding count-rows
-count-few f n k xs = omega (arith, filter-few (λ (r : Row). f (values-in r)) (rows-of n k xs), length-rows n k xs)
-
-length-vars : (n : ℕ) (cs : List ℤ) → length (vars-of n cs) ≡ n
-unfolding vars-of
-length-vars zero cs = refl
-length-vars (suc n) cs = ap suc (length-vars n (drop 3 cs))
+count-few f n k xs = omega (arith, length-filter (λ (r : Row). f (values-in r)) (rows-of n k xs), length-rows n k xs)
 
 module _ (work : List ℤ) (at n k cols m : ℕ) (t : StarRows work at n k cols m) where
   pub rows-at : RowsAt work at n k cols

@@ -41,7 +41,7 @@ mutual
   terms-same f g h tnil sum = refl
   terms-same f g h (tmore k e ts) sum = rw (linear-same f g h e) (terms-same f g h ts (add-sum sum (mul-sum k (linear-of g e))))
 
-count-nat : (z : ℤ) → count-of z ≡ nat z
+pub count-nat : (z : ℤ) → count-of z ≡ nat z
 unfolding nat
 count-nat (pos n) = refl
 count-nat (negsuc n) = refl
@@ -52,7 +52,7 @@ numbers w = take (length w - 5120) (drop 5120 w)
 numbers-is : (w : List ℤ) → numbers w ≡ drop 5120 w
 numbers-is w = take-all (length w - 5120) (drop 5120 w) (omega (arith, length-drop 5120 w))
 
-number-is : (w : List ℤ) (v : ℕ) → number-at (numbers w) v ≡ int-number w v
+pub number-is : (w : List ℤ) (v : ℕ) → number-at (numbers w) v ≡ int-number w v
 unfolding number-at int-entry
 number-is w v = ap (λ (l : List ℤ). count-of (getD l v (pos 0)) - 1) (numbers-is w) ∙ ap (λ (n : ℕ). n - 1) (count-nat (getD (drop 5120 w) v (pos 0)) ∙ ap nat (getD-drop 5120 w v (pos 0)))
 
