@@ -42,11 +42,10 @@ fn report(head: &[u8], listing: &[u8]) {
 
 // Whether the listing of a text is the one that is expected.
 fn agrees(head: &[u8], text: &[u8], expected: &[u8]) -> bool {
-    let mut words = [0i32; 32768];
     let mut output = [0i32; 16384];
     let mut work = [0i32; 16384];
     let mut out = [0u8; 262144];
-    let n = textcall::list_text(text, &mut words, &mut output, &mut work, &mut out);
+    let n = textcall::list_text(text, &mut output, &mut work, &mut out);
     if check::same(&out[..n], expected) {
         return true;
     }

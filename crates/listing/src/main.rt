@@ -2,10 +2,9 @@
 fn main() {
     let mut text = [0u8; 65537];
     let got = io::read_full(0, &mut text);
-    let mut words = [0i32; 32768];
     let mut output = [0i32; 16384];
     let mut work = [0i32; 16384];
     let mut out = [0u8; 262144];
-    let n = textcall::list_text(&text[..got], &mut words, &mut output, &mut work, &mut out);
+    let n = textcall::list_text(&text[..got], &mut output, &mut work, &mut out);
     io::write_all(1, &out[..n]);
 }

@@ -146,18 +146,17 @@ bytes-inside bs out out' r c e =
     let w : r ≤ length out' = omega arith in
     record { within = w; part = sym (length-take-le r out' w) }
 
-module _ (text : List ℕ) (words output work words' : List ℤ) (out out' : List ℕ) (r : ℕ) (left : words' ≡ words-after (length words) (read-text text)) where
+module _ (text : List ℕ) (output work : List ℤ) (out out' : List ℕ) (r : ℕ) where
   pub lists-unread : (q : Words) → q ≡ words-of (read-text text) → q ≡ read.Unread → (ws : List ℤ) → (r ≡ min (length (print-answer said.Unread 0 0 ws)) (length out)) × (out' ≡ sets out 0 (print-answer said.Unread 0 0 ws))
-      → Lists text words output work words' output work out out' r
+      → Lists text output work output work out out' r
   unfolding words-of print-answer list-text list-words output-left work-left
   lists-unread q told e ws h = go (read-text text) refl told
     where
-      go : (o : Option (List ℤ)) → read-text text ≡ o → q ≡ words-of o → Lists text words output work words' output work out out' r
+      go : (o : Option (List ℤ)) → read-text text ≡ o → q ≡ words-of o → Lists text output work output work out out' r
       go none d a = record {
         listing = record { count = rw d (h .0); bytes = rw d (h .1) };
         inside = bytes-inside (print-answer said.Unread 0 0 ws) out out' r (h .0) (h .1);
         room = λ m. rw d (omega arith);
-        read = left;
         answered = rw d refl;
         worked = rw d refl;
       }
@@ -182,7 +181,7 @@ module _ (text : List ℕ) (words output work words' : List ℤ) (out out' : Lis
     pub some-answer : SomeAnswered output' answer
     some-answer = record { it = call set (length output) (length work); answered = told-answer }
 
-    pub lists-answer : all fitting output' ≡ true → Prints set output' answer out out' r → Lists text words output work words' output' work' out out' r
+    pub lists-answer : all fitting output' ≡ true → Prints set output' answer out out' r → Lists text output work output' work' out out' r
     unfolding list-text list-words output-left work-left
     lists-answer f p =
         let b = p .prints (call set (length output) (length work)) told-answer in
@@ -190,7 +189,6 @@ module _ (text : List ℕ) (words output work words' : List ℤ) (out out' : Lis
           listing = record { count = rw set-read (b .count); bytes = rw set-read (b .bytes) };
           inside = bytes-inside (print-result set (call set (length output) (length work))) out out' r (b .count) (b .bytes);
           room = λ m. rw set-read (listing-room set (length output) (length work) m (typed (call set (length output) (length work)) output' answer (c .output) f (c .answer) (p .small)));
-          read = left;
           answered = rw set-read (c .output);
           worked = rw set-read (c .zeroed);
         }

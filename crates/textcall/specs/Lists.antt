@@ -8,7 +8,6 @@ use lib.ListN.{length, take}
 use lib.Seq.{sets}
 use Rattle.call.specs.Call.{Result, call, output-after, zeros}
 use Rattle.input.specs.ReadText.{read-text}
-use Rattle.input.specs.Input.{words-after}
 use Rattle.readback.specs.Listed.{print-result, list-text}
 use Rattle.planner.specs.declared.Answer.{Answer}
 use Rattle.planner.specs.declared.Answer.the-variants.{Refused}
@@ -47,11 +46,10 @@ unfoldable pub work-left : Option (List ℤ) → List ℤ → List ℤ
 work-left none work = work
 work-left (some ws) work = zeros (length work)
 
-pub record Lists (text : List ℕ) (words output work words' output' work' : List ℤ) (out out' : List ℕ) (r : ℕ) : Type 0 where
+pub record Lists (text : List ℕ) (output work output' work' : List ℤ) (out out' : List ℕ) (r : ℕ) : Type 0 where
   pub listing : Bytes (list-text (length output) (length work) text) out out' r
   pub inside : Inside out' r
   -- 262144 bytes are room enough
   pub room : length output ≤ 16384 → length (list-text (length output) (length work) text) ≤ 262144
-  pub read : words' ≡ words-after (length words) (read-text text)
   pub answered : output' ≡ output-left (read-text text) output (length work)
   pub worked : work' ≡ work-left (read-text text) work

@@ -51,8 +51,8 @@ fn print_answer(answer: planner::Answer, set: &[i32], output: &[i32], out: &mut 
     }
 }
 
-// The listing of a text. The words of the text, the answer and the call's work go into the lent slices; bytes past the end of `out` are dropped.
-pub fn list_text(
+// The listing of a text, whose words go into `words`.
+fn list_with_room(
     text: &[u8],
     words: &mut [i32],
     output: &mut [i32],
@@ -60,7 +60,7 @@ pub fn list_text(
     out: &mut [u8],
 ) -> usize
     requires { ⌜ 32768 ≤ length (now words) ⌝ }
-    ensures { λ r. ⌜ Lists (now (text .entry)) (now (words .entry)) (now (output .entry)) (now (work .entry)) (now (words .exit)) (now (output .exit)) (now (work .exit)) (now (out .entry)) (now (out .exit)) r ⌝ }
+    ensures { λ r. ⌜ Lists (now (text .entry)) (now (output .entry)) (now (work .entry)) (now (output .exit)) (now (work .exit)) (now (out .entry)) (now (out .exit)) r ⌝ }
 {
     let Words::Count(n) = words_of_text(text, words) else {
         return text_of_answer(Answer::Unread, 0, 0, &output[..0], out);
@@ -69,4 +69,12 @@ pub fn list_text(
     let answer = planner::compile(set, output, work);
     all_fit(output);
     print_answer(answer, set, output, out)
+}
+
+// The listing of a text. The answer and the call's work go into the lent slices; bytes past the end of `out` are dropped.
+pub fn list_text(text: &[u8], output: &mut [i32], work: &mut [i32], out: &mut [u8]) -> usize
+    ensures { λ r. ⌜ Lists (now (text .entry)) (now (output .entry)) (now (work .entry)) (now (output .exit)) (now (work .exit)) (now (out .entry)) (now (out .exit)) r ⌝ }
+{
+    let mut words = [0i32; 32768];
+    list_with_room(text, &mut words, output, work, out)
 }
