@@ -15,7 +15,7 @@ use Rattle.fold.specs.Fold.{Fixed}
 use Rattle.fold.specs.Optimize.{Status, unsatisfiable, updated, fix, set-infeasible, worst, and-then, constant-prop-bool as prop, constant-prop-members as prop-members, constant-prop-stmts as prop-stmts}
 use Rattle.fold.specs.FoldMeaning.{Agrees}
 
-not-flip : (x w : Bool) → not x ≡ w → x ≡ not w
+pub not-flip : (x w : Bool) → not x ≡ w → x ≡ not w
 not-flip true w h = cc
 not-flip false w h = cc
 

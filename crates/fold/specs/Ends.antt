@@ -49,7 +49,7 @@ module _ (P Q : ℕ → Type 0) (R : Fixed → Bool → Fixed → Type 0) (steps
   mutual
     unfolding prop EveryOf
 
-    prop-after : (e : BoolExpr) (want : Bool) (f : Fixed) → Every P Q e → After R f (prop e want f)
+    pub prop-after : (e : BoolExpr) (want : Bool) (f : Fixed) → Every P Q e → After R f (prop e want f)
     prop-after (Const c) want = λ f h. same-after (Bool·beq c want) f
     prop-after (Var v) want = λ f h. var-after (f v) v want f refl h
     prop-after (NVar n) want = λ f h. steps .idle f
@@ -95,7 +95,7 @@ prop-extends ss f g c h =
     let a = prop-stmts-after (λ v. Unit {0}) (λ v. Unit {0}) (λ f c g. Extends f g) extends-steps ss f (any-stmts ss) in
     rw h at a
 
-still-steps : Steps (λ v. Unit {0}) (λ f c g. c ≡ false → g ≡ f)
+pub still-steps : Steps (λ v. Unit {0}) (λ f c g. c ≡ false → g ≡ f)
 still-steps = record {
   idle = λ f e. refl;
   one = λ f v b h p e. never (sym e);
@@ -118,13 +118,22 @@ abbrev pub opens : ℕ → Fixed → ℕ
 opens zero f = 0
 opens (suc n) f = opens n f + is-open (f n)
 
+is-open-most : (k : Option Bool) → is-open k ≤ 1
+is-open-most nothing = omega arith
+is-open-most (some b) = omega arith
+
 pub opens-most : (n : ℕ) (f : Fixed) → opens n f ≤ n
 opens-most zero f = omega arith
-opens-most (suc n) f = omega (arith, opens-most n f, one (f n))
+opens-most (suc n) f = omega (arith, opens-most n f, is-open-most (f n))
+
+-- more values leave no more variables open
+pub opens-extends : (n : ℕ) (f g : Fixed) → Extends f g → opens n g ≤ opens n f
+opens-extends zero f g x = omega arith
+opens-extends (suc n) f g x = omega (arith, opens-extends n f g x, go (f n) refl)
   where
-    one : (k : Option Bool) → is-open k ≤ 1
-    one nothing = omega arith
-    one (some b) = omega arith
+    go : (k : Option Bool) → f n ≡ k → is-open (g n) ≤ is-open (f n)
+    go nothing e = rw e (is-open-most (g n))
+    go (some b) e = rw (e, x n b e) (omega arith)
 
 fix-other : (f : Fixed) (v w : ℕ) (b : Bool) → (w ≡ v → ⊥) → fix f v b w ≡ f w
 fix-other f v w b ne = go (eqb w v) refl

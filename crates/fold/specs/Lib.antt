@@ -6,6 +6,7 @@ pub mod FoldMeaning
 pub mod ConstantProp
 pub mod Kept
 pub mod Ends
+pub mod Ahead
 pub mod Shape
 pub mod Meaning
 pub mod Table
