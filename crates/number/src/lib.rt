@@ -190,7 +190,7 @@ pub fn node_at(work: &[i32], under: usize, g: bool, at: usize) -> Node
 // ---- the survey
 
 // A single member of so many literals and comparisons.
-fn single(at: usize, base: usize, n: usize, lits: usize, cmps: usize) -> Surveyed
+pub fn single(at: usize, base: usize, n: usize, lits: usize, cmps: usize) -> Surveyed
     ensures { λ r. ⌜ r ≡ surveyed at base n 0 lits cmps 0 1 ⌝ }
 {
     Surveyed {
@@ -205,7 +205,7 @@ fn single(at: usize, base: usize, n: usize, lits: usize, cmps: usize) -> Surveye
     }
 }
 
-fn longer(at: usize, base: usize, n: usize, lines: usize) -> Surveyed
+pub fn longer(at: usize, base: usize, n: usize, lines: usize) -> Surveyed
     ensures { λ r. ⌜ r ≡ surveyed at base n 1 0 0 lines lines ⌝ }
 {
     Surveyed {
@@ -220,7 +220,7 @@ fn longer(at: usize, base: usize, n: usize, lines: usize) -> Surveyed
     }
 }
 
-fn close_disj(s: Surveyed) -> Surveyed
+pub fn close_disj(s: Surveyed) -> Surveyed
     ensures { λ r. ⌜ r ≡ closed-disj s ⌝ }
 {
     if s.longs == 0 {
@@ -244,7 +244,7 @@ fn close_disj(s: Surveyed) -> Surveyed
     )
 }
 
-fn close_cross(s: Surveyed, u: Surveyed) -> Surveyed
+pub fn close_cross(s: Surveyed, u: Surveyed) -> Surveyed
     ensures { λ r. ⌜ r ≡ closed-cross s u ⌝ }
 {
     let p = bump(u.n, fresh(s.longs, s.lits, s.cmps));
@@ -255,7 +255,7 @@ fn close_cross(s: Surveyed, u: Surveyed) -> Surveyed
 }
 
 // One member more.
-fn add_member(r: Surveyed, s: Surveyed) -> Surveyed
+pub fn add_member(r: Surveyed, s: Surveyed) -> Surveyed
     requires { ⌜ (r .longs + s .longs ≤ 4608) × (r .lits + s .lits ≤ 4608) × (r .cmps + s .cmps ≤ 4608) ⌝ }
     ensures { λ x. ⌜ x ≡ added r s ⌝ }
 {
