@@ -1,25 +1,16 @@
-//! The port's call against the Rust, in time. `bench SEED COUNT`: COUNT accepted sets of each family.
+//! The port's call against the Rust, in time. `bench SEED COUNT [FAMILY]`: COUNT sets of each family, refused ones left out.
 //! The port's time is a whole call: clearing both slices, reading, refusals, answer, clearing the work slice.
 //! The Rust's is building its problem from a set that was read, `optimize`, `normalize`, and writing the answer's words.
 
+use differential::links::case;
+use differential::{compile_set, exit_on_error, run_families};
 use reference::call::timed;
-use reference::generate::{self, Case};
+use reference::generate::Case;
 use reference::{call, refuse, Outcome};
 use std::hint::black_box;
 use std::time::Instant;
 
-extern "C" {
-    fn compile_set(
-        set: *const i32,
-        set_len: usize,
-        out: *mut i32,
-        out_len: usize,
-        work: *mut i32,
-        work_len: usize,
-    ) -> i64;
-}
-
-const FAMILIES: [&str; 5] = ["rules", "chains", "comparisons", "tables", "mixed"];
+const FAMILIES: [&str; 6] = ["rules", "chains", "links", "comparisons", "tables", "mixed"];
 const ROUNDS: u32 = 5;
 
 /// The least time of some rounds, in nanoseconds.
@@ -79,17 +70,11 @@ fn line(family: &str, sizes: &str, times: &[(f64, f64)]) {
     );
 }
 
-fn main() {
-    let numbers: Vec<u64> = std::env::args().skip(1).filter_map(|a| a.parse().ok()).collect();
-    let [seed, count] = numbers[..] else {
-        eprintln!("usage: bench SEED COUNT");
-        std::process::exit(1);
-    };
+fn run(seed: u64, count: u64, families: &[&str]) -> Result<(), String> {
     let mut work = vec![0; 16384];
-    for family in FAMILIES {
+    for &family in families {
         let mut groups: [Vec<(f64, f64)>; 3] = Default::default();
-        for index in 0..count {
-            let Some(case) = generate::case(family, seed, index) else { continue };
+        for case in (0..count).filter_map(|index| case(family, seed, index)) {
             if let Some(both) = times(&case, &mut work) {
                 groups[size(case.set.len())].push(both);
             }
@@ -99,4 +84,9 @@ fn main() {
         }
         line(family, "all", &groups.concat());
     }
+    Ok(())
+}
+
+fn main() {
+    exit_on_error(run_families("bench", &FAMILIES, run));
 }

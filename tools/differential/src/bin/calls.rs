@@ -2,20 +2,11 @@
 //! `calls SEED COUNT [FAMILY]`: COUNT sets of each family (or of one), each with several lengths of the output and work slices;
 //! `calls stack`: the deepest and the widest sets on a thread of 512 KiB. Status 1 on the first difference.
 
-use reference::generate::{self, Case, FAMILIES};
+use differential::links::case;
+use differential::{compile_set, exit_on_error, run_families};
+use reference::generate::{Case, FAMILIES};
 use reference::{call, Outcome};
 use std::collections::BTreeMap;
-
-extern "C" {
-    fn compile_set(
-        set: *const i32,
-        set_len: usize,
-        out: *mut i32,
-        out_len: usize,
-        work: *mut i32,
-        work_len: usize,
-    ) -> i64;
-}
 
 /// The slices that are lent, full of noise before every call.
 struct Slices {
@@ -102,7 +93,7 @@ fn run(seed: u64, count: u64, families: &[&str]) -> Result<(), String> {
         let mut tallies = BTreeMap::new();
         let mut calls = 0;
         for index in 0..count {
-            let case = generate::case(family, seed, index).ok_or("no case")?;
+            let case = case(family, seed, index).ok_or("no case")?;
             let (kind, n) = check(&mut slices, &case, index)
                 .map_err(|e| format!("{family} seed {seed} index {index}: {e}\nset {:?}", case.set))?;
             *tallies.entry(kind).or_insert(0u64) += 1;
@@ -113,7 +104,7 @@ fn run(seed: u64, count: u64, families: &[&str]) -> Result<(), String> {
     Ok(())
 }
 
-/// Not above Not .., 64 levels; nested Iff and sums; an Or of 2000 members; a table of many columns.
+/// Not above Not .., 64 levels; nested Iff and sums; an Or of 2000 members; tables of many columns (the answer of 1000 is too long).
 fn extremes() -> Vec<(&'static str, Vec<i32>)> {
     let mut not = vec![1, 0, 1, 1];
     not.extend([14; 63]);
@@ -126,10 +117,20 @@ fn extremes() -> Vec<(&'static str, Vec<i32>)> {
     let mut sum = vec![0, 1, 0, 0, 9, 1, 1, 18, 2];
     (0..62).for_each(|_| sum.extend([22, 1, 1]));
     sum.extend([21, 0, 20, 3]);
-    let mut table = vec![0, 1, 0, 0, 9, 1, 2, 1000, 1];
-    (0..1000).for_each(|_| table.extend([21, 0]));
-    table.extend([5; 1000]);
-    vec![("Not", not), ("Iff", iff), ("Or", or), ("sum", sum), ("table", table)]
+    let table = |n: i32| {
+        let mut table = vec![0, 1, 0, 0, 9, 1, 2, n, 1];
+        (0..n).for_each(|_| table.extend([21, 0]));
+        (0..n).for_each(|_| table.push(5));
+        table
+    };
+    vec![
+        ("Not", not),
+        ("Iff", iff),
+        ("Or", or),
+        ("sum", sum),
+        ("table of 100", table(100)),
+        ("table of 1000", table(1000)),
+    ]
 }
 
 fn stack() -> Result<(), String> {
@@ -144,17 +145,6 @@ fn stack() -> Result<(), String> {
 }
 
 fn main() {
-    let arguments: Vec<String> = std::env::args().skip(1).collect();
-    let arguments: Vec<&str> = arguments.iter().map(String::as_str).collect();
-    let number = |text: &str| text.parse::<u64>().map_err(|e| e.to_string());
-    let result = match arguments[..] {
-        ["stack"] => stack(),
-        [seed, count] => number(seed).and_then(|seed| run(seed, number(count)?, &FAMILIES[..8])),
-        [seed, count, family] => number(seed).and_then(|seed| run(seed, number(count)?, &[family])),
-        _ => Err("usage: calls SEED COUNT [FAMILY] | calls stack".into()),
-    };
-    if let Err(e) = result {
-        eprintln!("{e}");
-        std::process::exit(1);
-    }
+    let stacked = std::env::args().nth(1).is_some_and(|word| word == "stack");
+    exit_on_error(if stacked { stack() } else { run_families("calls stack | calls", &FAMILIES[..8], run) });
 }

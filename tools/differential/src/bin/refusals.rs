@@ -1,6 +1,7 @@
 //! Refusals 1 to 11 of the port against the reference: every limit case, and damaged sets.
-//! `differential refusals SEED COUNT`; status 1 on the first difference.
+//! `refusals SEED COUNT`; status 1 on the first difference.
 
+use differential::{exit_on_error, run_families};
 use reference::generate;
 
 extern "C" {
@@ -65,14 +66,5 @@ fn refusals(seed: u64, count: u64) -> Result<(), String> {
 }
 
 fn main() {
-    let args: Vec<String> = std::env::args().skip(1).collect();
-    let number = |i: usize| args.get(i).and_then(|a| a.parse::<u64>().ok());
-    let result = match (args.first().map(String::as_str), number(1), number(2)) {
-        (Some("refusals"), Some(seed), Some(count)) => refusals(seed, count),
-        _ => Err("usage: differential refusals SEED COUNT".into()),
-    };
-    if let Err(e) = result {
-        eprintln!("{e}");
-        std::process::exit(1);
-    }
+    exit_on_error(run_families("refusals", &[], |seed, count, _| refusals(seed, count)));
 }
