@@ -15,6 +15,7 @@ use Rattle.walk.specs.declared.Surveyed.{Surveyed}
 use Rattle.writer.specs.declared.Suffix.{Suffix}
 use Rattle.writer.specs.Suffix.{Stacked, suffix, Open}
 use Rattle.writer.specs.Fine.{Compared, Fine}
+use Rattle.writer.specs.Placed.{Tallied}
 use Rattle.writer.proofs.Laws.{word-pos, then-low, suffix-length, block-length}
 use Rattle.writer.proofs.Steps.{Is, down, up, fine-cmp, items-is}
 
@@ -66,6 +67,41 @@ mutual
   pub items-lits : (ts : Trees) (w : List ℤ) → length (pools (items ts) true w) ≡ tallies (items ts) .lits
   items-lits nil w = refl
   items-lits (cons t ts) w = length-append (item t .pool true w) (pools (items ts) true w) ∙ rw (item-lits t w, items-lits ts w)
+
+empty-list : (ws : List ℤ) → length ws ≡ 0 → ws ≡ []
+empty-list [] h = refl
+empty-list (w ∷ ws) h = absurd (omega arith)
+
+disj-none : (is : List Item) (w : List ℤ) (b : Bool) → (tallies is .cmps ≡ 0 → pools is false w ≡ []) → cond b (tallies is) (long (disj-lines (tallies is))) .cmps ≡ 0 → cond b (pools is false w) [] ≡ []
+disj-none is w true p h = p h
+disj-none is w false p h = refl
+
+-- no comparison where the tally says none
+mutual
+  unfolding item var-item num-item cmp-item conj-item disj-item cross-item tied-item closed tallies pools
+
+  item-cmps : (t : Tree) (w : List ℤ) → item t .unit .cmps ≡ 0 → item t .pool false w ≡ []
+  item-cmps (var v g) w h = refl
+  item-cmps (num n g) w h = refl
+  item-cmps (cmp p o x y g) w h = absurd (omega arith)
+  item-cmps (conj ts) w h = refl
+  item-cmps (disj ts) w h = disj-none (items ts) w (is-none (tallies (items ts) .longs)) (λ e. items-cmps ts w e) h
+  item-cmps (cross ts us) w h = refl
+  item-cmps (tied v t u) w h = refl
+
+  items-cmps : (ts : Trees) (w : List ℤ) → tallies (items ts) .cmps ≡ 0 → pools (items ts) false w ≡ []
+  items-cmps nil w h = refl
+  items-cmps (cons t ts) w h = rw (item-cmps t w (omega arith), items-cmps ts w (omega arith))
+
+module _ {w : List ℤ} {l : ℕ} {t : Bool} {k : ℕ} {g h : Bool} {at base : ℕ} {x : Surveyed} (c : Tallied w l t k g h at base x) where
+  pub no-lits : x .lits ≡ 0 → pools (items-at (read-part w) l t k g h at base) true w ≡ []
+  no-lits e = empty-list _ (items-lits (many (decode (read-part w) l t) k g h at base .trees) w ∙ sym (ap (λ (t : Tally). t .lits) (c .unit)) ∙ e)
+
+  pub no-cmps : x .cmps ≡ 0 → pools (items-at (read-part w) l t k g h at base) false w ≡ []
+  no-cmps e = items-cmps (many (decode (read-part w) l t) k g h at base .trees) w (sym (ap (λ (t : Tally). t .cmps) (c .unit)) ∙ e)
+
+pub pools-empty : {out : List ℤ} {o : ℕ} (vs : List ℤ) → vs ≡ [] → Open out o → Wrote out o vs out o
+pools-empty {out} {o} vs e h = rw e (wrote-none out o (h .low))
 
 -- ---- leaves
 

@@ -345,6 +345,31 @@ fn pool(
     }
 }
 
+// The same where there are n of them: without any, nothing is read.
+fn some_pools(
+    work: &[i32],
+    at: usize,
+    left: usize,
+    t: bool,
+    count: usize,
+    base: usize,
+    g: bool,
+    h: bool,
+    b: bool,
+    n: usize,
+    out: &mut [i32],
+    o: usize,
+) -> usize
+    requires { ⌜ Placed (now work) at base 0 × Open (now out) o × Fines (now work) (many (decode (read-part (now work)) left t) count g h at base .trees) ⌝ }
+    requires { ⌜ (n ≡ 0 → pools-of (items-at (read-part (now work)) left t count g h at base) b (now work) ≡ []) ⌝ }
+    ensures { λ r. ⌜ Wrote (now (out .entry)) o (pools-of (items-at (read-part (now (work .entry))) left t count g h at base) b (now (work .entry))) (now (out .exit)) r ⌝ }
+{
+    if n == 0 {
+        return o;
+    }
+    pools(work, at, left, t, count, base, g, h, b, out, o)
+}
+
 // The clause of the pool, with the block's numbers and the suffix.
 fn put_pool(
     work: &[i32],
@@ -368,11 +393,11 @@ fn put_pool(
     let k = x.longs;
     let n = x.lits + k + (64 - s.from);
     let a = put(out, o, word_of(n, false));
-    let b = pools(work, at, left, t, count, base, g, h, true, out, a);
+    let b = some_pools(work, at, left, t, count, base, g, h, true, x.lits, out, a);
     let c = put_block(block, k, out, b);
     let d = put_suffix(s, out, c);
     let e = put(out, d, word_of(x.cmps, false));
-    pools(work, at, left, t, count, base, g, h, false, out, e)
+    some_pools(work, at, left, t, count, base, g, h, false, x.cmps, out, e)
 }
 
 // ---- leaves of the walk
@@ -508,7 +533,20 @@ fn write_disj(
         Mode::Pool => put_pool(work, at, left, t, count, base, g, h, block, x, s, out, o),
         Mode::Pass => {
             let mut one = [0i32; 1];
-            pools(work, at, left, t, count, base, g, h, true, &mut one, 0);
+            some_pools(
+                work,
+                at,
+                left,
+                t,
+                count,
+                base,
+                g,
+                h,
+                true,
+                x.lits,
+                &mut one,
+                0,
+            );
             let y = Extra {
                 mode: Mode::Pass,
                 base: block,
