@@ -1,94 +1,64 @@
--- The members of a node, numbered one after another: what is met of them, and the tally of those before the place.
-use mathlib.Core.Path.{_≡_, refl, sym, ap, _∙_}
+-- The members of a node, numbered one after another: what is met of them, and what is seen of those before the place.
+use mathlib.Core.Path.{_≡_, refl, sym, ap, _∙_, subst}
 use mathlib.Core.Bool.{Bool}
 use mathlib.Core.List.{List}
-use Prim.Native.Nat.{ℕ, zero, suc, _+_, _-_, _≤_}
+use Prim.Native.Nat.{ℕ, _-_, _≤_}
 use native.Mathlib.Omega.{arith}
 use lib.IntN.{ℤ}
 use lib.ListN.{length}
-use Rattle.walk.specs.Item.{limit, bump, pass-bools, Tally, plus, fresh, tallies, mets, item, items}
-use Rattle.walk.specs.Decode.{Reads, Reader, many, decode, read-part, surveyed, fresh-of, added, Surveys}
-use Rattle.walk.specs.Steps.{many-more}
+use Rattle.walk.specs.Item.{limit, bump, State, pass-bools, fresh, tallies, mets, item, items}
+use Rattle.walk.specs.Decode.{many, decode, read-part, surveyed, fresh-of, added}
 use Rattle.walk.specs.Meets.{Met, MembersSofar, members-start, members-again, members-done, part-short}
 use Rattle.walk.specs.declared.Surveyed.{Surveyed}
 use Rattle.walk.specs.declared.Counters.{Counters}
+use Rattle.number.specs.Sized.{Sized, SizedAll, survey-of, SizedSofar, sized-start, sized-more, sized-done}
+use Rattle.number.proofs.Leaves.{at-in}
 
-abbrev tally-at : Reader → ℕ → Bool → Bool → ℕ → ℕ → Tally
-tally-at p k g h at base = tallies (items (many p k g h at base .trees))
+pub met-as : {f : State → State} {w w' : List ℤ} {c r d : Counters} → r ≡ d → Met f w c w' d → Met f w c w' r
+met-as {f} {w} {w'} {c} e = subst (λ (d : Counters). Met f w c w' d) (sym e)
 
--- r has the counts of the members before its place; so many are left, the next negated if f
-pub record Tallied (p : Reader) (h : Bool) (k : ℕ) (g : Bool) (at base : ℕ) (r : Surveyed) (rest : ℕ) (f : Bool) : Type 0 where
-  pub longs : r .longs + tally-at p rest f h (r .at) (r .base) .longs ≡ tally-at p k g h at base .longs
-  pub lits : r .lits + tally-at p rest f h (r .at) (r .base) .lits ≡ tally-at p k g h at base .lits
-  pub cmps : r .cmps + tally-at p rest f h (r .at) (r .base) .cmps ≡ tally-at p k g h at base .cmps
-  pub room : r .longs + r .lits + r .cmps + at ≤ r .at
+-- in words that are the same
+pub sized-in : {ws us : List ℤ} (l : ℕ) (t g : Bool) (at base : ℕ) (r : Surveyed) → ws ≡ us → Sized ws l t g at base r → Sized us l t g at base r
+sized-in l t g at base r e = subst (λ (vs : List ℤ). Sized vs l t g at base r) e
 
-tally-more : (p : Reader) (rest : ℕ) (f h : Bool) (q b : ℕ) → (rest ≡ 0 → ⊥) → tally-at p rest f h q b ≡ plus (item (p f q b .tree) .unit) (tally-at p (rest - 1) h h (p f q b .end) (p f q b .next))
-unfolding items tallies
-tally-more p rest f h q b z = ap (λ (a : Reads). tallies (items (a .trees))) (many-more p rest f h q b z)
+pub sized-all-in : {ws us : List ℤ} (l : ℕ) (t : Bool) (k : ℕ) (g h : Bool) (at base : ℕ) (r : Surveyed) → ws ≡ us → SizedAll ws l t k g h at base r → SizedAll us l t k g h at base r
+sized-all-in l t k g h at base r e = subst (λ (vs : List ℤ). SizedAll vs l t k g h at base r) e
 
 module _ (l : ℕ) (t h : Bool) (w : List ℤ) (c : Counters) (k : ℕ) (g : Bool) (at base : ℕ) where
-  -- what is met and the tally
+  -- what is met and what is seen
   pub record NumbersSofar (w' : List ℤ) (d : Counters) (r : Surveyed) (rest : ℕ) (f : Bool) : Type 0 where
     pub met : MembersSofar l t h w c k g at base w' d rest f (r .at) (r .base)
-    pub tally : Tallied (decode (read-part w) l t) h k g at base r rest f
+    pub seen : SizedSofar w l t h k g at base r rest f
 
-  pub numbers-start : at ≤ 4608 → base ≤ limit → c .bools ≤ limit → c .ints ≤ limit → NumbersSofar w c (surveyed at base 0 0 0 0 0 0) k g
-  numbers-start i e a b = record {
+  pub numbers-start : 4608 ≤ length w → at ≤ 4608 → base ≤ limit → c .bools ≤ limit → c .ints ≤ limit → NumbersSofar w c (surveyed at base 0 0 0 0 0 0) k g
+  numbers-start z i e a b = record {
     met = members-start l t h w c k g at base i e a b;
-    tally = record { longs = omega arith; lits = omega arith; cmps = omega arith; room = omega arith };
+    seen = sized-start w l t h k g at base (at-in w at z i) e;
   }
 
-  tally-again : (w'' : List ℤ) (rest : ℕ) (f : Bool) (m : ℕ) (r s : Surveyed) → read-part w'' ≡ read-part w → Tallied (decode (read-part w) l t) h k g at base r rest f → (rest ≡ 0 → ⊥) → Surveys w'' l t f (r .at) (r .base) m s
-      → Tallied (decode (read-part w) l t) h k g at base (added r s) (rest - 1) h
+  pub numbers-again : (w' w'' : List ℤ) (d d' : Counters) (rest : ℕ) (f : Bool) (r s : Surveyed) → NumbersSofar w' d r rest f → (rest ≡ 0 → ⊥) → 4608 ≤ length w
+      → Met (item (decode (read-part w') l t f (r .at) (r .base) .tree) .met) w' d w'' d' → Sized (read-part w') l t f (r .at) (r .base) s → NumbersSofar w'' d' (added r s) (rest - 1) h
   unfolding added
-  tally-again w'' rest f m r s e x z v =
-      let p = decode (read-part w) l t in
-      let q = r .at in
-      let b = r .base in
-      let j : s .at ≡ p f q b .end = v .end ∙ ap (λ (ws : List ℤ). decode ws l t f q b .end) e in
-      let o : s .base ≡ p f q b .next = v .splits ∙ ap (λ (ws : List ℤ). decode ws l t f q b .next) e in
-      let u : record { longs = s .longs; lits = s .lits; cmps = s .cmps; lines = s .lines } ≡ item (p f q b .tree) .unit = v .unit ∙ ap (λ (ws : List ℤ). item (decode ws l t f q b .tree) .unit) e in
-      let i = tally-more p rest f h q b z in
-      record {
-        longs = rw (j, o) (omega (arith, x .longs, ap (λ (a : Tally). a .longs) u, ap (λ (a : Tally). a .longs) i));
-        lits = rw (j, o) (omega (arith, x .lits, ap (λ (a : Tally). a .lits) u, ap (λ (a : Tally). a .lits) i));
-        cmps = rw (j, o) (omega (arith, x .cmps, ap (λ (a : Tally). a .cmps) u, ap (λ (a : Tally). a .cmps) i));
-        room = omega (arith, x .room, v .room);
-      }
-
-  pub numbers-again : (w' w'' : List ℤ) (d d' : Counters) (rest : ℕ) (f : Bool) (m : ℕ) (r s : Surveyed) → NumbersSofar w' d r rest f → (rest ≡ 0 → ⊥) → 4608 ≤ length w
-      → Met (item (decode (read-part w') l t f (r .at) (r .base) .tree) .met) w' d w'' d' → Surveys w'' l t f (r .at) (r .base) m s → NumbersSofar w'' d' (added r s) (rest - 1) h
-  unfolding added
-  numbers-again w' w'' d d' rest f m r s x z size y v = record {
-    met = members-again l t h w c k g at base w' w'' d d' rest f (r .at) (r .base) m s (x .met) z size y v;
-    tally = tally-again w'' rest f m r s (y .part ∙ x .met .part) (x .tally) z v;
+  numbers-again w' w'' d d' rest f r s x z size y v = record {
+    met = members-again l t h w c k g at base w' w'' d d' rest f (r .at) (r .base) 0 _ (x .met) z size y (survey-of w'' l t f (r .at) (r .base) 0 s (omega arith) (sized-in l t f (r .at) (r .base) s (sym (y .part)) v));
+    seen = sized-more w l t h k g at base r s rest f (x .seen) z (sized-in l t f (r .at) (r .base) s (x .met .part) v);
   }
 
-  tally-done : (r : Surveyed) (rest : ℕ) (f : Bool) → Tallied (decode (read-part w) l t) h k g at base r rest f → rest ≡ 0 → fresh-of r ≡ fresh (tally-at (decode (read-part w) l t) k g h at base)
-  unfolding many items tallies
-  tally-done r zero f x e =
-      let a : r .longs ≡ tally-at (decode (read-part w) l t) k g h at base .longs = omega (arith, x .longs) in
-      let b : r .lits ≡ tally-at (decode (read-part w) l t) k g h at base .lits = omega (arith, x .lits) in
-      let d : r .cmps ≡ tally-at (decode (read-part w) l t) k g h at base .cmps = omega (arith, x .cmps) in
-      rw (a, b, d)
-  tally-done r (suc rest) f x e = absurd (omega arith)
-
-  pub numbers-done : (w' : List ℤ) (d : Counters) (r : Surveyed) (rest : ℕ) (f : Bool) (x : ℕ) → NumbersSofar w' d r rest f → rest ≡ 0 → x ≡ fresh-of r
-      → Met (mets (items (many (decode (read-part w) l t) k g h at base .trees))) w c w' d × (x ≡ fresh (tally-at (decode (read-part w) l t) k g h at base))
-  numbers-done w' d r rest f x y e i = (members-done l t h w c k g at base w' d rest f (r .at) (r .base) (y .met) e, i ∙ tally-done r rest f (y .tally) e)
+  pub numbers-done : (w' : List ℤ) (d : Counters) (r : Surveyed) (rest : ℕ) (f : Bool) → NumbersSofar w' d r rest f → rest ≡ 0
+      → Met (mets (items (many (decode (read-part w) l t) k g h at base .trees))) w c w' d × SizedAll (read-part w) l t k g h at base r
+  numbers-done w' d r rest f x e = (members-done l t h w c k g at base w' d rest f (r .at) (r .base) (x .met) e, sized-done w l t h k g at base r rest f (x .seen) e)
 
 pub inside-short : (w : List ℤ) {x : ℕ} → x ≤ length (read-part w) → x ≤ 4608
 inside-short w h = omega (arith, h, part-short w)
 
 -- a disjunction's new numbers, counted in the words as they were before its members were met
-pub passed-by : (w v : List ℤ) (c r : Counters) (l : ℕ) (t : Bool) (k : ℕ) (g h : Bool) (at base x : ℕ) → c .ints ≤ limit → read-part v ≡ read-part w → x ≡ fresh (tally-at (decode (read-part w) l t) k g h at base)
-    → r ≡ record { bools = bump (c .bools) x; ints = c .ints } → Met (pass-bools (fresh (tally-at (decode (read-part v) l t) k g h at base))) v c v r
+pub passed-by : (w v : List ℤ) (c : Counters) (l : ℕ) (t : Bool) (k : ℕ) (g h : Bool) (at base : ℕ) (s : Surveyed) → c .ints ≤ limit → read-part v ≡ read-part w → SizedAll (read-part w) l t k g h at base s
+    → Met (pass-bools (fresh (tallies (items (many (decode (read-part v) l t) k g h at base .trees))))) v c v (record { bools = bump (c .bools) (fresh-of s); ints = c .ints })
 unfolding pass-bools
-passed-by w v c r l t k g h at base x low e i j = rw j (record {
-  state = ap (λ (y : ℕ). record { work = v; bools = bump (c .bools) y; ints = c .ints }) (i ∙ ap (λ (ws : List ℤ). fresh (tally-at (decode ws l t) k g h at base)) (sym e));
+passed-by w v c l t k g h at base s low e x = record {
+  state = ap (λ (y : ℕ). record { work = v; bools = bump (c .bools) y; ints = c .ints }) (ap fresh (x .unit) ∙ ap (λ (ws : List ℤ). fresh (tallies (items (many (decode ws l t) k g h at base .trees)))) (sym e));
   part = refl;
   size = refl;
   low = omega arith;
   low-ints = low;
-})
+}

@@ -5,11 +5,12 @@ ghost use mathlib.Core.List.{List};
 ghost use Prim.Native.Nat.{ℕ, _+_, _*_, _-_, _≤_, _<_, min};
 ghost use lib.IntN.{ℤ, pos, negsuc};
 ghost use lib.ListN.{length, getD, set, take};
-ghost use Rattle.walk.specs.Item.{limit, bump as bump-of, nat, mode-in, fresh-in, lines-in, var-item, fresh as fresh-tally, meet-bool, meet-int-var, meet-int, tallies, mets, item, items};
-ghost use Rattle.walk.specs.Decode.{word as word-in, past, below as below-of, int-end as int-end-of, node-of, constant-node, comparison-node, read-part, surveyed, closed-disj, closed-cross, added, Surveys, SurveysAll, int-at, item-at, items-at, decode, many-ties, tie-at, cross-ties, ties-at};
+ghost use Rattle.walk.specs.Item.{limit, bump as bump-of, nat, mode-in, fresh-in, lines-in, var-item, meet-bool, meet-int-var, meet-int, mets, item, items};
+ghost use Rattle.walk.specs.Decode.{word as word-in, past, below as below-of, int-end as int-end-of, node-of, constant-node, comparison-node, read-part, surveyed, closed-disj, closed-cross, fresh-of, added, Surveys, SurveysAll, int-at, item-at, items-at, decode, many-ties, tie-at, cross-ties, ties-at};
 ghost use Rattle.walk.specs.Meets.{Met};
 ghost use Rattle.walk.specs.MeetTies.{meet-rule};
 ghost use Rattle.walk.specs.MeetColumns.{number-column, meet-column-at, meet-columns-at};
+ghost use Rattle.number.specs.Sized.{Sized, SizedAll};
 use walk::Counters;
 use walk::Mode;
 use walk::Node;
@@ -420,10 +421,19 @@ pub fn number_int(work: &mut [i32], at: usize, left: usize, c: Counters) -> Coun
     d
 }
 
-// What the numbering of so many members leaves: the counters, and how many new numbers a disjunction of them takes.
+// What the numbering of an expression or of members leaves: the counters, and what a survey finds but for the counter behind.
 pub struct Numbered {
     pub counters: Counters,
-    pub fresh: usize,
+    pub seen: Surveyed,
+}
+
+fn found(c: Counters, s: Surveyed) -> Numbered
+    ensures { λ r. ⌜ (r .counters ≡ c) × (r .seen ≡ s) ⌝ }
+{
+    Numbered {
+        counters: c,
+        seen: s,
+    }
 }
 
 // The counter passes so many new numbers.
@@ -437,7 +447,32 @@ fn pass(c: Counters, k: usize) -> Counters
     }
 }
 
-// So many members, the first negated if g, the others if h; each is surveyed once, for the next one's place and the tally.
+// A disjunction of members takes its new numbers behind theirs.
+fn number_disj(m: Numbered) -> Numbered
+    ensures { λ r. ⌜ (r .counters ≡ record { bools = bump-of (m .counters .bools) (fresh-of (m .seen)); ints = m .counters .ints }) × (r .seen ≡ closed-disj (m .seen)) ⌝ }
+{
+    let c = m.counters;
+    let s = m.seen;
+    Numbered {
+        counters: pass(c, fresh(s.longs, s.lits, s.cmps)),
+        seen: close_disj(s),
+    }
+}
+
+// A cross takes those of its first list, then those of its second, behind both lists' members.
+fn number_cross(a: Surveyed, b: Numbered) -> Numbered
+    ensures { λ r. ⌜ (r .counters ≡ record { bools = bump-of (bump-of (b .counters .bools) (fresh-of a)) (fresh-of (b .seen)); ints = b .counters .ints }) × (r .seen ≡ closed-cross a (b .seen)) ⌝ }
+{
+    let c = b.counters;
+    let s = b.seen;
+    let d = pass(c, fresh(a.longs, a.lits, a.cmps));
+    Numbered {
+        counters: pass(d, fresh(s.longs, s.lits, s.cmps)),
+        seen: close_cross(a, s),
+    }
+}
+
+// So many members, the first negated if g, the others if h.
 pub fn numbers(
     work: &mut [i32],
     at: usize,
@@ -450,7 +485,7 @@ pub fn numbers(
     c: Counters,
 ) -> Numbered
     requires { do ⌜ (4608 ≤ (← ⟦work.len()⟧)) × ((at ≤ 4608) × ((base ≤ limit) × ((c .bools ≤ limit) × (c .ints ≤ limit)))) ⌝ }
-    ensures { λ r. ⌜ Met (mets (items-at (read-part (now (work .entry))) left t count g h at base)) (now (work .entry)) c (now (work .exit)) (r .counters) × (r .fresh ≡ fresh-tally (tallies (items-at (read-part (now (work .entry))) left t count g h at base))) ⌝ }
+    ensures { λ r. ⌜ Met (mets (items-at (read-part (now (work .entry))) left t count g h at base)) (now (work .entry)) c (now (work .exit)) (r .counters) × SizedAll (read-part (now (work .entry))) left t count g h at base (r .seen) ⌝ }
 {
     let mut r = Surveyed {
         at: at,
@@ -466,19 +501,19 @@ pub fn numbers(
     let mut f = g;
     let mut d = c;
     while rest != 0 {
-        d = number(work, r.at, left, t, r.base, f, d);
-        let s = survey(work, r.at, left, t, r.base, f, 0);
-        r = add_member(r, s);
+        let m = number(work, r.at, left, t, r.base, f, d);
+        d = m.counters;
+        r = add_member(r, m.seen);
         rest = rest - 1;
         f = h;
     }
-    let k = fresh(r.longs, r.lits, r.cmps);
     Numbered {
         counters: d,
-        fresh: k,
+        seen: r,
     }
 }
 
+// The expression at a place, negated if g; t: an Xor or Iff stands above.
 pub fn number(
     work: &mut [i32],
     at: usize,
@@ -487,39 +522,37 @@ pub fn number(
     base: usize,
     g: bool,
     c: Counters,
-) -> Counters
+) -> Numbered
     requires { do ⌜ (4608 ≤ (← ⟦work.len()⟧)) × ((at ≤ 4608) × ((base ≤ limit) × ((c .bools ≤ limit) × (c .ints ≤ limit)))) ⌝ }
-    ensures { λ r. ⌜ Met (item-at (read-part (now (work .entry))) left t g at base .met) (now (work .entry)) c (now (work .exit)) r ⌝ }
+    ensures { λ r. ⌜ Met (item-at (read-part (now (work .entry))) left t g at base .met) (now (work .entry)) c (now (work .exit)) (r .counters) × Sized (read-part (now (work .entry))) left t g at base (r .seen) ⌝ }
 {
     if left == 0 {
-        return c;
+        return found(c, single(at, base, 0, 0, 0));
     }
     let under = left - 1;
     match node_at(work, under, g, at) {
-        Node::Var(v, _) => declare(work, v, c),
-        Node::Cmp(b, _) => {
+        Node::Var(v, q) => found(declare(work, v, c), single(q, base, 0, 1, 0)),
+        Node::Cmp(b, q) => {
             let d = number_int(work, within(at + 2), under, c);
-            number_int(work, b, under, d)
+            found(number_int(work, b, under, d), single(q, base, 0, 0, 1))
         }
         Node::Not(q) => number(work, q, under, t, base, !g, c),
         Node::Join(d, k, a, b, q) => {
             let m = numbers(work, q, under, t, k, base, a, b, c);
-            let p = m.counters;
             if d {
-                return pass(p, m.fresh);
+                return number_disj(m);
             }
-            p
+            let s = m.seen;
+            found(m.counters, longer(s.at, s.base, s.n, s.all))
         }
         Node::Cross(h, q) => {
             if t {
-                return c;
+                let s = surveys(work, q, under, true, 2, bump(base, 2), false, false, 0);
+                return found(c, longer(s.at, s.base, 0, 2));
             }
             let a = numbers(work, q, under, true, 2, base, false, h, c);
-            let d = a.counters;
-            let b = numbers(work, q, under, true, 2, base, true, !h, d);
-            let e = b.counters;
-            let p = pass(e, a.fresh);
-            pass(p, b.fresh)
+            let b = numbers(work, q, under, true, 2, base, true, !h, a.counters);
+            number_cross(a.seen, b)
         }
     }
 }
@@ -539,7 +572,8 @@ fn number_tie(
     ensures { λ r. ⌜ Met (item (tie-at (decode (read-part (now (work .entry))) left true) v at base) .met) (now (work .entry)) c (now (work .exit)) r ⌝ }
 {
     let d = number(work, at, left, true, base, false, c);
-    number(work, at, left, true, base, true, d)
+    let e = number(work, at, left, true, base, true, d.counters);
+    e.counters
 }
 
 // Of so many members.
@@ -627,11 +661,13 @@ pub fn number_rule(work: &mut [i32], at: usize, c: Counters) -> Counters
     };
     if s.base == n {
         if n < 1073741824 {
-            return number(work, at, 64, false, n, false, d);
+            let a = number(work, at, 64, false, n, false, d);
+            return a.counters;
         }
     }
     let e = number_ties(work, at, 64, false, n, d);
-    number(work, at, 64, false, n, false, e)
+    let b = number(work, at, 64, false, n, false, e);
+    b.counters
 }
 
 // ---- the columns of a table

@@ -11,12 +11,12 @@ number-requires : tie.Need-number-requires
 number-requires c κs = let s = (c .before .before .before .before .before .before) .pre in (s .0, (s .1 .0, (s .1 .1 .0, (c .before .before .before .before .survey .ensures .low-base, s .1 .1 .1))))
 
 same-length : tie.Need-same-length
-same-length c = c .before .number .ensures .size
+same-length c = c .before .before .number .ensures .0 .size
 
 returns : tie.Need-returns
 returns c =
-    let s = c .before .before .before .before .before .before .before .before in
-    met-bare-rule _ _ (s .args .c) _ _ _ _ _ (c .before .before .before .before .before .before .survey .ensures) refl (c .before .before .before .before .if1 .taken) (c .before .before .before .if2 .taken) (s .pre .1 .1 .1) (c .before .number .ensures)
+    let s = c .before .before .before .before .before .before .before .before .before in
+    met-bare-rule _ _ (s .args .c) _ _ _ _ _ (c .before .before .before .before .before .before .before .survey .ensures) refl (c .before .before .before .before .before .if1 .taken) (c .before .before .before .before .if2 .taken) (s .pre .1 .1 .1) (c .before .before .number .ensures .0)
 
 number-ties-requires : tie.Need-number-ties-requires
 number-ties-requires c κs = let s = (c .before .before .before .before .before) .pre in (s .0, (s .1 .0, (s .1 .1 .0, (c .before .before .before .survey .ensures .low-base, s .1 .1 .1))))
@@ -28,10 +28,10 @@ number-requires-2 c κs =
     (omega (arith, t .size, s .0), (s .1 .0, (s .1 .1 .0, (t .low, t .low-ints))))
 
 same-length-2 : tie.Need-same-length-2
-same-length-2 c = c .before .number2 .ensures .size ∙ c .before .before .before .before .number-ties .ensures .size
+same-length-2 c = c .before .before .number2 .ensures .0 .size ∙ c .before .before .before .before .before .number-ties .ensures .size
 
 returns-2 : tie.Need-returns-2
-returns-2 c = met-rule _ _ _ ((c .before .before .before .before .before .before .before .before .before .before) .args .c) _ _ _ _ _ _ (c .before .before .before .before .before .before .before .before .survey .ensures) refl (c .before .before .before .before .number-ties .ensures) (c .before .number2 .ensures)
+returns-2 c = met-rule _ _ _ ((c .before .before .before .before .before .before .before .before .before .before .before) .args .c) _ _ _ _ _ _ (c .before .before .before .before .before .before .before .before .before .survey .ensures) refl (c .before .before .before .before .before .number-ties .ensures) (c .before .before .number2 .ensures .0)
 
 pub number-rule-spec : {M : Type 1} → statement M
 number-rule-spec =
