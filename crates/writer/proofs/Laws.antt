@@ -202,6 +202,9 @@ module _ {w : List ℤ} {at : ℕ} where
   pub compared-length : {k : ℕ} {g : Bool} {f : List ℤ → List ℤ} {out out' : List ℤ} {o o' : ℕ} → Compares w at → Compared w at k g f out o out' o' → length out' ≡ length out
   compared-length c x = wrote-length (x .wrote (c .left) (c .right) (c .sides .has))
 
+  pub compared-op : {k j : ℕ} {g : Bool} {f : List ℤ → List ℤ} {out out' : List ℤ} {o o' : ℕ} → k ≡ j → Compared w at k g f out o out' o' → Compared w at j g f out o out' o'
+  compared-op {g = g} {f = f} {out = out} {out' = out'} {o = o} {o' = o'} e = subst (λ (k : ℕ). Compared w at k g f out o out' o') e
+
 -- no literal
 pub none-clause : {out a b c : List ℤ} {o p q r : ℕ} (s : Suffix) (x : ℕ) → Open out o → Stacked s 0 → x ≡ 64 - s .from
     → Wrote out o (word-of x false ∷ []) a p → Wrote a p (suffix s) b q → Wrote b q (pos 0 ∷ []) c r → Wrote out o (clause-text [] (suffix s) 0 []) c r

@@ -27,6 +27,9 @@ part-length w h = omega (arith, length-take 4608 w)
 pub okay : (w : List ℤ) (u : ℕ) (g : Bool) (at base n : ℕ) (N : Node) → Placed w at base n → N ≡ node-of (read-part w) u g at (word (read-part w) at) → Okay (read-part w) at N
 okay w u g at base n N h e = okay-at w u g at N (omega (arith, part-length w (h .size), h .inside)) e
 
+pub placed-in : {w : List ℤ} {at base n : ℕ} → Placed w at base n → at ≤ length (read-part w)
+placed-in {w} h = omega (arith, part-length w (h .size), h .inside)
+
 -- a place further on, within the words that are read
 pub placed-at : {w : List ℤ} {at base n : ℕ} (q : ℕ) → Placed w at base n → q ≤ length (read-part w) → Placed w q base n
 placed-at {w} q h i = record { size = h .size; inside = omega (arith, i, part-length w (h .size)); low = h .low; low-base = h .low-base }
@@ -105,6 +108,10 @@ module _ (w : List ℤ) (l : ℕ) (t : Bool) (k : ℕ) (g h : Bool) (at base n :
   unfolding Fine
   fines-rest x = subst (λ (ts : Trees). Fines w ts) trees-is x .1
 
+pub fines-head : (w : List ℤ) (l : ℕ) (t : Bool) (k : ℕ) (g h : Bool) (at base : ℕ) → (k ≡ 0 → ⊥) → Fines w (many (decode (read-part w) l t) k g h at base .trees) → Fine w (decode (read-part w) l t g at base .tree)
+unfolding Fine
+fines-head w l t k g h at base z x = subst (λ (ts : Trees). Fines w ts) (ap (λ (r : Reads). r .trees) (many-more (decode (read-part w) l t) k g h at base z)) x .0
+
 -- in a loop over members: the member at q is next, and `rest` are left
 pub record Sofar (w out₀ : List ℤ) (l : ℕ) (t h : Bool) (at count q rest : ℕ) (f : Bool) (c e p : ℕ) (out : List ℤ) : Type 0 where
   pub placed : Placed w q c e
@@ -127,6 +134,9 @@ sofar-more {w} {l = l} {t = t} {h = h} {q = q} {rest = rest} {f = f} {c = c} {e 
   fewer = omega (arith, x .fewer);
   fine = fines-rest w l t rest f h q c e z s y (x .fine);
 }
+
+pub sofar-head : {w out₀ out : List ℤ} {l : ℕ} {t h : Bool} {at k q rest : ℕ} {f : Bool} {c e p : ℕ} → Sofar w out₀ l t h at k q rest f c e p out → (rest ≡ 0 → ⊥) → Fine w (decode (read-part w) l t f q c .tree)
+sofar-head {w} {l = l} {t = t} {h = h} {q = q} {rest = rest} {f = f} {c = c} x z = fines-head w l t rest f h q c z (x .fine)
 
 pub sofar-first : {w out₀ out : List ℤ} {l : ℕ} {t h : Bool} {at k q rest : ℕ} {f : Bool} {c e p : ℕ} {s : Surveyed} → Sofar w out₀ l t h at k q rest f c e p out → (rest ≡ 0 → ⊥) → Surveys w l t f q c e s → Fine w (decode (read-part w) l t f q c .tree)
 sofar-first {w} {l = l} {t = t} {h = h} {q = q} {rest = rest} {f = f} {c = c} {e = e} {s = s} x z y = fines-first w l t rest f h q c e z s y (x .fine)

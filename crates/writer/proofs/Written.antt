@@ -29,6 +29,10 @@ pub write-none : (w : List ℤ) (l : ℕ) (t g : Bool) (at base n : ℕ) (suf : 
 unfolding decode item disj-item disj-text tallies pools long-texts counts
 write-none w l t g at base n suf {out} {a} {o} {p} e x = rw e x
 
+pub var-text : (w : List ℤ) (v x : ℕ) (g : Bool) (n : ℕ) (suf : List ℤ) {out a : List ℤ} {o p : ℕ} → x ≡ nat (getD w (4608 + v) (pos 0)) → Wrote out o (clause-text (word-of x g ∷ []) suf 0 []) a p → Wrote out o (var-item v g .text w n suf) a p
+unfolding var-item bool-entry
+var-text w v x g n suf {out} {a} {o} {p} f y = subst (λ (m : ℕ). Wrote out o (clause-text (word-of m g ∷ []) suf 0 []) a p) f y
+
 -- a split Xor or Iff: two clauses of two numbers
 split-text : (w : List ℤ) (u : ℕ) (h : Bool) (q base n : ℕ) (suf : List ℤ) {out a : List ℤ} {o p : ℕ}
     → Wrote out o (clause-text (word-of (base + 1) false ∷ word-of (base + 1 + 1) h ∷ []) suf 0 [] ++ clause-text (word-of (base + 1) true ∷ word-of (base + 1 + 1) (not h) ∷ []) suf 0 []) a p
@@ -55,9 +59,9 @@ module _ (w : List ℤ) (l u : ℕ) (t g : Bool) (at base : ℕ) (z : l ≡ 0 �
   abbrev Of : Read → Type 0
   Of r = Wrote out o (item (r .tree) .text w n suf) a p
 
-  pub write-var : (v q x : ℕ) → Is w l u t g at base z hu (Var v q) → x ≡ nat (getD w (4608 + v) (pos 0)) → Wrote out o (clause-text (word-of x g ∷ []) suf 0 []) a p → Goal
-  unfolding step item var-item bool-entry
-  write-var v q x e f y = up w l u t g at base z hu Of (Var v q) e (subst (λ (m : ℕ). Wrote out o (clause-text (word-of m g ∷ []) suf 0 []) a p) f y)
+  pub write-var : (v q : ℕ) → Is w l u t g at base z hu (Var v q) → Wrote out o (var-item v g .text w n suf) a p → Goal
+  unfolding step item
+  write-var v q e y = up w l u t g at base z hu Of (Var v q) e y
 
   pub write-cmp : (c q : ℕ) → Is w l u t g at base z hu (Cmp c q) → Fine w (decode F l t g at base .tree) → (k : ℕ) → k ≡ word F (at + 1) → Compared w (at + 2) k g (clause-text [] suf 1) out o a p → Goal
   unfolding step item cmp-item

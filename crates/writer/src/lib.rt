@@ -16,7 +16,7 @@ ghost use Rattle.clauses.specs.Normalize.{negate-op-if};
 ghost use Rattle.answer.specs.Answer.{term-words, linear-words};
 ghost use Rattle.walk.specs.Item.{limit, word-of, clause-text, extra, block as block-of, var-item, pools as pools-of, texts, long-texts, disj-text, items};
 ghost use Rattle.walk.specs.Tree.{cons, nil};
-ghost use Rattle.walk.specs.Decode.{many, decode, tie-at, many-ties, cross-ties, ties-at, read-part, item-at, items-at};
+ghost use Rattle.walk.specs.Decode.{word as word-in, many, decode, tie-at, many-ties, cross-ties, ties-at, read-part, item-at, items-at, surveyed, Surveys, SurveysAll};
 ghost use Rattle.writer.specs.Suffix.{suffix, Stacked, extra-lits, Open};
 ghost use Rattle.writer.specs.Fine.{Compares, Subtracted, Compared, Fine, Fines};
 ghost use Rattle.writer.specs.Placed.{Placed, Tallied, Listed, RuleWrote};
@@ -422,7 +422,79 @@ fn put_split(n: usize, h: bool, s: Suffix, out: &mut [i32], o: usize) -> usize
     put_two(n, true, n + 1, !h, s, out, a)
 }
 
+// What is found of an expression (or of members) whose clauses are written, and the position behind them.
+pub struct Walked {
+    pub seen: Surveyed,
+    pub o: usize,
+}
+
+// The empty clause of an expression with no level left.
+fn write_none(at: usize, base: usize, n: usize, s: Suffix, out: &mut [i32], o: usize) -> Walked
+    requires { ⌜ Stacked s 0 × Open (now out) o ⌝ }
+    ensures { λ r. ⌜ (r .seen ≡ surveyed at base n 0 0 0 0 1) × Wrote (now (out .entry)) o (clause-text [] (suffix s) 0 []) (now (out .exit)) (r .o) ⌝ }
+{
+    let p = put_none(s, out, o);
+    let x = number::single(at, base, n, 0, 0);
+    Walked { seen: x, o: p }
+}
+
+// A variable whose words end at q.
+fn write_var(
+    work: &[i32],
+    v: usize,
+    q: usize,
+    base: usize,
+    g: bool,
+    n: usize,
+    s: Suffix,
+    out: &mut [i32],
+    o: usize,
+) -> Walked
+    requires { ⌜ (v < 512) × (n ≤ limit) × Stacked s 0 × Open (now out) o ⌝ }
+    ensures { λ r. ⌜ (r .seen ≡ surveyed q base (var-item v true .count (now (work .entry)) n) 0 1 0 0 1) × Wrote (now (out .entry)) o (var-item v g .text (now (work .entry)) n (suffix s)) (now (out .exit)) (r .o) ⌝ }
+{
+    let p = put_lit(number::entry(work, 4608 + v), g, s, out, o);
+    let x = number::single(q, base, number::met(work, v, n), 1, 0);
+    Walked { seen: x, o: p }
+}
+
+// A comparison whose words end at q.
+fn write_cmp(
+    work: &[i32],
+    at: usize,
+    q: usize,
+    base: usize,
+    g: bool,
+    n: usize,
+    s: Suffix,
+    out: &mut [i32],
+    o: usize,
+) -> Walked
+    requires { ⌜ (5120 ≤ length (now work)) × (at ≤ 4608) × Compares (now work) (at + 2) × Stacked s 0 × Open (now out) o ⌝ }
+    ensures { λ r. ⌜ (r .seen ≡ surveyed q base n 0 0 1 0 1) × Compared (now (work .entry)) (at + 2) (word-in (read-part (now (work .entry))) (at + 1)) g (clause-text [] (suffix s) 1) (now (out .entry)) o (now (out .exit)) (r .o) ⌝ }
+{
+    let p = put_cmp(work, at + 2, number::word(work, at + 1), g, s, out, o);
+    let x = number::single(q, base, n, 0, 1);
+    Walked { seen: x, o: p }
+}
+
 // ---- the walk
+
+// Before the first member.
+fn no_members(at: usize, base: usize, n: usize) -> Surveyed
+    ensures { λ r. ⌜ r ≡ surveyed at base n 0 0 0 0 0 ⌝ }
+{
+    Surveyed {
+        at: at,
+        base: base,
+        n: n,
+        longs: 0,
+        lits: 0,
+        cmps: 0,
+        lines: 0,
+        all: 0,
+    }
+}
 
 // The clauses of so many members, one after another.
 fn write_all(
@@ -438,27 +510,24 @@ fn write_all(
     s: Suffix,
     out: &mut [i32],
     o: usize,
-) -> usize
+) -> Walked
     requires { ⌜ Placed (now work) at base n × Open (now out) o × Fines (now work) (many (decode (read-part (now work)) left t) count g h at base .trees) ⌝ }
     requires { ⌜ Stacked s left ⌝ }
-    ensures { λ r. ⌜ Wrote (now (out .entry)) o (texts (items-at (read-part (now (work .entry))) left t count g h at base) (now (work .entry)) n (suffix s)) (now (out .exit)) r ⌝ }
+    ensures { λ r. ⌜ SurveysAll (now (work .entry)) left t count g h at base n (r .seen) × Wrote (now (out .entry)) o (texts (items-at (read-part (now (work .entry))) left t count g h at base) (now (work .entry)) n (suffix s)) (now (out .exit)) (r .o) ⌝ }
 {
-    let mut q = at;
+    let mut r = no_members(at, base, n);
     let mut rest = count;
     let mut f = g;
-    let mut c = base;
-    let mut e = n;
     let mut p = o;
     while rest != 0 {
-        let x = number::survey(work, q, left, t, c, f, e);
-        p = write(work, q, left, t, c, f, e, s, out, p);
-        q = x.at;
-        c = x.base;
-        e = x.n;
+        let y = write(work, r.at, left, t, r.base, f, r.n, s, out, p);
+        let x = y.seen;
+        r = number::add_member(r, x);
+        p = y.o;
         rest = rest - 1;
         f = h;
     }
-    p
+    Walked { seen: r, o: p }
 }
 
 // The clauses of the longer ones among so many members, each with its extra literal.
@@ -502,7 +571,8 @@ fn write_longs(
         if y.longs == 0 {
             continue;
         }
-        p = write(work, i, left, t, d, b, m, pushed(s, x, j), out, p);
+        let z = write(work, i, left, t, d, b, m, pushed(s, x, j), out, p);
+        p = z.o;
         j = j + 1;
     }
     p
@@ -589,38 +659,49 @@ pub fn write(
     s: Suffix,
     out: &mut [i32],
     o: usize,
-) -> usize
+) -> Walked
     requires { ⌜ Placed (now work) at base n × Open (now out) o × Fine (now work) (decode (read-part (now work)) left t g at base .tree) ⌝ }
     requires { ⌜ Stacked s left ⌝ }
-    ensures { λ r. ⌜ Wrote (now (out .entry)) o (item-at (read-part (now (work .entry))) left t g at base .text (now (work .entry)) n (suffix s)) (now (out .exit)) r ⌝ }
+    ensures { λ r. ⌜ Surveys (now (work .entry)) left t g at base n (r .seen) × Wrote (now (out .entry)) o (item-at (read-part (now (work .entry))) left t g at base .text (now (work .entry)) n (suffix s)) (now (out .exit)) (r .o) ⌝ }
 {
     if left == 0 {
-        return put_none(s, out, o);
+        return write_none(at, base, n, s, out, o);
     }
     let under = left - 1;
     match number::node_at(work, under, g, at) {
-        Node::Var(v, _) => put_lit(number::entry(work, 4608 + v), g, s, out, o),
-        Node::Cmp(_, _) => put_cmp(work, at + 2, number::word(work, at + 1), g, s, out, o),
+        Node::Var(v, q) => write_var(work, v, q, base, g, n, s, out, o),
+        Node::Cmp(_, q) => write_cmp(work, at, q, base, g, n, s, out, o),
         Node::Not(q) => write(work, q, under, t, base, !g, n, s, out, o),
         Node::Join(d, k, a, b, q) => {
             if d {
                 let x = number::surveys(work, q, under, t, k, base, a, b, n);
                 let e = x.n;
-                return write_disj(work, q, under, t, k, base, a, b, n, e, x, s, out, o);
+                let p = write_disj(work, q, under, t, k, base, a, b, n, e, x, s, out, o);
+                let y = number::close_disj(x);
+                return Walked { seen: y, o: p };
             }
-            write_all(work, q, under, t, k, base, a, b, n, s, out, o)
+            let z = write_all(work, q, under, t, k, base, a, b, n, s, out, o);
+            let x = z.seen;
+            let y = number::longer(x.at, x.base, x.n, x.all);
+            Walked { seen: y, o: z.o }
         }
         Node::Cross(h, q) => {
             if t {
-                return put_split(base, h, s, out, o);
+                let c = number::bump(base, 2);
+                let x = number::surveys(work, q, under, true, 2, c, false, false, n);
+                let p = put_split(base, h, s, out, o);
+                let y = number::longer(x.at, x.base, n, 2);
+                return Walked { seen: y, o: p };
             }
             let x = number::surveys(work, q, under, true, 2, base, false, h, n);
             let p = x.n;
             let u = number::surveys(work, q, under, true, 2, base, true, !h, p);
             let b = u.n;
-            let y = write_disj(work, q, under, true, 2, base, false, h, n, b, x, s, out, o);
+            let r = write_disj(work, q, under, true, 2, base, false, h, n, b, x, s, out, o);
             let e = number::bump(b, number::fresh(x.longs, x.lits, x.cmps));
-            write_disj(work, q, under, true, 2, base, true, !h, p, e, u, s, out, y)
+            let z = write_disj(work, q, under, true, 2, base, true, !h, p, e, u, s, out, r);
+            let y = number::close_cross(x, u);
+            Walked { seen: y, o: z }
         }
     }
 }
@@ -664,8 +745,6 @@ fn put_tie(
     requires { ⌜ (left ≤ 63) × (v ≤ limit + 1) ⌝ }
     ensures { λ r. ⌜ Listed (now (work .entry)) (items (cons (tie-at (decode (read-part (now (work .entry))) left true) v at base) nil)) n (now (out .entry)) o (now (out .exit)) (r .n) (r .lines) (r .o) ⌝ }
 {
-    let x = number::survey(work, at, left, true, base, false, n);
-    let m = x.n;
     let a = write(
         work,
         at,
@@ -678,7 +757,7 @@ fn put_tie(
         out,
         o,
     );
-    let y = number::survey(work, at, left, true, base, true, m);
+    let x = a.seen;
     let b = write(
         work,
         at,
@@ -686,15 +765,16 @@ fn put_tie(
         true,
         base,
         true,
-        m,
+        x.n,
         one_literal(v + 1, false),
         out,
-        a,
+        a.o,
     );
+    let y = b.seen;
     Tied {
         n: y.n,
         lines: number::bump(x.all, y.all),
-        o: b,
+        o: b.o,
     }
 }
 
@@ -837,19 +917,19 @@ pub fn write_rule(work: &[i32], at: usize, n: usize, out: &mut [i32], o: usize) 
                 at: x.at,
                 n: x.n,
                 lines: x.all,
-                o: q,
+                o: q.o,
             };
         }
     }
     let a = write_ties(work, at, 64, false, n, m, out, o);
     let e = a.n;
     let p = a.o;
-    let y = number::survey(work, at, 64, false, n, false, e);
     let q = write(work, at, 64, false, n, false, e, no_suffix(), out, p);
+    let y = q.seen;
     Ruled {
         at: y.at,
         n: y.n,
         lines: number::bump(a.lines, y.all),
-        o: q,
+        o: q.o,
     }
 }

@@ -2,6 +2,14 @@ use borrow.Author.Needs.{needs}
 use Prim.Native.Nat.{ℕ, _<_}
 use borrow.Fn.Kinds.{In}
 use borrow.Fn.PlainCycle.{Measures, is, falls, and}
+use Rattle.number.proofs.close_cross.Reads as close-cross-reads
+use Rattle.number.proofs.longer.Reads as longer-reads
+use Rattle.number.proofs.close_disj.Reads as close-disj-reads
+use Rattle.writer.proofs.write_cmp.Reads as write-cmp-reads
+use Rattle.writer.proofs.write_var.Reads as write-var-reads
+use Rattle.writer.proofs.write_none.Reads as write-none-reads
+use Rattle.number.proofs.add_member.Reads as add-member-reads
+use Rattle.writer.proofs.no_members.Reads as no-members-reads
 use Rattle.writer.proofs.write.Reads as write
 use Rattle.writer.proofs.write.Kinds as write-kinds
 use Rattle.writer.proofs.+write+write_all+write_disj+write_longs.Lts-write as write-lts
@@ -14,12 +22,7 @@ use Rattle.writer.proofs.+write+write_all+write_disj+write_longs.Lts-wr
 use Rattle.writer.proofs.write_longs.Reads as write-longs
 use Rattle.writer.proofs.write_longs.Kinds as write-longs-kinds
 use Rattle.writer.proofs.+write+write_all+write_disj+write_longs.Lts-write_longs as write-longs-lts
-use Rattle.writer.proofs.put_none.Reads as put-none-reads
 use Rattle.number.proofs.node_at.Reads as node-at-reads
-use Rattle.number.proofs.entry.Reads as entry-reads
-use Rattle.writer.proofs.put_lit.Reads as put-lit-reads
-use Rattle.number.proofs.word.Reads as word-reads
-use Rattle.writer.proofs.put_cmp.Reads as put-cmp-reads
 use Rattle.number.proofs.surveys.Reads as surveys-reads
 use Rattle.writer.proofs.put_split.Reads as put-split-reads
 use Rattle.number.proofs.fresh.Reads as fresh-reads
@@ -45,11 +48,12 @@ use lib.IntN.{ℤ, pos}
 use lib.ListN.{length, getD}
 use Rattle.laws.specs.Writes.{Wrote, wrote-length}
 use Rattle.walk.specs.Item.{Tally, pools, texts, long-texts}
-use Rattle.walk.specs.Decode.{many, decode, read-part, item-at, items-at}
+use Rattle.walk.specs.Decode.{many, decode, read-part, item-at, items-at, added}
 use Rattle.writer.specs.Suffix.{Open, suffix, extra-lits}
 use Rattle.writer.specs.Placed.{Placed}
 use Rattle.writer.proofs.Laws.{open-next, stack-down, compared-length}
-use Rattle.writer.proofs.Steps.{part-length, okay, placed-at, placed-with, compares, fine-cmp, fine-not, fine-join, fine-cross, Sofar, sofar-none, sofar-more, sofar-skip, sofar-first}
+use Rattle.walk.specs.Steps.{survey-none, survey-var, survey-cmp, survey-not, survey-conj, survey-disj, survey-split, survey-cross, Sofar as Seen, sofar-none as seen-none, sofar-more as seen-more, sofar-done as seen-done}
+use Rattle.writer.proofs.Steps.{part-length, okay, placed-in, sofar-head, placed-at, placed-with, compares, fine-cmp, fine-not, fine-join, fine-cross, Sofar, sofar-none, sofar-more, sofar-skip, sofar-first}
 use Rattle.writer.proofs.PoolLaws.{items-lits, no-lits}
 use Rattle.writer.proofs.Written.{write-none, write-var, write-cmp, write-not, write-conj, write-disjoint, write-split, write-cross, texts-none, texts-more, longs-none, longs-skip, longs-more, one-lit, disj-pool, disj-pass, disj-two, disj-each, tallied}
 
@@ -90,10 +94,10 @@ abbrev write-longs-below : ℕ → In 2 write-longs-kinds.ps
 write-longs-below t = and 2 write-longs-kinds.ps (falls 2 write-longs-kinds.ps _<_ μ-write-longs t) write-longs.Pre
 
 abbrev write-claims : ℕ → write-lts.Claims
-write-claims t = (put-none-reads.Asked, put-none-reads.Learnt, node-at-reads.Asked, node-at-reads.Learnt, entry-reads.Asked, entry-reads.Learnt, put-lit-reads.Asked, put-lit-reads.Learnt, word-reads.Asked, word-reads.Learnt, put-cmp-reads.Asked, put-cmp-reads.Learnt, write-below t, write.Post, surveys-reads.Asked, surveys-reads.Learnt, write-disj-below t, write-disj.Post, write-all-below t, write-all.Post, put-split-reads.Asked, put-split-reads.Learnt, fresh-reads.Asked, fresh-reads.Learnt, bump-reads.Asked, bump-reads.Learnt)
+write-claims t = (write-none-reads.Asked, write-none-reads.Learnt, node-at-reads.Asked, node-at-reads.Learnt, write-var-reads.Asked, write-var-reads.Learnt, write-cmp-reads.Asked, write-cmp-reads.Learnt, write-below t, write.Post, surveys-reads.Asked, surveys-reads.Learnt, write-disj-below t, write-disj.Post, close-disj-reads.Asked, close-disj-reads.Learnt, write-all-below t, write-all.Post, longer-reads.Asked, longer-reads.Learnt, bump-reads.Asked, bump-reads.Learnt, put-split-reads.Asked, put-split-reads.Learnt, fresh-reads.Asked, fresh-reads.Learnt, close-cross-reads.Asked, close-cross-reads.Learnt)
 
 abbrev write-all-claims : ℕ → write-all-lts.Claims
-write-all-claims t = (survey-reads.Asked, survey-reads.Learnt, write-below t, write.Post)
+write-all-claims t = (no-members-reads.Asked, no-members-reads.Learnt, write-below t, write.Post, add-member-reads.Asked, add-member-reads.Learnt)
 
 abbrev write-disj-claims : ℕ → write-disj-lts.Claims
 write-disj-claims t = (mode-of-reads.Asked, mode-of-reads.Learnt, put-pool-reads.Asked, put-pool-reads.Learnt, some-pools-reads.Asked, some-pools-reads.Learnt, write-longs-below t, write-longs.Post)
@@ -102,11 +106,11 @@ abbrev write-longs-claims : ℕ → write-longs-lts.Claims
 write-longs-claims t = (survey-reads.Asked, survey-reads.Learnt, pushed-reads.Asked, pushed-reads.Learnt, write-below t, write.Post)
 
 abbrev write-all-Inv-loop : write-all-lts.InvT-loop
-write-all-Inv-loop work at left t count base g h n s out₀ o q₀ rest₀ f₀ c₀ e₀ p₀ out q rest f c e p = Sofar work out₀ left t h at count q rest f c e p out
-    × ((d : List ℤ) (r : ℕ) → Wrote out p (texts (items-at (read-part work) left t rest f h q c) work e (suffix s)) d r → Wrote out₀ o (texts (items-at (read-part work) left t count g h at base) work n (suffix s)) d r)
+write-all-Inv-loop work at left t count base g h n s out₀ o r₀ rest₀ f₀ p₀ out r rest f p = Sofar work out₀ left t h at count (r .at) rest f (r .base) (r .n) p out × Seen work left t h count g at base n r rest f
+    × ((d : List ℤ) (k : ℕ) → Wrote out p (texts (items-at (read-part work) left t rest f h (r .at) (r .base)) work (r .n) (suffix s)) d k → Wrote out₀ o (texts (items-at (read-part work) left t count g h at base) work n (suffix s)) d k)
 
 abbrev write-all-μ-loop : write-all-lts.MeasureT-loop
-write-all-μ-loop work at left t count base g h n s out₀ o q₀ rest₀ f₀ c₀ e₀ p₀ out q rest f c e p = rest
+write-all-μ-loop work at left t count base g h n s out₀ o r₀ rest₀ f₀ p₀ out r rest f p = rest
 
 abbrev write-longs-Inv-loop : write-longs-lts.InvT-loop
 write-longs-Inv-loop work at left t count base g h n x s out₀ o q₀ rest₀ f₀ c₀ e₀ j₀ p₀ out q rest f c e j p = Sofar work out₀ left t h at count q rest f c e p out × (j + at ≤ q)
@@ -116,37 +120,19 @@ write-longs-Inv-loop work at left t count base g h n x s out₀ o q₀ rest₀ f
 abbrev write-longs-μ-loop : write-longs-lts.MeasureT-loop
 write-longs-μ-loop work at left t count base g h n x s out₀ o q₀ rest₀ f₀ c₀ e₀ j₀ p₀ out q rest f c e j p = rest
 
-write-put-none-requires : (t : ℕ) → write-lts.Need-put-none-requires (write-claims t) (write-at t) write.Post
-write-put-none-requires t c κs = (stack-down 0 ((c .before .before) .pre .1 .1) (omega arith), (c .before .before) .pre .1 .0 .1)
-
 write-same-length : (t : ℕ) → write-lts.Need-same-length (write-claims t) (write-at t) write.Post
-write-same-length t c = wrote-length (c .before .put-none .ensures)
+write-same-length t c = wrote-length (c .before .write-none .ensures .1)
 
 write-returns : (t : ℕ) → write-lts.Need-returns (write-claims t) (write-at t) write.Post
-write-returns t c = write-none ((c .before .before .before .before) .args .work .now) _ _ _ _ _ _ _ (c .before .before .before .if1 .taken) (c .before .put-none .ensures)
+write-returns t c = (survey-none ((c .before .before .before .before) .args .work .now) _ _ _ _ _ _ (placed-in ((c .before .before .before .before) .pre .1 .0 .0)) ((c .before .before .before .before) .pre .1 .0 .0 .low) ((c .before .before .before .before) .pre .1 .0 .0 .low-base) _ (c .before .before .before .if1 .taken) (c .before .write-none .ensures .0), write-none ((c .before .before .before .before) .args .work .now) _ _ _ _ _ _ _ (c .before .before .before .if1 .taken) (c .before .write-none .ensures .1))
 
 write-node-at-requires : (t : ℕ) → write-lts.Need-node-at-requires (write-claims t) (write-at t) write.Post
 write-node-at-requires t c κs = (omega (arith, (c .before) .pre .1 .0 .0 .size), (c .before) .pre .1 .0 .0 .inside)
 
-write-add-entry : (t : ℕ) → write-lts.Need-add-entry (write-claims t) (write-at t) write.Post
-write-add-entry t c = let o = okay ((c .before .before .before .before .before) .args .work .now) _ _ _ _ _ _ ((c .before .before .before .before .before) .pre .1 .0 .0) (sym (c .before .v .given .1) ∙ c .before .before .before .node-at .ensures) in omega (arith, o .2)
-
-write-put-lit-requires : (t : ℕ) → write-lts.Need-put-lit-requires (write-claims t) (write-at t) write.Post
-write-put-lit-requires t c κs = (stack-down 0 ((c .before .before .before .before .before .before .before) .pre .1 .1) (omega arith), (c .before .before .before .before .before .before .before) .pre .1 .0 .1)
-
-write-add-put-cmp : (t : ℕ) → write-lts.Need-add-put-cmp (write-claims t) (write-at t) write.Post
-write-add-put-cmp t c = omega (arith, (c .before .before .before .before) .pre .1 .0 .0 .inside)
-
-write-add-word : (t : ℕ) → write-lts.Need-add-word (write-claims t) (write-at t) write.Post
-write-add-word t c = omega (arith, (c .before .before .before .before) .pre .1 .0 .0 .inside)
-
-write-put-cmp-requires : (t : ℕ) → write-lts.Need-put-cmp-requires (write-claims t) (write-at t) write.Post
-write-put-cmp-requires t c κs = ((c .before .before .before .before .before .before) .pre .1 .0 .0 .size, compares ((c .before .before .before .before .before .before) .args .work .now) _ _ _ (fine-cmp ((c .before .before .before .before .before .before) .args .work .now) _ _ _ _ _ _ (c .before .before .before .before .before .if1 .left) refl _ _ (sym (c .before .before .enum-told .given .1) ∙ c .before .before .before .before .node-at .ensures) ((c .before .before .before .before .before .before) .pre .1 .0 .2)), stack-down 0 ((c .before .before .before .before .before .before) .pre .1 .1) (omega arith), (c .before .before .before .before .before .before) .pre .1 .0 .1)
-
 write-write-requires : (t : ℕ) → write-lts.Need-write-requires (write-claims t) (write-at t) write.Post
-write-write-requires t c κs = let o = okay ((c .before .before .before .before .before .before) .args .work .now) _ _ _ _ _ _ ((c .before .before .before .before .before .before) .pre .1 .0 .0) (sym (c .before .before .q .given .1) ∙ c .before .before .before .before .node-at .ensures) in (
+write-write-requires t c κs = let o = okay ((c .before .before .before .before .before .before) .args .work .now) _ _ _ _ _ _ ((c .before .before .before .before .before .before) .pre .1 .0 .0) (sym (c .before .before .q2 .given .1) ∙ c .before .before .before .before .node-at .ensures) in (
   omega (arith, o .0, o .1, part-length ((c .before .before .before .before .before .before) .args .work .now) ((c .before .before .before .before .before .before) .pre .1 .0 .0 .size), (c .before .before .before .before .before .before) .pre .0),
-  ((placed-at _ ((c .before .before .before .before .before .before) .pre .1 .0 .0) (o .1), (c .before .before .before .before .before .before) .pre .1 .0 .1, fine-not ((c .before .before .before .before .before .before) .args .work .now) _ _ _ _ _ _ (c .before .before .before .before .before .if1 .left) refl _ (sym (c .before .before .q .given .1) ∙ c .before .before .before .before .node-at .ensures) ((c .before .before .before .before .before .before) .pre .1 .0 .2)), stack-down _ ((c .before .before .before .before .before .before) .pre .1 .1) (omega arith)),
+  ((placed-at _ ((c .before .before .before .before .before .before) .pre .1 .0 .0) (o .1), (c .before .before .before .before .before .before) .pre .1 .0 .1, fine-not ((c .before .before .before .before .before .before) .args .work .now) _ _ _ _ _ _ (c .before .before .before .before .before .if1 .left) refl _ (sym (c .before .before .q2 .given .1) ∙ c .before .before .before .before .node-at .ensures) ((c .before .before .before .before .before .before) .pre .1 .0 .2)), stack-down _ ((c .before .before .before .before .before .before) .pre .1 .1) (omega arith)),
 )
 
 write-surveys-requires : (t : ℕ) → write-lts.Need-surveys-requires (write-claims t) (write-at t) write.Post
@@ -163,10 +149,10 @@ write-write-disj-requires t c κs = let o = okay ((c .before .before .before .be
 )
 
 write-same-length-2 : (t : ℕ) → write-lts.Need-same-length-2 (write-claims t) (write-at t) write.Post
-write-same-length-2 t c = wrote-length (c .before .write-disj .ensures)
+write-same-length-2 t c = wrote-length (c .before .before .write-disj .ensures)
 
 write-returns-2 : (t : ℕ) → write-lts.Need-returns-2 (write-claims t) (write-at t) write.Post
-write-returns-2 t c = write-disjoint ((c .before .before .before .before .before .before .before .before .before .before) .args .work .now) _ _ _ _ _ _ (c .before .before .before .before .before .before .before .before .before .if1 .left) refl _ _ _ _ _ _ _ _ _ _ (join-is (sym (c .before .before .before .before .before .before .d .given .1) ∙ c .before .before .before .before .before .before .before .before .node-at .ensures) (c .before .before .before .before .if2 .taken)) _ (c .before .before .before .surveys .ensures) (c .before .write-disj .ensures)
+write-returns-2 t c = (survey-disj ((c .before .before .before .before .before .before .before .before .before .before .before) .args .work .now) _ _ _ _ _ _ (placed-in ((c .before .before .before .before .before .before .before .before .before .before .before) .pre .1 .0 .0)) ((c .before .before .before .before .before .before .before .before .before .before .before) .pre .1 .0 .0 .low) ((c .before .before .before .before .before .before .before .before .before .before .before) .pre .1 .0 .0 .low-base) _ (c .before .before .before .before .before .before .before .before .before .before .if1 .left) refl _ _ _ _ _ _ (join-is (sym (c .before .before .before .before .before .before .before .d .given .1) ∙ c .before .before .before .before .before .before .before .before .before .node-at .ensures) (c .before .before .before .before .before .if2 .taken)) (c .before .before .before .before .surveys .ensures) (c .close-disj .ensures), write-disjoint ((c .before .before .before .before .before .before .before .before .before .before .before) .args .work .now) _ _ _ _ _ _ (c .before .before .before .before .before .before .before .before .before .before .if1 .left) refl _ _ _ _ _ _ _ _ _ _ (join-is (sym (c .before .before .before .before .before .before .before .d .given .1) ∙ c .before .before .before .before .before .before .before .before .before .node-at .ensures) (c .before .before .before .before .before .if2 .taken)) _ (c .before .before .before .before .surveys .ensures) (c .before .before .write-disj .ensures))
 
 write-write-all-requires : (t : ℕ) → write-lts.Need-write-all-requires (write-claims t) (write-at t) write.Post
 write-write-all-requires t c κs = let o = okay ((c .before .before .before .before .before .before .before) .args .work .now) _ _ _ _ _ _ ((c .before .before .before .before .before .before .before) .pre .1 .0 .0) (sym (c .before .before .before .d .given .1) ∙ c .before .before .before .before .before .node-at .ensures) in (
@@ -175,28 +161,28 @@ write-write-all-requires t c κs = let o = okay ((c .before .before .before .bef
 )
 
 write-put-split-requires : (t : ℕ) → write-lts.Need-put-split-requires (write-claims t) (write-at t) write.Post
-write-put-split-requires t c κs = ((c .before .before .before .before .before .before .before) .pre .1 .0 .0 .low-base, stack-down 0 ((c .before .before .before .before .before .before .before) .pre .1 .1) (omega arith), (c .before .before .before .before .before .before .before) .pre .1 .0 .1)
+write-put-split-requires t c κs = ((c .before .before .before .before .before .before .before .before .before) .pre .1 .0 .0 .low-base, stack-down 0 ((c .before .before .before .before .before .before .before .before .before) .pre .1 .1) (omega arith), (c .before .before .before .before .before .before .before .before .before) .pre .1 .0 .1)
 
 write-same-length-3 : (t : ℕ) → write-lts.Need-same-length-3 (write-claims t) (write-at t) write.Post
-write-same-length-3 t c = wrote-length (c .before .put-split .ensures)
+write-same-length-3 t c = wrote-length (c .before .before .put-split .ensures)
 
 write-returns-3 : (t : ℕ) → write-lts.Need-returns-3 (write-claims t) (write-at t) write.Post
-write-returns-3 t c = write-split ((c .before .before .before .before .before .before .before .before .before) .args .work .now) _ _ _ _ _ _ (c .before .before .before .before .before .before .before .before .if1 .left) refl _ _ _ _ _ _ _ _ (c .before .before .before .if3 .taken) (sym (c .before .before .before .before .before .h .given .1) ∙ c .before .before .before .before .before .before .before .node-at .ensures) (c .before .put-split .ensures)
+write-returns-3 t c = (survey-split ((c .before .before .before .before .before .before .before .before .before .before .before .before) .args .work .now) _ _ _ _ _ _ (placed-in ((c .before .before .before .before .before .before .before .before .before .before .before .before) .pre .1 .0 .0)) ((c .before .before .before .before .before .before .before .before .before .before .before .before) .pre .1 .0 .0 .low) ((c .before .before .before .before .before .before .before .before .before .before .before .before) .pre .1 .0 .0 .low-base) _ (c .before .before .before .before .before .before .before .before .before .before .before .if1 .left) refl _ _ _ _ _ _ (c .before .before .before .before .before .before .if3 .taken) (sym (c .before .before .before .before .before .before .before .before .h .given .1) ∙ c .before .before .before .before .before .before .before .before .before .before .node-at .ensures) (c .before .before .before .before .before .bump .ensures) (c .before .before .before .before .surveys2 .ensures) (c .longer2 .ensures), write-split ((c .before .before .before .before .before .before .before .before .before .before .before .before) .args .work .now) _ _ _ _ _ _ (c .before .before .before .before .before .before .before .before .before .before .before .if1 .left) refl _ _ _ _ _ _ _ _ (c .before .before .before .before .before .before .if3 .taken) (sym (c .before .before .before .before .before .before .before .before .h .given .1) ∙ c .before .before .before .before .before .before .before .before .before .before .node-at .ensures) (c .before .before .put-split .ensures))
 
 write-surveys-requires-2 : (t : ℕ) → write-lts.Need-surveys-requires-2 (write-claims t) (write-at t) write.Post
-write-surveys-requires-2 t c κs = let o = okay ((c .before .before .before .before .before .before) .args .work .now) _ _ _ _ _ _ ((c .before .before .before .before .before .before) .pre .1 .0 .0) (sym (c .before .before .h .given .1) ∙ c .before .before .before .before .node-at .ensures) in
-    omega (arith, o .1, part-length ((c .before .before .before .before .before .before) .args .work .now) ((c .before .before .before .before .before .before) .pre .1 .0 .0 .size), (c .before .before .before .before .before .before) .pre .1 .0 .0 .size, (c .before .before .before .before .before .before) .pre .1 .0 .0 .low, (c .before .before .before .before .before .before) .pre .1 .0 .0 .low-base)
+write-surveys-requires-2 t c κs = let o = okay ((c .before .before .before .before .before .before .before) .args .work .now) _ _ _ _ _ _ ((c .before .before .before .before .before .before .before) .pre .1 .0 .0) (sym (c .before .before .before .h .given .1) ∙ c .before .before .before .before .before .node-at .ensures) in
+    omega (arith, o .1, part-length ((c .before .before .before .before .before .before .before) .args .work .now) ((c .before .before .before .before .before .before .before) .pre .1 .0 .0 .size), (c .before .before .before .before .before .before .before) .pre .1 .0 .0 .size, (c .before .before .before .before .before .before .before) .pre .1 .0 .0 .low, c .bump .ensures)
 
 write-surveys-requires-3 : (t : ℕ) → write-lts.Need-surveys-requires-3 (write-claims t) (write-at t) write.Post
-write-surveys-requires-3 t c κs = let o = okay ((c .before .before .before .before .before .before .before) .args .work .now) _ _ _ _ _ _ ((c .before .before .before .before .before .before .before) .pre .1 .0 .0) (sym (c .before .before .before .h .given .1) ∙ c .before .before .before .before .before .node-at .ensures) in
-    omega (arith, o .1, part-length ((c .before .before .before .before .before .before .before) .args .work .now) ((c .before .before .before .before .before .before .before) .pre .1 .0 .0 .size), (c .before .before .before .before .before .before .before) .pre .1 .0 .0 .size, c .surveys2 .ensures .low, (c .before .before .before .before .before .before .before) .pre .1 .0 .0 .low-base)
+write-surveys-requires-3 t c κs = let o = okay ((c .before .before .before .before .before .before) .args .work .now) _ _ _ _ _ _ ((c .before .before .before .before .before .before) .pre .1 .0 .0) (sym (c .before .before .h .given .1) ∙ c .before .before .before .before .node-at .ensures) in
+    omega (arith, o .1, part-length ((c .before .before .before .before .before .before) .args .work .now) ((c .before .before .before .before .before .before) .pre .1 .0 .0 .size), (c .before .before .before .before .before .before) .pre .1 .0 .0 .size, (c .before .before .before .before .before .before) .pre .1 .0 .0 .low, (c .before .before .before .before .before .before) .pre .1 .0 .0 .low-base)
 
 write-write-disj-requires-2 : (t : ℕ) → write-lts.Need-write-disj-requires-2 (write-claims t) (write-at t) write.Post
 write-write-disj-requires-2 t c κs = let o = okay ((c .before .before .before .before .before .before .before .before .before) .args .work .now) _ _ _ _ _ _ ((c .before .before .before .before .before .before .before .before .before) .pre .1 .0 .0) (sym (c .before .before .before .before .before .h .given .1) ∙ c .before .before .before .before .before .before .before .node-at .ensures) in (
   omega (arith, o .0, o .1, part-length ((c .before .before .before .before .before .before .before .before .before) .args .work .now) ((c .before .before .before .before .before .before .before .before .before) .pre .1 .0 .0 .size), (c .before .before .before .before .before .before .before .before .before) .pre .0),
   (
     (placed-at _ ((c .before .before .before .before .before .before .before .before .before) .pre .1 .0 .0) (o .1), (c .before .before .before .before .before .before .before .before .before) .pre .1 .0 .1, fine-cross ((c .before .before .before .before .before .before .before .before .before) .args .work .now) _ _ _ _ _ _ (c .before .before .before .before .before .before .before .before .if1 .left) refl _ _ (c .before .before .before .if3 .left) (sym (c .before .before .before .before .before .h .given .1) ∙ c .before .before .before .before .before .before .before .node-at .ensures) ((c .before .before .before .before .before .before .before .before .before) .pre .1 .0 .2) .0),
-    (tallied _ ((c .before .before .before .before .before .before .before .before .before) .pre .1 .0 .0 .size) (c .before .before .surveys2 .ensures), stack-down _ ((c .before .before .before .before .before .before .before .before .before) .pre .1 .1) (let y = (c .before .before .before .before .before .before .before .before .if1 .left) in omega arith), c .before .surveys3 .ensures .low),
+    (tallied _ ((c .before .before .before .before .before .before .before .before .before) .pre .1 .0 .0 .size) (c .before .before .surveys3 .ensures), stack-down _ ((c .before .before .before .before .before .before .before .before .before) .pre .1 .1) (let y = (c .before .before .before .before .before .before .before .before .if1 .left) in omega arith), c .before .surveys4 .ensures .low),
   ),
 )
 
@@ -204,63 +190,61 @@ write-write-disj-requires-3 : (t : ℕ) → write-lts.Need-write-disj-requires-3
 write-write-disj-requires-3 t c κs = let o = okay ((c .before .before .before .before .before .before .before .before .before .before .before .before .before .before) .args .work .now) _ _ _ _ _ _ ((c .before .before .before .before .before .before .before .before .before .before .before .before .before .before) .pre .1 .0 .0) (sym (c .before .before .before .before .before .before .before .before .before .before .h .given .1) ∙ c .before .before .before .before .before .before .before .before .before .before .before .before .node-at .ensures) in (
   omega (arith, o .0, o .1, part-length ((c .before .before .before .before .before .before .before .before .before .before .before .before .before .before) .args .work .now) ((c .before .before .before .before .before .before .before .before .before .before .before .before .before .before) .pre .1 .0 .0 .size), (c .before .before .before .before .before .before .before .before .before .before .before .before .before .before) .pre .0),
   (
-    (placed-with _ (placed-at _ ((c .before .before .before .before .before .before .before .before .before .before .before .before .before .before) .pre .1 .0 .0) (o .1)) (c .before .before .before .before .before .before .before .surveys2 .ensures .low), open-next ((c .before .before .before .before .before .before .before .before .before .before .before .before .before .before) .pre .1 .0 .1) (c .before .before .before .before .write-disj2 .ensures), fine-cross ((c .before .before .before .before .before .before .before .before .before .before .before .before .before .before) .args .work .now) _ _ _ _ _ _ (c .before .before .before .before .before .before .before .before .before .before .before .before .before .if1 .left) refl _ _ (c .before .before .before .before .before .before .before .before .if3 .left) (sym (c .before .before .before .before .before .before .before .before .before .before .h .given .1) ∙ c .before .before .before .before .before .before .before .before .before .before .before .before .node-at .ensures) ((c .before .before .before .before .before .before .before .before .before .before .before .before .before .before) .pre .1 .0 .2) .1),
-    (tallied _ ((c .before .before .before .before .before .before .before .before .before .before .before .before .before .before) .pre .1 .0 .0 .size) (c .before .before .before .before .before .before .surveys3 .ensures), stack-down _ ((c .before .before .before .before .before .before .before .before .before .before .before .before .before .before) .pre .1 .1) (let y = (c .before .before .before .before .before .before .before .before .before .before .before .before .before .if1 .left) in omega arith), omega (arith, c .before .bump .ensures)),
+    (placed-with _ (placed-at _ ((c .before .before .before .before .before .before .before .before .before .before .before .before .before .before) .pre .1 .0 .0) (o .1)) (c .before .before .before .before .before .before .before .surveys3 .ensures .low), open-next ((c .before .before .before .before .before .before .before .before .before .before .before .before .before .before) .pre .1 .0 .1) (c .before .before .before .before .write-disj2 .ensures), fine-cross ((c .before .before .before .before .before .before .before .before .before .before .before .before .before .before) .args .work .now) _ _ _ _ _ _ (c .before .before .before .before .before .before .before .before .before .before .before .before .before .if1 .left) refl _ _ (c .before .before .before .before .before .before .before .before .if3 .left) (sym (c .before .before .before .before .before .before .before .before .before .before .h .given .1) ∙ c .before .before .before .before .before .before .before .before .before .before .before .before .node-at .ensures) ((c .before .before .before .before .before .before .before .before .before .before .before .before .before .before) .pre .1 .0 .2) .1),
+    (tallied _ ((c .before .before .before .before .before .before .before .before .before .before .before .before .before .before) .pre .1 .0 .0 .size) (c .before .before .before .before .before .before .surveys4 .ensures), stack-down _ ((c .before .before .before .before .before .before .before .before .before .before .before .before .before .before) .pre .1 .1) (let y = (c .before .before .before .before .before .before .before .before .before .before .before .before .before .if1 .left) in omega arith), omega (arith, c .before .bump2 .ensures)),
   ),
 )
 
 write-same-length-4 : (t : ℕ) → write-lts.Need-same-length-4 (write-claims t) (write-at t) write.Post
-write-same-length-4 t c = wrote-length (c .before .put-lit .ensures)
+write-same-length-4 t c = wrote-length (c .before .write-var .ensures .1)
 
 write-returns-4 : (t : ℕ) → write-lts.Need-returns-4 (write-claims t) (write-at t) write.Post
-write-returns-4 t c = write-var ((c .before .before .before .before .before .before .before .before .before) .args .work .now) _ _ _ _ _ _ (c .before .before .before .before .before .before .before .before .if1 .left) refl _ _ _ _ _ _ _ _ _ (sym (c .before .before .before .before .before .v .given .1) ∙ c .before .before .before .before .before .before .before .node-at .ensures) (c .before .before .before .entry .ensures) (c .before .put-lit .ensures)
+write-returns-4 t c = (survey-var ((c .before .before .before .before .before .before .before .before) .args .work .now) _ _ _ _ _ _ (placed-in ((c .before .before .before .before .before .before .before .before) .pre .1 .0 .0)) ((c .before .before .before .before .before .before .before .before) .pre .1 .0 .0 .low) ((c .before .before .before .before .before .before .before .before) .pre .1 .0 .0 .low-base) _ (c .before .before .before .before .before .before .before .if1 .left) refl _ _ _ _ (sym (c .before .before .before .before .v .given .1) ∙ c .before .before .before .before .before .before .node-at .ensures) refl (c .before .write-var .ensures .0), write-var ((c .before .before .before .before .before .before .before .before) .args .work .now) _ _ _ _ _ _ (c .before .before .before .before .before .before .before .if1 .left) refl _ _ _ _ _ _ _ _ (sym (c .before .before .before .before .v .given .1) ∙ c .before .before .before .before .before .before .node-at .ensures) (c .before .write-var .ensures .1))
 
 write-same-length-5 : (t : ℕ) → write-lts.Need-same-length-5 (write-claims t) (write-at t) write.Post
-write-same-length-5 t c = compared-length (compares ((c .before .before .before .before .before .before .before .before) .args .work .now) _ _ _ (fine-cmp ((c .before .before .before .before .before .before .before .before) .args .work .now) _ _ _ _ _ _ (c .before .before .before .before .before .before .before .if1 .left) refl _ _ (sym (c .before .before .before .before .enum-told .given .1) ∙ c .before .before .before .before .before .before .node-at .ensures) ((c .before .before .before .before .before .before .before .before) .pre .1 .0 .2))) (c .before .put-cmp .ensures)
+write-same-length-5 t c = compared-length (compares ((c .before .before .before .before .before .before .before .before) .args .work .now) _ _ _ (fine-cmp ((c .before .before .before .before .before .before .before .before) .args .work .now) _ _ _ _ _ _ (c .before .before .before .before .before .before .before .if1 .left) refl _ _ (sym (c .before .before .before .before .q .given .1) ∙ c .before .before .before .before .before .before .node-at .ensures) ((c .before .before .before .before .before .before .before .before) .pre .1 .0 .2))) (c .before .write-cmp .ensures .1)
 
 write-returns-5 : (t : ℕ) → write-lts.Need-returns-5 (write-claims t) (write-at t) write.Post
-write-returns-5 t c = write-cmp ((c .before .before .before .before .before .before .before .before) .args .work .now) _ _ _ _ _ _ (c .before .before .before .before .before .before .before .if1 .left) refl _ _ _ _ _ _ _ _ (sym (c .before .before .before .before .enum-told .given .1) ∙ c .before .before .before .before .before .before .node-at .ensures) ((c .before .before .before .before .before .before .before .before) .pre .1 .0 .2) _ (c .before .before .before .word .ensures) (c .before .put-cmp .ensures)
+write-returns-5 t c = (survey-cmp ((c .before .before .before .before .before .before .before .before) .args .work .now) _ _ _ _ _ _ (placed-in ((c .before .before .before .before .before .before .before .before) .pre .1 .0 .0)) ((c .before .before .before .before .before .before .before .before) .pre .1 .0 .0 .low) ((c .before .before .before .before .before .before .before .before) .pre .1 .0 .0 .low-base) _ (c .before .before .before .before .before .before .before .if1 .left) refl _ _ _ (sym (c .before .before .before .before .q .given .1) ∙ c .before .before .before .before .before .before .node-at .ensures) (c .before .write-cmp .ensures .0), write-cmp ((c .before .before .before .before .before .before .before .before) .args .work .now) _ _ _ _ _ _ (c .before .before .before .before .before .before .before .if1 .left) refl _ _ _ _ _ _ _ _ (sym (c .before .before .before .before .q .given .1) ∙ c .before .before .before .before .before .before .node-at .ensures) ((c .before .before .before .before .before .before .before .before) .pre .1 .0 .2) _ refl (c .before .write-cmp .ensures .1))
 
 write-same-length-6 : (t : ℕ) → write-lts.Need-same-length-6 (write-claims t) (write-at t) write.Post
-write-same-length-6 t c = wrote-length (c .before .write .ensures)
+write-same-length-6 t c = wrote-length (c .before .write .ensures .1)
 
 write-returns-6 : (t : ℕ) → write-lts.Need-returns-6 (write-claims t) (write-at t) write.Post
-write-returns-6 t c = write-not ((c .before .before .before .before .before .before .before .before) .args .work .now) _ _ _ _ _ _ (c .before .before .before .before .before .before .before .if1 .left) refl _ _ _ _ _ _ _ (sym (c .before .before .before .before .q .given .1) ∙ c .before .before .before .before .before .before .node-at .ensures) (c .before .write .ensures)
+write-returns-6 t c = (survey-not ((c .before .before .before .before .before .before .before .before) .args .work .now) _ _ _ _ _ _ (placed-in ((c .before .before .before .before .before .before .before .before) .pre .1 .0 .0)) ((c .before .before .before .before .before .before .before .before) .pre .1 .0 .0 .low) ((c .before .before .before .before .before .before .before .before) .pre .1 .0 .0 .low-base) _ (c .before .before .before .before .before .before .before .if1 .left) refl _ _ (sym (c .before .before .before .before .q2 .given .1) ∙ c .before .before .before .before .before .before .node-at .ensures) (c .before .write .ensures .0), write-not ((c .before .before .before .before .before .before .before .before) .args .work .now) _ _ _ _ _ _ (c .before .before .before .before .before .before .before .if1 .left) refl _ _ _ _ _ _ _ (sym (c .before .before .before .before .q2 .given .1) ∙ c .before .before .before .before .before .before .node-at .ensures) (c .before .write .ensures .1))
 
 write-same-length-7 : (t : ℕ) → write-lts.Need-same-length-7 (write-claims t) (write-at t) write.Post
-write-same-length-7 t c = wrote-length (c .before .write-all .ensures)
+write-same-length-7 t c = wrote-length (c .before .before .before .write-all .ensures .1)
 
 write-returns-7 : (t : ℕ) → write-lts.Need-returns-7 (write-claims t) (write-at t) write.Post
-write-returns-7 t c = write-conj ((c .before .before .before .before .before .before .before .before .before) .args .work .now) _ _ _ _ _ _ (c .before .before .before .before .before .before .before .before .if1 .left) refl _ _ _ _ _ _ _ _ _ _ (join-is (sym (c .before .before .before .before .before .d .given .1) ∙ c .before .before .before .before .before .before .before .node-at .ensures) (c .before .before .before .if2 .left)) (c .before .write-all .ensures)
+write-returns-7 t c = (survey-conj ((c .before .before .before .before .before .before .before .before .before .before .before) .args .work .now) _ _ _ _ _ _ (placed-in ((c .before .before .before .before .before .before .before .before .before .before .before) .pre .1 .0 .0)) ((c .before .before .before .before .before .before .before .before .before .before .before) .pre .1 .0 .0 .low) ((c .before .before .before .before .before .before .before .before .before .before .before) .pre .1 .0 .0 .low-base) _ (c .before .before .before .before .before .before .before .before .before .before .if1 .left) refl _ _ _ _ _ _ (join-is (sym (c .before .before .before .before .before .before .before .d .given .1) ∙ c .before .before .before .before .before .before .before .before .before .node-at .ensures) (c .before .before .before .before .before .if2 .left)) (c .before .before .before .write-all .ensures .0) (c .longer .ensures), write-conj ((c .before .before .before .before .before .before .before .before .before .before .before) .args .work .now) _ _ _ _ _ _ (c .before .before .before .before .before .before .before .before .before .before .if1 .left) refl _ _ _ _ _ _ _ _ _ _ (join-is (sym (c .before .before .before .before .before .before .before .d .given .1) ∙ c .before .before .before .before .before .before .before .before .before .node-at .ensures) (c .before .before .before .before .before .if2 .left)) (c .before .before .before .write-all .ensures .1))
 
 write-same-length-8 : (t : ℕ) → write-lts.Need-same-length-8 (write-claims t) (write-at t) write.Post
-write-same-length-8 t c = wrote-length (c .before .write-disj3 .ensures) ∙ wrote-length (c .before .before .before .before .before .before .write-disj2 .ensures)
+write-same-length-8 t c = wrote-length (c .before .before .write-disj3 .ensures) ∙ wrote-length (c .before .before .before .before .before .before .before .write-disj2 .ensures)
 
 write-returns-8 : (t : ℕ) → write-lts.Need-returns-8 (write-claims t) (write-at t) write.Post
-write-returns-8 t c = write-cross ((c .before .before .before .before .before .before .before .before .before .before .before .before .before .before .before .before) .args .work .now) _ _ _ _ _ _ (c .before .before .before .before .before .before .before .before .before .before .before .before .before .before .before .if1 .left) refl _ _ _ _ _ _ _ _ (c .before .before .before .before .before .before .before .before .before .before .if3 .left) (sym (c .before .before .before .before .before .before .before .before .before .before .before .before .h .given .1) ∙ c .before .before .before .before .before .before .before .before .before .before .before .before .before .before .node-at .ensures) _ _ (c .before .before .before .before .before .before .before .before .before .surveys2 .ensures) (c .before .before .before .before .before .before .before .before .surveys3 .ensures) _ _ (c .before .before .before .before .fresh .ensures) (c .before .before .before .bump .ensures) ((c .before .before .before .before .before .before .before .before .before .before .before .before .before .before .before .before) .pre .1 .0 .1 .room) _ _ (c .before .before .before .before .before .before .write-disj2 .ensures) (c .before .write-disj3 .ensures)
+write-returns-8 t c = (survey-cross ((c .before .before .before .before .before .before .before .before .before .before .before .before .before .before .before .before .before) .args .work .now) _ _ _ _ _ _ (placed-in ((c .before .before .before .before .before .before .before .before .before .before .before .before .before .before .before .before .before) .pre .1 .0 .0)) ((c .before .before .before .before .before .before .before .before .before .before .before .before .before .before .before .before .before) .pre .1 .0 .0 .low) ((c .before .before .before .before .before .before .before .before .before .before .before .before .before .before .before .before .before) .pre .1 .0 .0 .low-base) _ (c .before .before .before .before .before .before .before .before .before .before .before .before .before .before .before .before .if1 .left) refl _ _ _ _ _ (c .before .before .before .before .before .before .before .before .before .before .before .if3 .left) (sym (c .before .before .before .before .before .before .before .before .before .before .before .before .before .h .given .1) ∙ c .before .before .before .before .before .before .before .before .before .before .before .before .before .before .before .node-at .ensures) (c .before .before .before .before .before .before .before .before .before .before .surveys3 .ensures) (c .before .before .before .before .before .before .before .before .before .surveys4 .ensures) (c .close-cross .ensures), write-cross ((c .before .before .before .before .before .before .before .before .before .before .before .before .before .before .before .before .before) .args .work .now) _ _ _ _ _ _ (c .before .before .before .before .before .before .before .before .before .before .before .before .before .before .before .before .if1 .left) refl _ _ _ _ _ _ _ _ (c .before .before .before .before .before .before .before .before .before .before .before .if3 .left) (sym (c .before .before .before .before .before .before .before .before .before .before .before .before .before .h .given .1) ∙ c .before .before .before .before .before .before .before .before .before .before .before .before .before .before .before .node-at .ensures) _ _ (c .before .before .before .before .before .before .before .before .before .before .surveys3 .ensures) (c .before .before .before .before .before .before .before .before .before .surveys4 .ensures) _ _ (c .before .before .before .before .before .fresh .ensures) (c .before .before .before .before .bump2 .ensures) ((c .before .before .before .before .before .before .before .before .before .before .before .before .before .before .before .before .before) .pre .1 .0 .1 .room) _ _ (c .before .before .before .before .before .before .before .write-disj2 .ensures) (c .before .before .write-disj3 .ensures))
 
 write-all-loop-holds : (t : ℕ) → write-all-lts.Need-loop-holds (write-all-claims t) (write-all-at t) write-all.Post write-all-Inv-loop write-all-μ-loop
-write-all-loop-holds t c = (sofar-none (c .pre .1 .0 .0) (c .pre .1 .0 .1) (c .pre .1 .0 .2), λ d r x. x)
-
-write-all-survey-requires : (t : ℕ) → write-all-lts.Need-survey-requires (write-all-claims t) (write-all-at t) write-all.Post write-all-Inv-loop write-all-μ-loop
-write-all-survey-requires t c κs = let i = c .before .loop .inv .0 in omega (arith, i .placed .size, i .placed .inside, i .placed .low, i .placed .low-base)
+write-all-loop-holds t c = rw (c .no-members .ensures) (sofar-none ((c .before) .pre .1 .0 .0) ((c .before) .pre .1 .0 .1) ((c .before) .pre .1 .0 .2), seen-none ((c .before) .args .work .now) _ _ _ _ _ _ _ _ (placed-in ((c .before) .pre .1 .0 .0)) ((c .before) .pre .1 .0 .0 .low) ((c .before) .pre .1 .0 .0 .low-base), λ d r x. x)
 
 write-all-write-requires : (t : ℕ) → write-all-lts.Need-write-requires (write-all-claims t) (write-all-at t) write-all.Post write-all-Inv-loop write-all-μ-loop
-write-all-write-requires t c κs = let y = c .before .before .loop-test .taken in
-    let i = c .before .before .before .loop .inv .0 in
-    (omega (arith, y, i .after, i .fewer, i .placed .inside, (c .before .before .before .before) .pre .0), ((i .placed, i .opened, sofar-first i y (c .before .survey .ensures)), ((c .before .before .before .before) .pre .1 .1)))
+write-all-write-requires t c κs = let y = c .before .loop-test .taken in
+    let i = c .before .before .loop .inv .0 in
+    (omega (arith, y, i .after, i .fewer, i .placed .inside, (c .before .before .before .before) .pre .0), ((i .placed, i .opened, sofar-head i y), (c .before .before .before .before) .pre .1 .1))
 
 write-all-loop-again : (t : ℕ) → write-all-lts.Need-loop-again (write-all-claims t) (write-all-at t) write-all.Post write-all-Inv-loop write-all-μ-loop
-write-all-loop-again t c = let i = c .before .before .before .before .before .loop .inv in
-    let y = c .before .before .before .before .loop-test .taken in
-    let m = c .before .write .ensures in
-    (sofar-more (i .0) y (c .before .before .before .survey .ensures) m, λ d r x. i .1 d r (texts-more ((c .before .before .before .before .before .before) .args .work .now) _ _ _ _ _ _ _ _ _ y _ (c .before .before .before .survey .ensures) (i .0 .opened) m x))
+unfolding added
+write-all-loop-again t c = let i = c .before .before .before .before .before .before .loop .inv in
+    let y = c .before .before .before .before .before .loop-test .taken in
+    let e = c .before .before .before .write .ensures in
+    rw (c .add-member .ensures) (sofar-more (i .0) y (e .0) (e .1), seen-more _ _ _ _ _ _ _ _ _ _ _ _ _ (i .1) y (e .0), λ d r x. i .2 d r (texts-more ((c .before .before .before .before .before .before .before .before) .args .work .now) _ _ _ _ _ _ _ _ _ y _ (e .0) (i .0 .opened) (e .1) x))
 
 write-all-same-length : (t : ℕ) → write-all-lts.Need-same-length (write-all-claims t) (write-all-at t) write-all.Post write-all-Inv-loop write-all-μ-loop
 write-all-same-length t c = c .before .loop .inv .0 .same
 
 write-all-returns : (t : ℕ) → write-all-lts.Need-returns (write-all-claims t) (write-all-at t) write-all.Post write-all-Inv-loop write-all-μ-loop
-write-all-returns t c = c .before .loop .inv .1 _ _ (texts-none ((c .before .before) .args .work .now) _ _ _ _ _ _ _ _ _ (c .loop-test .left) (c .before .loop .inv .0 .opened))
+write-all-returns t c = (seen-done _ _ _ _ _ _ _ _ _ _ _ _ (c .before .loop .inv .1) (c .loop-test .left), c .before .loop .inv .2 _ _ (texts-none ((c .before .before .before) .args .work .now) _ _ _ _ _ _ _ _ _ (c .loop-test .left) (c .before .loop .inv .0 .opened)))
 
 write-disj-put-pool-requires : (t : ℕ) → write-disj-lts.Need-put-pool-requires (write-disj-claims t) (write-disj-at t) write-disj.Post
 write-disj-put-pool-requires t c κs = ((placed-with 0 ((c .before .before .before .before) .pre .1 .0 .0) (omega arith), (c .before .before .before .before) .pre .1 .0 .1, (c .before .before .before .before) .pre .1 .0 .2), (((c .before .before .before .before) .pre .1 .1) .0, stack-down 0 (((c .before .before .before .before) .pre .1 .1) .1) (omega arith), ((c .before .before .before .before) .pre .1 .1) .2))
@@ -346,7 +330,7 @@ write-longs-loop-less-2 t c = let y = c .before .before .before .before .before 
 write-longs-loop-again-2 : (t : ℕ) → write-longs-lts.Need-loop-again-2 (write-longs-claims t) (write-longs-at t) write-longs.Post write-longs-Inv-loop write-longs-μ-loop
 write-longs-loop-again-2 t c = let i = c .before .before .before .before .before .before .before .before .loop .inv in
     let y = c .before .before .before .before .before .before .before .loop-test .taken in
-    let m = c .before .write .ensures in
+    let m = c .before .write .ensures .1 in
     let b = c .before .before .before .before .if1 .left in
     (sofar-more (i .0) y (c .before .before .before .before .before .before .survey .ensures) m, omega (arith, i .1, c .before .before .before .before .before .before .survey .ensures .room, b), λ d r v. i .2 d r (longs-more ((c .before .before .before .before .before .before .before .before .before) .args .work .now) _ _ _ _ _ _ _ _ _ y _ (c .before .before .before .before .before .before .survey .ensures) _ _ _ _ b (i .0 .opened) _ (c .before .before .before .pushed .ensures .0) m v))
 
@@ -356,42 +340,61 @@ write-longs-same-length t c = c .before .loop .inv .0 .same
 write-longs-returns : (t : ℕ) → write-longs-lts.Need-returns (write-longs-claims t) (write-longs-at t) write-longs.Post write-longs-Inv-loop write-longs-μ-loop
 write-longs-returns t c = c .before .loop .inv .2 _ _ (longs-none ((c .before .before) .args .work .now) _ _ _ _ _ _ _ _ _ _ _ _ _ (c .loop-test .left) (c .before .loop .inv .0 .opened))
 
+write-write-none-requires : (t : ℕ) → write-lts.Need-write-none-requires (write-claims t) (write-at t) write.Post
+write-write-none-requires t c κs = (stack-down 0 ((c .before .before) .pre .1 .1) (omega arith), (c .before .before) .pre .1 .0 .1)
+
+write-write-var-requires : (t : ℕ) → write-lts.Need-write-var-requires (write-claims t) (write-at t) write.Post
+write-write-var-requires t c κs = let o = okay ((c .before .before .before .before .before .before) .args .work .now) _ _ _ _ _ _ ((c .before .before .before .before .before .before) .pre .1 .0 .0) (sym (c .before .before .v .given .1) ∙ c .before .before .before .before .node-at .ensures) in (o .2, (c .before .before .before .before .before .before) .pre .1 .0 .0 .low, stack-down 0 ((c .before .before .before .before .before .before) .pre .1 .1) (omega arith), (c .before .before .before .before .before .before) .pre .1 .0 .1)
+
+write-write-cmp-requires : (t : ℕ) → write-lts.Need-write-cmp-requires (write-claims t) (write-at t) write.Post
+write-write-cmp-requires t c κs = ((c .before .before .before .before .before .before) .pre .1 .0 .0 .size, (c .before .before .before .before .before .before) .pre .1 .0 .0 .inside, compares ((c .before .before .before .before .before .before) .args .work .now) _ _ _ (fine-cmp ((c .before .before .before .before .before .before) .args .work .now) _ _ _ _ _ _ (c .before .before .before .before .before .if1 .left) refl _ _ (sym (c .before .before .q .given .1) ∙ c .before .before .before .before .node-at .ensures) ((c .before .before .before .before .before .before) .pre .1 .0 .2)), stack-down 0 ((c .before .before .before .before .before .before) .pre .1 .1) (omega arith), (c .before .before .before .before .before .before) .pre .1 .0 .1)
+
+write-surveys-requires-4 : (t : ℕ) → write-lts.Need-surveys-requires-4 (write-claims t) (write-at t) write.Post
+write-surveys-requires-4 t c κs = let o = okay ((c .before .before .before .before .before .before .before) .args .work .now) _ _ _ _ _ _ ((c .before .before .before .before .before .before .before) .pre .1 .0 .0) (sym (c .before .before .before .h .given .1) ∙ c .before .before .before .before .before .node-at .ensures) in
+    omega (arith, o .1, part-length ((c .before .before .before .before .before .before .before) .args .work .now) ((c .before .before .before .before .before .before .before) .pre .1 .0 .0 .size), (c .before .before .before .before .before .before .before) .pre .1 .0 .0 .size, c .surveys3 .ensures .low, (c .before .before .before .before .before .before .before) .pre .1 .0 .0 .low-base)
+
+write-all-add-member-requires : (t : ℕ) → write-all-lts.Need-add-member-requires (write-all-claims t) (write-all-at t) write-all.Post write-all-Inv-loop write-all-μ-loop
+write-all-add-member-requires t c κs = let i = c .before .before .before .before .before .loop .inv .1 in
+    let e = c .before .before .write .ensures .0 in
+    omega (arith, part-length ((c .before .before .before .before .before .before .before) .args .work .now) ((c .before .before .before .before .before .before .before) .pre .1 .0 .0 .size), i .room, e .room, e .inside)
+
 pub +write+write-all+write-disj+write-longs-spec : {M : Type 1} → statement M
 +write+write-all+write-disj+write-longs-spec =
     close μ-write μ-write-all μ-write-disj μ-write-longs
     (λ t. write-lts.spec (write-claims t) (write-at t) write.Post
-    (write-put-none-requires t)
+    (write-write-none-requires t)
     (write-same-length t)
     (write-returns t)
     (λ c. search needs)
     (write-node-at-requires t)
     (λ c. search needs)
-    (write-add-entry t)
-    (λ c κs. search needs)
-    (write-put-lit-requires t)
+    (write-write-var-requires t)
     (λ c. search needs)
-    (write-add-put-cmp t)
-    (write-add-word t)
-    (λ c κs. search needs)
-    (write-put-cmp-requires t)
+    (write-write-cmp-requires t)
     (λ c. search needs)
     (write-write-requires t)
     (λ c. search needs)
     (write-surveys-requires t)
     (write-write-disj-requires t)
+    (λ c κs. search needs)
     (write-same-length-2 t)
     (write-returns-2 t)
     (write-write-all-requires t)
+    (λ c κs. search needs)
     (λ c. search needs)
+    (λ c κs. search needs)
+    (write-surveys-requires-2 t)
     (write-put-split-requires t)
+    (λ c κs. search needs)
     (write-same-length-3 t)
     (write-returns-3 t)
-    (write-surveys-requires-2 t)
     (write-surveys-requires-3 t)
+    (write-surveys-requires-4 t)
     (write-write-disj-requires-2 t)
     (λ c κs. search needs)
     (λ c κs. search needs)
     (write-write-disj-requires-3 t)
+    (λ c κs. search needs)
     (write-same-length-4 t)
     (write-returns-4 t)
     (write-same-length-5 t)
@@ -403,9 +406,10 @@ pub +write+write-all+write-disj+write-longs-spec : {M : Type 1} → statement M
     (write-same-length-8 t)
     (write-returns-8 t))
     (λ t. write-all-lts.spec (write-all-claims t) (write-all-at t) write-all.Post write-all-Inv-loop write-all-μ-loop
+    (λ c κs. search needs)
     (write-all-loop-holds t)
-    (write-all-survey-requires t)
     (write-all-write-requires t)
+    (write-all-add-member-requires t)
     (λ c. search needs)
     (λ c. search needs)
     (write-all-loop-again t)

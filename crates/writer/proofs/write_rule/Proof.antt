@@ -21,40 +21,37 @@ write-requires c κs =
     ((s .pre .0, s .pre .1, rule-tree-fine (s .args .work .now) _ _ (writable-fine _ _ _ (s .pre .2))), c .before .no-suffix .ensures .1)
 
 same-length : tie.Need-same-length
-same-length c = wrote-length (c .before .write .ensures)
+same-length c = wrote-length (c .before .write .ensures .1)
 
 returns : tie.Need-returns
 returns c =
     let s = c .before .before .before .before .before .before .before in
-    bare-rule-wrote (s .args .work .now) _ _ _ (c .before .before .before .before .before .before .survey .ensures) (c .before .before .before .before .before .if1 .taken) (c .before .before .before .before .if2 .taken) (s .pre .1) _ (c .before .before .before .no-suffix .ensures .0) (c .before .write .ensures)
+    bare-rule-wrote (s .args .work .now) _ _ _ (c .before .before .before .before .before .before .survey .ensures) (c .before .before .before .before .before .if1 .taken) (c .before .before .before .before .if2 .taken) (s .pre .1) _ (c .before .before .before .no-suffix .ensures .0) (c .before .write .ensures .1)
 
 write-ties-requires : tie.Need-write-ties-requires
 write-ties-requires c κs =
     let s = c .before .before .before in
     ((placed-with _ (s .pre .0) (c .before .before .survey .ensures .low-base), s .pre .1, rule-ties-fine (s .args .work .now) _ _ (writable-fine _ _ _ (s .pre .2))), omega arith)
 
-survey-requires-2 : tie.Need-survey-requires-2
-survey-requires-2 c κs = let p = c .before .before .before .before .before .pre .0 in omega (arith, p .size, p .inside, c .before .write-ties .ensures .low, p .low-base)
-
 no-suffix-requires-2 : tie.Need-no-suffix-requires-2
 no-suffix-requires-2 c κs = search needs
 
 write-requires-2 : tie.Need-write-requires-2
 write-requires-2 c κs =
-    let s = c .before .before .before .before .before .before .before .before in
-    let e = c .before .before .before .before .write-ties .ensures in
+    let s = c .before .before .before .before .before .before .before in
+    let e = c .before .before .before .write-ties .ensures in
     ((placed-with _ (s .pre .0) (e .low), open-next (s .pre .1) (e .wrote), rule-tree-fine (s .args .work .now) _ _ (writable-fine _ _ _ (s .pre .2))), c .before .no-suffix2 .ensures .1)
 
 bump-requires : tie.Need-bump-requires
 bump-requires c κs = search needs
 
 same-length-2 : tie.Need-same-length-2
-same-length-2 c = wrote-length (c .before .before .write2 .ensures) ∙ wrote-length (c .before .before .before .before .before .before .before .write-ties .ensures .wrote)
+same-length-2 c = wrote-length (c .before .before .before .write2 .ensures .1) ∙ wrote-length (c .before .before .before .before .before .before .before .write-ties .ensures .wrote)
 
 returns-2 : tie.Need-returns-2
 returns-2 c =
     let s = c .before .before .before .before .before .before .before .before .before .before .before in
-    rule-wrote (s .args .work .now) _ _ _ _ (c .before .before .before .before .before .before .before .before .before .before .survey .ensures) (c .before .before .before .before .before .survey2 .ensures) (s .pre .1) (c .before .before .before .before .before .before .before .write-ties .ensures) _ (c .before .before .before .before .no-suffix2 .ensures .0) (c .before .before .write2 .ensures) _ (c .bump .ensures)
+    rule-wrote (s .args .work .now) _ _ _ _ (c .before .before .before .before .before .before .before .before .before .before .survey .ensures) (c .before .before .before .write2 .ensures .0) (s .pre .1) (c .before .before .before .before .before .before .before .write-ties .ensures) _ (c .before .before .before .before .before .no-suffix2 .ensures .0) (c .before .before .before .write2 .ensures .1) _ (c .bump .ensures)
 
 pub write-rule-spec : {M : Type 1} → statement M
 write-rule-spec =
@@ -66,7 +63,6 @@ write-rule-spec =
     same-length
     returns
     write-ties-requires
-    survey-requires-2
     no-suffix-requires-2
     write-requires-2
     bump-requires
