@@ -192,14 +192,10 @@ unfolding pools
 pools-more w l t k g h at base n b z s hs {out} {a} {c} {o} {p} {q} i x y =
     subst (λ (is : List Item). Wrote out o (pools is b w) c q) (sym (items-is w l t k g h at base n z s hs)) (wrote-then (i .room) x y)
 
-pub wrote-as : {out a a' vs : List ℤ} {o p p' : ℕ} → a' ≡ a → p' ≡ p → Wrote out o vs a p → Wrote out o vs a' p'
-wrote-as e f x = record { words = e ∙ x .words; at = f ∙ x .at }
-
 -- a longer member has nothing in the pool
-pub pool-skip : (w : List ℤ) (l : ℕ) (t g : Bool) (at base n : ℕ) (b : Bool) {s : Surveyed} → Surveys w l t g at base n s → (s .longs ≡ 0 → ⊥)
-    → {out : List ℤ} {o : ℕ} → Open out o → Wrote out o (item-at (read-part w) l t g at base .pool b w) out o
-pool-skip w l t g at base n b {s} hs c {out} {o} h =
-    let e : item-at (read-part w) l t g at base .pool b w ≡ [] = long-pool (decode (read-part w) l t g at base .tree) b w (λ f. c (ap (λ (t : Tally). t .longs) (hs .unit) ∙ f)) in
+pub pool-skip : (w : List ℤ) (l : ℕ) (t g : Bool) (at base : ℕ) (b : Bool) → (item-at (read-part w) l t g at base .unit .longs ≡ 0 → ⊥) → {out : List ℤ} {o : ℕ} → Open out o → Wrote out o (item-at (read-part w) l t g at base .pool b w) out o
+pool-skip w l t g at base b c {out} {o} h =
+    let e : item-at (read-part w) l t g at base .pool b w ≡ [] = long-pool (decode (read-part w) l t g at base .tree) b w c in
     subst (λ (v : List ℤ). Wrote out o v out o) (sym e) (wrote-none out o (h .low))
 
 -- ---- the pool's clause

@@ -100,10 +100,6 @@ module _ (w : List ℤ) (l : ℕ) (t : Bool) (k : ℕ) (g h : Bool) (at base n :
   unfolding items
   items-is = ap items trees-is
 
-  pub fines-first : Fines w (many R k g h at base .trees) → Fine w (R g at base .tree)
-  unfolding Fine
-  fines-first x = subst (λ (ts : Trees). Fines w ts) trees-is x .0
-
   pub fines-rest : Fines w (many R k g h at base .trees) → Fines w (many R (k - 1) h h (s .at) (s .base) .trees)
   unfolding Fine
   fines-rest x = subst (λ (ts : Trees). Fines w ts) trees-is x .1
@@ -137,9 +133,6 @@ sofar-more {w} {l = l} {t = t} {h = h} {q = q} {rest = rest} {f = f} {c = c} {e 
 
 pub sofar-head : {w out₀ out : List ℤ} {l : ℕ} {t h : Bool} {at k q rest : ℕ} {f : Bool} {c e p : ℕ} → Sofar w out₀ l t h at k q rest f c e p out → (rest ≡ 0 → ⊥) → Fine w (decode (read-part w) l t f q c .tree)
 sofar-head {w} {l = l} {t = t} {h = h} {q = q} {rest = rest} {f = f} {c = c} x z = fines-head w l t rest f h q c z (x .fine)
-
-pub sofar-first : {w out₀ out : List ℤ} {l : ℕ} {t h : Bool} {at k q rest : ℕ} {f : Bool} {c e p : ℕ} {s : Surveyed} → Sofar w out₀ l t h at k q rest f c e p out → (rest ≡ 0 → ⊥) → Surveys w l t f q c e s → Fine w (decode (read-part w) l t f q c .tree)
-sofar-first {w} {l = l} {t = t} {h = h} {q = q} {rest = rest} {f = f} {c = c} {e = e} {s = s} x z y = fines-first w l t rest f h q c e z s y (x .fine)
 
 pub sofar-with : {w out₀ out : List ℤ} {l : ℕ} {t h : Bool} {at k q rest : ℕ} {f : Bool} {c e p : ℕ} (n : ℕ) → Sofar w out₀ l t h at k q rest f c e p out → n ≤ limit → Sofar w out₀ l t h at k q rest f c n p out
 sofar-with n x i = record { placed = placed-with n (x .placed) i; opened = x .opened; same = x .same; after = x .after; fewer = x .fewer; fine = x .fine }

@@ -7,7 +7,7 @@ use lib.IntN.{ℤ}
 use lib.ListN.{length}
 use Rattle.laws.specs.Writes.{Wrote}
 use Rattle.walk.specs.Item.{limit, Tally, tally, Item, tallies, counts, texts, all-lines, items}
-use Rattle.walk.specs.Decode.{decode, read-part, items-at}
+use Rattle.walk.specs.Decode.{decode, read-part, item-at, items-at, Surveys, SurveysAll}
 use Rattle.walk.specs.Standing.{rule-at}
 use Rattle.walk.specs.declared.Surveyed.{Surveyed}
 
@@ -22,6 +22,16 @@ pub record Placed (w : List ℤ) (at base n : ℕ) : Type 0 where
 pub record Tallied (w : List ℤ) (l : ℕ) (t : Bool) (k : ℕ) (g h : Bool) (at base : ℕ) (x : Surveyed) : Type 0 where
   pub unit : tally (x .longs) (x .lits) (x .cmps) (x .lines) ≡ tallies (items-at (read-part w) l t k g h at base)
   pub room : x .longs + x .lits + x .cmps ≤ 4608
+
+-- r is what a survey finds, or says only that the expression is longer
+pub record Probed (w : List ℤ) (l : ℕ) (t g : Bool) (at base n : ℕ) (r : Surveyed) : Type 0 where
+  pub single : r .longs ≡ 0 → Surveys w l t g at base n r
+  pub longer : (r .longs ≡ 0 → ⊥) → item-at (read-part w) l t g at base .unit .longs ≡ 0 → ⊥
+
+-- of so many members: all are single, or one is longer
+pub record ProbedAll (w : List ℤ) (l : ℕ) (t : Bool) (k : ℕ) (g h : Bool) (at base n : ℕ) (r : Surveyed) : Type 0 where
+  pub single : r .longs ≡ 0 → SurveysAll w l t k g h at base n r
+  pub longer : (r .longs ≡ 0 → ⊥) → tallies (items-at (read-part w) l t k g h at base) .longs ≡ 0 → ⊥
 
 -- the items one after another, with no suffix: the counter behind them, how many clauses they have, the position behind their words
 pub record Listed (w : List ℤ) (is : List Item) (n : ℕ) (out : List ℤ) (o : ℕ) (out' : List ℤ) (m k p : ℕ) : Type 0 where

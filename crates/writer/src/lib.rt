@@ -19,7 +19,7 @@ ghost use Rattle.walk.specs.Tree.{cons, nil};
 ghost use Rattle.walk.specs.Decode.{word as word-in, many, decode, tie-at, many-ties, cross-ties, ties-at, read-part, item-at, items-at, surveyed, Surveys, SurveysAll};
 ghost use Rattle.writer.specs.Suffix.{suffix, Stacked, extra-lits, Open};
 ghost use Rattle.writer.specs.Fine.{Compares, Subtracted, Compared, Fine, Fines};
-ghost use Rattle.writer.specs.Placed.{Placed, Tallied, Listed, RuleWrote};
+ghost use Rattle.writer.specs.Placed.{Placed, Tallied, Probed, ProbedAll, Listed, RuleWrote};
 ghost use Rattle.writer.specs.Rules.{Writable};
 use sums::LinearSum;
 use walk::Mode;
@@ -252,6 +252,78 @@ fn pushed(s: Suffix, x: Extra, k: usize) -> Suffix
     }
 }
 
+// ---- longer or single
+
+// Before the first member.
+fn no_members(at: usize, base: usize, n: usize) -> Surveyed
+    ensures { λ r. ⌜ r ≡ surveyed at base n 0 0 0 0 0 ⌝ }
+{
+    Surveyed {
+        at: at,
+        base: base,
+        n: n,
+        longs: 0,
+        lits: 0,
+        cmps: 0,
+        lines: 0,
+        all: 0,
+    }
+}
+
+// So many members, as far as the first longer one.
+fn probes(
+    work: &[i32],
+    at: usize,
+    left: usize,
+    t: bool,
+    count: usize,
+    base: usize,
+    g: bool,
+    h: bool,
+    n: usize,
+) -> Surveyed
+    requires { ⌜ Placed (now work) at base n ⌝ }
+    ensures { λ r. ⌜ ProbedAll (now (work .entry)) left t count g h at base n r ⌝ }
+{
+    let mut r = no_members(at, base, n);
+    let mut rest = count;
+    let mut f = g;
+    while rest != 0 {
+        let s = probe(work, r.at, left, t, r.base, f, r.n);
+        if s.longs != 0 {
+            return s;
+        }
+        r = number::add_member(r, s);
+        rest = rest - 1;
+        f = h;
+    }
+    r
+}
+
+// What a survey finds of the expression at a place if it has one clause; of a longer one only that it is longer, at once.
+fn probe(work: &[i32], at: usize, left: usize, t: bool, base: usize, g: bool, n: usize) -> Surveyed
+    requires { ⌜ Placed (now work) at base n ⌝ }
+    ensures { λ r. ⌜ Probed (now (work .entry)) left t g at base n r ⌝ }
+{
+    if left == 0 {
+        return number::single(at, base, n, 0, 0);
+    }
+    let under = left - 1;
+    match number::node_at(work, under, g, at) {
+        Node::Var(v, q) => number::single(q, base, number::met(work, v, n), 1, 0),
+        Node::Cmp(_, q) => number::single(q, base, n, 0, 1),
+        Node::Not(q) => probe(work, q, under, t, base, !g, n),
+        Node::Join(d, k, a, b, q) => {
+            if d {
+                let x = probes(work, q, under, t, k, base, a, b, n);
+                return number::close_disj(x);
+            }
+            number::longer(at, base, n, 0)
+        }
+        Node::Cross(_, _) => number::longer(at, base, n, 0),
+    }
+}
+
 // ---- the pool
 
 // What a variable has in the pool: its literal among the literals (b), nothing among the comparisons.
@@ -299,12 +371,18 @@ fn pools(
     let mut c = base;
     let mut p = o;
     while rest != 0 {
-        let s = number::survey(work, q, left, t, c, f, 0);
+        let s = probe(work, q, left, t, c, f, 0);
         if s.longs == 0 {
             p = pool(work, q, left, t, c, f, b, out, p);
+            q = s.at;
+            c = s.base;
+            rest = rest - 1;
+            f = h;
+            continue;
         }
-        q = s.at;
-        c = s.base;
+        let y = number::survey(work, q, left, t, c, f, 0);
+        q = y.at;
+        c = y.base;
         rest = rest - 1;
         f = h;
     }
@@ -480,22 +558,6 @@ fn write_cmp(
 
 // ---- the walk
 
-// Before the first member.
-fn no_members(at: usize, base: usize, n: usize) -> Surveyed
-    ensures { λ r. ⌜ r ≡ surveyed at base n 0 0 0 0 0 ⌝ }
-{
-    Surveyed {
-        at: at,
-        base: base,
-        n: n,
-        longs: 0,
-        lits: 0,
-        cmps: 0,
-        lines: 0,
-        all: 0,
-    }
-}
-
 // The clauses of so many members, one after another.
 fn write_all(
     work: &[i32],
@@ -558,21 +620,23 @@ fn write_longs(
     let mut j: usize = 0;
     let mut p = o;
     while rest != 0 {
-        let i = q;
-        let b = f;
-        let d = c;
-        let m = e;
-        let y = number::survey(work, i, left, t, d, b, m);
-        q = y.at;
-        c = y.base;
-        e = y.n;
-        rest = rest - 1;
-        f = h;
+        let y = probe(work, q, left, t, c, f, e);
         if y.longs == 0 {
+            q = y.at;
+            c = y.base;
+            e = y.n;
+            rest = rest - 1;
+            f = h;
             continue;
         }
-        let z = write(work, i, left, t, d, b, m, pushed(s, x, j), out, p);
+        let z = write(work, q, left, t, c, f, e, pushed(s, x, j), out, p);
+        let a = z.seen;
+        q = a.at;
+        c = a.base;
+        e = a.n;
         p = z.o;
+        rest = rest - 1;
+        f = h;
         j = j + 1;
     }
     p

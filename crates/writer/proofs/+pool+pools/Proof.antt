@@ -2,6 +2,7 @@ use borrow.Author.Needs.{needs}
 use Prim.Native.Nat.{ℕ, _<_}
 use borrow.Fn.Kinds.{In}
 use borrow.Fn.PlainCycle.{Measures, is, falls, and}
+use Rattle.writer.proofs.probe.Reads as probe-reads
 use Rattle.writer.proofs.pool.Reads as pool
 use Rattle.writer.proofs.pool.Kinds as pool-kinds
 use Rattle.writer.proofs.+pool+pools.Lts-pool as pool-lts
@@ -28,8 +29,8 @@ use Rattle.walk.specs.Item.{Tally, pools as pools-of}
 use Rattle.walk.specs.Decode.{read-part, item-at, items-at}
 use Rattle.writer.specs.Placed.{Placed}
 use Rattle.writer.proofs.Laws.{compared-length}
-use Rattle.writer.proofs.Steps.{part-length, okay, placed-at, compares, fine-cmp, fine-not, fine-join, Sofar, sofar-none, sofar-more, sofar-with, sofar-first}
-use Rattle.writer.proofs.PoolLaws.{pool-none, single-not, pool-var, pool-cmp, pool-not, pool-disj, pool-conj, pool-cross, pools-none, pools-more, wrote-as, pool-skip}
+use Rattle.writer.proofs.Steps.{part-length, okay, placed-at, compares, fine-cmp, fine-not, fine-join, Sofar, sofar-none, sofar-more, sofar-with, sofar-head}
+use Rattle.writer.proofs.PoolLaws.{pool-none, single-not, pool-var, pool-cmp, pool-not, pool-disj, pool-conj, pool-cross, pools-none, pools-more, pool-skip}
 
 abbrev μ-pool : Measures 2 pool-kinds.ps ℕ
 μ-pool κs a = 4 * (4608 - a .1 .0) + 1
@@ -53,7 +54,7 @@ abbrev pool-claims : ℕ → pool-lts.Claims
 pool-claims t = (node-at-reads.Asked, node-at-reads.Learnt, pool-var-reads.Asked, pool-var-reads.Learnt, word-reads.Asked, word-reads.Learnt, pool-cmp-reads.Asked, pool-cmp-reads.Learnt, pool-below t, pool.Post, pools-below t, pools.Post)
 
 abbrev pools-claims : ℕ → pools-lts.Claims
-pools-claims t = (survey-reads.Asked, survey-reads.Learnt, pool-below t, pool.Post)
+pools-claims t = (probe-reads.Asked, probe-reads.Learnt, pool-below t, pool.Post, survey-reads.Asked, survey-reads.Learnt)
 
 abbrev pools-Inv-loop : pools-lts.InvT-loop
 pools-Inv-loop work at left t count base g h b out₀ o q₀ rest₀ f₀ c₀ p₀ out q rest f c p = Sofar work out₀ left t h at count q rest f c 0 p out
@@ -61,17 +62,6 @@ pools-Inv-loop work at left t count base g h b out₀ o q₀ rest₀ f₀ c₀ p
 
 abbrev pools-μ-loop : pools-lts.MeasureT-loop
 pools-μ-loop work at left t count base g h b out₀ o q₀ rest₀ f₀ c₀ p₀ out q rest f c p = rest
-
--- what the turn wrote, whichever way it took
-member-at : (t : ℕ) (c : pools-lts.Joined1 (pools-claims t) (pools-at t) pools.Post pools-Inv-loop pools-μ-loop) →
-    let l = c .before .before .before .before .loop in
-    let a = c .before .before .before .before .before .args in
-    Wrote (l .out) (l .p) (item-at (read-part (a .work .now)) (a .left) (a .t) (l .f) (l .q) (l .c) .pool (a .b) (a .work .now)) (c .if1 .out) (c .if1 .p)
-member-at t c =
-    ⊎-elim
-    (λ v. wrote-as (v .4) (v .5) (v .2 .ensures))
-    (λ v. wrote-as (v .1) (v .2) (pool-skip _ _ _ _ _ _ _ _ (c .before .before .survey .ensures) (v .0 .left) (c .before .before .before .before .loop .inv .0 .opened)))
-    (c .if1 .came)
 
 pool-returns : (t : ℕ) → pool-lts.Need-returns (pool-claims t) (pool-at t) pool.Post
 pool-returns t c = pool-none ((c .before) .args .work .now) _ _ _ _ _ _ (c .if1 .taken) ((c .before) .pre .1 .0 .1)
@@ -138,21 +128,33 @@ pool-returns-7 t c = pool-cross ((c .before .before .before .before) .args .work
 pools-loop-holds : (t : ℕ) → pools-lts.Need-loop-holds (pools-claims t) (pools-at t) pools.Post pools-Inv-loop pools-μ-loop
 pools-loop-holds t c = (sofar-none (c .pre .1 .0) (c .pre .1 .1) (c .pre .1 .2), λ d r x. x)
 
-pools-survey-requires : (t : ℕ) → pools-lts.Need-survey-requires (pools-claims t) (pools-at t) pools.Post pools-Inv-loop pools-μ-loop
-pools-survey-requires t c κs = let i = c .before .loop .inv .0 in omega (arith, i .placed .size, i .placed .inside, i .placed .low-base)
+pools-probe-requires : (t : ℕ) → pools-lts.Need-probe-requires (pools-claims t) (pools-at t) pools.Post pools-Inv-loop pools-μ-loop
+pools-probe-requires t c κs = c .before .loop .inv .0 .placed
 
 pools-pool-requires : (t : ℕ) → pools-lts.Need-pool-requires (pools-claims t) (pools-at t) pools.Post pools-Inv-loop pools-μ-loop
 pools-pool-requires t c κs = let z = c .before .before .before .before .loop-test .taken in
-    let i = c .before .before .before .before .before .loop .inv .0 in (
+    let i = c .before .before .before .before .before .loop .inv .0 in
+    let y = c .before .if1 .taken in (
       omega (arith, z, i .after, i .fewer, i .placed .inside, (c .before .before .before .before .before .before) .pre .0),
-      ((i .placed, i .opened, sofar-first i z (c .before .before .before .survey .ensures)), sym (ap (λ (t : Tally). t .longs) (c .before .before .before .survey .ensures .unit)) ∙ c .before .if1 .taken),
+      ((i .placed, i .opened, sofar-head i z), sym (ap (λ (t : Tally). t .longs) (c .before .before .before .probe .ensures .single y .unit)) ∙ y),
     )
 
 pools-loop-again : (t : ℕ) → pools-lts.Need-loop-again (pools-claims t) (pools-at t) pools.Post pools-Inv-loop pools-μ-loop
-pools-loop-again t c = let i = c .before .before .before .before .loop .inv in
-    let z = c .before .before .before .loop-test .taken in
-    let m = member-at t (c) in
-    (sofar-with 0 (sofar-more (i .0) z (c .before .before .survey .ensures) m) (omega arith), λ d r x. i .1 d r (pools-more ((c .before .before .before .before .before) .args .work .now) _ _ _ _ _ _ _ _ _ z _ (c .before .before .survey .ensures) (i .0 .opened) m x))
+pools-loop-again t c = let i = c .before .before .before .before .before .before .before .loop .inv in
+    let z = c .before .before .before .before .before .before .loop-test .taken in
+    let y = c .before .before .before .before .before .probe .ensures .single (c .before .before .before .if1 .taken) in
+    let m = c .before .pool .ensures in
+    (sofar-with 0 (sofar-more (i .0) z y m) (omega arith), λ d r x. i .1 d r (pools-more ((c .before .before .before .before .before .before .before .before) .args .work .now) _ _ _ _ _ _ _ _ _ z _ y (i .0 .opened) m x))
+
+pools-survey-requires : (t : ℕ) → pools-lts.Need-survey-requires (pools-claims t) (pools-at t) pools.Post pools-Inv-loop pools-μ-loop
+pools-survey-requires t c κs = let i = c .before .before .before .before .loop .inv .0 in omega (arith, i .placed .size, i .placed .inside, i .placed .low-base)
+
+pools-loop-again-2 : (t : ℕ) → pools-lts.Need-loop-again-2 (pools-claims t) (pools-at t) pools.Post pools-Inv-loop pools-μ-loop
+pools-loop-again-2 t c = let i = c .before .before .before .before .before .loop .inv in
+    let z = c .before .before .before .before .loop-test .taken in
+    let y = c .survey .ensures in
+    let m = pool-skip ((c .before .before .before .before .before .before) .args .work .now) _ _ _ _ _ _ (c .before .before .before .probe .ensures .longer (c .before .if1 .left)) (i .0 .opened) in
+    (sofar-with 0 (sofar-more (i .0) z y m) (omega arith), λ d r x. i .1 d r (pools-more ((c .before .before .before .before .before .before) .args .work .now) _ _ _ _ _ _ _ _ _ z _ y (i .0 .opened) m x))
 
 pools-same-length : (t : ℕ) → pools-lts.Need-same-length (pools-claims t) (pools-at t) pools.Post pools-Inv-loop pools-μ-loop
 pools-same-length t c = c .before .loop .inv .0 .same
@@ -191,10 +193,14 @@ pub +pool+pools-spec : {M : Type 1} → statement M
     (pool-returns-7 t))
     (λ t. pools-lts.spec (pools-claims t) (pools-at t) pools.Post pools-Inv-loop pools-μ-loop
     (pools-loop-holds t)
-    (pools-survey-requires t)
+    (pools-probe-requires t)
     (pools-pool-requires t)
     (λ c. search needs)
     (λ c. search needs)
     (pools-loop-again t)
+    (pools-survey-requires t)
+    (λ c. search needs)
+    (λ c. search needs)
+    (pools-loop-again-2 t)
     (pools-same-length t)
     (pools-returns t))

@@ -2,6 +2,7 @@ use borrow.Author.Needs.{needs}
 use Prim.Native.Nat.{ℕ, _<_}
 use borrow.Fn.Kinds.{In}
 use borrow.Fn.PlainCycle.{Measures, is, falls, and}
+use Rattle.writer.proofs.probe.Reads as probe-reads
 use Rattle.number.proofs.close_cross.Reads as close-cross-reads
 use Rattle.number.proofs.longer.Reads as longer-reads
 use Rattle.number.proofs.close_disj.Reads as close-disj-reads
@@ -27,7 +28,6 @@ use Rattle.number.proofs.surveys.Reads as surveys-reads
 use Rattle.writer.proofs.put_split.Reads as put-split-reads
 use Rattle.number.proofs.fresh.Reads as fresh-reads
 use Rattle.number.proofs.bump.Reads as bump-reads
-use Rattle.number.proofs.survey.Reads as survey-reads
 use Rattle.number.proofs.mode_of.Reads as mode-of-reads
 use Rattle.number.proofs.Leaves.{join-is}
 use Rattle.writer.proofs.put_pool.Reads as put-pool-reads
@@ -53,8 +53,9 @@ use Rattle.writer.specs.Suffix.{Open, suffix, extra-lits}
 use Rattle.writer.specs.Placed.{Placed}
 use Rattle.writer.proofs.Laws.{open-next, stack-down, compared-length}
 use Rattle.walk.specs.Steps.{survey-none, survey-var, survey-cmp, survey-not, survey-conj, survey-disj, survey-split, survey-cross, Sofar as Seen, sofar-none as seen-none, sofar-more as seen-more, sofar-done as seen-done}
-use Rattle.writer.proofs.Steps.{part-length, okay, placed-in, sofar-head, placed-at, placed-with, compares, fine-cmp, fine-not, fine-join, fine-cross, Sofar, sofar-none, sofar-more, sofar-skip, sofar-first}
+use Rattle.writer.proofs.Steps.{part-length, okay, placed-in, sofar-head, placed-at, placed-with, compares, fine-cmp, fine-not, fine-join, fine-cross, Sofar, sofar-none, sofar-more, sofar-skip}
 use Rattle.writer.proofs.PoolLaws.{items-lits, no-lits}
+use Rattle.writer.proofs.Longer.{long-seen}
 use Rattle.writer.proofs.Written.{write-none, write-var, write-cmp, write-not, write-conj, write-disjoint, write-split, write-cross, texts-none, texts-more, longs-none, longs-skip, longs-more, one-lit, disj-pool, disj-pass, disj-two, disj-each, tallied}
 
 abbrev μ-write : Measures 2 write-kinds.ps ℕ
@@ -103,7 +104,7 @@ abbrev write-disj-claims : ℕ → write-disj-lts.Claims
 write-disj-claims t = (mode-of-reads.Asked, mode-of-reads.Learnt, put-pool-reads.Asked, put-pool-reads.Learnt, some-pools-reads.Asked, some-pools-reads.Learnt, write-longs-below t, write-longs.Post)
 
 abbrev write-longs-claims : ℕ → write-longs-lts.Claims
-write-longs-claims t = (survey-reads.Asked, survey-reads.Learnt, pushed-reads.Asked, pushed-reads.Learnt, write-below t, write.Post)
+write-longs-claims t = (probe-reads.Asked, probe-reads.Learnt, pushed-reads.Asked, pushed-reads.Learnt, write-below t, write.Post)
 
 abbrev write-all-Inv-loop : write-all-lts.InvT-loop
 write-all-Inv-loop work at left t count base g h n s out₀ o r₀ rest₀ f₀ p₀ out r rest f p = Sofar work out₀ left t h at count (r .at) rest f (r .base) (r .n) p out × Seen work left t h count g at base n r rest f
@@ -298,13 +299,14 @@ write-disj-returns-4 t c = disj-each _ _ _ _ _ ((c .before .before .before .befo
 write-longs-loop-holds : (t : ℕ) → write-longs-lts.Need-loop-holds (write-longs-claims t) (write-longs-at t) write-longs.Post write-longs-Inv-loop write-longs-μ-loop
 write-longs-loop-holds t c = (sofar-none (c .pre .1 .0 .0) (c .pre .1 .0 .1) (c .pre .1 .0 .2), omega arith, λ d r y. y)
 
-write-longs-survey-requires : (t : ℕ) → write-longs-lts.Need-survey-requires (write-longs-claims t) (write-longs-at t) write-longs.Post write-longs-Inv-loop write-longs-μ-loop
-write-longs-survey-requires t c κs = let i = c .before .loop .inv .0 in omega (arith, i .placed .size, i .placed .inside, i .placed .low, i .placed .low-base)
+write-longs-probe-requires : (t : ℕ) → write-longs-lts.Need-probe-requires (write-longs-claims t) (write-longs-at t) write-longs.Post write-longs-Inv-loop write-longs-μ-loop
+write-longs-probe-requires t c κs = c .before .loop .inv .0 .placed
 
 write-longs-loop-again : (t : ℕ) → write-longs-lts.Need-loop-again (write-longs-claims t) (write-longs-at t) write-longs.Post write-longs-Inv-loop write-longs-μ-loop
 write-longs-loop-again t c = let i = c .before .before .before .before .loop .inv in
     let y = c .before .before .before .loop-test .taken in
-    (sofar-skip (i .0) y (c .before .before .survey .ensures), omega (arith, i .1, c .before .before .survey .ensures .room), λ d r v. i .2 d r (longs-skip ((c .before .before .before .before .before) .args .work .now) _ _ _ _ _ _ _ _ _ y _ (c .before .before .survey .ensures) _ _ _ _ (c .if1 .taken) v))
+    let v₀ = c .before .before .probe .ensures .single (c .if1 .taken) in
+    (sofar-skip (i .0) y (v₀), omega (arith, i .1, v₀ .room), λ d r v. i .2 d r (longs-skip ((c .before .before .before .before .before) .args .work .now) _ _ _ _ _ _ _ _ _ y _ (v₀) _ _ _ _ (c .if1 .taken) v))
 
 write-longs-pushed-requires : (t : ℕ) → write-longs-lts.Need-pushed-requires (write-longs-claims t) (write-longs-at t) write-longs.Post write-longs-Inv-loop write-longs-μ-loop
 write-longs-pushed-requires t c κs = let y = c .before .before .before .loop-test .taken in
@@ -316,23 +318,23 @@ write-longs-write-requires t c κs = let y = c .before .before .before .before .
     let i = c .before .before .before .before .before .before .loop .inv .0 in (
       omega (arith, y, i .after, i .fewer, i .placed .inside, (c .before .before .before .before .before .before .before) .pre .0),
       (
-        (i .placed, i .opened, sofar-first i y (c .before .before .before .before .survey .ensures)),
+        (i .placed, i .opened, sofar-head i y),
         record { size = c .before .pushed .ensures .2 .size; room = omega (arith, y, i .fewer, c .before .pushed .ensures .1, ((c .before .before .before .before .before .before .before) .pre .1 .1) .0 .room); inside = c .before .pushed .ensures .2 .inside },
       ),
     )
 
 write-longs-add-j : (t : ℕ) → write-longs-lts.Need-add-j (write-longs-claims t) (write-longs-at t) write-longs.Post write-longs-Inv-loop write-longs-μ-loop
-write-longs-add-j t c = omega (arith, c .before .before .before .before .before .before .before .before .loop .inv .1, c .before .before .before .before .before .before .before .before .loop .inv .0 .placed .inside)
+write-longs-add-j t c = omega (arith, c .before .before .before .before .before .before .before .before .before .loop .inv .1, c .before .before .before .before .before .before .before .before .before .loop .inv .0 .placed .inside)
 
 write-longs-loop-less-2 : (t : ℕ) → write-longs-lts.Need-loop-less-2 (write-longs-claims t) (write-longs-at t) write-longs.Post write-longs-Inv-loop write-longs-μ-loop
-write-longs-loop-less-2 t c = let y = c .before .before .before .before .before .before .before .loop-test .taken in omega arith
+write-longs-loop-less-2 t c = let y = c .before .before .before .before .before .before .before .before .loop-test .taken in omega arith
 
 write-longs-loop-again-2 : (t : ℕ) → write-longs-lts.Need-loop-again-2 (write-longs-claims t) (write-longs-at t) write-longs.Post write-longs-Inv-loop write-longs-μ-loop
-write-longs-loop-again-2 t c = let i = c .before .before .before .before .before .before .before .before .loop .inv in
-    let y = c .before .before .before .before .before .before .before .loop-test .taken in
-    let m = c .before .write .ensures .1 in
-    let b = c .before .before .before .before .if1 .left in
-    (sofar-more (i .0) y (c .before .before .before .before .before .before .survey .ensures) m, omega (arith, i .1, c .before .before .before .before .before .before .survey .ensures .room, b), λ d r v. i .2 d r (longs-more ((c .before .before .before .before .before .before .before .before .before) .args .work .now) _ _ _ _ _ _ _ _ _ y _ (c .before .before .before .before .before .before .survey .ensures) _ _ _ _ b (i .0 .opened) _ (c .before .before .before .pushed .ensures .0) m v))
+write-longs-loop-again-2 t c = let i = c .before .before .before .before .before .before .before .before .before .loop .inv in
+    let y = c .before .before .before .before .before .before .before .before .loop-test .taken in
+    let m = c .before .before .write .ensures .1 in
+    let b = long-seen (c .before .before .before .before .before .before .before .probe .ensures) (c .before .before .before .before .before .if1 .left) (c .before .before .write .ensures .0) in
+    (sofar-more (i .0) y (c .before .before .write .ensures .0) m, omega (arith, i .1, c .before .before .write .ensures .0 .room, b), λ d r v. i .2 d r (longs-more ((c .before .before .before .before .before .before .before .before .before .before) .args .work .now) _ _ _ _ _ _ _ _ _ y _ (c .before .before .write .ensures .0) _ _ _ _ b (i .0 .opened) _ (c .before .before .before .before .pushed .ensures .0) m v))
 
 write-longs-same-length : (t : ℕ) → write-longs-lts.Need-same-length (write-longs-claims t) (write-longs-at t) write-longs.Post write-longs-Inv-loop write-longs-μ-loop
 write-longs-same-length t c = c .before .loop .inv .0 .same
@@ -439,12 +441,13 @@ pub +write+write-all+write-disj+write-longs-spec : {M : Type 1} → statement M
     (write-disj-returns-4 t))
     (λ t. write-longs-lts.spec (write-longs-claims t) (write-longs-at t) write-longs.Post write-longs-Inv-loop write-longs-μ-loop
     (write-longs-loop-holds t)
-    (write-longs-survey-requires t)
+    (write-longs-probe-requires t)
     (λ c. search needs)
     (λ c. search needs)
     (write-longs-loop-again t)
     (write-longs-pushed-requires t)
     (write-longs-write-requires t)
+    (λ c. search needs)
     (write-longs-add-j t)
     (write-longs-loop-less-2 t)
     (write-longs-loop-again-2 t)
