@@ -2,4 +2,3 @@ pub mod SkipLaws
 pub mod PropLaws
 pub mod StmtLaws
 pub mod PropStmtLaws
-pub mod PassLaws

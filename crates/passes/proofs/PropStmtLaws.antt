@@ -15,7 +15,8 @@ use Rattle.fold.specs.Optimize.{constant-prop-stmts}
 use Rattle.domains.specs.Declared.{Plain}
 use Rattle.passes.specs.Want.{worst-num}
 use Rattle.passes.specs.Contracts.{Some-int, Skip-post, Stands, Prop-post}
-use Rattle.passes.specs.Statements.{Reads-stmt, Reads-stmts, prop-stmt, prop-stmts-more, Stands-stmt, Stand-stmts, Prop-stmt-post, Prop-stmts-post, Some-columns, Skip-columns-post, Skip-table-post}
+use Rattle.fold.specs.Ahead.{prop-stmt, prop-stmts-more}
+use Rattle.passes.specs.Statements.{Reads-stmt, Reads-stmts, Stands-stmt, Stand-stmts, Prop-stmt-post, Prop-stmts-post, Some-columns, Skip-columns-post, Skip-table-post}
 use Rattle.passes.proofs.StmtLaws.{columns-inv, stmt-inside, stmt-length, stmt-plain, rule-inv, table-inv, stmts-inv}
 use Rattle.passes.proofs.PropLaws.{still, then-props, as-status, worst-assoc, worst-none, worst-zero, has-up}
 

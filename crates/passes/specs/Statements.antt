@@ -1,7 +1,6 @@
 -- Statements: what is asked of their parts, their words, and what folding and requiring them ask and give.
 use Prim.Native.Nat.{ℕ, _+_, _≤_, _<_}
-use mathlib.Core.Path.{_≡_, refl}
-use mathlib.Core.Bool.{true, false}
+use mathlib.Core.Path.{_≡_}
 use mathlib.Core.List.{List, [], _∷_, map}
 use lib.IntN.{ℤ}
 use lib.ListN.{length, drop}
@@ -12,7 +11,8 @@ use Rattle.syntax.specs.Syntax.{Domain, IntExpr, Stmt, Rule, Table, encode-int,
 use Rattle.syntax.specs.Lengths.{Wide}
 use Rattle.syntax.specs.Written.{EveryColumn}
 use Rattle.fold.specs.Fold.{Fixed, constant-folding-int, constant-folding-stmt}
-use Rattle.fold.specs.Optimize.{Status, unsatisfiable, updated, worst, and-then, constant-prop-bool, constant-prop-stmts}
+use Rattle.fold.specs.Optimize.{constant-prop-stmts}
+use Rattle.fold.specs.Ahead.{prop-stmt}
 use Rattle.fold.specs.Forms.{Declared}
 use Rattle.domains.specs.Declared.{Domains}
 use Rattle.fold.specs.Steps.{fixed-in}
@@ -96,20 +96,7 @@ Stmt-post ws d at out o out' next end = (ds : List Domain) (s : Stmt) → Domain
 abbrev pub Stmts-post : List ℤ → ℕ → ℕ → ℕ → List ℤ → ℕ → List ℤ → ℕ → ℕ → Type 0
 Stmts-post ws d at n out o out' next end = (ds : List Domain) (ss : List Stmt) → Domains ws d ds → Reads-stmts (length ds) ws at n ss → Folds-stmts ds out at o ss out' next end
 
--- ---- requiring: tables fix nothing
-
-abbrev pub prop-stmt : Stmt → Fixed → Status
-prop-stmt (Rule e) = constant-prop-bool e true
-prop-stmt (Table es rows) = λ f. updated false f
-
-pub prop-stmts-more : (s : Stmt) (ss : List Stmt) (f : Fixed) → constant-prop-stmts (s ∷ ss) f ≡ and-then (prop-stmt s f) (constant-prop-stmts ss)
-unfolding constant-prop-stmts
-prop-stmts-more (Rule e) ss f = refl
-prop-stmts-more (Table es rows) ss f = go (constant-prop-stmts ss f)
-  where
-    go : (s : Status) → s ≡ worst false s
-    go unsatisfiable = refl
-    go (updated c g) = refl
+-- ---- requiring
 
 pub record Stands-stmt (out : List ℤ) (at : ℕ) : Type 0 where
   pub fixed : Fixed

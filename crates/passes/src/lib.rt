@@ -1,4 +1,4 @@
-// Requiring (constant_prop_bool) and the passes (optimize): the folded statements stand in the work slice above the fixed values.
+// Folding statements and requiring (constant_prop_bool): the folded statements stand in the work slice above the fixed values.
 // `want` is 0, 1, or 2 for nothing; a status is 0 (nothing changed), 1 (a variable was fixed) or 2 (unsatisfiable).
 ghost use mathlib.Core.Path.{_≡_};
 ghost use mathlib.Core.Bool.{Bool};
@@ -11,17 +11,10 @@ ghost use Rattle.fold.specs.Table.{state-num};
 ghost use Rattle.fold.specs.Steps.{state-of};
 ghost use Rattle.passes.specs.Want.{worst-num, clash-num, set-status, set-words, flip-num, pass-num, left-num, right-num};
 ghost use Rattle.passes.specs.Contracts.{Some-int, Some-terms, Count-post, Skip-post, Skip-terms-post, Stands, Stand-members, Comparison-post, Prop-post, Members-post};
-ghost use Rattle.syntax.specs.Words.{max-bools};
-ghost use Rattle.passes.specs.Optimized.{Some-domains, Domains-end-post, Opened, Ready-passes, Passes-post, Accepted, Optimize-post};
 ghost use Rattle.passes.specs.Statements.{Ready-columns, Columns-post, Ready-stmt, Stmt-post, Ready-stmts, Stmts-post, Stands-stmt, Prop-stmt-post, Stand-stmts, Prop-stmts-post, Some-columns, Skip-columns-post, Skip-table-post};
 
 pub struct Span {
     pub next: usize,
-    pub end: usize,
-}
-
-pub struct Optimized {
-    pub status: usize,
     pub end: usize,
 }
 
@@ -368,59 +361,4 @@ pub fn constant_prop_stmts(work: &mut [i32], at: usize, count: usize) -> usize
         rest = rest - 1;
     }
     status
-}
-
-// ---- the passes
-
-// Every Boolean open.
-pub fn fill_open(work: &mut [i32])
-    requires { ⌜ max-bools ≤ length (now work) ⌝ }
-    ensures { λ _. ⌜ Opened (now (work .entry)) (now (work .exit)) ⌝ }
-{
-    let mut i = 0;
-    while i < 512 {
-        folding::put(work, i, 2);
-        i += 1;
-    }
-}
-
-// The place behind n domains.
-pub fn domains_end(words: &[i32], d: usize, n: usize) -> usize
-    requires { ⌜ Some-domains (now words) d n ⌝ }
-    ensures { λ r. ⌜ Domains-end-post (now (words .entry)) d n r ⌝ }
-{
-    let mut at = d;
-    let mut rest = n;
-    while rest != 0 {
-        at = domains::domain_end(words, at);
-        rest = rest - 1;
-    }
-    at
-}
-
-// Fold every statement of the set under the values fixed so far, require each rule, and again while a variable was fixed.
-pub fn run_passes(words: &[i32], at: usize, count: usize, work: &mut [i32]) -> Optimized
-    requires { ⌜ Ready-passes (now words) at count (now work) ⌝ }
-    ensures { λ r. ⌜ Passes-post (now (words .entry)) at count (now (work .entry)) (now (work .exit)) (r .status) (r .end) ⌝ }
-{
-    let mut status = 1;
-    let mut end = 512;
-    while status == 1 {
-        let a = fold_stmts(words, 2, at, count, work, 512);
-        end = a.end;
-        status = constant_prop_stmts(work, 512, count);
-    }
-    Optimized { status, end }
-}
-
-// Status 0: the fixed values and the folded statements stand in the work slice. Any other: the set is inconsistent.
-pub fn optimize(words: &[i32], work: &mut [i32]) -> Optimized
-    requires { ⌜ Accepted (now words) (now work) ⌝ }
-    ensures { λ r. ⌜ Optimize-post (now (words .entry)) (now (work .entry)) (now (work .exit)) (r .status) (r .end) ⌝ }
-{
-    let ni = domains::number(words, 1);
-    let at = domains_end(words, 2, ni);
-    let count = domains::number(words, at);
-    fill_open(work);
-    run_passes(words, at + 1, count, work)
 }

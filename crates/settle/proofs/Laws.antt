@@ -22,7 +22,7 @@ use Rattle.accept.specs.Taken.{Taken, accepted-ok, accepted-refused, taken-set,
 use Rattle.fold.specs.Fold.{Fixed}
 use Rattle.fold.specs.Table.{state-num}
 use Rattle.fold.specs.Optimize.{Outcome, inconsistent, settled, optimize}
-use Rattle.passes.specs.Optimized.{Settles, outcome}
+use Rattle.propagate.specs.Optimized.{Settles, outcome}
 use Rattle.answer.specs.Answer.{fixed-word}
 use Rattle.call.specs.Call.{zeros}
 use Rattle.walk.specs.Item.{nat, bool-entry, int-entry}

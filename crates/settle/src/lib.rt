@@ -23,7 +23,7 @@ fn fold_taken(set: &[i32], work: &mut [i32], bools: usize, ints: usize) -> Settl
     requires { ⌜ Some-taken (now set) (now work) bools ints ⌝ }
     ensures { λ r. ⌜ Fold-post (now (set .entry)) (now (work .entry)) bools ints (now (work .exit)) r ⌝ }
 {
-    let o = passes::optimize(set, work);
+    let o = propagate::optimize(set, work);
     let status = o.status;
     if status != 0 {
         refuse::clear(work);

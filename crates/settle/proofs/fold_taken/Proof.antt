@@ -5,7 +5,7 @@ use Rattle.settle.proofs.fold_taken.Statement.{statement}
 use Rattle.settle.proofs.fold_taken.Tie as tie
 use Rattle.settle.proofs.fold_taken.Reads as reads
 use Rattle.settle.proofs.fold_taken.Lts as lts
-use Rattle.passes.proofs.optimize.Reads as optimize-reads
+use Rattle.propagate.proofs.optimize.Reads as optimize-reads
 use Rattle.refuse.proofs.clear.Reads as clear-reads
 
 optimize-requires : tie.Need-optimize-requires

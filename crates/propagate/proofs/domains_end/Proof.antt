@@ -1,13 +1,13 @@
-use Rattle.passes.proofs.domains_end.Statement.{statement}
-use Rattle.passes.proofs.domains_end.Tie as tie
-use Rattle.passes.proofs.domains_end.Reads as reads
-use Rattle.passes.proofs.domains_end.Lts as lts
+use Rattle.propagate.proofs.domains_end.Statement.{statement}
+use Rattle.propagate.proofs.domains_end.Tie as tie
+use Rattle.propagate.proofs.domains_end.Reads as reads
+use Rattle.propagate.proofs.domains_end.Lts as lts
 use Rattle.domains.proofs.domain_end.Reads as domain-end-reads
 use borrow.Author.Needs.{needs}
 use mathlib.Core.Path.{_≡_}
 use Prim.Native.Nat.{ℕ}
-use Rattle.passes.specs.Optimized.{Some-domains, Domains-end-post}
-use Rattle.passes.proofs.PassLaws.{domains-none, domain-stands, domains-stand, domains-more}
+use Rattle.propagate.specs.Optimized.{Some-domains, Domains-end-post}
+use Rattle.propagate.proofs.PassLaws.{domains-none, domain-stands, domains-stand, domains-more}
 
 abbrev Inv-loop : tie.InvT-loop
 Inv-loop words d n at₀ rest₀ at rest = Some-domains words at rest × ((r : ℕ) → Domains-end-post words at rest r → Domains-end-post words d n r)

@@ -1,15 +1,15 @@
 use borrow.Author.Needs.{needs}
-use Rattle.passes.proofs.optimize.Statement.{statement}
-use Rattle.passes.proofs.optimize.Tie as tie
-use Rattle.passes.proofs.optimize.Reads as reads
-use Rattle.passes.proofs.optimize.Lts as lts
+use Rattle.propagate.proofs.optimize.Statement.{statement}
+use Rattle.propagate.proofs.optimize.Tie as tie
+use Rattle.propagate.proofs.optimize.Reads as reads
+use Rattle.propagate.proofs.optimize.Lts as lts
 use Rattle.domains.proofs.number.Reads as number-reads
-use Rattle.passes.proofs.domains_end.Reads as domains-end-reads
-use Rattle.passes.proofs.fill_open.Reads as fill-open-reads
-use Rattle.passes.proofs.run_passes.Reads as run-passes-reads
+use Rattle.propagate.proofs.domains_end.Reads as domains-end-reads
+use Rattle.propagate.proofs.fill_open.Reads as fill-open-reads
+use Rattle.propagate.proofs.run_passes.Reads as run-passes-reads
 use mathlib.Core.Path.{_≡_, sym, _∙_}
 use native.Mathlib.Omega.{arith}
-use Rattle.passes.proofs.PassLaws.{ints-word, some-domains, count-word, at-fits, passes-ready, optimized}
+use Rattle.propagate.proofs.PassLaws.{ints-word, some-domains, count-word, at-fits, passes-ready, optimized}
 
 number-requires : tie.Need-number-requires
 number-requires c κs = ints-word _ ((c .pre) .it) ((c .pre) .is) ((c .pre) .well)

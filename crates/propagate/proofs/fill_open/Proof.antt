@@ -1,13 +1,13 @@
-use Rattle.passes.proofs.fill_open.Statement.{statement}
-use Rattle.passes.proofs.fill_open.Tie as tie
-use Rattle.passes.proofs.fill_open.Reads as reads
-use Rattle.passes.proofs.fill_open.Lts as lts
+use Rattle.propagate.proofs.fill_open.Statement.{statement}
+use Rattle.propagate.proofs.fill_open.Tie as tie
+use Rattle.propagate.proofs.fill_open.Reads as reads
+use Rattle.propagate.proofs.fill_open.Lts as lts
 use Rattle.folding.proofs.put.Reads as put-reads
 use borrow.Author.Needs.{needs}
 use mathlib.Core.Path.{_≡_}
 use native.Mathlib.Omega.{arith}
 use Prim.Native.Nat.{_-_, _≤_}
-use Rattle.passes.proofs.PassLaws.{Opening, opening-none, opening-next, opening-end}
+use Rattle.propagate.proofs.PassLaws.{Opening, opening-none, opening-next, opening-end}
 
 abbrev Inv-loop : tie.InvT-loop
 Inv-loop work₀ i₀ work i = (i ≤ 512) × Opening work₀ work i

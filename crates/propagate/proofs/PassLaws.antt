@@ -23,12 +23,12 @@ use Rattle.fold.specs.Kept.{fold-stmts-size}
 use Rattle.domains.specs.Declared.{Plain, Domains, Domain-at}
 use Rattle.fold.specs.Steps.{state-of, fixed-of, fixed-in}
 use Rattle.folding.proofs.BoolLaws.{fixed-at}
 use Rattle.passes.specs.Want.{Values, Propagates}
 use Rattle.passes.specs.Statements.{Declared-stmts, Reads-stmts, Stmts-post, Stand-stmts, Prop-stmts-post}
-use Rattle.passes.specs.Passes.{stmts-every, stmts-kept, stmts-length, open-count, open-most, open-fewer, pass-unsatisfiable, pass-settled, pass-again}
-use Rattle.passes.specs.Optimized.{Some-domains, Domains-end-post, Opened, Ready-passes, Settles, Passes-post}
-use Rattle.passes.specs.WellDeclared.{well-stmts}
+use Rattle.propagate.specs.Passes.{stmts-every, stmts-kept, stmts-length, open-count, open-most, open-fewer, pass-unsatisfiable, pass-settled, pass-again}
+use Rattle.propagate.specs.Optimized.{Some-domains, Domains-end-post, Opened, Ready-passes, Settles, Passes-post}
+use Rattle.propagate.specs.WellDeclared.{well-stmts}
 use Rattle.passes.proofs.PropLaws.{state-back}
 
 -- ---- the fixed values as a function
 

@@ -30,11 +30,15 @@ module _ (nb ni : ℕ) where
     map-length [] = refl
     map-length (e ∷ es) = ap suc (map-length es)
 
+    pub stmt-kept : (s : Stmt) → Declared-stmt nb ni s → Declared-stmt nb ni (constant-folding-stmt ds f s)
+    unfolding Declared-stmt constant-folding-stmt
+    stmt-kept (Rule e) h = fold-every None (λ v. v < nb) (λ v. v < ni) ds f e h
+    stmt-kept (Table es rows) h = (fold-columns-every (λ v. v < ni) ds es (h .0), rw (map-length es) (h .1))
+
     pub stmts-kept : (ss : List Stmt) → Declared-stmts nb ni ss → Declared-stmts nb ni (map (constant-folding-stmt ds f) ss)
-    unfolding Declared-stmts Declared-stmt constant-folding-stmt
+    unfolding Declared-stmts
     stmts-kept [] h = tt
-    stmts-kept (Rule e ∷ ss) h = (fold-every None (λ v. v < nb) (λ v. v < ni) ds f e (h .0), stmts-kept ss (h .1))
-    stmts-kept (Table es rows ∷ ss) h = ((fold-columns-every (λ v. v < ni) ds es (h .0 .0), rw (map-length es) (h .0 .1)), stmts-kept ss (h .1))
+    stmts-kept (s ∷ ss) h = (stmt-kept s (h .0), stmts-kept ss (h .1))
 
 pub stmts-length : (ds : List Domain) (f : Fixed) (ss : List Stmt) → length (map (constant-folding-stmt ds f) ss) ≡ length ss
 stmts-length ds f [] = refl

@@ -12,9 +12,9 @@ use Rattle.read.specs.WellFormed.{WellFormed}
 use Rattle.fold.specs.Fold.{Fixed}
 use Rattle.fold.specs.Optimize.{Outcome, inconsistent, settled, passes, optimize}
 use Rattle.domains.specs.Declared.{Domains}
 use Rattle.passes.specs.Want.{Values}
 use Rattle.passes.specs.Statements.{Reads-stmts, Ready-stmts}
-use Rattle.passes.specs.Passes.{open-count}
+use Rattle.propagate.specs.Passes.{open-count}
 
 -- ---- places in the set's words
 

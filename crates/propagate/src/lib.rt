@@ -1,0 +1,442 @@
+// The passes (optimize): folding and requiring all statements until nothing changes. Where a set takes many passes, single statements are
+// folded and required in between, in the order in which their variables get fixed: the end is the same (fold/specs/Ahead.antt).
+ghost use mathlib.Core.Path.{_≡_};
+ghost use Prim.Native.Nat.{ℕ, _≤_, _<_};
+ghost use lib.IntN.{pos};
+ghost use lib.ListN.{length, getD};
+ghost use Rattle.syntax.specs.Words.{max-bools};
+ghost use Rattle.propagate.specs.Optimized.{Some-domains, Domains-end-post, Opened, Ready-passes, Passes-post, Accepted, Optimize-post};
+ghost use Rattle.propagate.specs.Hurry.{Only, Ready-step, Step-post, Next-post, Ready-hurry, Moves, Hurry-post, After-post, Places};
+
+pub struct Optimized {
+    pub status: usize,
+    pub end: usize,
+}
+
+// A statement folded and required: where it ends in the set and, folded, in the work slice.
+pub struct Stepped {
+    pub next: usize,
+    pub end: usize,
+    pub status: usize,
+}
+
+// How many chains there are to follow now.
+pub struct Moved {
+    pub chains: usize,
+    pub status: usize,
+}
+
+// ---- numbers kept in arrays
+
+// The number at i; 0 where there is none.
+pub fn entry(a: &[i32], i: usize) -> usize
+    ensures { λ r. ⌜ ((r ≡ 0 → ⊥) → getD (now (a .entry)) i (pos 0) ≡ pos r) × (r < 8192) ⌝ }
+{
+    if i >= a.len() {
+        return 0;
+    }
+    let w = a[i];
+    if w < 0 {
+        return 0;
+    }
+    let n = w as usize;
+    if n < 8192 {
+        return n;
+    }
+    0
+}
+
+// n at i, where there is room.
+pub fn store(a: &mut [i32], i: usize, n: usize)
+    ensures { λ _. ⌜ Only n (now (a .entry)) (now (a .exit)) ⌝ }
+{
+    if i >= a.len() {
+        return;
+    }
+    if n >= 8192 {
+        return;
+    }
+    folding::put(a, i, n);
+}
+
+// ---- the notes
+// What they hold needs no proof, as any order of steps is right: at v, the place of the last occurrence of the variable v (0: none, or v
+// is fixed); at 512 + k, a chain to follow; at 1024 + p, for an occurrence at p, the occurrence before it, and at 1025 + p its statement's index.
+
+// The occurrence of a variable at p, if there is one, in the statement of index i.
+pub fn watch_at(words: &[i32], p: usize, i: usize, notes: &mut [i32]) {
+    let code = entry(words, p);
+    if code != 11 {
+        return;
+    }
+    if p >= 4096 {
+        return;
+    }
+    let v = entry(words, p + 1);
+    if v >= 512 {
+        return;
+    }
+    let before = entry(notes, v);
+    store(notes, 1024 + p, before);
+    store(notes, 1025 + p, i);
+    store(notes, v, p);
+}
+
+pub fn watch(words: &[i32], from: usize, to: usize, i: usize, notes: &mut [i32]) {
+    let mut p = from;
+    while p < to {
+        watch_at(words, p, i, notes);
+        p += 1;
+    }
+}
+
+// If the variable v is fixed, its chain is one more to follow.
+pub fn push(work: &[i32], v: usize, notes: &mut [i32], chains: usize) -> usize
+    requires { ⌜ chains ≤ 512 ⌝ }
+    ensures { λ r. ⌜ r ≤ 512 ⌝ }
+{
+    if v >= 512 {
+        return chains;
+    }
+    let value = entry(work, v);
+    if value == 2 {
+        return chains;
+    }
+    let p = entry(notes, v);
+    if p == 0 {
+        return chains;
+    }
+    if chains >= 512 {
+        return chains;
+    }
+    store(notes, v, 0);
+    store(notes, 512 + chains, p);
+    chains + 1
+}
+
+pub fn push_at(work: &[i32], p: usize, notes: &mut [i32], chains: usize) -> usize
+    requires { ⌜ chains ≤ 512 ⌝ }
+    requires { ⌜ p < length (now work) ⌝ }
+    ensures { λ r. ⌜ r ≤ 512 ⌝ }
+{
+    let code = entry(work, p);
+    if code == 11 {
+        let v = entry(work, p + 1);
+        return push(work, v, notes, chains);
+    }
+    chains
+}
+
+// The variables of the folded statement, those that are fixed now.
+pub fn push_fixed(work: &[i32], end: usize, notes: &mut [i32], chains: usize) -> usize
+    requires { ⌜ chains ≤ 512 ⌝ }
+    requires { ⌜ end ≤ length (now work) ⌝ }
+    ensures { λ r. ⌜ r ≤ 512 ⌝ }
+{
+    let mut count = chains;
+    let mut p = 512;
+    while p < end {
+        count = push_at(work, p, notes, count);
+        p += 1;
+    }
+    count
+}
+
+pub fn push_all(work: &[i32], notes: &mut [i32]) -> usize
+    ensures { λ r. ⌜ r ≤ 512 ⌝ }
+{
+    let mut count = 0;
+    let mut v = 0;
+    while v < 512 {
+        count = push(work, v, notes, count);
+        v += 1;
+    }
+    count
+}
+
+// The next occurrence of a chain; 0: none.
+pub fn earlier(notes: &[i32], p: usize) -> usize
+    requires { ⌜ (p ≡ 0 → ⊥) × (p < 8192) ⌝ }
+    ensures { λ r. ⌜ r < p ⌝ }
+{
+    let q = entry(notes, 1024 + p);
+    if q < p { q } else { 0 }
+}
+
+// ---- single statements
+
+// The statement at `at`, folded under the values fixed so far, and required.
+pub fn step(words: &[i32], at: usize, work: &mut [i32]) -> Stepped
+    requires { ⌜ Ready-step (now words) at (now work) ⌝ }
+    ensures { λ r. ⌜ Step-post (now (words .entry)) at (now (work .entry)) (now (work .exit)) (r .end) (r .status) × Next-post (now (words .entry)) at (r .next) ⌝ }
+{
+    let a = passes::fold_stmt(words, 2, at, work, 512);
+    let b = passes::prop_stmt(work, 512);
+    Stepped {
+        next: a.next,
+        end: a.end,
+        status: b.status,
+    }
+}
+
+// Whether the folded statement may fix something later: a table and a constant do not.
+pub fn lasting(work: &[i32], end: usize) -> bool {
+    let kind = entry(work, 512);
+    let code = entry(work, 513);
+    if kind != 1 {
+        return false;
+    }
+    end != 515 || code != 10
+}
+
+// The statement of index i, which stands from `at` to `next`, is noted if it may fix something later.
+pub fn note(
+    words: &[i32],
+    at: usize,
+    next: usize,
+    i: usize,
+    work: &[i32],
+    end: usize,
+    places: &mut [i32],
+    notes: &mut [i32],
+)
+    ensures { λ _. ⌜ Only at (now (places .entry)) (now (places .exit)) ⌝ }
+{
+    let keep = lasting(work, end);
+    if keep {
+        store(places, i, at);
+        watch(words, at, next, i, notes);
+    }
+}
+
+// Every statement once, in order.
+pub fn sweep(
+    words: &[i32],
+    at: usize,
+    count: usize,
+    work: &mut [i32],
+    places: &mut [i32],
+    notes: &mut [i32],
+) -> usize
+    requires { ⌜ Ready-passes (now words) at count (now work) ⌝ }
+    requires { ⌜ Places (now words) at count (now places) ⌝ }
+    ensures { λ r. ⌜ Hurry-post (now (words .entry)) at count (now (work .entry)) (now (work .exit)) r × Places (now (words .entry)) at count (now (places .exit)) ⌝ }
+{
+    let mut next = at;
+    let mut i = 0;
+    while i < count {
+        let a = step(words, next, work);
+        let status = a.status;
+        if status == 2 {
+            return 2;
+        }
+        note(words, next, a.next, i, work, a.end, places, notes);
+        next = a.next;
+        i += 1;
+    }
+    1
+}
+
+// A statement that fixes nothing any more is forgotten.
+pub fn retire(work: &[i32], end: usize, places: &mut [i32], i: usize)
+    ensures { λ _. ⌜ Only 0 (now (places .entry)) (now (places .exit)) ⌝ }
+{
+    let keep = lasting(work, end);
+    if !keep {
+        store(places, i, 0);
+    }
+}
+
+// The statement of index i again.
+pub fn again(
+    words: &[i32],
+    i: usize,
+    work: &mut [i32],
+    places: &mut [i32],
+    notes: &mut [i32],
+    chains: usize,
+) -> Moved
+    requires { ⌜ Ready-hurry (now words) (now work) (now places) ⌝ }
+    requires { ⌜ chains ≤ 512 ⌝ }
+    ensures { λ r. ⌜ Moves (now (words .entry)) (now (work .entry)) (now (places .entry)) (now (work .exit)) (now (places .exit)) (r .status) × (r .chains ≤ 512) ⌝ }
+{
+    let at = entry(places, i);
+    if at == 0 {
+        return Moved { chains, status: 0 };
+    }
+    let a = step(words, at, work);
+    retire(work, a.end, places, i);
+    let status = a.status;
+    if status != 1 {
+        return Moved { chains, status };
+    }
+    let more = push_fixed(work, a.end, notes, chains);
+    Moved {
+        chains: more,
+        status,
+    }
+}
+
+// The statements of a chain, from the occurrence at `first` on.
+pub fn follow(
+    words: &[i32],
+    first: usize,
+    work: &mut [i32],
+    places: &mut [i32],
+    notes: &mut [i32],
+    chains: usize,
+) -> Moved
+    requires { ⌜ Ready-hurry (now words) (now work) (now places) ⌝ }
+    requires { ⌜ (chains ≤ 512) × (first < 8192) ⌝ }
+    ensures { λ r. ⌜ Moves (now (words .entry)) (now (work .entry)) (now (places .entry)) (now (work .exit)) (now (places .exit)) (r .status) × (r .chains ≤ 512) ⌝ }
+{
+    let mut p = first;
+    let mut count = chains;
+    while p != 0 {
+        let i = entry(notes, 1025 + p);
+        let a = again(words, i, work, places, notes, count);
+        let status = a.status;
+        if status == 2 {
+            return Moved { chains: 0, status };
+        }
+        count = a.chains;
+        p = earlier(notes, p);
+    }
+    Moved {
+        chains: count,
+        status: 0,
+    }
+}
+
+// Every chain, those that come up on the way too.
+pub fn drain(
+    words: &[i32],
+    work: &mut [i32],
+    places: &mut [i32],
+    notes: &mut [i32],
+    chains: usize,
+) -> usize
+    requires { ⌜ Ready-hurry (now words) (now work) (now places) ⌝ }
+    requires { ⌜ chains ≤ 512 ⌝ }
+    ensures { λ r. ⌜ Moves (now (words .entry)) (now (work .entry)) (now (places .entry)) (now (work .exit)) (now (places .exit)) r ⌝ }
+{
+    let mut k = 0;
+    let mut count = chains;
+    while k < count {
+        let first = entry(notes, 512 + k);
+        let a = follow(words, first, work, places, notes, count);
+        let status = a.status;
+        if status == 2 {
+            return 2;
+        }
+        count = a.chains;
+        k += 1;
+    }
+    1
+}
+
+// Statements one by one, each again as soon as one of its variables is fixed. 1: go on; 2: unsatisfiable.
+pub fn hurry(words: &[i32], at: usize, count: usize, work: &mut [i32]) -> usize
+    requires { ⌜ Ready-passes (now words) at count (now work) ⌝ }
+    ensures { λ r. ⌜ Hurry-post (now (words .entry)) at count (now (work .entry)) (now (work .exit)) r ⌝ }
+{
+    let mut places = [0i32; 4096];
+    let mut notes = [0i32; 5121];
+    let s = sweep(words, at, count, work, &mut places, &mut notes);
+    if s == 2 {
+        return 2;
+    }
+    let chains = push_all(work, &mut notes);
+    drain(words, work, &mut places, &mut notes, chains)
+}
+
+// ---- the passes
+
+// Every Boolean open.
+pub fn fill_open(work: &mut [i32])
+    requires { ⌜ max-bools ≤ length (now work) ⌝ }
+    ensures { λ _. ⌜ Opened (now (work .entry)) (now (work .exit)) ⌝ }
+{
+    let mut i = 0;
+    while i < 512 {
+        folding::put(work, i, 2);
+        i += 1;
+    }
+}
+
+// The place behind n domains.
+pub fn domains_end(words: &[i32], d: usize, n: usize) -> usize
+    requires { ⌜ Some-domains (now words) d n ⌝ }
+    ensures { λ r. ⌜ Domains-end-post (now (words .entry)) d n r ⌝ }
+{
+    let mut at = d;
+    let mut rest = n;
+    while rest != 0 {
+        at = domains::domain_end(words, at);
+        rest = rest - 1;
+    }
+    at
+}
+
+// After a pass of this status, `left` of the first passes to come.
+pub fn after_pass(
+    words: &[i32],
+    at: usize,
+    count: usize,
+    work: &mut [i32],
+    status: usize,
+    end: usize,
+    left: usize,
+) -> Optimized
+    requires { ⌜ Ready-passes (now words) at count (now work) ⌝ }
+    ensures { λ r. ⌜ After-post (now (words .entry)) at count (now (work .entry)) status end (now (work .exit)) (r .status) (r .end) ⌝ }
+{
+    if status != 1 || left != 0 {
+        return Optimized { status, end };
+    }
+    let s = hurry(words, at, count, work);
+    if s == 2 {
+        return Optimized {
+            status: 2,
+            end: 512,
+        };
+    }
+    Optimized { status, end }
+}
+
+pub fn less_one(n: usize) -> usize
+    ensures { λ r. ⌜ r ≤ n ⌝ }
+{
+    if n == 0 { 0 } else { n - 1 }
+}
+
+// Fold every statement of the set under the values fixed so far, require each rule, and again while a variable was fixed.
+pub fn run_passes(words: &[i32], at: usize, count: usize, work: &mut [i32]) -> Optimized
+    requires { ⌜ Ready-passes (now words) at count (now work) ⌝ }
+    ensures { λ r. ⌜ Passes-post (now (words .entry)) at count (now (work .entry)) (now (work .exit)) (r .status) (r .end) ⌝ }
+{
+    let mut status = 1;
+    let mut end = 512;
+    let mut left = 3;
+    while status == 1 {
+        left = less_one(left);
+        let a = passes::fold_stmts(words, 2, at, count, work, 512);
+        let s = passes::constant_prop_stmts(work, 512, count);
+        let b = after_pass(words, at, count, work, s, a.end, left);
+        status = b.status;
+        end = b.end;
+    }
+    Optimized { status, end }
+}
+
+// Status 0: the fixed values and the folded statements stand in the work slice. Any other: the set is inconsistent.
+pub fn optimize(words: &[i32], work: &mut [i32]) -> Optimized
+    requires { ⌜ Accepted (now words) (now work) ⌝ }
+    ensures { λ r. ⌜ Optimize-post (now (words .entry)) (now (work .entry)) (now (work .exit)) (r .status) (r .end) ⌝ }
+{
+    let ni = domains::number(words, 1);
+    let at = domains_end(words, 2, ni);
+    let count = domains::number(words, at);
+    fill_open(work);
+    run_passes(words, at + 1, count, work)
+}
