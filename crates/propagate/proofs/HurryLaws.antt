@@ -19,7 +19,8 @@ use Rattle.syntax.specs.Syntax.{Domain, Stmt, encode-stmt}
 use Rattle.fold.specs.Fold.{Fixed, constant-folding-stmt}
 use Rattle.fold.specs.Optimize.{Status, unsatisfiable, updated, Outcome, inconsistent, passes}
 use Rattle.fold.specs.Refold.{Extends}
-use Rattle.fold.specs.Ahead.{prop-stmt, Below, NoRest, step-below, step-none, opens-extends, passes-ahead, passes-none}
+use Rattle.fold.specs.Ahead.{prop-stmt, Below, NoRest, step-below, step-none, passes-ahead, passes-none}
+use Rattle.fold.specs.Ends.{opens-extends}
 use Rattle.fold.specs.Kept.{fold-stmt-size}
 use Rattle.fold.specs.Steps.{fixed-in}
 use Rattle.domains.specs.Declared.{Domains}
@@ -160,15 +161,18 @@ module _ (ws : List ℤ) (at : ℕ) (out mid : List ℤ) (next end : ℕ) (q : S
       record { fixed = rs .fixed; values = g .values; ints = length (r .ds); it = constant-folding-stmt (r .ds) (rs .fixed) (r .it); reads = g .reads; low = omega arith }
 
   pub stepped : (out' : List ℤ) (next' status : ℕ) → Prop-stmt-post mid max-bools out' next' status → Step-post ws at out out' end status × Next-post ws at next
-  stepped out' next' status pp = (λ ds s f hd r room vs.
-      let g = stands-folded ds s f hd r room vs in
-      let m = pp (length ds) f (constant-folding-stmt ds f s) (g .values) (g .reads) (omega arith) in
-      record {
-        fits = g .fits;
-        folded = mid;
-        props = m .props;
-        above = drop-up max-bools (max-bools + length (encode-stmt s)) out' mid (m .props .high) (omega arith) ∙ g .above;
-      }, λ ds s hd r. q ds s hd r .nexts)
+  stepped out' next' status pp = (
+    λ ds s f hd r room vs.
+        let g = stands-folded ds s f hd r room vs in
+        let m = pp (length ds) f (constant-folding-stmt ds f s) (g .values) (g .reads) (omega arith) in
+        record {
+          fits = g .fits;
+          folded = mid;
+          props = m .props;
+          above = drop-up max-bools (max-bools + length (encode-stmt s)) out' mid (m .props .high) (omega arith) ∙ g .above;
+        },
+    λ ds s hd r. q ds s hd r .nexts,
+  )
 
 -- ---- any number of steps
 

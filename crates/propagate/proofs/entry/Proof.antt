@@ -45,7 +45,7 @@ cast-n c = rw (toZ-ofZ (fits (c .before))) (not-neg (getD (c .before .before .be
 
 -- src/lib.rt:44:9
 returns-3 : tie.Need-returns-3
-returns-3 c = 
+returns-3 c =
     let z = getD (c .before .before .before .before .args .a .now) (c .before .before .before .before .args .i) (pos 0) in
     let s : natAbs (toZ w32 (ofZ w32 z)) < 8192 = c .if3 .taken in
     rw (toZ-ofZ (fits (c .before .before))) (λ h. number-kept z (plain (c .before)), rw (toZ-ofZ (fits (c .before .before))) at s)
