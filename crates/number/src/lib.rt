@@ -8,7 +8,7 @@ ghost use lib.ListN.{length, getD, set, take};
 ghost use Rattle.walk.specs.Item.{limit, bump as bump-of, nat, mode-in, fresh-in, lines-in, var-item, meet-bool, meet-int-var, meet-int, mets, item, items};
 ghost use Rattle.walk.specs.Decode.{word as word-in, past, below as below-of, int-end as int-end-of, node-of, constant-node, comparison-node, read-part, surveyed, closed-disj, closed-cross, fresh-of, added, Surveys, SurveysAll, int-at, item-at, items-at, decode, many-ties, tie-at, cross-ties, ties-at};
 ghost use Rattle.walk.specs.Meets.{Met};
-ghost use Rattle.walk.specs.MeetTies.{meet-rule};
+ghost use Rattle.walk.specs.MeetTies.{Reaches, ReachesAll, meet-rule};
 ghost use Rattle.walk.specs.MeetColumns.{number-column, meet-column-at, meet-columns-at};
 ghost use Rattle.number.specs.Sized.{Sized, SizedAll};
 use walk::Counters;
@@ -576,6 +576,24 @@ fn number_tie(
     e.counters
 }
 
+// What the numbering of extras leaves: the counters, the end of what they are the extras of, and the splitting's next number.
+pub struct Tied {
+    pub counters: Counters,
+    pub at: usize,
+    pub base: usize,
+}
+
+// Where there are none.
+fn no_ties(c: Counters, at: usize, base: usize) -> Tied
+    ensures { λ r. ⌜ (r .counters ≡ c) × ((r .at ≡ at) × (r .base ≡ base)) ⌝ }
+{
+    Tied {
+        counters: c,
+        at: at,
+        base: base,
+    }
+}
+
 // Of so many members.
 pub fn number_each_ties(
     work: &mut [i32],
@@ -585,37 +603,45 @@ pub fn number_each_ties(
     count: usize,
     base: usize,
     c: Counters,
-) -> Counters
+) -> Tied
     requires { do ⌜ (4608 ≤ (← ⟦work.len()⟧)) × ((at ≤ 4608) × ((base ≤ limit) × ((c .bools ≤ limit) × (c .ints ≤ limit)))) ⌝ }
-    ensures { λ r. ⌜ Met (mets (items (many-ties (decode (read-part (now (work .entry))) left t) (ties-at (read-part (now (work .entry))) left t) count at base))) (now (work .entry)) c (now (work .exit)) r ⌝ }
+    ensures { λ r. ⌜ Met (mets (items (many-ties (decode (read-part (now (work .entry))) left t) (ties-at (read-part (now (work .entry))) left t) count at base))) (now (work .entry)) c (now (work .exit)) (r .counters) × ReachesAll (read-part (now (work .entry))) left t count at base (r .at) (r .base) ⌝ }
 {
     let mut q = at;
     let mut b = base;
     let mut rest = count;
     let mut d = c;
     while rest != 0 {
-        d = number_ties(work, q, left, t, b, d);
-        let s = survey(work, q, left, t, b, false, 0);
-        q = s.at;
-        b = s.base;
+        let x = number_ties(work, q, left, t, b, d);
+        d = x.counters;
+        q = x.at;
+        b = x.base;
         rest = rest - 1;
     }
-    d
+    Tied {
+        counters: d,
+        at: q,
+        base: b,
+    }
 }
 
 // Of a split Xor or Iff: of each side, its extras and its tie.
-pub fn number_sides(work: &mut [i32], at: usize, left: usize, base: usize, c: Counters) -> Counters
+pub fn number_sides(work: &mut [i32], at: usize, left: usize, base: usize, c: Counters) -> Tied
     requires { do ⌜ (4608 ≤ (← ⟦work.len()⟧)) × ((at ≤ 4608) × ((base ≤ limit) × ((c .bools ≤ limit) × (c .ints ≤ limit)))) ⌝ }
-    ensures { λ r. ⌜ Met (mets (items (cross-ties (decode (read-part (now (work .entry))) left) (ties-at (read-part (now (work .entry))) left) true at base))) (now (work .entry)) c (now (work .exit)) r ⌝ }
+    ensures { λ r. ⌜ Met (mets (items (cross-ties (decode (read-part (now (work .entry))) left) (ties-at (read-part (now (work .entry))) left) true at base))) (now (work .entry)) c (now (work .exit)) (r .counters) × ReachesAll (read-part (now (work .entry))) left true 2 at (bump-of base 2) (r .at) (r .base) ⌝ }
 {
     let n = bump(base, 2);
     let a = number_ties(work, at, left, true, n, c);
-    let b = number_tie(work, base, at, left, n, a);
-    let s = survey(work, at, left, true, n, false, 0);
-    let q = s.at;
-    let m = s.base;
+    let b = number_tie(work, base, at, left, n, a.counters);
+    let q = a.at;
+    let m = a.base;
     let d = number_ties(work, q, left, true, m, b);
-    number_tie(work, base + 1, q, left, m, d)
+    let e = number_tie(work, base + 1, q, left, m, d.counters);
+    Tied {
+        counters: e,
+        at: d.at,
+        base: d.base,
+    }
 }
 
 // Of the expression at a place.
@@ -626,17 +652,17 @@ pub fn number_ties(
     t: bool,
     base: usize,
     c: Counters,
-) -> Counters
+) -> Tied
     requires { do ⌜ (4608 ≤ (← ⟦work.len()⟧)) × ((at ≤ 4608) × ((base ≤ limit) × ((c .bools ≤ limit) × (c .ints ≤ limit)))) ⌝ }
-    ensures { λ r. ⌜ Met (mets (items (ties-at (read-part (now (work .entry))) left t at base))) (now (work .entry)) c (now (work .exit)) r ⌝ }
+    ensures { λ r. ⌜ Met (mets (items (ties-at (read-part (now (work .entry))) left t at base))) (now (work .entry)) c (now (work .exit)) (r .counters) × Reaches (read-part (now (work .entry))) left t at base (r .at) (r .base) ⌝ }
 {
     if left == 0 {
-        return c;
+        return no_ties(c, at, base);
     }
     let under = left - 1;
     match node_at(work, under, false, at) {
-        Node::Var(_, _) => c,
-        Node::Cmp(_, _) => c,
+        Node::Var(_, q) => no_ties(c, q, base),
+        Node::Cmp(_, q) => no_ties(c, q, base),
         Node::Not(q) => number_ties(work, q, under, t, base, c),
         Node::Join(_, k, _, _, q) => number_each_ties(work, q, under, t, k, base, c),
         Node::Cross(_, q) => {
@@ -666,7 +692,7 @@ pub fn number_rule(work: &mut [i32], at: usize, c: Counters) -> Counters
         }
     }
     let e = number_ties(work, at, 64, false, n, d);
-    let b = number(work, at, 64, false, n, false, e);
+    let b = number(work, at, 64, false, n, false, e.counters);
     b.counters
 }
 

@@ -11,11 +11,12 @@ use Rattle.laws.specs.Slices.{Has}
 use Rattle.syntax.specs.Syntax.{BoolExpr, encode-bool}
 use Rattle.walk.specs.Tree.{Tree, tied, Trees, nil, cons, append, both-tied, splits}
 use Rattle.walk.specs.Item.{limit, bump, State, pass-bools, mets, tied-item, item, items}
-use Rattle.walk.specs.Decode.{word, node-of, Read, Reader, decode, many-ties, tie-at, cross-ties, ties-step, ties-at, read-part, Surveys}
+use Rattle.walk.specs.Decode.{word, node-of, Read, Reads, Reader, many, cross-step, step, decode, many-ties, tie-at, cross-ties, ties-step, ties-at, read-part, Surveys}
 use Rattle.walk.specs.Resolve.{rule-trees}
 use Rattle.walk.specs.Rule.{LegalRule}
 use Rattle.walk.specs.Standing.{rule-at, RuleStands, rule-stands}
-use Rattle.walk.specs.NoTies.{no-ties}
+use Rattle.walk.specs.NoTies.{many-same, decode-same, no-ties}
+use Rattle.walk.specs.Steps.{Okay, node-okay, decode-level, many-more}
 use Rattle.walk.specs.Meets.{state-of, Met, met-none, met-to, met-after, part-short}
 use Rattle.walk.specs.declared.Node.{Node}
 use Rattle.walk.specs.declared.Node.the-variants.{Var, Cmp, Not, Join, Cross}
@@ -44,6 +45,88 @@ pub met-tie : (w w' w'' : List ℤ) (c d e : Counters) (l v at n : ℕ) → Met 
 unfolding tie-at item tied-item
 met-tie w w' w'' c d e l v at n x y = met-to refl (met-after (λ ws. item (decode ws l true true at n .tree) .met) x y)
 
+-- ---- where a walk stands behind what it read
+
+-- q: the end, b: the splitting's next number
+pub record Reached (at stop next q b : ℕ) : Type 0 where
+  pub end : q ≡ stop
+  pub splits : b ≡ next
+  pub start : at ≤ q
+  pub inside : q ≤ 4608
+  pub low : b ≤ limit
+
+-- behind the expression at a place, and behind so many members
+abbrev pub Reaches : List ℤ → ℕ → Bool → ℕ → ℕ → ℕ → ℕ → Type 0
+Reaches ws l t at base q b = let d = decode ws l t false at base in Reached at (d .end) (d .next) q b
+
+abbrev pub ReachesAll : List ℤ → ℕ → Bool → ℕ → ℕ → ℕ → ℕ → ℕ → Type 0
+ReachesAll ws l t k at base q b = let d = many (decode ws l t) k false false at base in Reached at (d .end) (d .next) q b
+
+reached-to : {at i stop next stop' next' q b : ℕ} → at ≤ i → stop ≡ stop' → next ≡ next' → Reached i stop next q b → Reached at stop' next' q b
+reached-to h e f x = record { end = x .end ∙ e; splits = x .splits ∙ f; start = omega (arith, h, x .start); inside = x .inside; low = x .low }
+
+-- behind both sides of a split Xor or Iff. n: the number behind the two
+pub reaches-sides : (w v : List ℤ) (l at base n q m p b : ℕ) → n ≡ bump base 2 → read-part v ≡ read-part w → Reaches (read-part w) l true at n q m → Reaches (read-part v) l true q m p b → ReachesAll (read-part w) l true 2 at (bump base 2) p b
+unfolding many
+reaches-sides w v l at base n q m p b hn e x y =
+    let d = decode (read-part w) l true false at (bump base 2) in
+    let i : decode (read-part v) l true false q m ≡ decode (read-part w) l true false (d .end) (d .next) = rw (e, x .end, x .splits, hn) in
+    reached-to (x .start) (ap (λ (a : Read). a .end) i) (ap (λ (a : Read). a .next) i) y
+
+module _ (w : List ℤ) (l : ℕ) (t : Bool) (at base : ℕ) (low : base ≤ limit) where
+  pub reaches-none : (p b : ℕ) → l ≡ 0 → at ≤ 4608 → p ≡ at → b ≡ base → Reaches (read-part w) l t at base p b
+  unfolding decode
+  reaches-none p b e h i j = rw e (record { end = i; splits = j; start = omega (arith, i); inside = omega (arith, i, h); low = omega (arith, j, low) })
+
+  module _ (u : ℕ) (z : l ≡ 0 → ⊥) (hu : u ≡ l - 1) (inside : at ≤ length (read-part w)) where
+    okay : (N : Node) → N ≡ node-of (read-part w) u false at (word (read-part w) at) → Okay (read-part w) at N
+    okay N e = rw (← e) at (node-okay (read-part w) u false at inside)
+
+    carry : (N : Node) (q b : ℕ) → N ≡ node-of (read-part w) u false at (word (read-part w) at)
+        → (let d = step (read-part w) u (decode (read-part w) u) t false at base N in Reached at (d .end) (d .next) q b) → Reaches (read-part w) l t at base q b
+    carry N q b e = subst (λ (d : Read). Reached at (d .end) (d .next) q b) (sym (decode-level (read-part w) l u t false at base N z hu e))
+
+    pub reaches-var : (v q p b : ℕ) → Var v q ≡ node-of (read-part w) u false at (word (read-part w) at) → p ≡ q → b ≡ base → Reaches (read-part w) l t at base p b
+    unfolding step
+    reaches-var v q p b e i j =
+        let o = okay (Var v q) e in
+        carry (Var v q) p b e (record { end = i; splits = j; start = omega (arith, i, o .0); inside = omega (arith, i, o .1, part-short w); low = omega (arith, j, low) })
+
+    pub reaches-cmp : (v q p b : ℕ) → Cmp v q ≡ node-of (read-part w) u false at (word (read-part w) at) → p ≡ q → b ≡ base → Reaches (read-part w) l t at base p b
+    unfolding step
+    reaches-cmp v q p b e i j =
+        let o = okay (Cmp v q) e in
+        carry (Cmp v q) p b e (record { end = i; splits = j; start = omega (arith, i, o .0); inside = omega (arith, i, o .1, part-short w); low = omega (arith, j, low) })
+
+    pub reaches-not : (q p b : ℕ) → Not q ≡ node-of (read-part w) u false at (word (read-part w) at) → Reaches (read-part w) u t q base p b → Reaches (read-part w) l t at base p b
+    unfolding step
+    reaches-not q p b e x =
+        let o = okay (Not q) e in
+        let s = decode-same (read-part w) u t false true q base in
+        carry (Not q) p b e (reached-to (omega (arith, o .0)) (s .0) (s .1) x)
+
+    pub reaches-join : (d : Bool) (k : ℕ) (a h : Bool) (q p b : ℕ) → Join d k a h q ≡ node-of (read-part w) u false at (word (read-part w) at) → ReachesAll (read-part w) u t k q base p b → Reaches (read-part w) l t at base p b
+    unfolding step
+    reaches-join d k a h q p b e x =
+        let o = okay (Join d k a h q) e in
+        let s = many-same (decode (read-part w) u t) (decode-same (read-part w) u t) k false false a h q base in
+        carry (Join d k a h q) p b e (reached-to (o .0) (s .0) (s .1) x)
+
+    cross-reaches : (h : Bool) (q p b : ℕ) (v : Bool) → t ≡ v → Cross h q ≡ node-of (read-part w) u false at (word (read-part w) at)
+        → (let d = cross-step (decode (read-part w) u) v h q base in Reached q (d .end) (d .next) p b) → Reaches (read-part w) l t at base p b
+    unfolding step
+    cross-reaches h q p b v ht e x = let o = okay (Cross h q) e in carry (Cross h q) p b e (rw ht (reached-to (omega (arith, o .0)) refl refl x))
+
+    pub reaches-cross : (h : Bool) (q p b : ℕ) → t ≡ false → Cross h q ≡ node-of (read-part w) u false at (word (read-part w) at) → ReachesAll (read-part w) u true 2 q base p b → Reaches (read-part w) l t at base p b
+    unfolding cross-step
+    reaches-cross h q p b ht e x =
+        let s = many-same (decode (read-part w) u true) (decode-same (read-part w) u true) 2 false false true (not h) q base in
+        cross-reaches h q p b false ht e (reached-to (omega arith) (s .0) (s .1) x)
+
+    pub reaches-split : (h : Bool) (q p b : ℕ) → t ≡ true → Cross h q ≡ node-of (read-part w) u false at (word (read-part w) at) → ReachesAll (read-part w) u true 2 q (bump base 2) p b → Reaches (read-part w) l t at base p b
+    unfolding cross-step
+    reaches-split h q p b ht e x = cross-reaches h q p b true ht e x
+
 -- ---- members, one after another
 
 pub record TiesSofar (l : ℕ) (t : Bool) (w : List ℤ) (c : Counters) (k at base : ℕ) (w' : List ℤ) (d : Counters) (rest q b : ℕ) : Type 0 where
@@ -55,37 +138,45 @@ pub record TiesSofar (l : ℕ) (t : Bool) (w : List ℤ) (c : Counters) (k at ba
   pub size : length w' ≡ length w
   pub low : d .bools ≤ limit
   pub low-ints : d .ints ≤ limit
+  pub end : many (decode (read-part w) l t) rest false false q b .end ≡ many (decode (read-part w) l t) k false false at base .end
+  pub splits : many (decode (read-part w) l t) rest false false q b .next ≡ many (decode (read-part w) l t) k false false at base .next
   pub state : mets (items (many-ties (decode (read-part w) l t) (ties-at (read-part w) l t) rest q b)) (state-of w' d) ≡ mets (items (many-ties (decode (read-part w) l t) (ties-at (read-part w) l t) k at base)) (state-of w c)
 
 module _ (l : ℕ) (t : Bool) (w : List ℤ) (c : Counters) (k at base : ℕ) where
   pub ties-start : at ≤ 4608 → base ≤ limit → c .bools ≤ limit → c .ints ≤ limit → TiesSofar l t w c k at base w c k at base
-  ties-start i e a b = record { inside = i; start = omega arith; fewer = omega arith; low-base = e; part = refl; size = refl; low = a; low-ints = b; state = refl }
+  ties-start i e a b = record { inside = i; start = omega arith; fewer = omega arith; low-base = e; part = refl; size = refl; low = a; low-ints = b; end = refl; splits = refl; state = refl }
 
-  pub ties-again : (w' w'' : List ℤ) (d d' : Counters) (rest q b m : ℕ) (s : Surveyed) → TiesSofar l t w c k at base w' d rest q b → (rest ≡ 0 → ⊥)
-      → Met (mets (items (ties-at (read-part w') l t q b))) w' d w'' d' → Surveys w'' l t false q b m s → TiesSofar l t w c k at base w'' d' (rest - 1) (s .at) (s .base)
-  ties-again w' w'' d d' rest q b m s x z y v =
+  pub ties-again : (w' w'' : List ℤ) (d d' : Counters) (rest q b q' b' : ℕ) → TiesSofar l t w c k at base w' d rest q b → (rest ≡ 0 → ⊥)
+      → Met (mets (items (ties-at (read-part w') l t q b))) w' d w'' d' → Reaches (read-part w') l t q b q' b' → TiesSofar l t w c k at base w'' d' (rest - 1) q' b'
+  ties-again w' w'' d d' rest q b q' b' x z y v =
       let p = decode (read-part w) l t in
       let f = ties-at (read-part w) l t in
-      let e : read-part w'' ≡ read-part w = y .part ∙ x .part in
       let i : state-of w'' d' ≡ mets (items (f q b)) (state-of w' d) = y .state ∙ ap (λ (ws : List ℤ). mets (items (ties-at ws l t q b)) (state-of w' d)) (x .part) in
-      let j : s .at ≡ p false q b .end = v .end ∙ ap (λ (ws : List ℤ). decode ws l t false q b .end) e in
-      let o : s .base ≡ p false q b .next = v .splits ∙ ap (λ (ws : List ℤ). decode ws l t false q b .next) e in
+      let j : q' ≡ p false q b .end = v .end ∙ ap (λ (ws : List ℤ). decode ws l t false q b .end) (x .part) in
+      let o : b' ≡ p false q b .next = v .splits ∙ ap (λ (ws : List ℤ). decode ws l t false q b .next) (x .part) in
       let r = many-ties p f (rest - 1) (p false q b .end) (p false q b .next) in
+      let m = many-more p rest false false q b z in
       record {
-        inside = omega (arith, v .inside, part-short w'');
-        start = omega (arith, v .room, x .start);
+        inside = v .inside;
+        start = omega (arith, v .start, x .start);
         fewer = omega (arith, x .fewer);
-        low-base = v .low-base;
-        part = e;
+        low-base = v .low;
+        part = y .part ∙ x .part;
         size = y .size ∙ x .size;
         low = y .low;
         low-ints = y .low-ints;
+        end = rw (j, o) (sym (ap (λ (a : Reads). a .end) m) ∙ x .end);
+        splits = rw (j, o) (sym (ap (λ (a : Reads). a .next) m) ∙ x .splits);
         state = rw (i, j, o) (sym (mets-append (f q b) r (state-of w' d)) ∙ ap (λ (ts : Trees). mets (items ts) (state-of w' d)) (sym (many-ties-more p f rest q b z)) ∙ x .state);
       }
 
-  pub ties-done : (w' : List ℤ) (d : Counters) (rest q b : ℕ) → TiesSofar l t w c k at base w' d rest q b → rest ≡ 0 → Met (mets (items (many-ties (decode (read-part w) l t) (ties-at (read-part w) l t) k at base))) w c w' d
-  unfolding many-ties items mets
-  ties-done w' d zero q b x e = record { state = x .state; part = x .part; size = x .size; low = x .low; low-ints = x .low-ints }
+  pub ties-done : (w' : List ℤ) (d : Counters) (rest q b : ℕ) → TiesSofar l t w c k at base w' d rest q b → rest ≡ 0
+      → Met (mets (items (many-ties (decode (read-part w) l t) (ties-at (read-part w) l t) k at base))) w c w' d × ReachesAll (read-part w) l t k at base q b
+  unfolding many many-ties items mets
+  ties-done w' d zero q b x e = (
+    record { state = x .state; part = x .part; size = x .size; low = x .low; low-ints = x .low-ints },
+    record { end = x .end; splits = x .splits; start = x .start; inside = x .inside; low = x .low-base },
+  )
   ties-done w' d (suc rest) q b x e = absurd (omega arith)
 
 -- ---- the extras of an expression
@@ -141,18 +232,17 @@ split-mets ts us t u s =
     ∙ mets-append us (cons u nil) (mets (items (append ts (cons t nil))) s)
     ∙ ap (λ (x : State). item u .met (mets (items us) x)) (mets-append ts (cons t nil) s))
 
-pub met-sides : (w w₁ w₂ w₃ w₄ : List ℤ) (c c₁ c₂ c₃ c₄ : Counters) (l at base n m : ℕ) (s : Surveyed) → n ≡ bump base 2
-    → Met (mets (items (ties-at (read-part w) l true at n))) w c w₁ c₁ → Met (item (tie-at (decode (read-part w₁) l true) base at n) .met) w₁ c₁ w₂ c₂ → Surveys w₂ l true false at n m s
-    → Met (mets (items (ties-at (read-part w₂) l true (s .at) (s .base)))) w₂ c₂ w₃ c₃ → Met (item (tie-at (decode (read-part w₃) l true) (base + 1) (s .at) (s .base)) .met) w₃ c₃ w₄ c₄
+pub met-sides : (w w₁ w₂ w₃ w₄ : List ℤ) (c c₁ c₂ c₃ c₄ : Counters) (l at base n q m : ℕ) → n ≡ bump base 2
+    → Met (mets (items (ties-at (read-part w) l true at n))) w c w₁ c₁ → Reaches (read-part w) l true at n q m → Met (item (tie-at (decode (read-part w₁) l true) base at n) .met) w₁ c₁ w₂ c₂
+    → Met (mets (items (ties-at (read-part w₂) l true q m))) w₂ c₂ w₃ c₃ → Met (item (tie-at (decode (read-part w₃) l true) (base + 1) q m) .met) w₃ c₃ w₄ c₄
     → Met (mets (items (cross-ties (decode (read-part w) l) (ties-at (read-part w) l) true at base))) w c w₄ c₄
 unfolding cross-ties
-met-sides w w₁ w₂ w₃ w₄ c c₁ c₂ c₃ c₄ l at base n m s hn a b v d e =
-    let p : read-part w₂ ≡ read-part w = b .part ∙ a .part in
-    let i : s .at ≡ decode (read-part w) l true false at n .end = v .end ∙ ap (λ (ws : List ℤ). decode ws l true false at n .end) p in
-    let j : s .base ≡ decode (read-part w) l true false at n .next = v .splits ∙ ap (λ (ws : List ℤ). decode ws l true false at n .next) p in
+met-sides w w₁ w₂ w₃ w₄ c c₁ c₂ c₃ c₄ l at base n q m hn a v b d e =
+    let i : q ≡ decode (read-part w) l true false at n .end = v .end in
+    let j : m ≡ decode (read-part w) l true false at n .next = v .splits in
     let x = met-after (λ ws. item (tie-at (decode ws l true) base at n) .met) a b in
-    let y = met-after (λ ws. mets (items (ties-at ws l true (s .at) (s .base)))) x d in
-    let z = met-after (λ ws. item (tie-at (decode ws l true) (base + 1) (s .at) (s .base)) .met) y e in
+    let y = met-after (λ ws. mets (items (ties-at ws l true q m))) x d in
+    let z = met-after (λ ws. item (tie-at (decode ws l true) (base + 1) q m) .met) y e in
     met-to (split-mets _ _ _ _ (state-of w c) ∙ rw (i, j, hn)) z
 
 -- ---- a rule

@@ -14,10 +14,10 @@ use Rattle.walk.specs.declared.Node.the-variants.{Var, Cmp, Not, Join, C
 
 -- ---- negation changes neither the end nor the splitting's next number
 
-abbrev Same : Read → Read → Type 0
+abbrev pub Same : Read → Read → Type 0
 Same r s = (r .end ≡ s .end) × (r .next ≡ s .next)
 
-abbrev Alike : Reader → Type 0
+abbrev pub Alike : Reader → Type 0
 Alike p = (g h : Bool) (at n : ℕ) → Same (p g at n) (p h at n)
 
 -- a node without its polarities
@@ -45,7 +45,7 @@ node-plain ws l g h at k =
     (plain-cond (eqb k 17) _ _ _ _ refl
     (plain-cond (eqb k 18) _ _ _ _ refl refl))))))))
 
-many-same : (p : Reader) → Alike p → (k : ℕ) (g h g' h' : Bool) (at n : ℕ) → (many p k g h at n .end ≡ many p k g' h' at n .end) × (many p k g h at n .next ≡ many p k g' h' at n .next)
+pub many-same : (p : Reader) → Alike p → (k : ℕ) (g h g' h' : Bool) (at n : ℕ) → (many p k g h at n .end ≡ many p k g' h' at n .end) × (many p k g h at n .next ≡ many p k g' h' at n .next)
 unfolding many
 many-same p f zero g h g' h' at n = (refl, refl)
 many-same p f (suc k) g h g' h' at n =
@@ -68,7 +68,7 @@ step-same ws l p f t g at n (Not q) = f t (not g) true q n
 step-same ws l p f t g at n (Join d k a b q) = many-same (p t) (f t) k a b false false q n
 step-same ws l p f t g at n (Cross h q) = cross-same p f t h false q n
 
-decode-same : (ws : List ℤ) (l : ℕ) (t : Bool) → Alike (decode ws l t)
+pub decode-same : (ws : List ℤ) (l : ℕ) (t : Bool) → Alike (decode ws l t)
 unfolding decode
 decode-same ws zero t = λ g h at n. (refl, refl)
 decode-same ws (suc l) t = λ g h at n.

@@ -24,14 +24,14 @@ number-ties-requires c κs = let s = (c .before .before .before .before .before)
 number-requires-2 : tie.Need-number-requires-2
 number-requires-2 c κs =
     let s = (c .before .before .before .before .before .before .before .before) .pre in
-    let t = c .before .before .number-ties .ensures in
+    let t = c .before .before .number-ties .ensures .0 in
     (omega (arith, t .size, s .0), (s .1 .0, (s .1 .1 .0, (t .low, t .low-ints))))
 
 same-length-2 : tie.Need-same-length-2
-same-length-2 c = c .before .before .number2 .ensures .0 .size ∙ c .before .before .before .before .before .number-ties .ensures .size
+same-length-2 c = c .before .before .number2 .ensures .0 .size ∙ c .before .before .before .before .before .number-ties .ensures .0 .size
 
 returns-2 : tie.Need-returns-2
-returns-2 c = met-rule _ _ _ ((c .before .before .before .before .before .before .before .before .before .before .before) .args .c) _ _ _ _ _ _ (c .before .before .before .before .before .before .before .before .before .survey .ensures) refl (c .before .before .before .before .before .number-ties .ensures) (c .before .before .number2 .ensures .0)
+returns-2 c = met-rule _ _ _ ((c .before .before .before .before .before .before .before .before .before .before .before) .args .c) _ _ _ _ _ _ (c .before .before .before .before .before .before .before .before .before .survey .ensures) refl (c .before .before .before .before .before .number-ties .ensures .0) (c .before .before .number2 .ensures .0)
 
 pub number-rule-spec : {M : Type 1} → statement M
 number-rule-spec =
