@@ -1,2 +1,3 @@
 pub mod Leaves
 mod Members
+mod Terms

@@ -393,32 +393,59 @@ pub fn declare_int(work: &mut [i32], v: usize, c: Counters) -> Counters
     c
 }
 
+// What the numbering of an integer expression leaves: the counters, and its end.
+pub struct NumberedInt {
+    pub counters: Counters,
+    pub at: usize,
+}
+
+fn ended(c: Counters, at: usize) -> NumberedInt
+    ensures { λ r. ⌜ (r .counters ≡ c) × (r .at ≡ at) ⌝ }
+{
+    NumberedInt {
+        counters: c,
+        at: at,
+    }
+}
+
 // The integers of the expression at a place, in order.
-pub fn number_int(work: &mut [i32], at: usize, left: usize, c: Counters) -> Counters
+pub fn number_int(work: &mut [i32], at: usize, left: usize, c: Counters) -> NumberedInt
     requires { do ⌜ (4608 ≤ (← ⟦work.len()⟧)) × ((at ≤ 4608) × ((c .bools ≤ limit) × (c .ints ≤ limit))) ⌝ }
-    ensures { λ r. ⌜ Met (meet-int (int-at (read-part (now (work .entry))) left at .0)) (now (work .entry)) c (now (work .exit)) r ⌝ }
+    ensures { λ r. ⌜ Met (meet-int (int-at (read-part (now (work .entry))) left at .0)) (now (work .entry)) c (now (work .exit)) (r .counters) × ((r .at ≡ int-end-of (read-part (now (work .entry))) left at) × (r .at ≤ 4608)) ⌝ }
 {
     if left == 0 {
-        return c;
+        return ended(c, at);
     }
     let code = word(work, at);
     let x = word(work, at + 1);
+    let next = within(at + 2);
     if code == 21 {
-        return declare_int(work, below(x, 256), c);
+        return ended(declare_int(work, below(x, 256), c), next);
     }
     if code != 22 {
-        return c;
+        return ended(c, next);
     }
     let mut rest = x;
-    let mut q = within(at + 2);
+    let mut q = next;
     let mut d = c;
     while rest != 0 {
         let p = within(q + 1);
-        d = number_int(work, p, left - 1, d);
-        q = int_end(work, p, left - 1);
+        let y = number_int(work, p, left - 1, d);
+        d = y.counters;
+        q = y.at;
         rest = rest - 1;
     }
-    d
+    ended(d, q)
+}
+
+// The integers of the comparison at a place, whose second side stands at b.
+fn number_comparison(work: &mut [i32], at: usize, b: usize, left: usize, c: Counters) -> Counters
+    requires { do ⌜ (4608 ≤ (← ⟦work.len()⟧)) × ((at ≤ 4608) × ((b ≤ 4608) × ((c .bools ≤ limit) × (c .ints ≤ limit)))) ⌝ }
+    ensures { λ r. ⌜ Met (λ s. meet-int (int-at (read-part (now (work .entry))) left b .0) (meet-int (int-at (read-part (now (work .entry))) left (past (read-part (now (work .entry))) (at + 2)) .0) s)) (now (work .entry)) c (now (work .exit)) r ⌝ }
+{
+    let d = number_int(work, within(at + 2), left, c);
+    let e = number_int(work, b, left, d.counters);
+    e.counters
 }
 
 // What the numbering of an expression or of members leaves: the counters, and what a survey finds but for the counter behind.
@@ -532,10 +559,10 @@ pub fn number(
     let under = left - 1;
     match node_at(work, under, g, at) {
         Node::Var(v, q) => found(declare(work, v, c), single(q, base, 0, 1, 0)),
-        Node::Cmp(b, q) => {
-            let d = number_int(work, within(at + 2), under, c);
-            found(number_int(work, b, under, d), single(q, base, 0, 0, 1))
-        }
+        Node::Cmp(b, q) => found(
+            number_comparison(work, at, b, under, c),
+            single(q, base, 0, 0, 1),
+        ),
         Node::Not(q) => number(work, q, under, t, base, !g, c),
         Node::Join(d, k, a, b, q) => {
             let m = numbers(work, q, under, t, k, base, a, b, c);
@@ -724,15 +751,16 @@ fn number_new(work: &mut [i32], p: usize, c: Counters) -> Counters
 }
 
 // The column at a place: its integers, then its own number unless it is a declared variable.
-pub fn number_column(work: &mut [i32], at: usize, c: Counters) -> Counters
+pub fn number_column(work: &mut [i32], at: usize, c: Counters) -> NumberedInt
     requires { do ⌜ (4608 ≤ (← ⟦work.len()⟧)) × ((at ≤ 4608) × ((c .bools ≤ limit) × (c .ints ≤ limit))) ⌝ }
-    ensures { λ r. ⌜ Met (meet-column-at (read-part (now (work .entry))) at) (now (work .entry)) c (now (work .exit)) r ⌝ }
+    ensures { λ r. ⌜ Met (meet-column-at (read-part (now (work .entry))) at) (now (work .entry)) c (now (work .exit)) (r .counters) × ((r .at ≡ int-end-of (read-part (now (work .entry))) 64 at) × (r .at ≤ 4608)) ⌝ }
 {
-    let d = number_int(work, at, 64, c);
+    let x = number_int(work, at, 64, c);
     if word(work, at) == 21 {
-        return d;
+        return x;
     }
-    number_new(work, at, d)
+    let d = number_new(work, at, x.counters);
+    ended(d, x.at)
 }
 
 // So many columns from a place on.
@@ -744,9 +772,9 @@ pub fn number_columns(work: &mut [i32], at: usize, count: usize, c: Counters) ->
     let mut rest = count;
     let mut d = c;
     while rest != 0 {
-        let p = q;
-        d = number_column(work, p, d);
-        q = int_end(work, p, 64);
+        let x = number_column(work, q, d);
+        d = x.counters;
+        q = x.at;
         rest = rest - 1;
     }
     d

@@ -14,12 +14,11 @@ use Rattle.number.proofs.declare.Reads as declare-reads
 use Rattle.number.proofs.found.Reads as found-reads
 use Rattle.number.proofs.longer.Reads as longer-reads
 use Rattle.number.proofs.node_at.Reads as node-at-reads
+use Rattle.number.proofs.number_comparison.Reads as number-comparison-reads
 use Rattle.number.proofs.number_cross.Reads as number-cross-reads
 use Rattle.number.proofs.number_disj.Reads as number-disj-reads
-use Rattle.number.proofs.number_int.Reads as number-int-reads
 use Rattle.number.proofs.single.Reads as single-reads
 use Rattle.number.proofs.surveys.Reads as surveys-reads
-use Rattle.number.proofs.within.Reads as within-reads
 use Rattle.number.proofs.+number+numbers.{statement}
 use Rattle.number.proofs.+number+numbers.Tie.{close}
 use mathlib.Core.Path.{_≡_, refl, sym, ap, _∙_}
@@ -28,9 +27,9 @@ use native.Mathlib.Omega.{arith}
 use lib.ListN.{length}
 use Rattle.walk.specs.Decode.{read-part}
 use Rattle.walk.specs.Steps.{okay-at}
-use Rattle.walk.specs.Meets.{Met, met-zero, met-var, met-cmp, met-not, met-conj, met-disj, met-split, met-cross}
+use Rattle.walk.specs.Meets.{Met, met-to, number-cmp, met-zero, met-var, met-not, met-conj, met-disj, met-split, met-cross}
 use Rattle.number.specs.Sized.{sized-none, sized-var, sized-cmp, sized-not, sized-conj, sized-disj, sized-split, sized-cross}
-use Rattle.number.proofs.Leaves.{read-length, past-is, join-is, at-in}
+use Rattle.number.proofs.Leaves.{read-length, join-is, at-in}
 use Rattle.number.proofs.Members.{met-as, sized-all-in, NumbersSofar, numbers-start, numbers-again, numbers-done, inside-short, passed-by}
 
 abbrev μ-number : Measures 1 number-kinds.ps ℕ
@@ -52,7 +51,7 @@ abbrev numbers-below : ℕ → In 1 numbers-kinds.ps
 numbers-below t = and 1 numbers-kinds.ps (falls 1 numbers-kinds.ps _<_ μ-numbers t) numbers.Pre
 
 abbrev number-claims : ℕ → number-lts.Claims
-number-claims t = (single-reads.Asked, single-reads.Learnt, found-reads.Asked, found-reads.Learnt, node-at-reads.Asked, node-at-reads.Learnt, declare-reads.Asked, declare-reads.Learnt, within-reads.Asked, within-reads.Learnt, number-int-reads.Asked, number-int-reads.Learnt, number-below t, number.Post, numbers-below t, numbers.Post, number-disj-reads.Asked, number-disj-reads.Learnt, longer-reads.Asked, longer-reads.Learnt, bump-reads.Asked, bump-reads.Learnt, surveys-reads.Asked, surveys-reads.Learnt, number-cross-reads.Asked, number-cross-reads.Learnt)
+number-claims t = (single-reads.Asked, single-reads.Learnt, found-reads.Asked, found-reads.Learnt, node-at-reads.Asked, node-at-reads.Learnt, declare-reads.Asked, declare-reads.Learnt, number-comparison-reads.Asked, number-comparison-reads.Learnt, number-below t, number.Post, numbers-below t, numbers.Post, number-disj-reads.Asked, number-disj-reads.Learnt, longer-reads.Asked, longer-reads.Learnt, bump-reads.Asked, bump-reads.Learnt, surveys-reads.Asked, surveys-reads.Learnt, number-cross-reads.Asked, number-cross-reads.Learnt)
 
 abbrev numbers-claims : ℕ → numbers-lts.Claims
 numbers-claims t = (number-below t, number.Post, add-member-reads.Asked, add-member-reads.Learnt)
@@ -73,13 +72,10 @@ number-declare-requires : (t : ℕ) → number-lts.Need-declare-requires (number
 number-declare-requires t c κs = let o = okay-at ((c .before .before .before .before .before .before .before) .args .work .now) _ _ _ _ (at-in _ _ ((c .before .before .before .before .before .before .before) .pre .1 .0) ((c .before .before .before .before .before .before .before) .pre .1 .1 .0)) (sym (c .before .before .v .given .1) ∙ c .before .before .before .before .node-at .ensures) in
     (o .2, ((c .before .before .before .before .before .before .before) .pre .1 .1 .1 .1 .0, (c .before .before .before .before .before .before .before) .pre .1 .1 .1 .1 .1))
 
-number-number-int-requires : (t : ℕ) → number-lts.Need-number-int-requires (number-claims t) (number-at t) number.Post
-number-number-int-requires t c κs = ((c .before .before .before .before .before .before .before .before) .pre .1 .0, (omega (arith, c .within .ensures), ((c .before .before .before .before .before .before .before .before) .pre .1 .1 .1 .1 .0, (c .before .before .before .before .before .before .before .before) .pre .1 .1 .1 .1 .1)))
-
-number-number-int-requires-2 : (t : ℕ) → number-lts.Need-number-int-requires-2 (number-claims t) (number-at t) number.Post
-number-number-int-requires-2 t c κs = let o = okay-at ((c .before .before .before .before .before .before .before .before .before .before .before) .args .work .now) _ _ _ _ (at-in _ _ ((c .before .before .before .before .before .before .before .before .before .before .before) .pre .1 .0) ((c .before .before .before .before .before .before .before .before .before .before .before) .pre .1 .1 .0)) (sym (c .before .before .before .before .before .before .b .given .1) ∙ c .before .before .before .before .before .before .before .before .node-at .ensures) in
-    let k = read-length ((c .before .before .before .before .before .before .before .before .before .before .before) .args .work .now) ((c .before .before .before .before .before .before .before .before .before .before .before) .pre .1 .0) in
-    (omega (arith, c .before .before .number-int .ensures .size, (c .before .before .before .before .before .before .before .before .before .before .before) .pre .1 .0), (omega (arith, k, o .3), (c .before .before .number-int .ensures .low, c .before .before .number-int .ensures .low-ints)))
+number-number-comparison-requires : (t : ℕ) → number-lts.Need-number-comparison-requires (number-claims t) (number-at t) number.Post
+number-number-comparison-requires t c κs = let o = okay-at ((c .before .before .before .before .before .before .before) .args .work .now) _ _ _ _ (at-in _ _ ((c .before .before .before .before .before .before .before) .pre .1 .0) ((c .before .before .before .before .before .before .before) .pre .1 .1 .0)) (sym (c .before .before .b .given .1) ∙ c .before .before .before .before .node-at .ensures) in
+    let k = read-length ((c .before .before .before .before .before .before .before) .args .work .now) ((c .before .before .before .before .before .before .before) .pre .1 .0) in
+    ((c .before .before .before .before .before .before .before) .pre .1 .0, ((c .before .before .before .before .before .before .before) .pre .1 .1 .0, (omega (arith, k, o .3), ((c .before .before .before .before .before .before .before) .pre .1 .1 .1 .1 .0, (c .before .before .before .before .before .before .before) .pre .1 .1 .1 .1 .1))))
 
 number-number-requires : (t : ℕ) → number-lts.Need-number-requires (number-claims t) (number-at t) number.Post
 number-number-requires t c κs = let o = okay-at ((c .before .before .before .before .before .before .before) .args .work .now) _ _ _ _ (at-in _ _ ((c .before .before .before .before .before .before .before) .pre .1 .0) ((c .before .before .before .before .before .before .before) .pre .1 .1 .0)) (sym (c .before .before .q .given .1) ∙ c .before .before .before .before .node-at .ensures) in
@@ -133,13 +129,11 @@ number-returns-4 t c = let e = sym (c .before .before .before .before .before .b
     (met-as (c .found2 .ensures .0) (met-var _ _ _ _ _ _ _ _ (c .before .before .before .before .before .before .before .before .before .before .if1 .left) refl _ _ _ _ e (c .before .before .before .declare .ensures)), sized-var ((c .before .before .before .before .before .before .before .before .before .before .before) .args .work .now) _ _ _ _ _ (at-in _ _ ((c .before .before .before .before .before .before .before .before .before .before .before) .pre .1 .0) ((c .before .before .before .before .before .before .before .before .before .before .before) .pre .1 .1 .0)) ((c .before .before .before .before .before .before .before .before .before .before .before) .pre .1 .1 .1 .0) _ (c .before .before .before .before .before .before .before .before .before .before .if1 .left) refl _ _ _ e (c .found2 .ensures .1 ∙ c .before .single2 .ensures))
 
 number-same-length-4 : (t : ℕ) → number-lts.Need-same-length-4 (number-claims t) (number-at t) number.Post
-number-same-length-4 t c = c .before .before .before .number-int2 .ensures .size ∙ c .before .before .before .before .before .before .number-int .ensures .size
+number-same-length-4 t c = c .before .before .before .number-comparison .ensures .size
 
 number-returns-5 : (t : ℕ) → number-lts.Need-returns-5 (number-claims t) (number-at t) number.Post
-number-returns-5 t c = let e = sym (c .before .before .before .before .before .before .before .before .before .before .b .given .1) ∙ c .before .before .before .before .before .before .before .before .before .before .before .before .node-at .ensures in (
-  met-as (c .found3 .ensures .0) (met-cmp _ _ _ _ _ _ _ _ (c .before .before .before .before .before .before .before .before .before .before .before .before .before .before .if1 .left) refl _ _ _ _ _ _ _ e (past-is _ _ _ ((c .before .before .before .before .before .before .before .before .before .before .before .before .before .before .before) .pre .1 .0) (c .before .before .before .before .before .before .before .within .ensures)) (c .before .before .before .before .before .before .number-int .ensures) (c .before .before .before .number-int2 .ensures)),
-  sized-cmp ((c .before .before .before .before .before .before .before .before .before .before .before .before .before .before .before) .args .work .now) _ _ _ _ _ (at-in _ _ ((c .before .before .before .before .before .before .before .before .before .before .before .before .before .before .before) .pre .1 .0) ((c .before .before .before .before .before .before .before .before .before .before .before .before .before .before .before) .pre .1 .1 .0)) ((c .before .before .before .before .before .before .before .before .before .before .before .before .before .before .before) .pre .1 .1 .1 .0) _ (c .before .before .before .before .before .before .before .before .before .before .before .before .before .before .if1 .left) refl _ _ _ e (c .found3 .ensures .1 ∙ c .before .single3 .ensures),
-)
+number-returns-5 t c = let e = sym (c .before .before .before .before .before .before .b .given .1) ∙ c .before .before .before .before .before .before .before .before .node-at .ensures in
+    (met-as (c .found3 .ensures .0) (met-to (number-cmp _ _ _ _ _ _ _ _ (c .before .before .before .before .before .before .before .before .before .before .if1 .left) refl _ _ _ e refl) (c .before .before .before .number-comparison .ensures)), sized-cmp ((c .before .before .before .before .before .before .before .before .before .before .before) .args .work .now) _ _ _ _ _ (at-in _ _ ((c .before .before .before .before .before .before .before .before .before .before .before) .pre .1 .0) ((c .before .before .before .before .before .before .before .before .before .before .before) .pre .1 .1 .0)) ((c .before .before .before .before .before .before .before .before .before .before .before) .pre .1 .1 .1 .0) _ (c .before .before .before .before .before .before .before .before .before .before .if1 .left) refl _ _ _ e (c .found3 .ensures .1 ∙ c .before .single3 .ensures))
 
 number-same-length-5 : (t : ℕ) → number-lts.Need-same-length-5 (number-claims t) (number-at t) number.Post
 number-same-length-5 t c = c .before .number .ensures .0 .size
@@ -201,10 +195,7 @@ pub +number+numbers-spec : {M : Type 1} → statement M
     (λ c κs. search needs)
     (λ c κs. search needs)
     (λ c. search needs)
-    (λ c. search needs)
-    (λ c κs. search needs)
-    (number-number-int-requires t)
-    (number-number-int-requires-2 t)
+    (number-number-comparison-requires t)
     (λ c κs. search needs)
     (λ c κs. search needs)
     (λ c. search needs)

@@ -1,13 +1,13 @@
-use borrow.Author.Needs.{needs}
 use Rattle.number.proofs.number_columns.Statement.{statement}
 use Rattle.number.proofs.number_columns.Tie as tie
 use Rattle.number.proofs.number_columns.Reads as reads
 use Rattle.number.proofs.number_columns.Lts as lts
-use Rattle.number.proofs.int_end.Reads as int-end-reads
 use Rattle.number.proofs.number_column.Reads as number-column-reads
+use borrow.Author.Needs.{needs}
 use mathlib.Core.Path.{_≡_, refl, sym, ap, _∙_}
 use native.Mathlib.Omega.{arith}
 use Rattle.walk.specs.MeetColumns.{ColumnsSofar, columns-start, columns-again, columns-done}
+use Rattle.number.proofs.Terms.{end-in}
 
 abbrev Inv-loop : tie.InvT-loop
 Inv-loop work₀ at count q₀ rest₀ d₀ work q rest d = ColumnsSofar work₀ d₀ rest₀ q₀ work d rest q
@@ -21,9 +21,6 @@ loop-holds c = columns-start _ _ _ _ (c .pre .1 .0) (c .pre .1 .1 .0) (c .pre .1
 number-column-requires : tie.Need-number-column-requires Inv-loop μ-loop
 number-column-requires c κs = let i = c .before .before .loop .inv in (omega (arith, i .size, (c .before .before .before) .pre .0), (i .inside, (i .low, i .low-ints)))
 
-int-end-requires : tie.Need-int-end-requires Inv-loop μ-loop
-int-end-requires c κs = let i = c .before .before .before .before .before .loop .inv in (omega (arith, i .size, c .before .before .number-column .ensures .size, (c .before .before .before .before .before .before) .pre .0), i .inside)
-
 sub-rest : tie.Need-sub-rest Inv-loop μ-loop
 sub-rest c = search needs
 
@@ -31,7 +28,7 @@ loop-less : tie.Need-loop-less Inv-loop μ-loop
 loop-less c = search needs
 
 loop-again : tie.Need-loop-again Inv-loop μ-loop
-loop-again c = columns-again _ _ _ _ _ _ _ _ _ _ _ (c .before .before .before .before .before .before .loop .inv) (c .before .before .before .before .before .loop-test .taken) (c .before .before .before .number-column .ensures) (c .int-end .ensures .0) (c .int-end .ensures .1 .1)
+loop-again c = let y = c .before .before .number-column .ensures in columns-again _ _ _ _ _ _ _ _ _ _ _ (c .before .before .before .before .before .loop .inv) (c .before .before .before .before .loop-test .taken) (y .0) (end-in _ _ _ _ _ (y .0 .part) (y .1 .0)) (y .1 .1)
 
 same-length : tie.Need-same-length Inv-loop μ-loop
 same-length c = c .before .loop .inv .size
@@ -47,7 +44,6 @@ number-columns-spec =
     μ-loop
     loop-holds
     number-column-requires
-    int-end-requires
     sub-rest
     loop-less
     loop-again
