@@ -13,7 +13,7 @@ use borrow.Author.Tests.{ne-eqb}
 use Rattle.syntax.specs.Syntax.{IntExpr, IConst, IVar, Linear, Terms, tnil, tmore}
 use Rattle.walk.specs.Tree.{Tree, Trees, nil, cons, joined}
 use Rattle.walk.specs.Item.{limit, bump, is-none, nat, bool-map, int-map, emitted-ints, bool-entry, int-entry, State, new-bool, meet-bool, new-int, meet-int-var, meet-int, meet-terms, pass-bools, Tally, fresh, Item, tallies, mets, var-item, cmp-item, num-item, conj-item, disj-item, cross-item, item, items}
-use Rattle.walk.specs.Decode.{word, past, below, terms, int-step, int-at, int-end, node-of, Read, Reads, Reader, many, as-tree, cross-step, step, decode, read-part, fresh-of, Counted, Surveys, SurveysAll}
+use Rattle.walk.specs.Decode.{word, past, below, terms, int-step, int-at, int-end, node-of, Read, Reads, Reader, many, as-tree, cross-step, step, decode, read-part, Surveys}
 use Rattle.walk.specs.Steps.{decode-level, many-more}
 use Rattle.walk.specs.declared.Node.{Node}
 use Rattle.walk.specs.declared.Node.the-variants.{Var, Cmp, Not, Join, Cross}
@@ -211,19 +211,6 @@ pub numbers-end : (p : Reader) (rest : ℕ) (f h : Bool) (q b : ℕ) (s : State)
 unfolding many items mets
 numbers-end p rest f h q b s e = rw e
 
--- ---- a disjunction's new numbers
-
-pub passed : (w : List ℤ) (c : Counters) → c .ints ≤ limit → (l : ℕ) (t : Bool) (k : ℕ) (g h : Bool) (at base m : ℕ) (s : Surveyed) (x n : ℕ) → (r : Counters) → SurveysAll w l t k g h at base m s
-    → x ≡ fresh-of s → n ≡ bump (c .bools) x → r ≡ record { bools = n; ints = c .ints } → Met (pass-bools (fresh (tallies (items (many (decode (read-part w) l t) k g h at base .trees))))) w c w r
-unfolding pass-bools
-passed w c low l t k g h at base m s x n r y hx hn hr = rw hr (record {
-  state = ap (λ (b : ℕ). record { work = w; bools = b; ints = c .ints }) (hn ∙ rw (hx, ← y .unit));
-  part = refl;
-  size = refl;
-  low = omega arith;
-  low-ints = low;
-})
-
 -- the members before q are met; so many are left, the next negated if f
 pub record MembersSofar (l : ℕ) (t h : Bool) (w : List ℤ) (c : Counters) (k : ℕ) (g : Bool) (at base : ℕ) (w' : List ℤ) (d : Counters) (rest : ℕ) (f : Bool) (q b : ℕ) : Type 0 where
   pub inside : q ≤ 4608
@@ -291,10 +278,6 @@ module _ (w : List ℤ) (l : ℕ) (t g : Bool) (at base : ℕ) (c : Counters) wh
   module _ (u : ℕ) (z : l ≡ 0 → ⊥) (hu : u ≡ l - 1) where
     pub met-var : (w' : List ℤ) (r : Counters) (v q : ℕ) → Var v q ≡ node-of (read-part w) u g at (word (read-part w) at) → Met (meet-bool v) w c w' r → Meets w' r
     met-var w' r v q e x = met-to (number-var (read-part w) l t g at base (state-of w c) u z hu v q e) x
-
-    pub met-cmp : (v w' : List ℤ) (d r : Counters) (a b q : ℕ) → Cmp b q ≡ node-of (read-part w) u g at (word (read-part w) at) → a ≡ past (read-part w) (at + 2)
-        → Met (meet-int (int-at (read-part w) u a .0)) w c v d → Met (meet-int (int-at (read-part v) u b .0)) v d w' r → Meets w' r
-    met-cmp v w' d r a b q e h x y = met-to (number-cmp (read-part w) l t g at base (state-of w c) u z hu b q a e h) (met-after (λ ws. meet-int (int-at ws u b .0)) x y)
 
     pub met-not : (w' : List ℤ) (r : Counters) (q : ℕ) → Not q ≡ node-of (read-part w) u g at (word (read-part w) at) → Met (item (decode (read-part w) u t (not g) q base .tree) .met) w c w' r → Meets w' r
     met-not w' r q e x = met-to (number-not (read-part w) l t g at base (state-of w c) u z hu q e) x
