@@ -174,6 +174,11 @@ module _ (ws : List ℤ) (at : ℕ) (out mid : List ℤ) (next end : ℕ) (q : S
     λ ds s hd r. q ds s hd r .nexts,
   )
 
+pub step-fits : (ws : List ℤ) (at : ℕ) (out out' : List ℤ) (end status : ℕ) → Ready-step ws at out → Step-post ws at out out' end status → length out' ≡ length out → end ≤ length out'
+step-fits ws at out out' end status s q l =
+    let k = s .ready in
+    omega (arith, q (k .ds) (k .it) (s .fixed) (k .domains) (k .reads) (k .room) (s .values) .fits, k .room)
+
 -- ---- any number of steps
 
 module _ (ws : List ℤ) (at n : ℕ) where
@@ -229,42 +234,47 @@ module _ (ws : List ℤ) (at n : ℕ) where
 
 -- ---- `sweep`
 
-pub record Sweeping (ws : List ℤ) (at n : ℕ) (out₀ out places : List ℤ) (next i : ℕ) : Type 0 where
+pub record Sweeping (ws : List ℤ) (at n : ℕ) (out₀ out places : List ℤ) (next i count : ℕ) : Type 0 where
   pub few : i ≤ n
+  pub short : count ≤ 2048
   pub size : length out ≡ length out₀
   pub ready : Ready-passes ws at n out
-  pub hurried : Hurry-post ws at n out₀ out 1
+  pub hurried : Hurry-post ws at n out₀ out 0
   pub placed : Places ws at n places
   pub reached : Reached ws at n i next
 
 module _ (ws : List ℤ) (at n : ℕ) where
-  pub sweep-first : (out places : List ℤ) → Ready-passes ws at n out → Places ws at n places → Sweeping ws at n out out places at 0
-  sweep-first out places r p = record { few = omega arith; size = refl; ready = r; hurried = hurried-none ws at n out 1 (omega arith); placed = p; reached = reached-none ws at n }
+  pub sweep-first : (out places : List ℤ) → Ready-passes ws at n out → Places ws at n places → Sweeping ws at n out out places at 0 0
+  sweep-first out places r p = record { few = omega arith; short = omega arith; size = refl; ready = r; hurried = hurried-none ws at n out 0 (omega arith); placed = p; reached = reached-none ws at n }
 
-  module _ (out₀ out places : List ℤ) (p i : ℕ) (l : i < n) (w : Sweeping ws at n out₀ out places p i) where
+  module _ (out₀ out places : List ℤ) (p i count : ℕ) (l : i < n) (w : Sweeping ws at n out₀ out places p i count) where
     pub sweep-ready : Ready-step ws p out
     sweep-ready = place-ready ws at n out p (reached-place ws at n i p l (w .reached)) (w .ready)
 
     module _ (out' : List ℤ) (next end status : ℕ) (q : Step-post ws p out out' end status × Next-post ws p next) where
       sweep-step : Hurry-post ws at n out₀ out' status
-      sweep-step = hurried-then ws at n out₀ out out' 1 status (omega arith) (w .size) (w .hurried) (hurried-step ws at n out out' p end status (reached-place ws at n i p l (w .reached)) (q .0))
+      sweep-step = hurried-then ws at n out₀ out out' 0 status (omega arith) (w .size) (w .hurried) (hurried-step ws at n out out' p end status (reached-place ws at n i p l (w .reached)) (q .0))
 
-      pub sweep-stop : status ≡ 2 → Hurry-post ws at n out₀ out' 2 × Places ws at n places
-      sweep-stop h = (subst (λ (x : ℕ). Hurry-post ws at n out₀ out' x) h sweep-step, w .placed)
+      pub sweep-stop : Hurry-post ws at n out₀ out' status × Places ws at n places × (0 ≤ 2048)
+      sweep-stop = (sweep-step, w .placed, omega arith)
 
-      pub sweep-next : (status ≡ 2 → ⊥) → length out' ≡ length out → (places' : List ℤ) → Only p places places' → Sweeping ws at n out₀ out' places' next (i + 1)
-      sweep-next h lo places' o =
+      pub sweep-fits : length out' ≡ length out → end ≤ length out'
+      sweep-fits lo = step-fits ws p out out' end status sweep-ready (q .0) lo
+
+      pub sweep-next : (status ≡ 2 → ⊥) → length out' ≡ length out → (places' : List ℤ) → Only p places places' → (count' : ℕ) → count' ≤ 2048 → Sweeping ws at n out₀ out' places' next (i + 1) count'
+      sweep-next h lo places' o count' lc =
           let x = reached-place ws at n i p l (w .reached) in
           record {
             few = omega arith;
+            short = lc;
             size = lo ∙ w .size;
             ready = ready-now ws at n out out' status (hurried-step ws at n out out' p end status x (q .0)) lo (w .ready);
-            hurried = hurried-as ws at n out₀ out' status 1 h (omega arith) sweep-step;
+            hurried = hurried-as ws at n out₀ out' status 0 h (omega arith) sweep-step;
             placed = places-only ws at n p places places' o (λ z. x) (w .placed);
             reached = reached-next ws at n i p l (w .reached) next (q .1);
           }
 
--- ---- `again`, `follow`, `drain`
+-- ---- `again`, `drain`
 
 module _ (ws : List ℤ) where
   pub moves-none : (out places : List ℤ) (status : ℕ) → (status ≡ 2 → ⊥) → Moves ws out places out places status
@@ -293,30 +303,27 @@ module _ (ws : List ℤ) where
       again-moves places' o at n r = (hurried-step ws at n out out' p end status (r .each i p z h) q, places-only ws at n 0 places places' o (λ k. absurd (k refl)) r)
 
       pub again-fits : Ready-hurry ws out places → length out' ≡ length out → end ≤ length out'
-      again-fits r l =
-          let s = again-ready r in
-          let k = s .ready in
-          omega (arith, q (k .ds) (k .it) (s .fixed) (k .domains) (k .reads) (k .room) (s .values) .fits, k .room)
+      again-fits r l = step-fits ws p out out' end status (again-ready r) q l
 
 -- after some steps; status: that of the last ones
-pub record Moving (ws out₀ places₀ out places : List ℤ) (chains : ℕ) : Type 0 where
-  pub few : chains ≤ 512
+pub record Moving (ws out₀ places₀ out places : List ℤ) (count : ℕ) : Type 0 where
+  pub few : count ≤ 2048
   pub size : length out ≡ length out₀
   pub ready : Ready-hurry ws out places
   pub moves : Moves ws out₀ places₀ out places 0
 
 module _ (ws : List ℤ) where
-  pub moving-first : (out places : List ℤ) (chains : ℕ) → chains ≤ 512 → Ready-hurry ws out places → Moving ws out places out places chains
-  moving-first out places chains l r = record { few = l; size = refl; ready = r; moves = moves-none ws out places 0 (omega arith) }
+  pub moving-first : (out places : List ℤ) (count : ℕ) → count ≤ 2048 → Ready-hurry ws out places → Moving ws out places out places count
+  moving-first out places count l r = record { few = l; size = refl; ready = r; moves = moves-none ws out places 0 (omega arith) }
 
-  module _ (out₀ places₀ out places : List ℤ) (chains : ℕ) (m : Moving ws out₀ places₀ out places chains) (out' places' : List ℤ) (status chains' : ℕ) (q : Moves ws out places out' places' status × (chains' ≤ 512)) where
-    pub all-moves : Moves ws out₀ places₀ out' places' status
+  module _ (out₀ places₀ out places : List ℤ) (count : ℕ) (m : Moving ws out₀ places₀ out places count) (out' places' : List ℤ) (status count' : ℕ) (q : Moves ws out places out' places' status × (count' ≤ 2048)) where
+    all-moves : Moves ws out₀ places₀ out' places' status
     all-moves = moves-then ws out₀ places₀ out places out' places' 0 status (omega arith) (m .size) (m .moves) (q .0)
 
     pub moving-stop : status ≡ 2 → Moves ws out₀ places₀ out' places' 2
     moving-stop h = subst (λ (x : ℕ). Moves ws out₀ places₀ out' places' x) h all-moves
 
-    pub moving-next : (status ≡ 2 → ⊥) → length out' ≡ length out → Moving ws out₀ places₀ out' places' chains'
+    pub moving-next : (status ≡ 2 → ⊥) → length out' ≡ length out → Moving ws out₀ places₀ out' places' count'
     moving-next h l = record { few = q .1; size = l ∙ m .size; ready = moved-ready ws out places out' places' status (q .0) l (m .ready); moves = moves-as ws out₀ places₀ out' places' status 0 h (omega arith) all-moves }
 
 -- ---- `hurry`
@@ -329,14 +336,14 @@ zeros-at (suc m) (suc i) = zeros-at m i
 pub places-none : (ws : List ℤ) (at n m : ℕ) → Places ws at n (replicate m (pos 0))
 places-none ws at n m = record { each = λ i p z e. absurd (z (pos-eq _ _ _ e (zeros-at m i))) }
 
-module _ (ws : List ℤ) (at n : ℕ) (out mid places : List ℤ) (s : ℕ) where
-  pub hurry-stop : s ≡ 2 → Hurry-post ws at n out mid s × Places ws at n places → Hurry-post ws at n out mid 2
+module _ (ws : List ℤ) (at n : ℕ) (out mid places : List ℤ) (s count : ℕ) where
+  pub hurry-stop : s ≡ 2 → Hurry-post ws at n out mid s × Places ws at n places × (count ≤ 2048) → Hurry-post ws at n out mid 2
   hurry-stop h p = subst (λ (x : ℕ). Hurry-post ws at n out mid x) h (p .0)
 
-  pub hurry-ready : Hurry-post ws at n out mid s × Places ws at n places → length mid ≡ length out → Ready-passes ws at n out → Ready-hurry ws mid places
+  pub hurry-ready : Hurry-post ws at n out mid s × Places ws at n places × (count ≤ 2048) → length mid ≡ length out → Ready-passes ws at n out → Ready-hurry ws mid places
   hurry-ready p l r = record { at = at; count = n; ready = ready-now ws at n out mid s (p .0) l r; placed = p .1 }
 
-  pub hurry-end : (s ≡ 2 → ⊥) → Hurry-post ws at n out mid s × Places ws at n places → length mid ≡ length out → (out' places' : List ℤ) (t : ℕ) → Moves ws mid places out' places' t → Hurry-post ws at n out out' t
+  pub hurry-end : (s ≡ 2 → ⊥) → Hurry-post ws at n out mid s × Places ws at n places × (count ≤ 2048) → length mid ≡ length out → (out' places' : List ℤ) (t : ℕ) → Moves ws mid places out' places' t → Hurry-post ws at n out out' t
   hurry-end h p l out' places' t q = hurried-then ws at n out mid out' s t h l (p .0) (q at n (p .1) .0)
 
 -- ---- after a pass

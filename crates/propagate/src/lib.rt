@@ -20,9 +20,9 @@ pub struct Stepped {
     pub status: usize,
 }
 
-// How many chains there are to follow now.
+// How many statements were set aside to be looked at again, those that were since included.
 pub struct Moved {
-    pub chains: usize,
+    pub count: usize,
     pub status: usize,
 }
 
@@ -60,10 +60,11 @@ pub fn store(a: &mut [i32], i: usize, n: usize)
 }
 
 // ---- the notes
-// What they hold needs no proof, as any order of steps is right: at v, the place of the last occurrence of the variable v (0: none, or v
-// is fixed); at 512 + k, a chain to follow; at 1024 + p, for an occurrence at p, the occurrence before it, and at 1025 + p its statement's index.
+// What they hold needs no proof, as any order of steps is right: at v, the place of the last occurrence of the variable v (0: none, or v is fixed);
+// at 512 + p, for an occurrence at p, the occurrence before it, and at 513 + p its statement's index; at 4610 + i, whether the statement of
+// index i is waiting; at 6000 + k, the k-th statement to look at again.
 
-// The occurrence of a variable at p, if there is one, in the statement of index i.
+// The occurrence of a variable at p, if there is one, in the statement of index i: the first one in the statement counts.
 pub fn watch_at(words: &[i32], p: usize, i: usize, notes: &mut [i32]) {
     let code = entry(words, p);
     if code != 11 {
@@ -77,8 +78,12 @@ pub fn watch_at(words: &[i32], p: usize, i: usize, notes: &mut [i32]) {
         return;
     }
     let before = entry(notes, v);
-    store(notes, 1024 + p, before);
-    store(notes, 1025 + p, i);
+    let same = entry(notes, 513 + before);
+    if before != 0 && same == i {
+        return;
+    }
+    store(notes, 512 + p, before);
+    store(notes, 513 + p, i);
     store(notes, v, p);
 }
 
@@ -90,77 +95,90 @@ pub fn watch(words: &[i32], from: usize, to: usize, i: usize, notes: &mut [i32])
     }
 }
 
-// If the variable v is fixed, its chain is one more to follow.
-pub fn push(work: &[i32], v: usize, notes: &mut [i32], chains: usize) -> usize
-    requires { ⌜ chains ≤ 512 ⌝ }
-    ensures { λ r. ⌜ r ≤ 512 ⌝ }
+// The next occurrence of a chain; 0: none.
+pub fn earlier(notes: &[i32], p: usize) -> usize
+    requires { ⌜ (p ≡ 0 → ⊥) × (p < 8192) ⌝ }
+    ensures { λ r. ⌜ r < p ⌝ }
+{
+    let q = entry(notes, 512 + p);
+    if q < p { q } else { 0 }
+}
+
+// The statement of index i is set aside, unless it is waiting.
+pub fn mark(notes: &mut [i32], i: usize, count: usize) -> usize
+    requires { ⌜ (count ≤ 2048) × (i < 8192) ⌝ }
+    ensures { λ r. ⌜ r ≤ 2048 ⌝ }
+{
+    if count >= 2048 {
+        return count;
+    }
+    let waits = entry(notes, 4610 + i);
+    if waits != 0 {
+        return count;
+    }
+    store(notes, 4610 + i, 1);
+    store(notes, 6000 + count, i);
+    count + 1
+}
+
+// The statements of a chain, from the occurrence at `first` on.
+pub fn mark_chain(notes: &mut [i32], first: usize, marked: usize) -> usize
+    requires { ⌜ (marked ≤ 2048) × (first < 8192) ⌝ }
+    ensures { λ r. ⌜ r ≤ 2048 ⌝ }
+{
+    let mut count = marked;
+    let mut p = first;
+    while p != 0 {
+        let i = entry(notes, 513 + p);
+        count = mark(notes, i, count);
+        p = earlier(notes, p);
+    }
+    count
+}
+
+// If the variable v is fixed, its statements are to be looked at again.
+pub fn push(work: &[i32], v: usize, notes: &mut [i32], count: usize) -> usize
+    requires { ⌜ count ≤ 2048 ⌝ }
+    ensures { λ r. ⌜ r ≤ 2048 ⌝ }
 {
     if v >= 512 {
-        return chains;
+        return count;
     }
     let value = entry(work, v);
     if value == 2 {
-        return chains;
+        return count;
     }
-    let p = entry(notes, v);
-    if p == 0 {
-        return chains;
-    }
-    if chains >= 512 {
-        return chains;
-    }
+    let first = entry(notes, v);
     store(notes, v, 0);
-    store(notes, 512 + chains, p);
-    chains + 1
+    mark_chain(notes, first, count)
 }
 
-pub fn push_at(work: &[i32], p: usize, notes: &mut [i32], chains: usize) -> usize
-    requires { ⌜ chains ≤ 512 ⌝ }
+pub fn push_at(work: &[i32], p: usize, notes: &mut [i32], count: usize) -> usize
+    requires { ⌜ count ≤ 2048 ⌝ }
     requires { ⌜ p < length (now work) ⌝ }
-    ensures { λ r. ⌜ r ≤ 512 ⌝ }
+    ensures { λ r. ⌜ r ≤ 2048 ⌝ }
 {
     let code = entry(work, p);
     if code == 11 {
         let v = entry(work, p + 1);
-        return push(work, v, notes, chains);
+        return push(work, v, notes, count);
     }
-    chains
+    count
 }
 
 // The variables of the folded statement, those that are fixed now.
-pub fn push_fixed(work: &[i32], end: usize, notes: &mut [i32], chains: usize) -> usize
-    requires { ⌜ chains ≤ 512 ⌝ }
+pub fn push_fixed(work: &[i32], end: usize, notes: &mut [i32], marked: usize) -> usize
+    requires { ⌜ marked ≤ 2048 ⌝ }
     requires { ⌜ end ≤ length (now work) ⌝ }
-    ensures { λ r. ⌜ r ≤ 512 ⌝ }
+    ensures { λ r. ⌜ r ≤ 2048 ⌝ }
 {
-    let mut count = chains;
+    let mut count = marked;
     let mut p = 512;
     while p < end {
         count = push_at(work, p, notes, count);
         p += 1;
     }
     count
-}
-
-pub fn push_all(work: &[i32], notes: &mut [i32]) -> usize
-    ensures { λ r. ⌜ r ≤ 512 ⌝ }
-{
-    let mut count = 0;
-    let mut v = 0;
-    while v < 512 {
-        count = push(work, v, notes, count);
-        v += 1;
-    }
-    count
-}
-
-// The next occurrence of a chain; 0: none.
-pub fn earlier(notes: &[i32], p: usize) -> usize
-    requires { ⌜ (p ≡ 0 → ⊥) × (p < 8192) ⌝ }
-    ensures { λ r. ⌜ r < p ⌝ }
-{
-    let q = entry(notes, 1024 + p);
-    if q < p { q } else { 0 }
 }
 
 // ---- single statements
@@ -179,14 +197,10 @@ pub fn step(words: &[i32], at: usize, work: &mut [i32]) -> Stepped
     }
 }
 
-// Whether the folded statement may fix something later: a table and a constant do not.
+// Whether the folded statement, once required, may fix something later: a table, a constant and a variable do not.
 pub fn lasting(work: &[i32], end: usize) -> bool {
     let kind = entry(work, 512);
-    let code = entry(work, 513);
-    if kind != 1 {
-        return false;
-    }
-    end != 515 || code != 10
+    kind == 1 && end > 516
 }
 
 // The statement of index i, which stands from `at` to `next`, is noted if it may fix something later.
@@ -209,32 +223,46 @@ pub fn note(
     }
 }
 
+// After a step of this status.
+pub fn push_after(work: &[i32], end: usize, status: usize, notes: &mut [i32], count: usize) -> usize
+    requires { ⌜ count ≤ 2048 ⌝ }
+    requires { ⌜ end ≤ length (now work) ⌝ }
+    ensures { λ r. ⌜ r ≤ 2048 ⌝ }
+{
+    if status != 1 {
+        return count;
+    }
+    push_fixed(work, end, notes, count)
+}
+
 // Every statement once, in order.
 pub fn sweep(
     words: &[i32],
     at: usize,
-    count: usize,
+    statements: usize,
     work: &mut [i32],
     places: &mut [i32],
     notes: &mut [i32],
-) -> usize
-    requires { ⌜ Ready-passes (now words) at count (now work) ⌝ }
-    requires { ⌜ Places (now words) at count (now places) ⌝ }
-    ensures { λ r. ⌜ Hurry-post (now (words .entry)) at count (now (work .entry)) (now (work .exit)) r × Places (now (words .entry)) at count (now (places .exit)) ⌝ }
+) -> Moved
+    requires { ⌜ Ready-passes (now words) at statements (now work) ⌝ }
+    requires { ⌜ Places (now words) at statements (now places) ⌝ }
+    ensures { λ r. ⌜ Hurry-post (now (words .entry)) at statements (now (work .entry)) (now (work .exit)) (r .status) × Places (now (words .entry)) at statements (now (places .exit)) × (r .count ≤ 2048) ⌝ }
 {
     let mut next = at;
     let mut i = 0;
-    while i < count {
+    let mut count = 0;
+    while i < statements {
         let a = step(words, next, work);
         let status = a.status;
         if status == 2 {
-            return 2;
+            return Moved { count: 0, status };
         }
         note(words, next, a.next, i, work, a.end, places, notes);
+        count = push_after(work, a.end, status, notes, count);
         next = a.next;
         i += 1;
     }
-    1
+    Moved { count, status: 0 }
 }
 
 // A statement that fixes nothing any more is forgotten.
@@ -254,100 +282,66 @@ pub fn again(
     work: &mut [i32],
     places: &mut [i32],
     notes: &mut [i32],
-    chains: usize,
+    count: usize,
 ) -> Moved
     requires { ⌜ Ready-hurry (now words) (now work) (now places) ⌝ }
-    requires { ⌜ chains ≤ 512 ⌝ }
-    ensures { λ r. ⌜ Moves (now (words .entry)) (now (work .entry)) (now (places .entry)) (now (work .exit)) (now (places .exit)) (r .status) × (r .chains ≤ 512) ⌝ }
+    requires { ⌜ count ≤ 2048 ⌝ }
+    ensures { λ r. ⌜ Moves (now (words .entry)) (now (work .entry)) (now (places .entry)) (now (work .exit)) (now (places .exit)) (r .status) × (r .count ≤ 2048) ⌝ }
 {
     let at = entry(places, i);
     if at == 0 {
-        return Moved { chains, status: 0 };
+        return Moved { count, status: 0 };
     }
     let a = step(words, at, work);
     retire(work, a.end, places, i);
-    let status = a.status;
-    if status != 1 {
-        return Moved { chains, status };
-    }
-    let more = push_fixed(work, a.end, notes, chains);
+    let more = push_after(work, a.end, a.status, notes, count);
     Moved {
-        chains: more,
-        status,
+        count: more,
+        status: a.status,
     }
 }
 
-// The statements of a chain, from the occurrence at `first` on.
-pub fn follow(
-    words: &[i32],
-    first: usize,
-    work: &mut [i32],
-    places: &mut [i32],
-    notes: &mut [i32],
-    chains: usize,
-) -> Moved
-    requires { ⌜ Ready-hurry (now words) (now work) (now places) ⌝ }
-    requires { ⌜ (chains ≤ 512) × (first < 8192) ⌝ }
-    ensures { λ r. ⌜ Moves (now (words .entry)) (now (work .entry)) (now (places .entry)) (now (work .exit)) (now (places .exit)) (r .status) × (r .chains ≤ 512) ⌝ }
-{
-    let mut p = first;
-    let mut count = chains;
-    while p != 0 {
-        let i = entry(notes, 1025 + p);
-        let a = again(words, i, work, places, notes, count);
-        let status = a.status;
-        if status == 2 {
-            return Moved { chains: 0, status };
-        }
-        count = a.chains;
-        p = earlier(notes, p);
-    }
-    Moved {
-        chains: count,
-        status: 0,
-    }
-}
-
-// Every chain, those that come up on the way too.
+// Every statement that was set aside, those that come up on the way too.
 pub fn drain(
     words: &[i32],
     work: &mut [i32],
     places: &mut [i32],
     notes: &mut [i32],
-    chains: usize,
+    marked: usize,
 ) -> usize
     requires { ⌜ Ready-hurry (now words) (now work) (now places) ⌝ }
-    requires { ⌜ chains ≤ 512 ⌝ }
+    requires { ⌜ marked ≤ 2048 ⌝ }
     ensures { λ r. ⌜ Moves (now (words .entry)) (now (work .entry)) (now (places .entry)) (now (work .exit)) (now (places .exit)) r ⌝ }
 {
     let mut k = 0;
-    let mut count = chains;
+    let mut count = marked;
     while k < count {
-        let first = entry(notes, 512 + k);
-        let a = follow(words, first, work, places, notes, count);
+        let i = entry(notes, 6000 + k);
+        store(notes, 4610 + i, 0);
+        let a = again(words, i, work, places, notes, count);
         let status = a.status;
         if status == 2 {
             return 2;
         }
-        count = a.chains;
+        count = a.count;
         k += 1;
     }
     1
 }
 
-// Statements one by one, each again as soon as one of its variables is fixed. 1: go on; 2: unsatisfiable.
-pub fn hurry(words: &[i32], at: usize, count: usize, work: &mut [i32]) -> usize
-    requires { ⌜ Ready-passes (now words) at count (now work) ⌝ }
-    ensures { λ r. ⌜ Hurry-post (now (words .entry)) at count (now (work .entry)) (now (work .exit)) r ⌝ }
+// Statements one by one, each again once one of its variables was fixed. 1: go on; 2: unsatisfiable.
+pub fn hurry(words: &[i32], at: usize, statements: usize, work: &mut [i32]) -> usize
+    requires { ⌜ Ready-passes (now words) at statements (now work) ⌝ }
+    ensures { λ r. ⌜ Hurry-post (now (words .entry)) at statements (now (work .entry)) (now (work .exit)) r ⌝ }
 {
-    let mut places = [0i32; 4096];
-    let mut notes = [0i32; 5121];
-    let s = sweep(words, at, count, work, &mut places, &mut notes);
-    if s == 2 {
+    let mut places = [0i32; 1366];
+    let mut notes = [0i32; 8048];
+    let a = sweep(words, at, statements, work, &mut places, &mut notes);
+    let status = a.status;
+    if status == 2 {
         return 2;
     }
-    let chains = push_all(work, &mut notes);
-    drain(words, work, &mut places, &mut notes, chains)
+    drain(words, work, &mut places, &mut notes, a.count)
 }
 
 // ---- the passes

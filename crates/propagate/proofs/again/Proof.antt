@@ -4,7 +4,7 @@ use Rattle.propagate.proofs.again.Tie as tie
 use Rattle.propagate.proofs.again.Reads as reads
 use Rattle.propagate.proofs.again.Lts as lts
 use Rattle.propagate.proofs.entry.Reads as entry-reads
-use Rattle.propagate.proofs.push_fixed.Reads as push-fixed-reads
+use Rattle.propagate.proofs.push_after.Reads as push-after-reads
 use Rattle.propagate.proofs.retire.Reads as retire-reads
 use Rattle.propagate.proofs.step.Reads as step-reads
 use mathlib.Core.Path.{_≡_, refl, _∙_}
@@ -26,29 +26,20 @@ step-requires c κs = again-ready _ _ _ _ _ (c .before .if1 .left) (c .before .b
 retire-requires : tie.Need-retire-requires
 retire-requires c κs = search needs
 
+push-after-requires : tie.Need-push-after-requires
+push-after-requires c κs = (c .before .before .before .before .before .before .before .before .before .before .before .before .pre .1, again-fits _ _ _ _ _ (c .before .before .before .before .before .before .before .before .before .if1 .left) (c .before .before .before .before .before .before .before .before .before .before .entry .ensures .0 (c .before .before .before .before .before .before .before .before .before .if1 .left)) _ _ _ (c .before .before .before .before .before .before .before .step .ensures .0) (c .before .before .before .before .before .before .before .before .before .before .before .before .pre .0) (c .before .before .before .before .before .before .before .step .kept .1 .1 .0))
+
 same-length-2 : tie.Need-same-length-2
 same-length-2 c = search needs
 
 same-length-3 : tie.Need-same-length-3
 same-length-3 c = search needs
 
-returns-2 : tie.Need-returns-2
-returns-2 c = (again-moves _ _ _ _ _ (c .before .before .before .before .before .before .before .before .if1 .left) (c .before .before .before .before .before .before .before .before .before .entry .ensures .0 (c .before .before .before .before .before .before .before .before .if1 .left)) _ _ _ (c .before .before .before .before .before .before .step .ensures .0) _ (c .before .before .retire .ensures), c .before .before .before .before .before .before .before .before .before .before .before .pre .1)
-
-push-fixed-requires : tie.Need-push-fixed-requires
-push-fixed-requires c κs = (c .before .before .before .before .before .before .before .before .before .before .before .before .before .pre .1, again-fits _ _ _ _ _ (c .before .before .before .before .before .before .before .before .before .before .if1 .left) (c .before .before .before .before .before .before .before .before .before .before .before .entry .ensures .0 (c .before .before .before .before .before .before .before .before .before .before .if1 .left)) _ _ _ (c .before .before .before .before .before .before .before .before .step .ensures .0) (c .before .before .before .before .before .before .before .before .before .before .before .before .before .pre .0) (c .before .before .before .before .before .before .before .before .step .kept .1 .1 .0))
-
 same-length-4 : tie.Need-same-length-4
 same-length-4 c = search needs
 
-same-length-5 : tie.Need-same-length-5
-same-length-5 c = search needs
-
-same-length-6 : tie.Need-same-length-6
-same-length-6 c = search needs
-
-returns-3 : tie.Need-returns-3
-returns-3 c = (again-moves _ _ _ _ _ (c .before .before .before .before .before .before .before .before .before .before .before .before .if1 .left) (c .before .before .before .before .before .before .before .before .before .before .before .before .before .entry .ensures .0 (c .before .before .before .before .before .before .before .before .before .before .before .before .if1 .left)) _ _ _ (c .before .before .before .before .before .before .before .before .before .before .step .ensures .0) _ (c .before .before .before .before .before .before .retire .ensures), c .before .push-fixed .ensures)
+returns-2 : tie.Need-returns-2
+returns-2 c = (again-moves _ _ _ _ _ (c .before .before .before .before .before .before .before .before .before .before .before .if1 .left) (c .before .before .before .before .before .before .before .before .before .before .before .before .entry .ensures .0 (c .before .before .before .before .before .before .before .before .before .before .before .if1 .left)) _ _ _ (c .before .before .before .before .before .before .before .before .before .step .ensures .0) _ (c .before .before .before .before .before .retire .ensures), c .before .push-after .ensures)
 
 pub again-spec : {M : Type 1} → statement M
 again-spec =
@@ -59,11 +50,8 @@ again-spec =
     returns
     step-requires
     retire-requires
+    push-after-requires
     same-length-2
     same-length-3
-    returns-2
-    push-fixed-requires
     same-length-4
-    same-length-5
-    same-length-6
-    returns-3)
+    returns-2)

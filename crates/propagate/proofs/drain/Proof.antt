@@ -2,8 +2,9 @@ use Rattle.propagate.proofs.drain.Statement.{statement}
 use Rattle.propagate.proofs.drain.Tie as tie
 use Rattle.propagate.proofs.drain.Reads as reads
 use Rattle.propagate.proofs.drain.Lts as lts
+use Rattle.propagate.proofs.again.Reads as again-reads
 use Rattle.propagate.proofs.entry.Reads as entry-reads
-use Rattle.propagate.proofs.follow.Reads as follow-reads
+use Rattle.propagate.proofs.store.Reads as store-reads
 use borrow.Author.Needs.{needs}
 use mathlib.Core.Path.{_≡_, refl, _∙_}
 use native.Mathlib.Omega.{arith}
@@ -12,10 +13,10 @@ use lib.ListN.{length}
 use Rattle.propagate.proofs.HurryLaws.{Moving, moving-first, moving-stop, moving-next, moves-as}
 
 abbrev Inv-loop : tie.InvT-loop
-Inv-loop words work₀ places₀ notes₀ chains k₀ count₀ work places notes k count = Moving words work₀ places₀ work places count × (k ≤ 512) × (length places ≡ length places₀) × (length notes ≡ length notes₀)
+Inv-loop words work₀ places₀ notes₀ marked k₀ count₀ work places notes k count = Moving words work₀ places₀ work places count × (k ≤ 2048) × (length places ≡ length places₀) × (length notes ≡ length notes₀)
 
 abbrev μ-loop : tie.MeasureT-loop
-μ-loop words work₀ places₀ notes₀ chains k₀ count₀ work places notes k count = 512 - k
+μ-loop words work₀ places₀ notes₀ marked k₀ count₀ work places notes k count = 2048 - k
 
 loop-holds : tie.Need-loop-holds Inv-loop μ-loop
 loop-holds c = (moving-first _ _ _ _ (c .pre .1) (c .pre .0), omega arith, refl, refl)
@@ -26,29 +27,35 @@ add-entry c = omega (arith, c .before .before .loop .inv .1)
 entry-requires : tie.Need-entry-requires Inv-loop μ-loop
 entry-requires c κs = search needs
 
-follow-requires : tie.Need-follow-requires Inv-loop μ-loop
-follow-requires c κs = (c .before .before .before .before .before .before .loop .inv .0 .ready, (c .before .before .before .before .before .before .loop .inv .0 .few, c .before .before .before .entry .ensures .1))
+add-store : tie.Need-add-store Inv-loop μ-loop
+add-store c = omega (arith, c .before .entry .ensures .1)
+
+store-requires : tie.Need-store-requires Inv-loop μ-loop
+store-requires c κs = search needs
+
+again-requires : tie.Need-again-requires Inv-loop μ-loop
+again-requires c κs = (c .before .before .before .before .before .before .before .before .before .loop .inv .0 .ready, c .before .before .before .before .before .before .before .before .before .loop .inv .0 .few)
 
 same-length : tie.Need-same-length Inv-loop μ-loop
-same-length c = c .before .before .before .before .follow .kept .1 .1 .0 ∙ c .before .before .before .before .before .before .before .before .before .before .before .loop .inv .0 .size
+same-length c = c .before .before .before .before .again .kept .1 .1 .0 ∙ c .before .before .before .before .before .before .before .before .before .before .before .before .before .before .loop .inv .0 .size
 
 same-length-2 : tie.Need-same-length-2 Inv-loop μ-loop
-same-length-2 c = c .before .before .before .before .follow .kept .1 .1 .1 .0 ∙ c .before .before .before .before .before .before .before .before .before .before .before .loop .inv .2
+same-length-2 c = c .before .before .before .before .again .kept .1 .1 .1 .0 ∙ c .before .before .before .before .before .before .before .before .before .before .before .before .before .before .loop .inv .2
 
 same-length-3 : tie.Need-same-length-3 Inv-loop μ-loop
-same-length-3 c = c .before .before .before .before .follow .kept .1 .1 .1 .1 .0 ∙ c .before .before .before .before .before .before .before .before .before .before .before .loop .inv .3
+same-length-3 c = c .before .before .before .before .again .kept .1 .1 .1 .1 .0 ∙ c .before .before .before .before .before .before .before .before .before .store .kept .0 ∙ c .before .before .before .before .before .before .before .before .before .before .before .before .before .before .loop .inv .3
 
 returns : tie.Need-returns Inv-loop μ-loop
-returns c = moving-stop _ _ _ _ _ _ (c .before .before .before .before .before .before .before .before .before .before .before .loop .inv .0) _ _ _ _ (c .before .before .before .before .follow .ensures) (c .if1 .taken)
+returns c = moving-stop _ _ _ _ _ _ (c .before .before .before .before .before .before .before .before .before .before .before .before .before .before .loop .inv .0) _ _ _ _ (c .before .before .before .before .again .ensures) (c .if1 .taken)
 
 add-k : tie.Need-add-k Inv-loop μ-loop
-add-k c = omega (arith, c .before .before .before .before .before .before .before .before .before .before .before .loop .inv .1)
+add-k c = omega (arith, c .before .before .before .before .before .before .before .before .before .before .before .before .before .before .loop .inv .1)
 
 loop-less : tie.Need-loop-less Inv-loop μ-loop
-loop-less c = omega (arith, c .before .before .before .before .before .before .before .before .before .before .before .loop .inv .0 .few, c .before .before .before .before .before .before .before .before .before .before .loop-test .taken)
+loop-less c = omega (arith, c .before .before .before .before .before .before .before .before .before .before .before .before .before .before .loop .inv .0 .few, c .before .before .before .before .before .before .before .before .before .before .before .before .before .loop-test .taken)
 
 loop-again : tie.Need-loop-again Inv-loop μ-loop
-loop-again c = (moving-next _ _ _ _ _ _ (c .before .before .before .before .before .before .before .before .before .before .before .loop .inv .0) _ _ _ _ (c .before .before .before .before .follow .ensures) (c .if1 .left) (c .before .before .before .before .follow .kept .1 .1 .0), omega (arith, c .before .before .before .before .before .before .before .before .before .before .before .loop .inv .0 .few, c .before .before .before .before .before .before .before .before .before .before .loop-test .taken), c .before .before .before .before .follow .kept .1 .1 .1 .0 ∙ c .before .before .before .before .before .before .before .before .before .before .before .loop .inv .2, c .before .before .before .before .follow .kept .1 .1 .1 .1 .0 ∙ c .before .before .before .before .before .before .before .before .before .before .before .loop .inv .3)
+loop-again c = (moving-next _ _ _ _ _ _ (c .before .before .before .before .before .before .before .before .before .before .before .before .before .before .loop .inv .0) _ _ _ _ (c .before .before .before .before .again .ensures) (c .if1 .left) (c .before .before .before .before .again .kept .1 .1 .0), omega (arith, c .before .before .before .before .before .before .before .before .before .before .before .before .before .before .loop .inv .0 .few, c .before .before .before .before .before .before .before .before .before .before .before .before .before .loop-test .taken), c .before .before .before .before .again .kept .1 .1 .1 .0 ∙ c .before .before .before .before .before .before .before .before .before .before .before .before .before .before .loop .inv .2, c .before .before .before .before .again .kept .1 .1 .1 .1 .0 ∙ c .before .before .before .before .before .before .before .before .before .store .kept .0 ∙ c .before .before .before .before .before .before .before .before .before .before .before .before .before .before .loop .inv .3)
 
 same-length-4 : tie.Need-same-length-4 Inv-loop μ-loop
 same-length-4 c = c .before .loop .inv .0 .size
@@ -71,7 +78,9 @@ drain-spec =
     loop-holds
     add-entry
     entry-requires
-    follow-requires
+    add-store
+    store-requires
+    again-requires
     same-length
     same-length-2
     same-length-3

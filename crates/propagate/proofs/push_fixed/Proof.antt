@@ -9,36 +9,29 @@ use Prim.Native.Nat.{_-_, _≤_}
 use lib.ListN.{length}
 
 abbrev Inv-loop : tie.InvT-loop
-Inv-loop work end notes₀ chains count₀ p₀ notes count p = (count ≤ 512) × (length notes ≡ length notes₀)
+Inv-loop work end notes₀ marked count₀ p₀ notes count p = (count ≤ 2048) × (length notes ≡ length notes₀)
 
 abbrev μ-loop : tie.MeasureT-loop
-μ-loop work end notes₀ chains count₀ p₀ notes count p = end - p
+μ-loop work end notes₀ marked count₀ p₀ notes count p = end - p
 
--- src/lib.rt:138:5
 loop-holds : tie.Need-loop-holds Inv-loop μ-loop
 loop-holds c = search needs
 
--- src/lib.rt:139:9
 push-at-requires : tie.Need-push-at-requires Inv-loop μ-loop
 push-at-requires c κs = search needs
 
--- src/lib.rt:140:9
 add-p : tie.Need-add-p Inv-loop μ-loop
 add-p c = search needs
 
--- src/lib.rt:138:5
 loop-less : tie.Need-loop-less Inv-loop μ-loop
 loop-less c = search needs
 
--- src/lib.rt:138:5
 loop-again : tie.Need-loop-again Inv-loop μ-loop
 loop-again c = search needs
 
--- src/lib.rt:131:1
 same-length : tie.Need-same-length Inv-loop μ-loop
 same-length c = search needs
 
--- src/lib.rt:131:1
 returns : tie.Need-returns Inv-loop μ-loop
 returns c = search needs
 

@@ -3,25 +3,26 @@ use Rattle.propagate.proofs.sweep.Tie as tie
 use Rattle.propagate.proofs.sweep.Reads as reads
 use Rattle.propagate.proofs.sweep.Lts as lts
 use Rattle.propagate.proofs.note.Reads as note-reads
+use Rattle.propagate.proofs.push_after.Reads as push-after-reads
 use Rattle.propagate.proofs.step.Reads as step-reads
 use borrow.Author.Needs.{needs}
 use mathlib.Core.Path.{_≡_, refl, _∙_}
 use native.Mathlib.Omega.{arith}
 use Prim.Native.Nat.{_-_}
 use lib.ListN.{length}
-use Rattle.propagate.proofs.HurryLaws.{Sweeping, sweep-first, sweep-ready, sweep-stop, sweep-next}
+use Rattle.propagate.proofs.HurryLaws.{Sweeping, sweep-first, sweep-ready, sweep-stop, sweep-fits, sweep-next}
 
 abbrev Inv-loop : tie.InvT-loop
-Inv-loop words at count work₀ places₀ notes₀ next₀ i₀ work places notes next i = Sweeping words at count work₀ work places next i × (length places ≡ length places₀) × (length notes ≡ length notes₀)
+Inv-loop words at statements work₀ places₀ notes₀ next₀ i₀ count₀ work places notes next i count = Sweeping words at statements work₀ work places next i count × (length places ≡ length places₀) × (length notes ≡ length notes₀)
 
 abbrev μ-loop : tie.MeasureT-loop
-μ-loop words at count work₀ places₀ notes₀ next₀ i₀ work places notes next i = count - i
+μ-loop words at statements work₀ places₀ notes₀ next₀ i₀ count₀ work places notes next i count = statements - i
 
 loop-holds : tie.Need-loop-holds Inv-loop μ-loop
 loop-holds c = (sweep-first _ _ _ _ _ (c .pre .0) (c .pre .1), refl, refl)
 
 step-requires : tie.Need-step-requires Inv-loop μ-loop
-step-requires c κs = sweep-ready _ _ _ _ _ _ _ _ (c .before .loop-test .taken) (c .before .before .loop .inv .0)
+step-requires c κs = sweep-ready _ _ _ _ _ _ _ _ _ (c .before .loop-test .taken) (c .before .before .loop .inv .0)
 
 same-length : tie.Need-same-length Inv-loop μ-loop
 same-length c = c .before .before .step .kept .1 .1 .0 ∙ c .before .before .before .before .before .loop .inv .0 .size
@@ -33,19 +34,22 @@ same-length-3 : tie.Need-same-length-3 Inv-loop μ-loop
 same-length-3 c = c .before .before .before .before .before .loop .inv .2
 
 returns : tie.Need-returns Inv-loop μ-loop
-returns c = sweep-stop _ _ _ _ _ _ _ _ (c .before .before .before .before .loop-test .taken) (c .before .before .before .before .before .loop .inv .0) _ _ _ _ (c .before .before .step .ensures) (c .if1 .taken)
+returns c = sweep-stop _ _ _ _ _ _ _ _ _ (c .before .before .before .before .loop-test .taken) (c .before .before .before .before .before .loop .inv .0) _ _ _ _ (c .before .before .step .ensures)
 
 note-requires : tie.Need-note-requires Inv-loop μ-loop
 note-requires c κs = search needs
 
+push-after-requires : tie.Need-push-after-requires Inv-loop μ-loop
+push-after-requires c κs = (c .before .before .before .before .before .before .before .before .before .before .before .before .before .loop .inv .0 .short, sweep-fits _ _ _ _ _ _ _ _ _ (c .before .before .before .before .before .before .before .before .before .before .before .before .loop-test .taken) (c .before .before .before .before .before .before .before .before .before .before .before .before .before .loop .inv .0) _ _ _ _ (c .before .before .before .before .before .before .before .before .before .before .step .ensures) (c .before .before .before .before .before .before .before .before .before .before .step .kept .1 .1 .0))
+
 add-i : tie.Need-add-i Inv-loop μ-loop
-add-i c = omega (arith, c .before .before .before .before .before .before .before .before .before .before .loop-test .taken)
+add-i c = omega (arith, c .before .before .before .before .before .before .before .before .before .before .before .before .before .before .loop-test .taken)
 
 loop-less : tie.Need-loop-less Inv-loop μ-loop
-loop-less c = omega (arith, c .before .before .before .before .before .before .before .before .before .before .loop-test .taken)
+loop-less c = omega (arith, c .before .before .before .before .before .before .before .before .before .before .before .before .before .before .loop-test .taken)
 
 loop-again : tie.Need-loop-again Inv-loop μ-loop
-loop-again c = (sweep-next _ _ _ _ _ _ _ _ (c .before .before .before .before .before .before .before .before .before .before .loop-test .taken) (c .before .before .before .before .before .before .before .before .before .before .before .loop .inv .0) _ _ _ _ (c .before .before .before .before .before .before .before .before .step .ensures) (c .before .before .before .before .before .before .if1 .left) (c .before .before .before .before .before .before .before .before .step .kept .1 .1 .0) _ (c .before .before .note .ensures), c .before .before .note .kept .1 .1 .1 .1 .1 .1 .0 ∙ c .before .before .before .before .before .before .before .before .before .before .before .loop .inv .1, c .before .before .note .kept .1 .1 .1 .1 .1 .1 .1 .0 ∙ c .before .before .before .before .before .before .before .before .before .before .before .loop .inv .2)
+loop-again c = (sweep-next _ _ _ _ _ _ _ _ _ (c .before .before .before .before .before .before .before .before .before .before .before .before .before .before .loop-test .taken) (c .before .before .before .before .before .before .before .before .before .before .before .before .before .before .before .loop .inv .0) _ _ _ _ (c .before .before .before .before .before .before .before .before .before .before .before .before .step .ensures) (c .before .before .before .before .before .before .before .before .before .before .if1 .left) (c .before .before .before .before .before .before .before .before .before .before .before .before .step .kept .1 .1 .0) _ (c .before .before .before .before .before .before .note .ensures) _ (c .before .push-after .ensures), c .before .before .before .before .before .before .note .kept .1 .1 .1 .1 .1 .1 .0 ∙ c .before .before .before .before .before .before .before .before .before .before .before .before .before .before .before .loop .inv .1, c .before .push-after .kept .1 .1 .1 .0 ∙ c .before .before .before .before .before .before .note .kept .1 .1 .1 .1 .1 .1 .1 .0 ∙ c .before .before .before .before .before .before .before .before .before .before .before .before .before .before .before .loop .inv .2)
 
 same-length-4 : tie.Need-same-length-4 Inv-loop μ-loop
 same-length-4 c = c .before .loop .inv .0 .size
@@ -57,7 +61,7 @@ same-length-6 : tie.Need-same-length-6 Inv-loop μ-loop
 same-length-6 c = c .before .loop .inv .2
 
 returns-2 : tie.Need-returns-2 Inv-loop μ-loop
-returns-2 c = (c .before .loop .inv .0 .hurried, c .before .loop .inv .0 .placed)
+returns-2 c = (c .before .loop .inv .0 .hurried, c .before .loop .inv .0 .placed, c .before .loop .inv .0 .short)
 
 pub sweep-spec : {M : Type 1} → statement M
 sweep-spec =
@@ -72,6 +76,7 @@ sweep-spec =
     same-length-3
     returns
     note-requires
+    push-after-requires
     add-i
     loop-less
     loop-again
