@@ -13,7 +13,7 @@ use lib.Seq.{set-out, getD-take, getD-set-same, getD-set-other}
 use Rattle.laws.specs.Lists.{flat}
 use Rattle.laws.specs.Bools.{never}
 use Rattle.laws.specs.Ints.{pos-eq}
-use Rattle.laws.specs.Slices.{Has, has-front, has-back, has-fits, Pushed, pushed-below, pushed-has, drop-up}
+use Rattle.laws.specs.Slices.{has-front, has-back, Pushed, pushed-below, pushed-has, drop-up}
 use Rattle.syntax.specs.Words.{max-bools}
 use Rattle.syntax.specs.Syntax.{Domain, Stmt, encode-stmt}
 use Rattle.fold.specs.Fold.{Fixed, constant-folding-stmt}
@@ -25,7 +25,7 @@ use Rattle.fold.specs.Kept.{fold-stmt-size}
 use Rattle.fold.specs.Steps.{fixed-in}
 use Rattle.domains.specs.Declared.{Domains}
 use Rattle.passes.specs.Want.{status-num, Values, Propagates}
-use Rattle.passes.specs.Statements.{Declared-stmts, Reads-stmt, Reads-stmts, Ready-stmt, Stmt-post, Stands-stmt, Prop-stmt-post}
+use Rattle.passes.specs.Statements.{Declared-stmts, Reads-stmt, Reads-stmts, Stmt-post, Stands-stmt, Prop-stmt-post}
 use Rattle.propagate.specs.Passes.{stmts-every, stmt-kept, open-count}
 use Rattle.propagate.specs.Optimized.{outcome, Ready-passes, Settles}
 use Rattle.propagate.specs.Hurry.{Only, Place, Place-in, Places, Ready-step, Steps-to, Step-post, Next-post, Hurried, Hurry-post, Ready-hurry, Moves, After-post}
@@ -305,7 +305,7 @@ module _ (ws : List ℤ) where
       pub again-fits : Ready-hurry ws out places → length out' ≡ length out → end ≤ length out'
       again-fits r l = step-fits ws p out out' end status (again-ready r) q l
 
--- after some steps; status: that of the last ones
+-- after some steps, none of them unsatisfiable; count: how many statements were set aside
 pub record Moving (ws out₀ places₀ out places : List ℤ) (count : ℕ) : Type 0 where
   pub few : count ≤ 2048
   pub size : length out ≡ length out₀

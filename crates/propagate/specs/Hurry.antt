@@ -1,5 +1,5 @@
 -- Statements folded and required one by one between passes: what this asks and gives. The passes' end is the same (fold/specs/Ahead.antt).
-use Prim.Native.Nat.{ℕ, _+_, _≤_, _<_}
+use Prim.Native.Nat.{ℕ, _+_, _≤_}
 use mathlib.Core.Path.{_≡_}
 use mathlib.Core.List.{List, _∷_, _++_, map}
 use lib.IntN.{ℤ, pos}

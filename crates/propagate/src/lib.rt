@@ -1,7 +1,7 @@
 // The passes (optimize): folding and requiring all statements until nothing changes. Where a set takes many passes, single statements are
 // folded and required in between, in the order in which their variables get fixed: the end is the same (fold/specs/Ahead.antt).
 ghost use mathlib.Core.Path.{_≡_};
-ghost use Prim.Native.Nat.{ℕ, _≤_, _<_};
+ghost use Prim.Native.Nat.{_≤_, _<_};
 ghost use lib.IntN.{pos};
 ghost use lib.ListN.{length, getD};
 ghost use Rattle.syntax.specs.Words.{max-bools};

@@ -4,8 +4,6 @@ use Rattle.propagate.proofs.after_pass.Tie as tie
 use Rattle.propagate.proofs.after_pass.Reads as reads
 use Rattle.propagate.proofs.after_pass.Lts as lts
 use Rattle.propagate.proofs.hurry.Reads as hurry-reads
-use mathlib.Core.Path.{_≡_, refl, _∙_}
-use native.Mathlib.Omega.{arith}
 use Rattle.propagate.proofs.HurryLaws.{after-none, after-stop, after-hurry}
 
 returns : tie.Need-returns

@@ -7,7 +7,6 @@ use Rattle.propagate.proofs.entry.Reads as entry-reads
 use Rattle.propagate.proofs.push_after.Reads as push-after-reads
 use Rattle.propagate.proofs.retire.Reads as retire-reads
 use Rattle.propagate.proofs.step.Reads as step-reads
-use mathlib.Core.Path.{_≡_, refl, _∙_}
 use native.Mathlib.Omega.{arith}
 use Rattle.propagate.proofs.HurryLaws.{moves-none, again-ready, again-moves, again-fits}
 

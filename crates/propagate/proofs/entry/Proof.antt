@@ -23,34 +23,27 @@ fits c = sfits-of (c .w .given)
 plain : (c : tie.Else2) → ltZ (getD (c .before .before .before .args .a .now) (c .before .before .before .args .i) (pos 0)) (pos 0) ≡ false
 plain c = test-of (λ z. ltZ z (pos 0)) (fits (c .before)) (c .if2 .left)
 
--- src/lib.rt:36:9
 returns : tie.Need-returns
 returns c = (λ h. absurd (h refl), omega arith)
 
--- src/lib.rt:38:13
 mul-w : tie.Need-mul-w
 mul-w c = search needs
 
--- src/lib.rt:38:13
 shared-slice-copy-out-w : tie.Need-shared-slice-copy-out-w
 shared-slice-copy-out-w c = search needs
 
--- src/lib.rt:40:9
 returns-2 : tie.Need-returns-2
 returns-2 c = (λ h. absurd (h refl), omega arith)
 
--- src/lib.rt:42:13
 cast-n : tie.Need-cast-n
 cast-n c = rw (toZ-ofZ (fits (c .before))) (not-neg (getD (c .before .before .before .args .a .now) (c .before .before .before .args .i) (pos 0)) (plain c), fits-natAbs tt (fits (c .before)))
 
--- src/lib.rt:44:9
 returns-3 : tie.Need-returns-3
 returns-3 c =
     let z = getD (c .before .before .before .before .args .a .now) (c .before .before .before .before .args .i) (pos 0) in
     let s : natAbs (toZ w32 (ofZ w32 z)) < 8192 = c .if3 .taken in
     rw (toZ-ofZ (fits (c .before .before))) (λ h. number-kept z (plain (c .before)), rw (toZ-ofZ (fits (c .before .before))) at s)
 
--- src/lib.rt:32:1
 returns-4 : tie.Need-returns-4
 returns-4 c = (λ h. absurd (h refl), omega arith)
 

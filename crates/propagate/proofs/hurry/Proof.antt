@@ -5,8 +5,6 @@ use Rattle.propagate.proofs.hurry.Reads as reads
 use Rattle.propagate.proofs.hurry.Lts as lts
 use Rattle.propagate.proofs.drain.Reads as drain-reads
 use Rattle.propagate.proofs.sweep.Reads as sweep-reads
-use mathlib.Core.Path.{_≡_, refl, _∙_}
-use native.Mathlib.Omega.{arith}
 use Rattle.propagate.proofs.HurryLaws.{places-none, hurry-stop, hurry-ready, hurry-end}
 
 slice-aggregate-sweep : tie.Need-slice-aggregate-sweep

@@ -7,19 +7,15 @@ use Rattle.passes.proofs.fold_stmt.Reads as fold-stmt-reads
 use Rattle.passes.proofs.prop_stmt.Reads as prop-stmt-reads
 use Rattle.propagate.proofs.HurryLaws.{step-stands, stepped}
 
--- src/lib.rt:173:9
 fold-stmt-requires : tie.Need-fold-stmt-requires
 fold-stmt-requires c κs = search needs
 
--- src/lib.rt:174:9
 prop-stmt-requires : tie.Need-prop-stmt-requires
 prop-stmt-requires c κs = step-stands _ _ _ _ _ _ (c .before .before .fold-stmt .ensures) (c .before .before .fold-stmt .kept .1 .1 .1 .0) (c .before .before .before .before .pre)
 
--- src/lib.rt:169:1
 same-length : tie.Need-same-length
 same-length c = search needs
 
--- src/lib.rt:169:1
 returns : tie.Need-returns
 returns c = stepped _ _ _ _ _ _ (c .before .before .before .before .fold-stmt .ensures) (c .before .before .before .before .fold-stmt .kept .1 .1 .1 .0) _ _ _ (c .before .prop-stmt .ensures)
 

@@ -4,26 +4,20 @@ use Rattle.propagate.proofs.store.Tie as tie
 use Rattle.propagate.proofs.store.Reads as reads
 use Rattle.propagate.proofs.store.Lts as lts
 use Rattle.folding.proofs.put.Reads as put-reads
-use native.Mathlib.Omega.{arith}
 use Rattle.propagate.proofs.HurryLaws.{only-set}
 
--- src/lib.rt:54:9
 returns : tie.Need-returns
 returns c = search needs
 
--- src/lib.rt:57:9
 returns-2 : tie.Need-returns-2
 returns-2 c = search needs
 
--- src/lib.rt:59:5
 put-requires : tie.Need-put-requires
 put-requires c κs = search needs
 
--- src/lib.rt:50:1
 same-length : tie.Need-same-length
 same-length c = search needs
 
--- src/lib.rt:50:1
 returns-3 : tie.Need-returns-3
 returns-3 c = only-set (c .before .before .before .before .before .args .n) (c .before .before .before .before .before .args .a .now) _ (c .before .before .before .before .before .args .i) (c .before .put .ensures)
 

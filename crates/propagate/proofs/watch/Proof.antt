@@ -5,7 +5,7 @@ use Rattle.propagate.proofs.watch.Lts as lts
 use Rattle.propagate.proofs.watch_at.Reads as watch-at-reads
 use borrow.Author.Needs.{needs}
 use mathlib.Core.Path.{_≡_}
-use Prim.Native.Nat.{_-_, _≤_}
+use Prim.Native.Nat.{_-_}
 use lib.ListN.{length}
 
 abbrev Inv-loop : tie.InvT-loop
@@ -14,31 +14,24 @@ Inv-loop words from to i notes₀ p₀ notes p = length notes ≡ length notes�
 abbrev μ-loop : tie.MeasureT-loop
 μ-loop words from to i notes₀ p₀ notes p = to - p
 
--- src/lib.rt:87:5
 loop-holds : tie.Need-loop-holds Inv-loop μ-loop
 loop-holds c = search needs
 
--- src/lib.rt:88:9
 watch-at-requires : tie.Need-watch-at-requires Inv-loop μ-loop
 watch-at-requires c κs = search needs
 
--- src/lib.rt:89:9
 add-p : tie.Need-add-p Inv-loop μ-loop
 add-p c = search needs
 
--- src/lib.rt:87:5
 loop-less : tie.Need-loop-less Inv-loop μ-loop
 loop-less c = search needs
 
--- src/lib.rt:87:5
 loop-again : tie.Need-loop-again Inv-loop μ-loop
 loop-again c = search needs
 
--- src/lib.rt:85:1
 same-length : tie.Need-same-length Inv-loop μ-loop
 same-length c = search needs
 
--- src/lib.rt:85:1
 returns : tie.Need-returns Inv-loop μ-loop
 returns c = search needs
 
