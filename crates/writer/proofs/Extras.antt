@@ -10,12 +10,13 @@ use lib.ListN.{length}
 use Rattle.laws.specs.Writes.{Wrote, wrote-none, wrote-then, wrote-length}
 use Rattle.walk.specs.Tree.{Tree, Trees, nil, cons, append, both-tied}
 use Rattle.walk.specs.Item.{limit, bump, word-of, Item, counts, texts, all-lines, lines-of, item, items, tied-item}
-use Rattle.walk.specs.Decode.{word, node-of, Reader, decode, many-ties, tie-at, cross-ties, ties-step, ties-at, read-part, item-at, Surveys}
+use Rattle.walk.specs.Decode.{word, node-of, Reads, Reader, many, decode, many-ties, tie-at, cross-ties, ties-step, ties-at, read-part, item-at, Surveys}
 use Rattle.walk.specs.Standing.{rule-at}
 use Rattle.walk.specs.declared.Node.{Node}
 use Rattle.walk.specs.declared.Node.the-variants.{Var, Cmp, Not, Join, Cross}
 use Rattle.walk.specs.declared.Surveyed.{Surveyed}
-use Rattle.walk.specs.Steps.{lines-all-low}
+use Rattle.walk.specs.Steps.{lines-all-low, many-more}
+use Rattle.walk.specs.MeetTies.{Reaches, ReachesAll}
 use Rattle.walk.specs.NoTies.{no-ties}
 use Rattle.writer.specs.Suffix.{Open}
 use Rattle.writer.specs.Fine.{Fine, Fines}
@@ -174,17 +175,17 @@ pub members-none : (w : List ℤ) (l : ℕ) (t : Bool) (k at base n : ℕ) {out 
 unfolding many-ties items
 members-none w l t k at base n e h i = rw e (listed-none h i)
 
-module _ (w : List ℤ) (l : ℕ) (t : Bool) (k at base n : ℕ) (z : k ≡ 0 → ⊥) (s : Surveyed) (hs : Surveys w l t false at base n s) where
+module _ (w : List ℤ) (l : ℕ) (t : Bool) (k at base : ℕ) (z : k ≡ 0 → ⊥) (q b : ℕ) (hq : q ≡ decode (read-part w) l t false at base .end) (hb : b ≡ decode (read-part w) l t false at base .next) where
   abbrev F2 : List ℤ
   F2 = read-part w
 
   abbrev later : Trees
-  later = many-ties (decode F2 l t) (ties-at F2 l t) (k - 1) (s .at) (s .base)
+  later = many-ties (decode F2 l t) (ties-at F2 l t) (k - 1) q b
 
-  step-is : (k : ℕ) → (k ≡ 0 → ⊥) → many-ties (decode F2 l t) (ties-at F2 l t) k at base ≡ append (ties-at F2 l t at base) (many-ties (decode F2 l t) (ties-at F2 l t) (k - 1) (s .at) (s .base))
+  step-is : (k : ℕ) → (k ≡ 0 → ⊥) → many-ties (decode F2 l t) (ties-at F2 l t) k at base ≡ append (ties-at F2 l t at base) (many-ties (decode F2 l t) (ties-at F2 l t) (k - 1) q b)
   unfolding many-ties
   step-is zero z = absurd (z refl)
-  step-is (suc k) z = rw (sub-one, hs .end, hs .splits)
+  step-is (suc k) z = rw (sub-one, hq, hb)
 
   pub members-first : Fines w (many-ties (decode F2 l t) (ties-at F2 l t) k at base) → Fines w (ties-at F2 l t at base)
   members-first x = fines-left w (ties-at F2 l t at base) later (subst (λ (ts : Trees). Fines w ts) (step-is k z) x)
@@ -204,29 +205,42 @@ pub listed-zero : {w out b : List ℤ} {is : List Item} {n o m k p : ℕ} → Li
 listed-zero {is = is} x = listed-lines _ (omega (arith, x .lines, lines-all-low is)) x
 
 -- in a loop over members: the member at q is next, and `rest` are left
-pub record Going (w out₀ : List ℤ) (l : ℕ) (t : Bool) (at count q rest c e k p : ℕ) (out : List ℤ) : Type 0 where
+pub record Going (w out₀ : List ℤ) (l : ℕ) (t : Bool) (at count base q rest c e k p : ℕ) (out : List ℤ) : Type 0 where
   pub placed : Placed w q c e
   pub opened : Open out p
   pub same : length out ≡ length out₀
   pub after : at ≤ q
   pub fewer : rest ≤ count
   pub low-lines : k ≤ limit
+  pub end : many (decode (read-part w) l t) rest false false q c .end ≡ many (decode (read-part w) l t) count false false at base .end
+  pub splits : many (decode (read-part w) l t) rest false false q c .next ≡ many (decode (read-part w) l t) count false false at base .next
   pub fine : Fines w (many-ties (decode (read-part w) l t) (ties-at (read-part w) l t) rest q c)
 
-pub going-none : {w out : List ℤ} {l : ℕ} {t : Bool} {at k base n o : ℕ} → Placed w at base n → Open out o → Fines w (many-ties (decode (read-part w) l t) (ties-at (read-part w) l t) k at base) → Going w out l t at k at k base n 0 o out
-going-none a b c = record { placed = a; opened = b; same = refl; after = omega arith; fewer = omega arith; low-lines = omega arith; fine = c }
+pub going-none : {w out : List ℤ} {l : ℕ} {t : Bool} {at k base n o : ℕ} → Placed w at base n → Open out o → Fines w (many-ties (decode (read-part w) l t) (ties-at (read-part w) l t) k at base) → Going w out l t at k base at k base n 0 o out
+going-none a b c = record { placed = a; opened = b; same = refl; after = omega arith; fewer = omega arith; low-lines = omega arith; end = refl; splits = refl; fine = c }
 
-pub going-more : {w out₀ out out' : List ℤ} {l : ℕ} {t : Bool} {at count q rest c e k p m j r : ℕ} (s : Surveyed) (k' : ℕ) → Going w out₀ l t at count q rest c e k p out → (rest ≡ 0 → ⊥) → Surveys w l t false q c e s
-    → Listed w (items (ties-at (read-part w) l t q c)) e out p out' m j r → k' ≡ bump k j → Going w out₀ l t at count (s .at) (rest - 1) (s .base) m k' r out'
-going-more {w} {l = l} {t = t} {q = q} {rest = rest} {c = c} {e = e} s k' x z y m f = record {
-  placed = record { size = x .placed .size; inside = omega (arith, y .inside, part-length w (x .placed .size)); low = m .low; low-base = y .low-base };
-  opened = open-next (x .opened) (m .wrote);
-  same = wrote-length (m .wrote) ∙ x .same;
-  after = omega (arith, x .after, y .room);
-  fewer = omega (arith, x .fewer);
-  low-lines = omega arith;
-  fine = members-rest w l t rest q c e z s y (x .fine);
-}
+pub going-more : {w out₀ out out' : List ℤ} {l : ℕ} {t : Bool} {at count base q rest c e k p m j r : ℕ} (q' c' k' : ℕ) → Going w out₀ l t at count base q rest c e k p out → (rest ≡ 0 → ⊥) → Reaches (read-part w) l t q c q' c'
+    → Listed w (items (ties-at (read-part w) l t q c)) e out p out' m j r → k' ≡ bump k j → Going w out₀ l t at count base q' (rest - 1) c' m k' r out'
+going-more {w} {l = l} {t = t} {q = q} {rest = rest} {c = c} q' c' k' x z y m f =
+    let i = many-more (decode (read-part w) l t) rest false false q c z in
+    record {
+      placed = record { size = x .placed .size; inside = y .inside; low = m .low; low-base = y .low };
+      opened = open-next (x .opened) (m .wrote);
+      same = wrote-length (m .wrote) ∙ x .same;
+      after = omega (arith, x .after, y .start);
+      fewer = omega (arith, x .fewer);
+      low-lines = omega arith;
+      end = rw (y .end, y .splits) (sym (ap (λ (a : Reads). a .end) i) ∙ x .end);
+      splits = rw (y .end, y .splits) (sym (ap (λ (a : Reads). a .next) i) ∙ x .splits);
+      fine = members-rest w l t rest q c z q' c' (y .end) (y .splits) (x .fine);
+    }
+
+pub going-done : {w out₀ out : List ℤ} {l : ℕ} {t : Bool} {at count base q rest c e k p : ℕ} → Going w out₀ l t at count base q rest c e k p out → rest ≡ 0 → ReachesAll (read-part w) l t count at base q c
+unfolding many
+going-done x e = record { end = rw e at (x .end); splits = rw e at (x .splits); start = x .after; inside = x .placed .inside; low = x .placed .low-base }
+
+pub reaches-seen : (w : List ℤ) (l : ℕ) (t : Bool) (at base n : ℕ) {s : Surveyed} → 5120 ≤ length w → Surveys w l t false at base n s → Reaches (read-part w) l t at base (s .at) (s .base)
+reaches-seen w l t at base n h x = record { end = x .end; splits = x .splits; start = omega (arith, x .room); inside = omega (arith, x .inside, part-length w h); low = x .low-base }
 
 -- ---- a split Xor or Iff
 

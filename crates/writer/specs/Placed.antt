@@ -10,6 +10,7 @@ use Rattle.walk.specs.Item.{limit, Tally, tally, Item, tallies, counts, texts, 
 use Rattle.walk.specs.Decode.{decode, read-part, item-at, items-at, Surveys, SurveysAll}
 use Rattle.walk.specs.Standing.{rule-at}
 use Rattle.walk.specs.declared.Surveyed.{Surveyed}
+use Rattle.writer.specs.declared.Tied.{Tied}
 
 -- a place in the folded words, the splitting's next number, the counter
 pub record Placed (w : List ℤ) (at base n : ℕ) : Type 0 where
@@ -39,6 +40,10 @@ pub record Listed (w : List ℤ) (is : List Item) (n : ℕ) (out : List ℤ) (o 
   pub count : m ≡ counts is w n
   pub lines : k ≡ all-lines is
   pub low : m ≤ limit
+
+-- an expression without extras
+abbrev pub no-extras : ℕ → ℕ → ℕ → ℕ → Tied
+no-extras at base n o = record { at = at; base = base; n = n; lines = 0; o = o }
 
 -- the rule at a place, n the next number before it: its extras and its own clauses are written
 pub record RuleWrote (w : List ℤ) (at n : ℕ) (out : List ℤ) (o : ℕ) (out' : List ℤ) (end m k p : ℕ) : Type 0 where

@@ -14,12 +14,13 @@ ghost use Rattle.nest.specs.Nest.{Word};
 ghost use Rattle.clauses.specs.Clause.{linear};
 ghost use Rattle.clauses.specs.Normalize.{negate-op-if};
 ghost use Rattle.answer.specs.Answer.{term-words, linear-words};
-ghost use Rattle.walk.specs.Item.{limit, word-of, clause-text, extra, block as block-of, var-item, pools as pools-of, texts, long-texts, disj-text, items};
+ghost use Rattle.walk.specs.Item.{limit, bump as bump-of, word-of, clause-text, extra, block as block-of, var-item, pools as pools-of, texts, long-texts, disj-text, items};
 ghost use Rattle.walk.specs.Tree.{cons, nil};
 ghost use Rattle.walk.specs.Decode.{word as word-in, many, decode, tie-at, many-ties, cross-ties, ties-at, read-part, item-at, items-at, surveyed, Surveys, SurveysAll};
+ghost use Rattle.walk.specs.MeetTies.{Reaches, ReachesAll};
 ghost use Rattle.writer.specs.Suffix.{suffix, Stacked, extra-lits, Open};
 ghost use Rattle.writer.specs.Fine.{Compares, Compared, Fine, Fines};
-ghost use Rattle.writer.specs.Placed.{Placed, Tallied, Probed, ProbedAll, Listed, RuleWrote};
+ghost use Rattle.writer.specs.Placed.{Placed, Tallied, Probed, ProbedAll, Listed, no-extras, RuleWrote};
 ghost use Rattle.writer.specs.Rules.{Writable};
 use sums::Head;
 use walk::Mode;
@@ -768,11 +769,26 @@ pub fn write(
 
 // ---- the extras
 
-// The counter behind what was written, how many clauses it has, and the position behind it.
+// Of written extras: where the words end that they are the extras of, the splitting's next number, the counter behind them, how many clauses
+// they have, and the position behind them.
 pub struct Tied {
+    pub at: usize,
+    pub base: usize,
     pub n: usize,
     pub lines: usize,
     pub o: usize,
+}
+
+fn no_ties(at: usize, base: usize, n: usize, o: usize) -> Tied
+    ensures { λ r. ⌜ r ≡ no-extras at base n o ⌝ }
+{
+    Tied {
+        at: at,
+        base: base,
+        n: n,
+        lines: 0,
+        o: o,
+    }
 }
 
 fn no_suffix() -> Suffix
@@ -803,7 +819,7 @@ fn put_tie(
 ) -> Tied
     requires { ⌜ Placed (now work) at base n × Open (now out) o × Fine (now work) (tie-at (decode (read-part (now work)) left true) v at base) ⌝ }
     requires { ⌜ (left ≤ 63) × (v ≤ limit + 1) ⌝ }
-    ensures { λ r. ⌜ Listed (now (work .entry)) (items (cons (tie-at (decode (read-part (now (work .entry))) left true) v at base) nil)) n (now (out .entry)) o (now (out .exit)) (r .n) (r .lines) (r .o) ⌝ }
+    ensures { λ r. ⌜ Listed (now (work .entry)) (items (cons (tie-at (decode (read-part (now (work .entry))) left true) v at base) nil)) n (now (out .entry)) o (now (out .exit)) (r .n) (r .lines) (r .o) × Reaches (read-part (now (work .entry))) left true at base (r .at) (r .base) ⌝ }
 {
     let a = write(
         work,
@@ -832,6 +848,8 @@ fn put_tie(
     );
     let y = b.seen;
     Tied {
+        at: x.at,
+        base: x.base,
         n: y.n,
         lines: number::bump(x.all, y.all),
         o: b.o,
@@ -852,7 +870,7 @@ fn ties_of(
 ) -> Tied
     requires { ⌜ Placed (now work) at base n × Open (now out) o × Fines (now work) (many-ties (decode (read-part (now work)) left t) (ties-at (read-part (now work)) left t) count at base) ⌝ }
     requires { ⌜ left ≤ 63 ⌝ }
-    ensures { λ r. ⌜ Listed (now (work .entry)) (items (many-ties (decode (read-part (now (work .entry))) left t) (ties-at (read-part (now (work .entry))) left t) count at base)) n (now (out .entry)) o (now (out .exit)) (r .n) (r .lines) (r .o) ⌝ }
+    ensures { λ r. ⌜ Listed (now (work .entry)) (items (many-ties (decode (read-part (now (work .entry))) left t) (ties-at (read-part (now (work .entry))) left t) count at base)) n (now (out .entry)) o (now (out .exit)) (r .n) (r .lines) (r .o) × ReachesAll (read-part (now (work .entry))) left t count at base (r .at) (r .base) ⌝ }
 {
     let mut q = at;
     let mut rest = count;
@@ -861,16 +879,17 @@ fn ties_of(
     let mut k: usize = 0;
     let mut p = o;
     while rest != 0 {
-        let s = number::survey(work, q, left, t, c, false, e);
         let x = write_ties(work, q, left, t, c, e, out, p);
-        q = s.at;
-        c = s.base;
+        q = x.at;
+        c = x.base;
         e = x.n;
         k = number::bump(k, x.lines);
         p = x.o;
         rest = rest - 1;
     }
     Tied {
+        at: q,
+        base: c,
         n: e,
         lines: k,
         o: p,
@@ -889,19 +908,20 @@ fn split_ties(
 ) -> Tied
     requires { ⌜ Placed (now work) at base n × Open (now out) o × Fines (now work) (cross-ties (decode (read-part (now work)) left) (ties-at (read-part (now work)) left) true at base) ⌝ }
     requires { ⌜ left ≤ 63 ⌝ }
-    ensures { λ r. ⌜ Listed (now (work .entry)) (items (cross-ties (decode (read-part (now (work .entry))) left) (ties-at (read-part (now (work .entry))) left) true at base)) n (now (out .entry)) o (now (out .exit)) (r .n) (r .lines) (r .o) ⌝ }
+    ensures { λ r. ⌜ Listed (now (work .entry)) (items (cross-ties (decode (read-part (now (work .entry))) left) (ties-at (read-part (now (work .entry))) left) true at base)) n (now (out .entry)) o (now (out .exit)) (r .n) (r .lines) (r .o) × ReachesAll (read-part (now (work .entry))) left true 2 at (bump-of base 2) (r .at) (r .base) ⌝ }
 {
     let c = number::bump(base, 2);
     let a = write_ties(work, at, left, true, c, n, out, o);
     let b = put_tie(work, base, at, left, c, a.n, out, a.o);
-    let s = number::survey(work, at, left, true, c, false, 0);
-    let d = write_ties(work, s.at, left, true, s.base, b.n, out, b.o);
-    let e = put_tie(work, base + 1, s.at, left, s.base, d.n, out, d.o);
+    let d = write_ties(work, b.at, left, true, b.base, b.n, out, b.o);
+    let e = put_tie(work, base + 1, b.at, left, b.base, d.n, out, d.o);
     let k = number::bump(
         number::bump(a.lines, b.lines),
         number::bump(d.lines, e.lines),
     );
     Tied {
+        at: e.at,
+        base: e.base,
         n: e.n,
         lines: k,
         o: e.o,
@@ -921,27 +941,15 @@ fn write_ties(
 ) -> Tied
     requires { ⌜ Placed (now work) at base n × Open (now out) o × Fines (now work) (ties-at (read-part (now work)) left t at base) ⌝ }
     requires { ⌜ left ≤ 64 ⌝ }
-    ensures { λ r. ⌜ Listed (now (work .entry)) (items (ties-at (read-part (now (work .entry))) left t at base)) n (now (out .entry)) o (now (out .exit)) (r .n) (r .lines) (r .o) ⌝ }
+    ensures { λ r. ⌜ Listed (now (work .entry)) (items (ties-at (read-part (now (work .entry))) left t at base)) n (now (out .entry)) o (now (out .exit)) (r .n) (r .lines) (r .o) × Reaches (read-part (now (work .entry))) left t at base (r .at) (r .base) ⌝ }
 {
     if left == 0 {
-        return Tied {
-            n: n,
-            lines: 0,
-            o: o,
-        };
+        return no_ties(at, base, n, o);
     }
     let under = left - 1;
     match number::node_at(work, under, false, at) {
-        Node::Var(_, _) => Tied {
-            n: n,
-            lines: 0,
-            o: o,
-        },
-        Node::Cmp(_, _) => Tied {
-            n: n,
-            lines: 0,
-            o: o,
-        },
+        Node::Var(_, q) => no_ties(q, base, n, o),
+        Node::Cmp(_, q) => no_ties(q, base, n, o),
         Node::Not(q) => write_ties(work, q, under, t, base, n, out, o),
         Node::Join(_, k, _, _, q) => ties_of(work, q, under, t, k, base, n, out, o),
         Node::Cross(_, q) => {

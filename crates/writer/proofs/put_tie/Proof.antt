@@ -4,7 +4,7 @@ use native.Mathlib.Omega.{arith}
 use Rattle.laws.specs.Writes.{wrote-length}
 use Rattle.writer.proofs.Laws.{open-next, stack-down}
 use Rattle.writer.proofs.Steps.{placed-with}
-use Rattle.writer.proofs.Extras.{fine-tie, tie-listed}
+use Rattle.writer.proofs.Extras.{fine-tie, tie-listed, reaches-seen}
 use borrow.Author.Needs.{needs}
 use Rattle.writer.proofs.put_tie.Statement.{statement}
 use Rattle.writer.proofs.put_tie.Tie as tie
@@ -34,7 +34,7 @@ same-length : tie.Need-same-length
 same-length c = wrote-length (c .before .before .before .write2 .ensures .1) ∙ wrote-length (c .before .before .before .before .before .before .before .before .write .ensures .1)
 
 returns : tie.Need-returns
-returns c = tie-listed (c .before .before .before .before .before .before .before .before .before .before .before .args .work .now) _ _ _ _ _ _ _ (c .before .before .before .before .before .before .before .before .write .ensures .0) (c .before .before .before .write2 .ensures .0) _ _ (c .before .before .before .before .before .before .before .before .before .before .before .pre .0 .1) (c .before .before .before .before .before .before .before .before .before .before .one-literal .ensures .0) (c .before .before .before .before .before .one-literal2 .ensures .0) (c .before .before .before .before .before .before .before .before .write .ensures .1) (c .before .before .before .write2 .ensures .1) _ (c .bump .ensures)
+returns c = (tie-listed (c .before .before .before .before .before .before .before .before .before .before .before .args .work .now) _ _ _ _ _ _ _ (c .before .before .before .before .before .before .before .before .write .ensures .0) (c .before .before .before .write2 .ensures .0) _ _ (c .before .before .before .before .before .before .before .before .before .before .before .pre .0 .1) (c .before .before .before .before .before .before .before .before .before .before .one-literal .ensures .0) (c .before .before .before .before .before .one-literal2 .ensures .0) (c .before .before .before .before .before .before .before .before .write .ensures .1) (c .before .before .before .write2 .ensures .1) _ (c .bump .ensures), reaches-seen (c .before .before .before .before .before .before .before .before .before .before .before .args .work .now) _ _ _ _ _ (c .before .before .before .before .before .before .before .before .before .before .before .pre .0 .0 .size) (c .before .before .before .before .before .before .before .before .write .ensures .0))
 
 pub put-tie-spec : {M : Type 1} → statement M
 put-tie-spec =

@@ -39,19 +39,19 @@ no-suffix-requires-2 c κs = search needs
 write-requires-2 : tie.Need-write-requires-2
 write-requires-2 c κs =
     let s = c .before .before .before .before .before .before .before in
-    let e = c .before .before .before .write-ties .ensures in
+    let e = c .before .before .before .write-ties .ensures .0 in
     ((placed-with _ (s .pre .0) (e .low), open-next (s .pre .1) (e .wrote), rule-tree-fine (s .args .work .now) _ _ (writable-fine _ _ _ (s .pre .2))), c .before .no-suffix2 .ensures .1)
 
 bump-requires : tie.Need-bump-requires
 bump-requires c κs = search needs
 
 same-length-2 : tie.Need-same-length-2
-same-length-2 c = wrote-length (c .before .before .before .write2 .ensures .1) ∙ wrote-length (c .before .before .before .before .before .before .before .write-ties .ensures .wrote)
+same-length-2 c = wrote-length (c .before .before .before .write2 .ensures .1) ∙ wrote-length (c .before .before .before .before .before .before .before .write-ties .ensures .0 .wrote)
 
 returns-2 : tie.Need-returns-2
 returns-2 c =
     let s = c .before .before .before .before .before .before .before .before .before .before .before in
-    rule-wrote (s .args .work .now) _ _ _ _ (c .before .before .before .before .before .before .before .before .before .before .survey .ensures) (c .before .before .before .write2 .ensures .0) (s .pre .1) (c .before .before .before .before .before .before .before .write-ties .ensures) _ (c .before .before .before .before .before .no-suffix2 .ensures .0) (c .before .before .before .write2 .ensures .1) _ (c .bump .ensures)
+    rule-wrote (s .args .work .now) _ _ _ _ (c .before .before .before .before .before .before .before .before .before .before .survey .ensures) (c .before .before .before .write2 .ensures .0) (s .pre .1) (c .before .before .before .before .before .before .before .write-ties .ensures .0) _ (c .before .before .before .before .before .no-suffix2 .ensures .0) (c .before .before .before .write2 .ensures .1) _ (c .bump .ensures)
 
 pub write-rule-spec : {M : Type 1} → statement M
 write-rule-spec =
