@@ -15,7 +15,7 @@ use Rattle.walk.specs.declared.Surveyed.{Surveyed}
 use Rattle.writer.specs.declared.Suffix.{Suffix}
 use Rattle.writer.specs.Suffix.{Stacked, suffix, Open}
 use Rattle.writer.specs.Fine.{Compared, Fine}
-use Rattle.writer.specs.Placed.{Tallied}
+use Rattle.writer.specs.Placed.{share}
 use Rattle.writer.proofs.Laws.{word-pos, then-low, suffix-length, block-length}
 use Rattle.writer.proofs.Steps.{Is, down, up, fine-cmp, items-is}
 
@@ -93,15 +93,23 @@ mutual
   items-cmps nil w h = refl
   items-cmps (cons t ts) w h = rw (item-cmps t w (omega arith), items-cmps ts w (omega arith))
 
-module _ {w : List ℤ} {l : ℕ} {t : Bool} {k : ℕ} {g h : Bool} {at base : ℕ} {x : Surveyed} (c : Tallied w l t k g h at base x) where
-  pub no-lits : x .lits ≡ 0 → pools (items-at (read-part w) l t k g h at base) true w ≡ []
-  no-lits e = empty-list _ (items-lits (many (decode (read-part w) l t) k g h at base .trees) w ∙ sym (ap (λ (t : Tally). t .lits) (c .unit)) ∙ e)
+items-none : (ts : Trees) (w : List ℤ) (b : Bool) → share b (tallies (items ts)) ≡ 0 → pools (items ts) b w ≡ []
+items-none ts w true e = empty-list _ (items-lits ts w ∙ e)
+items-none ts w false e = items-cmps ts w e
 
-  pub no-cmps : x .cmps ≡ 0 → pools (items-at (read-part w) l t k g h at base) false w ≡ []
-  no-cmps e = items-cmps (many (decode (read-part w) l t) k g h at base .trees) w (sym (ap (λ (t : Tally). t .cmps) (c .unit)) ∙ e)
+either-zero : (b : Bool) → _≡_ {A = ℕ} (cond b 0 0) 0
+either-zero true = refl
+either-zero false = refl
 
-pub pools-empty : {out : List ℤ} {o : ℕ} (vs : List ℤ) → vs ≡ [] → Open out o → Wrote out o vs out o
-pools-empty {out} {o} vs e h = rw e (wrote-none out o (h .low))
+long-share : (t : Tree) (b : Bool) → (item t .unit .longs ≡ 0 → ⊥) → share b (item t .unit) ≡ 0
+unfolding item var-item num-item cmp-item conj-item disj-item cross-item tied-item closed
+long-share (var v g) b h = absurd (h refl)
+long-share (num n g) b h = absurd (h refl)
+long-share (cmp p o x y g) b h = absurd (h refl)
+long-share (conj ts) b h = either-zero b
+long-share (disj ts) b h = rw (long-is (tallies (items ts)) h) (either-zero b)
+long-share (cross ts us) b h = either-zero b
+long-share (tied v t u) b h = either-zero b
 
 -- ---- leaves
 
@@ -137,6 +145,16 @@ module _ (w : List ℤ) (l u : ℕ) (t g : Bool) (at base : ℕ) (z : l ≡ 0 �
   pub single-not : (q : ℕ) → Is w l u t g at base z hu (Not q) → Single → item-at F u t (not g) q base .unit .longs ≡ 0
   unfolding step
   single-not q e = down w l u t g at base z hu (λ (r : Read). item (r .tree) .unit .longs ≡ 0) (Not q) e
+
+  pub share-not : (b : Bool) (m q : ℕ) → Is w l u t g at base z hu (Not q) → m ≡ share b (item-at F l t g at base .unit) → m ≡ share b (item-at F u t (not g) q base .unit)
+  unfolding step
+  share-not b m q e = down w l u t g at base z hu (λ (r : Read). m ≡ share b (item (r .tree) .unit)) (Not q) e
+
+  pub share-disj : (b : Bool) (m k : ℕ) (c d : Bool) (q : ℕ) → Is w l u t g at base z hu (Join true k c d q) → Single → m ≡ share b (item-at F l t g at base .unit) → m ≡ share b (tallies (items-at F u t k c d q base))
+  unfolding step item disj-item closed
+  share-disj b m k c d q e s x =
+      let n : is-none (tallies (items-at F u t k c d q base) .longs) ≡ true = none-is (tallies (items-at F u t k c d q base)) (down w l u t g at base z hu (λ (r : Read). item (r .tree) .unit .longs ≡ 0) (Join true k c d q) e s) in
+      rw n at (down w l u t g at base z hu (λ (r : Read). m ≡ share b (item (r .tree) .unit)) (Join true k c d q) e x)
 
   module _ (b : Bool) (out : List ℤ) (o : ℕ) (a : List ℤ) (p : ℕ) where
     abbrev Goal : Type 0
@@ -181,9 +199,29 @@ module _ (w : List ℤ) (l u : ℕ) (t g : Bool) (at base : ℕ) (z : l ≡ 0 �
 
 -- ---- members
 
-pub pools-none : (w : List ℤ) (l : ℕ) (t : Bool) (k : ℕ) (g h : Bool) (at base : ℕ) (b : Bool) {out : List ℤ} {o : ℕ} → k ≡ 0 → Open out o → Wrote out o (pools (items-at (read-part w) l t k g h at base) b w) out o
-unfolding many items pools
-pools-none w l t k g h at base b {out} {o} e i = rw e (wrote-none out o (i .low))
+module _ (w : List ℤ) (l : ℕ) (t : Bool) (k : ℕ) (g h : Bool) (at base : ℕ) (b : Bool) (m : ℕ) (hm : m ≡ share b (tallies (items-at (read-part w) l t k g h at base))) where
+  -- where some are left, so is a member
+  pub some-left : (m ≡ 0 → ⊥) → k ≡ 0 → ⊥
+  unfolding many items tallies
+  some-left z e = z (hm ∙ rw e (either-zero b))
+
+  pub pools-none : m ≡ 0 → {out : List ℤ} {o : ℕ} → Open out o → Wrote out o (pools (items-at (read-part w) l t k g h at base) b w) out o
+  pools-none e {out} {o} i = subst (λ (v : List ℤ). Wrote out o v out o) (sym (items-none (many (decode (read-part w) l t) k g h at base .trees) w b (sym hm ∙ e))) (wrote-none out o (i .low))
+
+  module _ (n : ℕ) (z : k ≡ 0 → ⊥) (s : Surveyed) (hs : Surveys w l t g at base n s) where
+    split-share : (b : Bool) → share b (tallies (items-at (read-part w) l t k g h at base)) ≡ share b (item-at (read-part w) l t g at base .unit) + share b (tallies (items-at (read-part w) l t (k - 1) h h (s .at) (s .base)))
+    unfolding tallies
+    split-share true = rw (items-is w l t k g h at base n z s hs)
+    split-share false = rw (items-is w l t k g h at base n z s hs)
+
+    pub share-rest : (j : ℕ) → j ≡ share b (item-at (read-part w) l t g at base .unit) → (j ≤ m) × (m - j ≡ share b (tallies (items-at (read-part w) l t (k - 1) h h (s .at) (s .base))))
+    share-rest j e = let i = split-share b in (omega (arith, hm), omega (arith, hm))
+
+    pub share-long : (item-at (read-part w) l t g at base .unit .longs ≡ 0 → ⊥) → m ≡ share b (tallies (items-at (read-part w) l t (k - 1) h h (s .at) (s .base)))
+    share-long f = let i = split-share b in let e = long-share (decode (read-part w) l t g at base .tree) b f in omega (arith, hm)
+
+pub share-found : (w : List ℤ) (l : ℕ) (t g : Bool) (at base n : ℕ) (b : Bool) (m : ℕ) (s : Surveyed) → Surveys w l t g at base n s → m ≡ cond b (s .lits) (s .cmps) → m ≡ share b (item-at (read-part w) l t g at base .unit)
+share-found w l t g at base n b m s hs e = e ∙ ap (λ (t : Tally). share b t) (hs .unit)
 
 pub pools-more : (w : List ℤ) (l : ℕ) (t : Bool) (k : ℕ) (g h : Bool) (at base n : ℕ) (b : Bool) (z : k ≡ 0 → ⊥) (s : Surveyed) → Surveys w l t g at base n s
     → {out a c : List ℤ} {o p q : ℕ} → Open out o → Wrote out o (item-at (read-part w) l t g at base .pool b w) a p → Wrote a p (pools (items-at (read-part w) l t (k - 1) h h (s .at) (s .base)) b w) c q

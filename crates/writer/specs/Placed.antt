@@ -1,6 +1,6 @@
 -- Places of the folded words in the work slice, and what the walks over them ask and give.
 use mathlib.Core.Path.{_≡_}
-use mathlib.Core.Bool.{Bool, false}
+use mathlib.Core.Bool.{Bool, false, cond}
 use mathlib.Core.List.{List, []}
 use Prim.Native.Nat.{ℕ, _+_, _≤_}
 use lib.IntN.{ℤ}
@@ -23,6 +23,10 @@ pub record Placed (w : List ℤ) (at base n : ℕ) : Type 0 where
 pub record Tallied (w : List ℤ) (l : ℕ) (t : Bool) (k : ℕ) (g h : Bool) (at base : ℕ) (x : Surveyed) : Type 0 where
   pub unit : tally (x .longs) (x .lits) (x .cmps) (x .lines) ≡ tallies (items-at (read-part w) l t k g h at base)
   pub room : x .longs + x .lits + x .cmps ≤ 4608
+
+-- a tally's literals (true) or comparisons
+abbrev pub share : Bool → Tally → ℕ
+share b t = cond b (t .lits) (t .cmps)
 
 -- r is what a survey finds, or says only that the expression is longer
 pub record Probed (w : List ℤ) (l : ℕ) (t g : Bool) (at base n : ℕ) (r : Surveyed) : Type 0 where

@@ -14,13 +14,13 @@ ghost use Rattle.nest.specs.Nest.{Word};
 ghost use Rattle.clauses.specs.Clause.{linear};
 ghost use Rattle.clauses.specs.Normalize.{negate-op-if};
 ghost use Rattle.answer.specs.Answer.{term-words, linear-words};
-ghost use Rattle.walk.specs.Item.{limit, bump as bump-of, word-of, clause-text, extra, block as block-of, var-item, pools as pools-of, texts, long-texts, disj-text, items};
+ghost use Rattle.walk.specs.Item.{limit, bump as bump-of, word-of, clause-text, extra, block as block-of, var-item, tallies, pools as pools-of, texts, long-texts, disj-text, items};
 ghost use Rattle.walk.specs.Tree.{cons, nil};
 ghost use Rattle.walk.specs.Decode.{word as word-in, many, decode, tie-at, many-ties, cross-ties, ties-at, read-part, item-at, items-at, surveyed, Surveys, SurveysAll};
 ghost use Rattle.walk.specs.MeetTies.{Reaches, ReachesAll};
 ghost use Rattle.writer.specs.Suffix.{suffix, Stacked, extra-lits, Open};
 ghost use Rattle.writer.specs.Fine.{Compares, Compared, Fine, Fines};
-ghost use Rattle.writer.specs.Placed.{Placed, Tallied, Probed, ProbedAll, Listed, no-extras, RuleWrote};
+ghost use Rattle.writer.specs.Placed.{Placed, Tallied, share, Probed, ProbedAll, Listed, no-extras, RuleWrote};
 ghost use Rattle.writer.specs.Rules.{Writable};
 use sums::Head;
 use walk::Mode;
@@ -345,7 +345,14 @@ fn pool_cmp(work: &[i32], at: usize, k: usize, g: bool, b: bool, out: &mut [i32]
     put_comparison(work, at, k, g, out, o)
 }
 
-// The literals (b) or the comparisons of the single members among so many.
+// How many literals (b) or comparisons were found.
+fn found(x: Surveyed, b: bool) -> usize
+    ensures { λ r. ⌜ r ≡ cond b (x .lits) (x .cmps) ⌝ }
+{
+    if b { x.lits } else { x.cmps }
+}
+
+// The literals (b) or the comparisons of the single members among so many; there are m of them, and no member behind the last is read.
 fn pools(
     work: &[i32],
     at: usize,
@@ -356,23 +363,28 @@ fn pools(
     g: bool,
     h: bool,
     b: bool,
+    m: usize,
     out: &mut [i32],
     o: usize,
 ) -> usize
     requires { ⌜ Placed (now work) at base 0 × Open (now out) o × Fines (now work) (many (decode (read-part (now work)) left t) count g h at base .trees) ⌝ }
+    requires { ⌜ m ≡ share b (tallies (items-at (read-part (now work)) left t count g h at base)) ⌝ }
     ensures { λ r. ⌜ Wrote (now (out .entry)) o (pools-of (items-at (read-part (now (work .entry))) left t count g h at base) b (now (work .entry))) (now (out .exit)) r ⌝ }
 {
     let mut q = at;
     let mut rest = count;
     let mut f = g;
     let mut c = base;
+    let mut k = m;
     let mut p = o;
-    while rest != 0 {
+    while k != 0 {
         let s = probe(work, q, left, t, c, f, 0);
         if s.longs == 0 {
-            p = pool(work, q, left, t, c, f, b, out, p);
+            let n = found(s, b);
+            p = pool(work, q, left, t, c, f, b, n, out, p);
             q = s.at;
             c = s.base;
+            k = k - n;
             rest = rest - 1;
             f = h;
             continue;
@@ -386,7 +398,7 @@ fn pools(
     p
 }
 
-// The literals (b) or the comparisons of the expression at a place, which has one clause.
+// The m literals (b) or comparisons of the expression at a place, which has one clause.
 fn pool(
     work: &[i32],
     at: usize,
@@ -395,11 +407,12 @@ fn pool(
     base: usize,
     g: bool,
     b: bool,
+    m: usize,
     out: &mut [i32],
     o: usize,
 ) -> usize
     requires { ⌜ Placed (now work) at base 0 × Open (now out) o × Fine (now work) (decode (read-part (now work)) left t g at base .tree) ⌝ }
-    requires { ⌜ item-at (read-part (now work)) left t g at base .unit .longs ≡ 0 ⌝ }
+    requires { ⌜ (item-at (read-part (now work)) left t g at base .unit .longs ≡ 0) × (m ≡ share b (item-at (read-part (now work)) left t g at base .unit)) ⌝ }
     ensures { λ r. ⌜ Wrote (now (out .entry)) o (item-at (read-part (now (work .entry))) left t g at base .pool b (now (work .entry))) (now (out .exit)) r ⌝ }
 {
     if left == 0 {
@@ -409,40 +422,15 @@ fn pool(
     match number::node_at(work, under, g, at) {
         Node::Var(v, _) => pool_var(work, v, g, b, out, o),
         Node::Cmp(_, _) => pool_cmp(work, at + 2, number::word(work, at + 1), g, b, out, o),
-        Node::Not(q) => pool(work, q, under, t, base, !g, b, out, o),
+        Node::Not(q) => pool(work, q, under, t, base, !g, b, m, out, o),
         Node::Join(d, k, x, y, q) => {
             if d {
-                return pools(work, q, under, t, k, base, x, y, b, out, o);
+                return pools(work, q, under, t, k, base, x, y, b, m, out, o);
             }
             o
         }
         Node::Cross(_, _) => o,
     }
-}
-
-// The same where there are n of them: without any, nothing is read.
-fn some_pools(
-    work: &[i32],
-    at: usize,
-    left: usize,
-    t: bool,
-    count: usize,
-    base: usize,
-    g: bool,
-    h: bool,
-    b: bool,
-    n: usize,
-    out: &mut [i32],
-    o: usize,
-) -> usize
-    requires { ⌜ Placed (now work) at base 0 × Open (now out) o × Fines (now work) (many (decode (read-part (now work)) left t) count g h at base .trees) ⌝ }
-    requires { ⌜ (n ≡ 0 → pools-of (items-at (read-part (now work)) left t count g h at base) b (now work) ≡ []) ⌝ }
-    ensures { λ r. ⌜ Wrote (now (out .entry)) o (pools-of (items-at (read-part (now (work .entry))) left t count g h at base) b (now (work .entry))) (now (out .exit)) r ⌝ }
-{
-    if n == 0 {
-        return o;
-    }
-    pools(work, at, left, t, count, base, g, h, b, out, o)
 }
 
 // The clause of the pool, with the block's numbers and the suffix.
@@ -468,11 +456,11 @@ fn put_pool(
     let k = x.longs;
     let n = x.lits + k + (64 - s.from);
     let a = put(out, o, word_of(n, false));
-    let b = some_pools(work, at, left, t, count, base, g, h, true, x.lits, out, a);
+    let b = pools(work, at, left, t, count, base, g, h, true, x.lits, out, a);
     let c = put_block(block, k, out, b);
     let d = put_suffix(s, out, c);
     let e = put(out, d, word_of(x.cmps, false));
-    some_pools(work, at, left, t, count, base, g, h, false, x.cmps, out, e)
+    pools(work, at, left, t, count, base, g, h, false, x.cmps, out, e)
 }
 
 // ---- leaves of the walk
@@ -664,20 +652,8 @@ fn write_disj(
         Mode::Pool => put_pool(work, at, left, t, count, base, g, h, block, x, s, out, o),
         Mode::Pass => {
             let mut one = [0i32; 1];
-            some_pools(
-                work,
-                at,
-                left,
-                t,
-                count,
-                base,
-                g,
-                h,
-                true,
-                x.lits,
-                &mut one,
-                0,
-            );
+            let k = x.lits;
+            pools(work, at, left, t, count, base, g, h, true, k, &mut one, 0);
             let y = Extra {
                 mode: Mode::Pass,
                 base: block,
@@ -736,8 +712,7 @@ pub fn write(
         Node::Join(d, k, a, b, q) => {
             if d {
                 let x = number::surveys(work, q, under, t, k, base, a, b, n);
-                let e = x.n;
-                let p = write_disj(work, q, under, t, k, base, a, b, n, e, x, s, out, o);
+                let p = write_disj(work, q, under, t, k, base, a, b, n, x.n, x, s, out, o);
                 let y = number::close_disj(x);
                 return Walked { seen: y, o: p };
             }

@@ -2,6 +2,7 @@ use borrow.Author.Needs.{needs}
 use Prim.Native.Nat.{ℕ, _<_}
 use borrow.Fn.Kinds.{In}
 use borrow.Fn.PlainCycle.{Measures, is, falls, and}
+use Rattle.writer.proofs.found.Reads as found-reads
 use Rattle.writer.proofs.probe.Reads as probe-reads
 use Rattle.writer.proofs.pool.Reads as pool
 use Rattle.writer.proofs.pool.Kinds as pool-kinds
@@ -25,12 +26,12 @@ use native.Mathlib.Omega.{arith}
 use lib.IntN.{ℤ}
 use lib.ListN.{length}
 use Rattle.laws.specs.Writes.{Wrote, wrote-length}
-use Rattle.walk.specs.Item.{Tally, pools as pools-of}
+use Rattle.walk.specs.Item.{Tally, tallies, pools as pools-of}
 use Rattle.walk.specs.Decode.{read-part, item-at, items-at}
-use Rattle.writer.specs.Placed.{Placed}
+use Rattle.writer.specs.Placed.{Placed, share}
 use Rattle.writer.proofs.Laws.{compared-length}
 use Rattle.writer.proofs.Steps.{part-length, okay, placed-at, compares, fine-cmp, fine-not, fine-join, Sofar, sofar-none, sofar-more, sofar-with, sofar-head}
-use Rattle.writer.proofs.PoolLaws.{pool-none, single-not, pool-var, pool-cmp, pool-not, pool-disj, pool-conj, pool-cross, pools-none, pools-more, pool-skip}
+use Rattle.writer.proofs.PoolLaws.{pool-none, single-not, pool-var, pool-cmp, pool-not, pool-disj, pool-conj, pool-cross, pools-none, pools-more, some-left, share-not, share-disj, share-rest, share-long, share-found, pool-skip}
 
 abbrev μ-pool : Measures 2 pool-kinds.ps ℕ
 μ-pool κs a = 4 * (4608 - a .1 .0) + 1
@@ -54,14 +55,14 @@ abbrev pool-claims : ℕ → pool-lts.Claims
 pool-claims t = (node-at-reads.Asked, node-at-reads.Learnt, pool-var-reads.Asked, pool-var-reads.Learnt, word-reads.Asked, word-reads.Learnt, pool-cmp-reads.Asked, pool-cmp-reads.Learnt, pool-below t, pool.Post, pools-below t, pools.Post)
 
 abbrev pools-claims : ℕ → pools-lts.Claims
-pools-claims t = (probe-reads.Asked, probe-reads.Learnt, pool-below t, pool.Post, survey-reads.Asked, survey-reads.Learnt)
+pools-claims t = (probe-reads.Asked, probe-reads.Learnt, found-reads.Asked, found-reads.Learnt, pool-below t, pool.Post, survey-reads.Asked, survey-reads.Learnt)
 
 abbrev pools-Inv-loop : pools-lts.InvT-loop
-pools-Inv-loop work at left t count base g h b out₀ o q₀ rest₀ f₀ c₀ p₀ out q rest f c p = Sofar work out₀ left t h at count q rest f c 0 p out
+pools-Inv-loop work at left t count base g h b m out₀ o q₀ rest₀ f₀ c₀ k₀ p₀ out q rest f c k p = Sofar work out₀ left t h at count q rest f c 0 p out × (k ≡ share b (tallies (items-at (read-part work) left t rest f h q c)))
     × ((d : List ℤ) (r : ℕ) → Wrote out p (pools-of (items-at (read-part work) left t rest f h q c) b work) d r → Wrote out₀ o (pools-of (items-at (read-part work) left t count g h at base) b work) d r)
 
 abbrev pools-μ-loop : pools-lts.MeasureT-loop
-pools-μ-loop work at left t count base g h b out₀ o q₀ rest₀ f₀ c₀ p₀ out q rest f c p = rest
+pools-μ-loop work at left t count base g h b m out₀ o q₀ rest₀ f₀ c₀ k₀ p₀ out q rest f c k p = rest
 
 pool-returns : (t : ℕ) → pool-lts.Need-returns (pool-claims t) (pool-at t) pool.Post
 pool-returns t c = pool-none ((c .before) .args .work .now) _ _ _ _ _ _ (c .if1 .taken) ((c .before) .pre .1 .0 .1)
@@ -85,21 +86,21 @@ pool-pool-requires : (t : ℕ) → pool-lts.Need-pool-requires (pool-claims t) (
 pool-pool-requires t c κs = let e = sym (c .before .before .q .given .1) ∙ c .before .before .before .before .node-at .ensures in
     let o = okay ((c .before .before .before .before .before .before) .args .work .now) _ _ _ _ _ _ ((c .before .before .before .before .before .before) .pre .1 .0 .0) e in (
       omega (arith, o .0, o .1, part-length ((c .before .before .before .before .before .before) .args .work .now) ((c .before .before .before .before .before .before) .pre .1 .0 .0 .size), (c .before .before .before .before .before .before) .pre .0),
-      ((placed-at _ ((c .before .before .before .before .before .before) .pre .1 .0 .0) (o .1), (c .before .before .before .before .before .before) .pre .1 .0 .1, fine-not ((c .before .before .before .before .before .before) .args .work .now) _ _ _ _ _ _ (c .before .before .before .before .before .if1 .left) refl _ e ((c .before .before .before .before .before .before) .pre .1 .0 .2)), single-not ((c .before .before .before .before .before .before) .args .work .now) _ _ _ _ _ _ (c .before .before .before .before .before .if1 .left) refl _ e ((c .before .before .before .before .before .before) .pre .1 .1)),
+      ((placed-at _ ((c .before .before .before .before .before .before) .pre .1 .0 .0) (o .1), (c .before .before .before .before .before .before) .pre .1 .0 .1, fine-not ((c .before .before .before .before .before .before) .args .work .now) _ _ _ _ _ _ (c .before .before .before .before .before .if1 .left) refl _ e ((c .before .before .before .before .before .before) .pre .1 .0 .2)), (single-not ((c .before .before .before .before .before .before) .args .work .now) _ _ _ _ _ _ (c .before .before .before .before .before .if1 .left) refl _ e ((c .before .before .before .before .before .before) .pre .1 .1 .0), share-not ((c .before .before .before .before .before .before) .args .work .now) _ _ _ _ _ _ (c .before .before .before .before .before .if1 .left) refl ((c .before .before .before .before .before .before) .args .b) ((c .before .before .before .before .before .before) .args .m) _ e ((c .before .before .before .before .before .before) .pre .1 .1 .1))),
     )
 
 pool-pools-requires : (t : ℕ) → pool-lts.Need-pools-requires (pool-claims t) (pool-at t) pool.Post
 pool-pools-requires t c κs = let e = sym (c .before .before .before .d .given .1) ∙ c .before .before .before .before .before .node-at .ensures in
     let o = okay ((c .before .before .before .before .before .before .before) .args .work .now) _ _ _ _ _ _ ((c .before .before .before .before .before .before .before) .pre .1 .0 .0) e in (
       omega (arith, o .0, o .1, o .2, part-length ((c .before .before .before .before .before .before .before) .args .work .now) ((c .before .before .before .before .before .before .before) .pre .1 .0 .0 .size), (c .before .before .before .before .before .before .before) .pre .0),
-      (placed-at _ ((c .before .before .before .before .before .before .before) .pre .1 .0 .0) (o .1), (c .before .before .before .before .before .before .before) .pre .1 .0 .1, fine-join ((c .before .before .before .before .before .before .before) .args .work .now) _ _ _ _ _ _ (c .before .before .before .before .before .before .if1 .left) refl _ _ _ _ _ e ((c .before .before .before .before .before .before .before) .pre .1 .0 .2)),
+      ((placed-at _ ((c .before .before .before .before .before .before .before) .pre .1 .0 .0) (o .1), (c .before .before .before .before .before .before .before) .pre .1 .0 .1, fine-join ((c .before .before .before .before .before .before .before) .args .work .now) _ _ _ _ _ _ (c .before .before .before .before .before .before .if1 .left) refl _ _ _ _ _ e ((c .before .before .before .before .before .before .before) .pre .1 .0 .2)), share-disj ((c .before .before .before .before .before .before .before) .args .work .now) _ _ _ _ _ _ (c .before .before .before .before .before .before .if1 .left) refl ((c .before .before .before .before .before .before .before) .args .b) ((c .before .before .before .before .before .before .before) .args .m) _ _ _ _ (join-is e (c .before .if2 .taken)) ((c .before .before .before .before .before .before .before) .pre .1 .1 .0) ((c .before .before .before .before .before .before .before) .pre .1 .1 .1)),
     )
 
 pool-same-length : (t : ℕ) → pool-lts.Need-same-length (pool-claims t) (pool-at t) pool.Post
 pool-same-length t c = wrote-length (c .before .pools .ensures)
 
 pool-returns-2 : (t : ℕ) → pool-lts.Need-returns-2 (pool-claims t) (pool-at t) pool.Post
-pool-returns-2 t c = pool-disj ((c .before .before .before .before .before .before .before .before .before) .args .work .now) _ _ _ _ _ _ (c .before .before .before .before .before .before .before .before .if1 .left) refl _ _ _ _ _ _ _ _ _ (join-is (sym (c .before .before .before .before .before .d .given .1) ∙ c .before .before .before .before .before .before .before .node-at .ensures) (c .before .before .before .if2 .taken)) ((c .before .before .before .before .before .before .before .before .before) .pre .1 .1) (c .before .pools .ensures)
+pool-returns-2 t c = pool-disj ((c .before .before .before .before .before .before .before .before .before) .args .work .now) _ _ _ _ _ _ (c .before .before .before .before .before .before .before .before .if1 .left) refl _ _ _ _ _ _ _ _ _ (join-is (sym (c .before .before .before .before .before .d .given .1) ∙ c .before .before .before .before .before .before .before .node-at .ensures) (c .before .before .before .if2 .taken)) ((c .before .before .before .before .before .before .before .before .before) .pre .1 .1 .0) (c .before .pools .ensures)
 
 pool-same-length-2 : (t : ℕ) → pool-lts.Need-same-length-2 (pool-claims t) (pool-at t) pool.Post
 pool-same-length-2 t c = wrote-length (c .before .pool-var .ensures)
@@ -126,42 +127,60 @@ pool-returns-7 : (t : ℕ) → pool-lts.Need-returns-7 (pool-claims t) (pool-at 
 pool-returns-7 t c = pool-cross ((c .before .before .before .before) .args .work .now) _ _ _ _ _ _ (c .before .before .before .if1 .left) refl _ ((c .before .before .before .before) .pre .1 .0 .1) _ _ (sym (c .enum-told2 .given .1) ∙ c .before .before .node-at .ensures)
 
 pools-loop-holds : (t : ℕ) → pools-lts.Need-loop-holds (pools-claims t) (pools-at t) pools.Post pools-Inv-loop pools-μ-loop
-pools-loop-holds t c = (sofar-none (c .pre .1 .0) (c .pre .1 .1) (c .pre .1 .2), λ d r x. x)
+pools-loop-holds t c = (sofar-none (c .pre .1 .0 .0) (c .pre .1 .0 .1) (c .pre .1 .0 .2), c .pre .1 .1, λ d r x. x)
 
 pools-probe-requires : (t : ℕ) → pools-lts.Need-probe-requires (pools-claims t) (pools-at t) pools.Post pools-Inv-loop pools-μ-loop
 pools-probe-requires t c κs = c .before .loop .inv .0 .placed
 
 pools-pool-requires : (t : ℕ) → pools-lts.Need-pool-requires (pools-claims t) (pools-at t) pools.Post pools-Inv-loop pools-μ-loop
-pools-pool-requires t c κs = let z = c .before .before .before .before .loop-test .taken in
-    let i = c .before .before .before .before .before .loop .inv .0 in
-    let y = c .before .if1 .taken in (
-      omega (arith, z, i .after, i .fewer, i .placed .inside, (c .before .before .before .before .before .before) .pre .0),
-      ((i .placed, i .opened, sofar-head i z), sym (ap (λ (t : Tally). t .longs) (c .before .before .before .probe .ensures .single y .unit)) ∙ y),
+pools-pool-requires t c κs = let z = some-left ((c .before .before .before .before .before .before .before) .args .work .now) _ _ _ _ _ _ _ ((c .before .before .before .before .before .before .before) .args .b) _ (c .before .before .before .before .before .before .loop .inv .1) (c .before .before .before .before .before .loop-test .taken) in
+    let i = c .before .before .before .before .before .before .loop .inv .0 in
+    let y = c .before .before .if1 .taken in
+    let v = c .before .before .before .before .probe .ensures .single y in (
+      omega (arith, z, i .after, i .fewer, i .placed .inside, (c .before .before .before .before .before .before .before) .pre .0),
+      ((i .placed, i .opened, sofar-head i z), (sym (ap (λ (t : Tally). t .longs) (v .unit)) ∙ y, share-found ((c .before .before .before .before .before .before .before) .args .work .now) _ _ _ _ _ _ ((c .before .before .before .before .before .before .before) .args .b) _ _ v (c .before .found .ensures))),
     )
 
+pools-sub-k : (t : ℕ) → pools-lts.Need-sub-k (pools-claims t) (pools-at t) pools.Post pools-Inv-loop pools-μ-loop
+pools-sub-k t c = let z = some-left ((c .before .before .before .before .before .before .before .before .before) .args .work .now) _ _ _ _ _ _ _ ((c .before .before .before .before .before .before .before .before .before) .args .b) _ (c .before .before .before .before .before .before .before .before .loop .inv .1) (c .before .before .before .before .before .before .before .loop-test .taken) in
+    let v = c .before .before .before .before .before .before .probe .ensures .single (c .before .before .before .before .if1 .taken) in
+    share-rest ((c .before .before .before .before .before .before .before .before .before) .args .work .now) _ _ _ _ _ _ _ ((c .before .before .before .before .before .before .before .before .before) .args .b) _ (c .before .before .before .before .before .before .before .before .loop .inv .1) _ z _ v _ (share-found ((c .before .before .before .before .before .before .before .before .before) .args .work .now) _ _ _ _ _ _ ((c .before .before .before .before .before .before .before .before .before) .args .b) _ _ v (c .before .before .before .found .ensures)) .0
+
+pools-sub-rest : (t : ℕ) → pools-lts.Need-sub-rest (pools-claims t) (pools-at t) pools.Post pools-Inv-loop pools-μ-loop
+pools-sub-rest t c = let z = some-left ((c .before .before .before .before .before .before .before .before .before) .args .work .now) _ _ _ _ _ _ _ ((c .before .before .before .before .before .before .before .before .before) .args .b) _ (c .before .before .before .before .before .before .before .before .loop .inv .1) (c .before .before .before .before .before .before .before .loop-test .taken) in omega (arith, z)
+
+pools-loop-less : (t : ℕ) → pools-lts.Need-loop-less (pools-claims t) (pools-at t) pools.Post pools-Inv-loop pools-μ-loop
+pools-loop-less t c = let z = some-left ((c .before .before .before .before .before .before .before .before .before) .args .work .now) _ _ _ _ _ _ _ ((c .before .before .before .before .before .before .before .before .before) .args .b) _ (c .before .before .before .before .before .before .before .before .loop .inv .1) (c .before .before .before .before .before .before .before .loop-test .taken) in omega (arith, z)
+
+pools-sub-rest-2 : (t : ℕ) → pools-lts.Need-sub-rest-2 (pools-claims t) (pools-at t) pools.Post pools-Inv-loop pools-μ-loop
+pools-sub-rest-2 t c = let z = some-left ((c .before .before .before .before .before .before) .args .work .now) _ _ _ _ _ _ _ ((c .before .before .before .before .before .before) .args .b) _ (c .before .before .before .before .before .loop .inv .1) (c .before .before .before .before .loop-test .taken) in omega (arith, z)
+
+pools-loop-less-2 : (t : ℕ) → pools-lts.Need-loop-less-2 (pools-claims t) (pools-at t) pools.Post pools-Inv-loop pools-μ-loop
+pools-loop-less-2 t c = let z = some-left ((c .before .before .before .before .before .before) .args .work .now) _ _ _ _ _ _ _ ((c .before .before .before .before .before .before) .args .b) _ (c .before .before .before .before .before .loop .inv .1) (c .before .before .before .before .loop-test .taken) in omega (arith, z)
+
 pools-loop-again : (t : ℕ) → pools-lts.Need-loop-again (pools-claims t) (pools-at t) pools.Post pools-Inv-loop pools-μ-loop
-pools-loop-again t c = let i = c .before .before .before .before .before .before .before .loop .inv in
-    let z = c .before .before .before .before .before .before .loop-test .taken in
-    let y = c .before .before .before .before .before .probe .ensures .single (c .before .before .before .if1 .taken) in
+pools-loop-again t c = let i = c .before .before .before .before .before .before .before .before .loop .inv in
+    let z = some-left ((c .before .before .before .before .before .before .before .before .before) .args .work .now) _ _ _ _ _ _ _ ((c .before .before .before .before .before .before .before .before .before) .args .b) _ (c .before .before .before .before .before .before .before .before .loop .inv .1) (c .before .before .before .before .before .before .before .loop-test .taken) in
+    let y = c .before .before .before .before .before .before .probe .ensures .single (c .before .before .before .before .if1 .taken) in
     let m = c .before .pool .ensures in
-    (sofar-with 0 (sofar-more (i .0) z y m) (omega arith), λ d r x. i .1 d r (pools-more ((c .before .before .before .before .before .before .before .before) .args .work .now) _ _ _ _ _ _ _ _ _ z _ y (i .0 .opened) m x))
+    (sofar-with 0 (sofar-more (i .0) z y m) (omega arith), share-rest ((c .before .before .before .before .before .before .before .before .before) .args .work .now) _ _ _ _ _ _ _ ((c .before .before .before .before .before .before .before .before .before) .args .b) _ (i .1) _ z _ y _ (share-found ((c .before .before .before .before .before .before .before .before .before) .args .work .now) _ _ _ _ _ _ ((c .before .before .before .before .before .before .before .before .before) .args .b) _ _ y (c .before .before .before .found .ensures)) .1, λ d r x. i .2 d r (pools-more ((c .before .before .before .before .before .before .before .before .before) .args .work .now) _ _ _ _ _ _ _ _ _ z _ y (i .0 .opened) m x))
 
 pools-survey-requires : (t : ℕ) → pools-lts.Need-survey-requires (pools-claims t) (pools-at t) pools.Post pools-Inv-loop pools-μ-loop
 pools-survey-requires t c κs = let i = c .before .before .before .before .loop .inv .0 in omega (arith, i .placed .size, i .placed .inside, i .placed .low-base)
 
 pools-loop-again-2 : (t : ℕ) → pools-lts.Need-loop-again-2 (pools-claims t) (pools-at t) pools.Post pools-Inv-loop pools-μ-loop
 pools-loop-again-2 t c = let i = c .before .before .before .before .before .loop .inv in
-    let z = c .before .before .before .before .loop-test .taken in
+    let z = some-left ((c .before .before .before .before .before .before) .args .work .now) _ _ _ _ _ _ _ ((c .before .before .before .before .before .before) .args .b) _ (c .before .before .before .before .before .loop .inv .1) (c .before .before .before .before .loop-test .taken) in
     let y = c .survey .ensures in
-    let m = pool-skip ((c .before .before .before .before .before .before) .args .work .now) _ _ _ _ _ _ (c .before .before .before .probe .ensures .longer (c .before .if1 .left)) (i .0 .opened) in
-    (sofar-with 0 (sofar-more (i .0) z y m) (omega arith), λ d r x. i .1 d r (pools-more ((c .before .before .before .before .before .before) .args .work .now) _ _ _ _ _ _ _ _ _ z _ y (i .0 .opened) m x))
+    let f = c .before .before .before .probe .ensures .longer (c .before .if1 .left) in
+    let m = pool-skip ((c .before .before .before .before .before .before) .args .work .now) _ _ _ _ _ _ f (i .0 .opened) in
+    (sofar-with 0 (sofar-more (i .0) z y m) (omega arith), share-long ((c .before .before .before .before .before .before) .args .work .now) _ _ _ _ _ _ _ ((c .before .before .before .before .before .before) .args .b) _ (i .1) _ z _ y f, λ d r x. i .2 d r (pools-more ((c .before .before .before .before .before .before) .args .work .now) _ _ _ _ _ _ _ _ _ z _ y (i .0 .opened) m x))
 
 pools-same-length : (t : ℕ) → pools-lts.Need-same-length (pools-claims t) (pools-at t) pools.Post pools-Inv-loop pools-μ-loop
 pools-same-length t c = c .before .loop .inv .0 .same
 
 pools-returns : (t : ℕ) → pools-lts.Need-returns (pools-claims t) (pools-at t) pools.Post pools-Inv-loop pools-μ-loop
-pools-returns t c = c .before .loop .inv .1 _ _ (pools-none ((c .before .before) .args .work .now) _ _ _ _ _ _ _ _ (c .loop-test .left) (c .before .loop .inv .0 .opened))
-
+pools-returns t c = c .before .loop .inv .2 _ _ (pools-none ((c .before .before) .args .work .now) _ _ _ _ _ _ _ ((c .before .before) .args .b) _ (c .before .loop .inv .1) (c .loop-test .left) (c .before .loop .inv .0 .opened))
 pub +pool+pools-spec : {M : Type 1} → statement M
 +pool+pools-spec =
     close μ-pool μ-pools
@@ -194,13 +213,15 @@ pub +pool+pools-spec : {M : Type 1} → statement M
     (λ t. pools-lts.spec (pools-claims t) (pools-at t) pools.Post pools-Inv-loop pools-μ-loop
     (pools-loop-holds t)
     (pools-probe-requires t)
+    (λ c κs. search needs)
     (pools-pool-requires t)
-    (λ c. search needs)
-    (λ c. search needs)
+    (pools-sub-k t)
+    (pools-sub-rest t)
+    (pools-loop-less t)
     (pools-loop-again t)
     (pools-survey-requires t)
-    (λ c. search needs)
-    (λ c. search needs)
+    (pools-sub-rest-2 t)
+    (pools-loop-less-2 t)
     (pools-loop-again-2 t)
     (pools-same-length t)
     (pools-returns t))

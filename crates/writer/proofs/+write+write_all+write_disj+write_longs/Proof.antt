@@ -31,7 +31,7 @@ use Rattle.number.proofs.bump.Reads as bump-reads
 use Rattle.number.proofs.mode_of.Reads as mode-of-reads
 use Rattle.number.proofs.Leaves.{join-is}
 use Rattle.writer.proofs.put_pool.Reads as put-pool-reads
-use Rattle.writer.proofs.some_pools.Reads as some-pools-reads
+use Rattle.writer.proofs.pools.Reads as pools-reads
 use Rattle.writer.proofs.pushed.Reads as pushed-reads
 use Rattle.writer.proofs.+write+write_all+write_disj+write_longs.{statement}
 use Rattle.writer.proofs.+write+write_all+write_disj+write_longs.Tie.{close}
@@ -54,7 +54,7 @@ use Rattle.writer.specs.Placed.{Placed}
 use Rattle.writer.proofs.Laws.{open-next, stack-down, compared-length}
 use Rattle.walk.specs.Steps.{survey-none, survey-var, survey-cmp, survey-not, survey-conj, survey-disj, survey-split, survey-cross, Sofar as Seen, sofar-none as seen-none, sofar-more as seen-more, sofar-done as seen-done}
 use Rattle.writer.proofs.Steps.{part-length, okay, placed-in, sofar-head, placed-at, placed-with, compares, fine-cmp, fine-not, fine-join, fine-cross, Sofar, sofar-none, sofar-more, sofar-skip}
-use Rattle.writer.proofs.PoolLaws.{items-lits, no-lits}
+use Rattle.writer.proofs.PoolLaws.{items-lits}
 use Rattle.writer.proofs.Longer.{long-seen}
 use Rattle.writer.proofs.Written.{write-none, write-var, write-cmp, write-not, write-conj, write-disjoint, write-split, write-cross, texts-none, texts-more, longs-none, longs-skip, longs-more, one-lit, disj-pool, disj-pass, disj-two, disj-each, tallied}
 
@@ -101,7 +101,7 @@ abbrev write-all-claims : ℕ → write-all-lts.Claims
 write-all-claims t = (no-members-reads.Asked, no-members-reads.Learnt, write-below t, write.Post, add-member-reads.Asked, add-member-reads.Learnt)
 
 abbrev write-disj-claims : ℕ → write-disj-lts.Claims
-write-disj-claims t = (mode-of-reads.Asked, mode-of-reads.Learnt, put-pool-reads.Asked, put-pool-reads.Learnt, some-pools-reads.Asked, some-pools-reads.Learnt, write-longs-below t, write-longs.Post)
+write-disj-claims t = (mode-of-reads.Asked, mode-of-reads.Learnt, put-pool-reads.Asked, put-pool-reads.Learnt, pools-reads.Asked, pools-reads.Learnt, write-longs-below t, write-longs.Post)
 
 abbrev write-longs-claims : ℕ → write-longs-lts.Claims
 write-longs-claims t = (probe-reads.Asked, probe-reads.Learnt, pushed-reads.Asked, pushed-reads.Learnt, write-below t, write.Post)
@@ -250,8 +250,8 @@ write-all-returns t c = (seen-done _ _ _ _ _ _ _ _ _ _ _ _ (c .before .loop .inv
 write-disj-put-pool-requires : (t : ℕ) → write-disj-lts.Need-put-pool-requires (write-disj-claims t) (write-disj-at t) write-disj.Post
 write-disj-put-pool-requires t c κs = ((placed-with 0 ((c .before .before .before .before) .pre .1 .0 .0) (omega arith), (c .before .before .before .before) .pre .1 .0 .1, (c .before .before .before .before) .pre .1 .0 .2), (((c .before .before .before .before) .pre .1 .1) .0, stack-down 0 (((c .before .before .before .before) .pre .1 .1) .1) (omega arith), ((c .before .before .before .before) .pre .1 .1) .2))
 
-write-disj-some-pools-requires : (t : ℕ) → write-disj-lts.Need-some-pools-requires (write-disj-claims t) (write-disj-at t) write-disj.Post
-write-disj-some-pools-requires t c κs = ((placed-with 0 ((c .before .before .before .before) .pre .1 .0 .0) (omega arith), record { low = omega arith; room = omega arith }, (c .before .before .before .before) .pre .1 .0 .2), no-lits ((c .before .before .before .before) .pre .1 .1 .0))
+write-disj-pools-requires : (t : ℕ) → write-disj-lts.Need-pools-requires (write-disj-claims t) (write-disj-at t) write-disj.Post
+write-disj-pools-requires t c κs = ((placed-with 0 ((c .before .before .before .before) .pre .1 .0 .0) (omega arith), record { low = omega arith; room = omega arith }, (c .before .before .before .before) .pre .1 .0 .2), ap (λ (t : Tally). t .lits) ((c .before .before .before .before) .pre .1 .1 .0 .unit))
 
 write-disj-write-longs-requires : (t : ℕ) → write-disj-lts.Need-write-longs-requires (write-disj-claims t) (write-disj-at t) write-disj.Post
 write-disj-write-longs-requires t c κs = (omega (arith, (c .before .before .before .before .before .before .before .before .before) .pre .0), ((c .before .before .before .before .before .before .before .before .before) .pre .1 .0, (((c .before .before .before .before .before .before .before .before .before) .pre .1 .1) .1, ((c .before .before .before .before .before .before .before .before .before) .pre .1 .1) .2)))
@@ -277,12 +277,12 @@ write-disj-same-length-2 t c = wrote-length (c .before .write-longs .ensures)
 write-disj-returns-2 : (t : ℕ) → write-disj-lts.Need-returns-2 (write-disj-claims t) (write-disj-at t) write-disj.Post
 write-disj-returns-2 t c = let a = (c .before .before .before .before .before .before .before .before .before .before .before) .args in
     let w = a .work .now in
-    let one = c .before .before .before .before .before .before .some-pools .last .1 .1 .1 .1 .1 .1 .1 .1 .1 .1 .0 in
-    let f : SFits w32 (getD one 0 (pos 0)) = sfits-of (c .before .before .before .t31 .given) in
+    let one = c .before .before .before .before .before .before .pools .last .1 .1 .1 .1 .1 .1 .1 .1 .1 .1 .0 in
+    let f : SFits w32 (getD one 0 (pos 0)) = sfits-of (c .before .before .before .t32 .given) in
     let i : length (pools (items-at (read-part w) (a .left) (a .t) (a .count) (a .g) (a .h) (a .at) (a .base)) true w) ≡ a .x .lits =
     items-lits (many (decode (read-part w) (a .left) (a .t)) (a .count) (a .g) (a .h) (a .at) (a .base) .trees) w ∙ sym (ap (λ (t : Tally). t .lits) (((c .before .before .before .before .before .before .before .before .before .before .before) .pre .1 .1) .0 .unit)) in
     let m = sym (c .before .before .before .before .before .before .before .before .before .before .mode-of .ensures) ∙ c .before .before .before .before .before .before .before .before .enum-told2 .given .1 in
-    disj-pass _ _ _ _ _ (a .x) (((c .before .before .before .before .before .before .before .before .before .before .before) .pre .1 .1) .0 .unit) _ m (rw (toZ-ofZ f) (one-lit _ one _ (a .x .longs) (a .x .lits) (a .x .cmps) i m (c .before .before .before .before .before .before .some-pools .ensures))) (c .before .write-longs .ensures)
+    disj-pass _ _ _ _ _ (a .x) (((c .before .before .before .before .before .before .before .before .before .before .before) .pre .1 .1) .0 .unit) _ m (rw (toZ-ofZ f) (one-lit _ one _ (a .x .longs) (a .x .lits) (a .x .cmps) i m (c .before .before .before .before .before .before .pools .ensures))) (c .before .write-longs .ensures)
 
 write-disj-same-length-3 : (t : ℕ) → write-disj-lts.Need-same-length-3 (write-disj-claims t) (write-disj-at t) write-disj.Post
 write-disj-same-length-3 t c = wrote-length (c .before .write-longs2 .ensures)
@@ -359,7 +359,6 @@ write-all-add-member-requires : (t : ℕ) → write-all-lts.Need-add-member-requ
 write-all-add-member-requires t c κs = let i = c .before .before .before .before .before .loop .inv .1 in
     let e = c .before .before .write .ensures .0 in
     omega (arith, part-length ((c .before .before .before .before .before .before .before) .args .work .now) ((c .before .before .before .before .before .before .before) .pre .1 .0 .0 .size), i .room, e .room, e .inside)
-
 pub +write+write-all+write-disj+write-longs-spec : {M : Type 1} → statement M
 +write+write-all+write-disj+write-longs-spec =
     close μ-write μ-write-all μ-write-disj μ-write-longs
@@ -423,7 +422,7 @@ pub +write+write-all+write-disj+write-longs-spec : {M : Type 1} → statement M
     (write-disj-put-pool-requires t)
     (λ c. search needs)
     (λ c. search needs)
-    (write-disj-some-pools-requires t)
+    (write-disj-pools-requires t)
     (λ c. search needs)
     (write-disj-write-longs-requires t)
     (λ c. search needs)

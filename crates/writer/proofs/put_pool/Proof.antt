@@ -9,7 +9,7 @@ use Rattle.laws.specs.Writes.{wrote-length}
 use Rattle.walk.specs.Item.{Tally, pools}
 use Rattle.walk.specs.Decode.{many, decode, read-part, items-at}
 use Rattle.writer.proofs.Laws.{open-next, put-word}
-use Rattle.writer.proofs.PoolLaws.{items-lits, no-lits, no-cmps, pool-clause}
+use Rattle.writer.proofs.PoolLaws.{items-lits, pool-clause}
 use borrow.Author.Needs.{needs}
 use Rattle.writer.proofs.put_pool.Statement.{statement}
 use Rattle.writer.proofs.put_pool.Tie as tie
@@ -29,26 +29,26 @@ word-of-requires c κs = search needs
 put-requires : tie.Need-put-requires
 put-requires c κs = c .before .before .before .before .pre .0 .1
 
-pools-requires : tie.Need-some-pools-requires
-pools-requires c κs = ((c .before .before .before .before .before .before .before .pre .0 .0, open-next (c .before .before .before .before .before .before .before .pre .0 .1) (c .before .before .put .ensures), c .before .before .before .before .before .before .before .pre .0 .2), no-lits (c .before .before .before .before .before .before .before .pre .1 .0))
+pools-requires : tie.Need-pools-requires
+pools-requires c κs = ((c .before .before .before .before .before .before .before .pre .0 .0, open-next (c .before .before .before .before .before .before .before .pre .0 .1) (c .before .before .put .ensures), c .before .before .before .before .before .before .before .pre .0 .2), ap (λ (t : Tally). t .lits) (c .before .before .before .before .before .before .before .pre .1 .0 .unit))
 
 put-block-requires : tie.Need-put-block-requires
-put-block-requires c κs = (omega (arith, c .before .before .before .before .before .before .before .before .before .before .pre .1 .0 .room, c .before .before .before .before .before .before .before .before .before .before .pre .1 .2), open-next (open-next (c .before .before .before .before .before .before .before .before .before .before .pre .0 .1) (c .before .before .before .before .before .put .ensures)) (c .before .before .some-pools .ensures))
+put-block-requires c κs = (omega (arith, c .before .before .before .before .before .before .before .before .before .before .pre .1 .0 .room, c .before .before .before .before .before .before .before .before .before .before .pre .1 .2), open-next (open-next (c .before .before .before .before .before .before .before .before .before .before .pre .0 .1) (c .before .before .before .before .before .put .ensures)) (c .before .before .pools .ensures))
 
 put-suffix-requires : tie.Need-put-suffix-requires
-put-suffix-requires c κs = (c .before .before .before .before .before .before .before .before .before .before .before .before .before .pre .1 .1, open-next (open-next (open-next (c .before .before .before .before .before .before .before .before .before .before .before .before .before .pre .0 .1) (c .before .before .before .before .before .before .before .before .put .ensures)) (c .before .before .before .before .before .some-pools .ensures)) (c .before .before .put-block .ensures))
+put-suffix-requires c κs = (c .before .before .before .before .before .before .before .before .before .before .before .before .before .pre .1 .1, open-next (open-next (open-next (c .before .before .before .before .before .before .before .before .before .before .before .before .before .pre .0 .1) (c .before .before .before .before .before .before .before .before .put .ensures)) (c .before .before .before .before .before .pools .ensures)) (c .before .before .put-block .ensures))
 
 word-of-requires-2 : tie.Need-word-of-requires-2
 word-of-requires-2 c κs = search needs
 
 put-requires-2 : tie.Need-put-requires-2
-put-requires-2 c κs = open-next (open-next (open-next (open-next (c .before .before .before .before .before .before .before .before .before .before .before .before .before .before .before .before .before .pre .0 .1) (c .before .before .before .before .before .before .before .before .before .before .before .before .put .ensures)) (c .before .before .before .before .before .before .before .before .before .some-pools .ensures)) (c .before .before .before .before .before .before .put-block .ensures)) (c .before .before .before .put-suffix .ensures)
+put-requires-2 c κs = open-next (open-next (open-next (open-next (c .before .before .before .before .before .before .before .before .before .before .before .before .before .before .before .before .before .pre .0 .1) (c .before .before .before .before .before .before .before .before .before .before .before .before .put .ensures)) (c .before .before .before .before .before .before .before .before .before .pools .ensures)) (c .before .before .before .before .before .before .put-block .ensures)) (c .before .before .before .put-suffix .ensures)
 
-pools-requires-2 : tie.Need-some-pools-requires-2
-pools-requires-2 c κs = ((c .before .before .before .before .before .before .before .before .before .before .before .before .before .before .before .before .before .before .before .before .pre .0 .0, open-next (open-next (open-next (open-next (open-next (c .before .before .before .before .before .before .before .before .before .before .before .before .before .before .before .before .before .before .before .before .pre .0 .1) (c .before .before .before .before .before .before .before .before .before .before .before .before .before .before .before .put .ensures)) (c .before .before .before .before .before .before .before .before .before .before .before .before .some-pools .ensures)) (c .before .before .before .before .before .before .before .before .before .put-block .ensures)) (c .before .before .before .before .before .before .put-suffix .ensures)) (c .before .before .put2 .ensures), c .before .before .before .before .before .before .before .before .before .before .before .before .before .before .before .before .before .before .before .before .pre .0 .2), no-cmps (c .before .before .before .before .before .before .before .before .before .before .before .before .before .before .before .before .before .before .before .before .pre .1 .0))
+pools-requires-2 : tie.Need-pools-requires-2
+pools-requires-2 c κs = ((c .before .before .before .before .before .before .before .before .before .before .before .before .before .before .before .before .before .before .before .before .pre .0 .0, open-next (open-next (open-next (open-next (open-next (c .before .before .before .before .before .before .before .before .before .before .before .before .before .before .before .before .before .before .before .before .pre .0 .1) (c .before .before .before .before .before .before .before .before .before .before .before .before .before .before .before .put .ensures)) (c .before .before .before .before .before .before .before .before .before .before .before .before .pools .ensures)) (c .before .before .before .before .before .before .before .before .before .put-block .ensures)) (c .before .before .before .before .before .before .put-suffix .ensures)) (c .before .before .put2 .ensures), c .before .before .before .before .before .before .before .before .before .before .before .before .before .before .before .before .before .before .before .before .pre .0 .2), ap (λ (t : Tally). t .cmps) (c .before .before .before .before .before .before .before .before .before .before .before .before .before .before .before .before .before .before .before .before .pre .1 .0 .unit))
 
 same-length : tie.Need-same-length
-same-length c = wrote-length (c .before .some-pools2 .ensures) ∙ wrote-length (c .before .before .before .before .put2 .ensures) ∙ wrote-length (c .before .before .before .before .before .before .before .before .put-suffix .ensures) ∙ wrote-length (c .before .before .before .before .before .before .before .before .before .before .before .put-block .ensures) ∙ wrote-length (c .before .before .before .before .before .before .before .before .before .before .before .before .before .before .some-pools .ensures) ∙ wrote-length (c .before .before .before .before .before .before .before .before .before .before .before .before .before .before .before .before .before .put .ensures)
+same-length c = wrote-length (c .before .pools2 .ensures) ∙ wrote-length (c .before .before .before .before .put2 .ensures) ∙ wrote-length (c .before .before .before .before .before .before .before .before .put-suffix .ensures) ∙ wrote-length (c .before .before .before .before .before .before .before .before .before .before .before .put-block .ensures) ∙ wrote-length (c .before .before .before .before .before .before .before .before .before .before .before .before .before .before .pools .ensures) ∙ wrote-length (c .before .before .before .before .before .before .before .before .before .before .before .before .before .before .before .before .before .put .ensures)
 
 returns : tie.Need-returns
 returns c =
@@ -59,7 +59,7 @@ returns c =
     let i : length (pools (items-at (read-part w) (a .left) (a .t) (a .count) (a .g) (a .h) (a .at) (a .base)) true w) ≡ a .x .lits =
     items-lits (many (decode (read-part w) (a .left) (a .t)) (a .count) (a .g) (a .h) (a .at) (a .base) .trees) w ∙ sym (ap (λ (t : Tally). t .lits) (c .before .before .before .before .before .before .before .before .before .before .before .before .before .before .before .before .before .before .before .before .before .before .pre .1 .0 .unit)) in
     pool-clause (a .s) (a .x .lits + a .x .longs + (64 - a .s .from)) (a .x .longs) (a .x .cmps) (a .block) _ _ (c .before .before .before .before .before .before .before .before .before .before .before .before .before .before .before .before .before .before .before .before .before .before .pre .0 .1) (c .before .before .before .before .before .before .before .before .before .before .before .before .before .before .before .before .before .before .before .before .before .before .pre .1 .1) (omega (arith, i, c .before .before .before .before .before .before .before .before .before .before .before .before .before .before .before .before .before .before .before .before .before .before .pre .1 .0 .room)) (omega (arith, c .before .before .before .before .before .before .before .before .before .before .before .before .before .before .before .before .before .before .before .before .before .before .pre .1 .0 .room)) (omega (arith, i)) (omega (arith, c .before .before .before .before .before .before .before .before .before .before .before .before .before .before .before .before .before .before .before .before .before .before .pre .1 .0 .room))
-    (put-word f (c .before .before .before .before .before .before .before .before .before .before .before .before .before .before .before .before .before .before .word-of .ensures) (c .before .before .before .before .before .before .before .before .before .before .before .before .before .before .before .before .before .put .ensures)) (c .before .before .before .before .before .before .before .before .before .before .before .before .before .before .some-pools .ensures) (c .before .before .before .before .before .before .before .before .before .before .before .put-block .ensures) (c .before .before .before .before .before .before .before .before .put-suffix .ensures) (put-word f2 (c .before .before .before .before .before .word-of2 .ensures) (c .before .before .before .before .put2 .ensures)) (c .before .some-pools2 .ensures)
+    (put-word f (c .before .before .before .before .before .before .before .before .before .before .before .before .before .before .before .before .before .before .word-of .ensures) (c .before .before .before .before .before .before .before .before .before .before .before .before .before .before .before .before .before .put .ensures)) (c .before .before .before .before .before .before .before .before .before .before .before .before .before .before .pools .ensures) (c .before .before .before .before .before .before .before .before .before .before .before .put-block .ensures) (c .before .before .before .before .before .before .before .before .put-suffix .ensures) (put-word f2 (c .before .before .before .before .before .word-of2 .ensures) (c .before .before .before .before .put2 .ensures)) (c .before .pools2 .ensures)
 
 pub put-pool-spec : {M : Type 1} → statement M
 put-pool-spec =
