@@ -181,6 +181,7 @@ pools-same-length t c = c .before .loop .inv .0 .same
 
 pools-returns : (t : ℕ) → pools-lts.Need-returns (pools-claims t) (pools-at t) pools.Post pools-Inv-loop pools-μ-loop
 pools-returns t c = c .before .loop .inv .2 _ _ (pools-none ((c .before .before) .args .work .now) _ _ _ _ _ _ _ ((c .before .before) .args .b) _ (c .before .loop .inv .1) (c .loop-test .left) (c .before .loop .inv .0 .opened))
+
 pub +pool+pools-spec : {M : Type 1} → statement M
 +pool+pools-spec =
     close μ-pool μ-pools

@@ -359,6 +359,7 @@ write-all-add-member-requires : (t : ℕ) → write-all-lts.Need-add-member-requ
 write-all-add-member-requires t c κs = let i = c .before .before .before .before .before .loop .inv .1 in
     let e = c .before .before .write .ensures .0 in
     omega (arith, part-length ((c .before .before .before .before .before .before .before) .args .work .now) ((c .before .before .before .before .before .before .before) .pre .1 .0 .0 .size), i .room, e .room, e .inside)
+
 pub +write+write-all+write-disj+write-longs-spec : {M : Type 1} → statement M
 +write+write-all+write-disj+write-longs-spec =
     close μ-write μ-write-all μ-write-disj μ-write-longs
