@@ -11,6 +11,7 @@ ghost use Rattle.walk.specs.Meets.{Met};
 ghost use Rattle.walk.specs.MeetTies.{Reaches, ReachesAll, meet-rule};
 ghost use Rattle.walk.specs.MeetColumns.{number-column, meet-column-at, meet-columns-at};
 ghost use Rattle.number.specs.Sized.{Sized, SizedAll};
+ghost use Rattle.number.specs.Skip.{inside-of, Skips, SkipsAll};
 use walk::Counters;
 use walk::Mode;
 use walk::Node;
@@ -185,6 +186,78 @@ pub fn node_at(work: &[i32], under: usize, g: bool, at: usize) -> Node
         17 => Node::Join(!g, 2, !g, g, one),
         18 => comparison_at(work, under, two),
         _ => Node::Join(true, 0, g, g, one),
+    }
+}
+
+// ---- the end alone
+
+// Where an expression ends, and the splitting's next number behind it.
+pub struct Skipped {
+    pub at: usize,
+    pub base: usize,
+}
+
+// The splitting's next number inside an Xor or Iff: one below another is split.
+fn inside_base(t: bool, base: usize) -> usize
+    ensures { λ r. ⌜ r ≡ inside-of t base ⌝ }
+{
+    if t {
+        return bump(base, 2);
+    }
+    base
+}
+
+// So many members; t: an Xor or Iff stands above.
+pub fn skips(
+    work: &[i32],
+    at: usize,
+    left: usize,
+    t: bool,
+    count: usize,
+    base: usize,
+) -> Skipped
+    requires { do ⌜ (4608 ≤ (← ⟦work.len()⟧)) × ((at ≤ 4608) × (base ≤ limit)) ⌝ }
+    ensures { λ r. ⌜ SkipsAll (read-part (now (work .entry))) left t count at base (r .at) (r .base) ⌝ }
+{
+    let mut q = at;
+    let mut b = base;
+    let mut rest = count;
+    while rest != 0 {
+        let s = skip(work, q, left, t, b);
+        q = s.at;
+        b = s.base;
+        rest = rest - 1;
+    }
+    Skipped { at: q, base: b }
+}
+
+// The expression at a place, whatever its polarity.
+pub fn skip(work: &[i32], at: usize, left: usize, t: bool, base: usize) -> Skipped
+    requires { do ⌜ (4608 ≤ (← ⟦work.len()⟧)) × ((at ≤ 4608) × (base ≤ limit)) ⌝ }
+    ensures { λ r. ⌜ Skips (read-part (now (work .entry))) left t at base (r .at) (r .base) ⌝ }
+{
+    if left == 0 {
+        return Skipped { at: at, base: base };
+    }
+    let under = left - 1;
+    let x = word(work, at + 1);
+    let one = within(at + 1);
+    let two = within(at + 2);
+    match word(work, at) {
+        10 => Skipped { at: two, base: base },
+        11 => Skipped { at: two, base: base },
+        12 => skips(work, two, under, t, x, base),
+        13 => skips(work, two, under, t, x, base),
+        14 => skip(work, one, under, t, base),
+        15 => skips(work, one, under, true, 2, inside_base(t, base)),
+        16 => skips(work, one, under, true, 2, inside_base(t, base)),
+        17 => skips(work, one, under, t, 2, base),
+        18 => {
+            let b = int_end(work, two, under);
+            let q = int_end(work, b, under);
+            Skipped { at: q, base: base }
+        }
+        _ => Skipped { at: one, base: base },
     }
 }
 
