@@ -1,3 +1,4 @@
 pub mod Leaves
 mod Members
 mod Terms
+mod SkipLaws

@@ -13,8 +13,16 @@ use Rattle.walk.specs.declared.Node.{Node}
 use Rattle.walk.specs.declared.Node.the-variants.{Var, Cmp, Not, Join, Cross}
 
 -- the splitting's next number inside an Xor or Iff; t: one stands above
-abbrev pub inside-of : Bool → ℕ → ℕ
+unfoldable pub inside-of : Bool → ℕ → ℕ
 inside-of t base = cond t (bump base 2) base
+
+inside-most : (t : Bool) (base : ℕ) → base ≤ limit → inside-of t base ≤ limit
+unfolding inside-of
+inside-most true base h = omega arith
+inside-most false base h = h
+
+pub inside-low : (t : Bool) (base c : ℕ) → c ≡ inside-of t base → base ≤ limit → c ≤ limit
+inside-low t base c e h = rw e (inside-most t base h)
 
 -- ws: the words that are read
 pub record Skips (ws : List ℤ) (l : ℕ) (t : Bool) (at base q b : ℕ) : Type 0 where
@@ -74,7 +82,7 @@ module _ (ws : List ℤ) (l : ℕ) (t : Bool) (at base : ℕ) where
     skips-nothing q d x y a h k = skips-join 0 q q base d x y a (record { end = λ g h. refl; next = λ g h. refl; inside = h; low = k })
 
     pub skips-cross : (e q b c : ℕ) (h : Bool → Bool) → Asked (λ g. Cross (h g) e) → c ≡ inside-of t base → SkipsAll ws u true 2 e c q b → Skips ws l t at base q b
-    unfolding step cross-step
+    unfolding step cross-step inside-of
     skips-cross e q b c h a i s = ends q b (λ g. Cross (h g) e) a (λ g. go t i (h g) .0) (λ g. go t i (h g) .1) (s .inside) (s .low)
       where
         go : (t : Bool) → c ≡ inside-of t base → (h : Bool) → (q ≡ cross-step (decode ws u) t h e base .end) × (b ≡ cross-step (decode ws u) t h e base .next)
