@@ -10,9 +10,10 @@ use lib.Dec.{eqb}
 use Rattle.walk.specs.Tree.{Tree, var, num, cmp, conj, disj, cross, tied, Trees, nil, cons}
 use Rattle.walk.specs.Item.{limit, bump, is-none, bool-entry, Tally, tallies, counts, all-lines, lines-of, var-item, cmp-item, num-item, conj-item, disj-item, cross-item, tied-item, item, items}
 use Rattle.walk.specs.Decode.{word, node-of, many, decode, read-part, surveyed, fresh-of, lines-in-of, closed-disj, closed-cross, added, Counted, Surveys, SurveysAll}
-use Rattle.walk.specs.Steps.{survey-none, survey-var, survey-cmp, survey-not, survey-conj, survey-disj, survey-split, survey-cross, Sofar, sofar-none, sofar-more, sofar-done}
+use Rattle.walk.specs.Steps.{survey-none, survey-var, survey-cmp, survey-not, survey-conj, survey-disj, survey-cross, Sofar, sofar-none, sofar-more, sofar-done}
 use Rattle.walk.specs.declared.Node.the-variants.{Var, Cmp, Not, Join, Cross}
 use Rattle.walk.specs.declared.Surveyed.{Surveyed}
+use Rattle.number.specs.Skip.{SkipsAll, survey-skipped}
 
 -- ws: the words that are read
 abbrev pub Sized : List ℤ → ℕ → Bool → Bool → ℕ → ℕ → Surveyed → Type 0
@@ -121,9 +122,9 @@ module _ (w : List ℤ) (l : ℕ) (t g : Bool) (at base : ℕ) (inside : at ≤ 
         let m = counts (items (many (decode (read-part w) u t) k a b q base .trees)) w 0 in
         found i (subst Found (closed-same s m) (recount (closed-disj s .n) (closed-low s (x .low)) (survey-disj w l t g at base 0 inside (omega arith) low u z hu _ _ k a b q e (surveys-of w u t k a b q base 0 s (omega arith) x) refl)))
 
-    pub sized-split : (r s : Surveyed) (h : Bool) (q b m : ℕ) → t ≡ true → Cross h q ≡ node-of (read-part w) u g at (word (read-part w) at) → b ≡ bump base 2 → SurveysAll w u true 2 false false q b m s
-        → r ≡ surveyed (s .at) (s .base) 0 1 0 0 2 2 → Found r
-    sized-split r s h q b m ht e hb x i = found i (recount 0 (omega arith) (survey-split w l t g at base 0 inside (omega arith) low u z hu _ s h q b m ht e hb x refl))
+    pub sized-split : 4608 ≤ length w → (r : Surveyed) (h : Bool) (q b stop last : ℕ) → t ≡ true → Cross h q ≡ node-of (read-part w) u g at (word (read-part w) at) → b ≡ bump base 2 → SkipsAll (read-part w) u true 2 q b stop last
+        → r ≡ surveyed stop last 0 1 0 0 2 2 → Found r
+    sized-split size r h q b stop last ht e hb s i = found i (recount 0 (omega arith) (survey-skipped w l t g at base 0 size inside (omega arith) low u z hu _ h q b stop last ht e hb s refl))
 
     pub sized-cross : (r s v : Surveyed) (h : Bool) (q : ℕ) → t ≡ false → Cross h q ≡ node-of (read-part w) u g at (word (read-part w) at) → SizedAll (read-part w) u true 2 false h q base s → SizedAll (read-part w) u true 2 true (not h) q base v
         → r ≡ closed-cross s v → Found r

@@ -5,11 +5,12 @@ use mathlib.Core.List.{List}
 use Prim.Native.Nat.{ℕ, zero, suc, _+_, _-_, _≤_}
 use native.Mathlib.Omega.{arith}
 use lib.IntN.{ℤ}
-use lib.ListN.{length}
+use lib.ListN.{length, length-take}
 use Rattle.walk.specs.Item.{limit, bump}
-use Rattle.walk.specs.Decode.{word, node-of, Read, Reads, many, cross-step, step, decode}
-use Rattle.walk.specs.Steps.{decode-level, many-more}
+use Rattle.walk.specs.Decode.{word, node-of, Read, Reads, many, cross-step, step, decode, read-part, surveyed, Surveys}
+use Rattle.walk.specs.Steps.{decode-level, many-more, survey-passed}
 use Rattle.walk.specs.declared.Node.{Node}
+use Rattle.walk.specs.declared.Surveyed.{Surveyed}
 use Rattle.walk.specs.declared.Node.the-variants.{Var, Cmp, Not, Join, Cross}
 
 -- the splitting's next number inside an Xor or Iff; t: one stands above
@@ -28,6 +29,7 @@ inside-low t base c e h = rw e (inside-most t base h)
 pub record Skips (ws : List ℤ) (l : ℕ) (t : Bool) (at base q b : ℕ) : Type 0 where
   pub end : (g : Bool) → q ≡ decode ws l t g at base .end
   pub next : (g : Bool) → b ≡ decode ws l t g at base .next
+  pub start : at ≤ q
   pub inside : q ≤ 4608
   pub low : b ≤ limit
 
@@ -35,6 +37,7 @@ pub record Skips (ws : List ℤ) (l : ℕ) (t : Bool) (at base q b : ℕ) : Type
 pub record SkipsAll (ws : List ℤ) (l : ℕ) (t : Bool) (k at base q b : ℕ) : Type 0 where
   pub end : (g h : Bool) → q ≡ many (decode ws l t) k g h at base .end
   pub next : (g h : Bool) → b ≡ many (decode ws l t) k g h at base .next
+  pub start : at ≤ q
   pub inside : q ≤ 4608
   pub low : b ≤ limit
 
@@ -43,7 +46,7 @@ pub record SkipsAll (ws : List ℤ) (l : ℕ) (t : Bool) (k at base q b : ℕ) :
 module _ (ws : List ℤ) (l : ℕ) (t : Bool) (at base : ℕ) where
   pub skips-none : l ≡ 0 → at ≤ 4608 → base ≤ limit → Skips ws l t at base at base
   unfolding decode
-  skips-none e h k = rw e (record { end = λ g. refl; next = λ g. refl; inside = h; low = k })
+  skips-none e h k = rw e (record { end = λ g. refl; next = λ g. refl; start = omega arith; inside = h; low = k })
 
   module _ (u : ℕ) (z : l ≡ 0 → ⊥) (hu : u ≡ l - 1) where
     -- the node that the words ask for, of either polarity
@@ -53,37 +56,38 @@ module _ (ws : List ℤ) (l : ℕ) (t : Bool) (at base : ℕ) where
     level : (N : Bool → Node) → Asked N → (g : Bool) → decode ws l t g at base ≡ step ws u (decode ws u) t g at base (N g)
     level N a g = decode-level ws l u t g at base (N g) z hu (a g)
 
-    ends : (q b : ℕ) (N : Bool → Node) → Asked N → ((g : Bool) → q ≡ step ws u (decode ws u) t g at base (N g) .end) → ((g : Bool) → b ≡ step ws u (decode ws u) t g at base (N g) .next) → q ≤ 4608 → b ≤ limit → Skips ws l t at base q b
-    ends q b N a x y h k = record {
+    ends : (q b : ℕ) (N : Bool → Node) → Asked N → ((g : Bool) → q ≡ step ws u (decode ws u) t g at base (N g) .end) → ((g : Bool) → b ≡ step ws u (decode ws u) t g at base (N g) .next) → at ≤ q → q ≤ 4608 → b ≤ limit → Skips ws l t at base q b
+    ends q b N a x y f h k = record {
       end = λ g. x g ∙ ap (λ (r : Read). r .end) (sym (level N a g));
       next = λ g. y g ∙ ap (λ (r : Read). r .next) (sym (level N a g));
+      start = f;
       inside = h;
       low = k;
     }
 
-    pub skips-var : (q : ℕ) (v : Bool → ℕ) → Asked (λ g. Var (v g) q) → q ≤ 4608 → base ≤ limit → Skips ws l t at base q base
+    pub skips-var : (q : ℕ) (v : Bool → ℕ) → Asked (λ g. Var (v g) q) → at ≤ q → q ≤ 4608 → base ≤ limit → Skips ws l t at base q base
     unfolding step
-    skips-var q v a h k = ends q base (λ g. Var (v g) q) a (λ g. refl) (λ g. refl) h k
+    skips-var q v a f h k = ends q base (λ g. Var (v g) q) a (λ g. refl) (λ g. refl) f h k
 
-    pub skips-cmp : (b q : ℕ) → Asked (λ g. Cmp b q) → q ≤ 4608 → base ≤ limit → Skips ws l t at base q base
+    pub skips-cmp : (b q : ℕ) → Asked (λ g. Cmp b q) → at ≤ q → q ≤ 4608 → base ≤ limit → Skips ws l t at base q base
     unfolding step
-    skips-cmp b q a h k = ends q base (λ g. Cmp b q) a (λ g. refl) (λ g. refl) h k
+    skips-cmp b q a f h k = ends q base (λ g. Cmp b q) a (λ g. refl) (λ g. refl) f h k
 
-    pub skips-not : (e q b : ℕ) → Asked (λ g. Not e) → Skips ws u t e base q b → Skips ws l t at base q b
+    pub skips-not : (e q b : ℕ) → Asked (λ g. Not e) → at ≤ e → Skips ws u t e base q b → Skips ws l t at base q b
     unfolding step
-    skips-not e q b a s = ends q b (λ g. Not e) a (λ g. s .end (not g)) (λ g. s .next (not g)) (s .inside) (s .low)
+    skips-not e q b a f s = ends q b (λ g. Not e) a (λ g. s .end (not g)) (λ g. s .next (not g)) (omega (arith, s .start)) (s .inside) (s .low)
 
-    pub skips-join : (k e q b : ℕ) (d x y : Bool → Bool) → Asked (λ g. Join (d g) k (x g) (y g) e) → SkipsAll ws u t k e base q b → Skips ws l t at base q b
+    pub skips-join : (k e q b : ℕ) (d x y : Bool → Bool) → Asked (λ g. Join (d g) k (x g) (y g) e) → at ≤ e → SkipsAll ws u t k e base q b → Skips ws l t at base q b
     unfolding step
-    skips-join k e q b d x y a s = ends q b (λ g. Join (d g) k (x g) (y g) e) a (λ g. s .end (x g) (y g)) (λ g. s .next (x g) (y g)) (s .inside) (s .low)
+    skips-join k e q b d x y a f s = ends q b (λ g. Join (d g) k (x g) (y g) e) a (λ g. s .end (x g) (y g)) (λ g. s .next (x g) (y g)) (omega (arith, s .start)) (s .inside) (s .low)
 
-    pub skips-nothing : (q : ℕ) (d x y : Bool → Bool) → Asked (λ g. Join (d g) 0 (x g) (y g) q) → q ≤ 4608 → base ≤ limit → Skips ws l t at base q base
+    pub skips-nothing : (q : ℕ) (d x y : Bool → Bool) → Asked (λ g. Join (d g) 0 (x g) (y g) q) → at ≤ q → q ≤ 4608 → base ≤ limit → Skips ws l t at base q base
     unfolding many
-    skips-nothing q d x y a h k = skips-join 0 q q base d x y a (record { end = λ g h. refl; next = λ g h. refl; inside = h; low = k })
+    skips-nothing q d x y a f h k = skips-join 0 q q base d x y a f (record { end = λ g h. refl; next = λ g h. refl; start = omega arith; inside = h; low = k })
 
-    pub skips-cross : (e q b c : ℕ) (h : Bool → Bool) → Asked (λ g. Cross (h g) e) → c ≡ inside-of t base → SkipsAll ws u true 2 e c q b → Skips ws l t at base q b
+    pub skips-cross : (e q b c : ℕ) (h : Bool → Bool) → Asked (λ g. Cross (h g) e) → at ≤ e → c ≡ inside-of t base → SkipsAll ws u true 2 e c q b → Skips ws l t at base q b
     unfolding step cross-step inside-of
-    skips-cross e q b c h a i s = ends q b (λ g. Cross (h g) e) a (λ g. go t i (h g) .0) (λ g. go t i (h g) .1) (s .inside) (s .low)
+    skips-cross e q b c h a f i s = ends q b (λ g. Cross (h g) e) a (λ g. go t i (h g) .0) (λ g. go t i (h g) .1) (omega (arith, s .start)) (s .inside) (s .low)
       where
         go : (t : Bool) → c ≡ inside-of t base → (h : Bool) → (q ≡ cross-step (decode ws u) t h e base .end) × (b ≡ cross-step (decode ws u) t h e base .next)
         go true i h = (s .end false false ∙ ap (λ (n : ℕ). many (decode ws u true) 2 false false e n .end) i, s .next false false ∙ ap (λ (n : ℕ). many (decode ws u true) 2 false false e n .next) i)
@@ -99,12 +103,13 @@ pub record Onward (ws : List ℤ) (l : ℕ) (t h : Bool) (rest q b stop last : �
 
 pub record Passing (ws : List ℤ) (l : ℕ) (t : Bool) (k at base rest q b : ℕ) : Type 0 where
   pub onward : (g h : Bool) → Onward ws l t h rest q b (many (decode ws l t) k g h at base .end) (many (decode ws l t) k g h at base .next)
+  pub start : at ≤ q
   pub inside : q ≤ 4608
   pub low : b ≤ limit
 
 module _ (ws : List ℤ) (l : ℕ) (t : Bool) (k at base : ℕ) where
   pub passing-first : at ≤ 4608 → base ≤ limit → Passing ws l t k at base k at base
-  passing-first h i = record { onward = λ g h. record { negated = g; end = refl; next = refl }; inside = h; low = i }
+  passing-first h i = record { onward = λ g h. record { negated = g; end = refl; next = refl }; start = omega arith; inside = h; low = i }
 
   pub passing-next : (rest q b q' b' : ℕ) → Passing ws l t k at base rest q b → (rest ≡ 0 → ⊥) → Skips ws l t q b q' b' → Passing ws l t k at base (rest - 1) q' b'
   passing-next rest q b q' b' x z s = record {
@@ -116,11 +121,23 @@ module _ (ws : List ℤ) (l : ℕ) (t : Bool) (k at base : ℕ) where
           end = rw (s .end (o .negated), s .next (o .negated)) (sym (ap (λ (r : Reads). r .end) e) ∙ o .end);
           next = rw (s .end (o .negated), s .next (o .negated)) (sym (ap (λ (r : Reads). r .next) e) ∙ o .next);
         };
+    start = omega (arith, x .start, s .start);
     inside = s .inside;
     low = s .low;
   }
 
   pub passing-last : (rest q b : ℕ) → Passing ws l t k at base rest q b → rest ≡ 0 → SkipsAll ws l t k at base q b
   unfolding many
-  passing-last zero q b x z = record { end = λ g h. x .onward g h .end; next = λ g h. x .onward g h .next; inside = x .inside; low = x .low }
+  passing-last zero q b x z = record { end = λ g h. x .onward g h .end; next = λ g h. x .onward g h .next; start = x .start; inside = x .inside; low = x .low }
   passing-last (suc rest) q b x z = absurd (omega arith)
+
+part-long : (w : List ℤ) → 4608 ≤ length w → 4608 ≤ length (read-part w)
+unfolding read-part
+part-long w h = omega (arith, length-take 4608 w)
+
+-- a split Xor or Iff is surveyed by skipping it
+pub survey-skipped : (w : List ℤ) (l : ℕ) (t g : Bool) (at base n : ℕ) → 4608 ≤ length w → at ≤ length (read-part w) → n ≤ limit → base ≤ limit → (u : ℕ) → (l ≡ 0 → ⊥) → u ≡ l - 1
+    → (r : Surveyed) (h : Bool) (q b stop last : ℕ) → t ≡ true → Cross h q ≡ node-of (read-part w) u g at (word (read-part w) at) → b ≡ bump base 2 → SkipsAll (read-part w) u true 2 q b stop last
+    → r ≡ surveyed stop last n 1 0 0 2 2 → Surveys w l t g at base n r
+survey-skipped w l t g at base n size inside low low-base u z hu r h q b stop last ht e hb s i =
+    survey-passed w l t g at base n inside low low-base u z hu r h q b stop last ht e hb (s .end false false) (s .next false false) (s .start) (omega (arith, s .inside, part-long w size)) (s .low) i

@@ -208,14 +208,7 @@ fn inside_base(t: bool, base: usize) -> usize
 }
 
 // So many members; t: an Xor or Iff stands above.
-pub fn skips(
-    work: &[i32],
-    at: usize,
-    left: usize,
-    t: bool,
-    count: usize,
-    base: usize,
-) -> Skipped
+pub fn skips(work: &[i32], at: usize, left: usize, t: bool, count: usize, base: usize) -> Skipped
     requires { do ⌜ (4608 ≤ (← ⟦work.len()⟧)) × ((at ≤ 4608) × (base ≤ limit)) ⌝ }
     ensures { λ r. ⌜ SkipsAll (read-part (now (work .entry))) left t count at base (r .at) (r .base) ⌝ }
 {
@@ -244,8 +237,14 @@ pub fn skip(work: &[i32], at: usize, left: usize, t: bool, base: usize) -> Skipp
     let one = within(at + 1);
     let two = within(at + 2);
     match word(work, at) {
-        10 => Skipped { at: two, base: base },
-        11 => Skipped { at: two, base: base },
+        10 => Skipped {
+            at: two,
+            base: base,
+        },
+        11 => Skipped {
+            at: two,
+            base: base,
+        },
         12 => skips(work, two, under, t, x, base),
         13 => skips(work, two, under, t, x, base),
         14 => skip(work, one, under, t, base),
@@ -257,7 +256,10 @@ pub fn skip(work: &[i32], at: usize, left: usize, t: bool, base: usize) -> Skipp
             let q = int_end(work, b, under);
             Skipped { at: q, base: base }
         }
-        _ => Skipped { at: one, base: base },
+        _ => Skipped {
+            at: one,
+            base: base,
+        },
     }
 }
 
@@ -411,7 +413,7 @@ pub fn survey(
         }
         Node::Cross(h, q) => {
             if t {
-                let s = surveys(work, q, under, true, 2, bump(base, 2), false, false, n);
+                let s = skips(work, q, under, true, 2, bump(base, 2));
                 return longer(s.at, s.base, n, 2);
             }
             let s = surveys(work, q, under, true, 2, base, false, h, n);
@@ -647,7 +649,7 @@ pub fn number(
         }
         Node::Cross(h, q) => {
             if t {
-                let s = surveys(work, q, under, true, 2, bump(base, 2), false, false, 0);
+                let s = skips(work, q, under, true, 2, bump(base, 2));
                 return found(c, longer(s.at, s.base, 0, 2));
             }
             let a = numbers(work, q, under, true, 2, base, false, h, c);
@@ -780,7 +782,7 @@ pub fn number_rule(work: &mut [i32], at: usize, c: Counters) -> Counters
     ensures { λ r. ⌜ Met (meet-rule (read-part (now (work .entry))) at) (now (work .entry)) c (now (work .exit)) r ⌝ }
 {
     let n = c.bools;
-    let s = survey(work, at, 64, false, n, false, 0);
+    let s = skip(work, at, 64, false, n);
     let d = Counters {
         bools: s.base,
         ints: c.ints,

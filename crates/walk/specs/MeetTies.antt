@@ -251,12 +251,12 @@ met-sides w w₁ w₂ w₃ w₄ c c₁ c₂ c₃ c₄ l at base n q m hn a v b d
 unfoldable pub meet-rule : List ℤ → ℕ → State → State
 meet-rule ws at s = mets (items (rule-at ws 64 at (s .bools))) (record { work = s .work; bools = decode ws 64 false false at (s .bools) .next; ints = s .ints })
 
-pub met-rule : (w w₁ w₂ : List ℤ) (c d c₁ c₂ : Counters) (at m : ℕ) (s : Surveyed) → Surveys w 64 false false at (c .bools) m s → d ≡ record { bools = s .base; ints = c .ints }
+pub met-rule : (w w₁ w₂ : List ℤ) (c d c₁ c₂ : Counters) (at b : ℕ) → b ≡ decode (read-part w) 64 false false at (c .bools) .next → d ≡ record { bools = b; ints = c .ints }
     → Met (mets (items (ties-at (read-part w) 64 false at (c .bools)))) w d w₁ c₁ → Met (item (decode (read-part w₁) 64 false false at (c .bools) .tree) .met) w₁ c₁ w₂ c₂ → Met (meet-rule (read-part w) at) w c w₂ c₂
 unfolding meet-rule items mets
-met-rule w w₁ w₂ c d c₁ c₂ at m s v hd a b =
+met-rule w w₁ w₂ c d c₁ c₂ at n v hd a b =
     let x = met-after (λ ws. item (decode ws 64 false false at (c .bools) .tree) .met) a b in
-    let i : state-of w d ≡ record { work = w; bools = decode (read-part w) 64 false false at (c .bools) .next; ints = c .ints } = rw (hd, v .splits) in
+    let i : state-of w d ≡ record { work = w; bools = decode (read-part w) 64 false false at (c .bools) .next; ints = c .ints } = rw (hd, v) in
     record {
       state = x .state ∙ ap (λ (y : State). item (decode (read-part w) 64 false false at (c .bools) .tree) .met (mets (items (ties-at (read-part w) 64 false at (c .bools))) y)) i
           ∙ sym (mets-append (ties-at (read-part w) 64 false at (c .bools)) (cons (decode (read-part w) 64 false false at (c .bools) .tree) nil) _);
@@ -267,14 +267,14 @@ met-rule w w₁ w₂ c d c₁ c₂ at m s v hd a b =
     }
 
 -- where the splitting takes no number, only the rule
-pub met-bare-rule : (w w' : List ℤ) (c d e : Counters) (at m : ℕ) (s : Surveyed) → Surveys w 64 false false at (c .bools) m s → d ≡ record { bools = s .base; ints = c .ints } → s .base ≡ c .bools → c .bools < limit → c .ints ≤ limit
+pub met-bare-rule : (w w' : List ℤ) (c d e : Counters) (at b : ℕ) → b ≡ decode (read-part w) 64 false false at (c .bools) .next → d ≡ record { bools = b; ints = c .ints } → b ≡ c .bools → c .bools < limit → c .ints ≤ limit
     → Met (item (decode (read-part w) 64 false false at (c .bools) .tree) .met) w d w' e → Met (meet-rule (read-part w) at) w c w' e
 unfolding items mets
-met-bare-rule w w' c d e at m s v hd hs i j x =
-    let none = no-ties (read-part w) 64 false false at (c .bools) i (sym (v .splits) ∙ hs) in
-    let a : d .bools ≤ limit = rw hd (v .low-base) in
+met-bare-rule w w' c d e at n v hd hs i j x =
+    let none = no-ties (read-part w) 64 false false at (c .bools) i (sym v ∙ hs) in
+    let a : d .bools ≤ limit = rw (hd, hs) (omega (arith, i)) in
     let b : d .ints ≤ limit = rw hd j in
-    met-rule w w w' c d d e at m s v hd (met-to (ap (λ (ts : Trees). mets (items ts) (state-of w d)) (sym none)) (met-none w d a b)) x
+    met-rule w w w' c d d e at n v hd (met-to (ap (λ (ts : Trees). mets (items ts) (state-of w d)) (sym none)) (met-none w d a b)) x
 
 -- where a legal rule stands, that is the numbering of its trees
 pub meet-rule-is : (e : BoolExpr) (ws : List ℤ) (at : ℕ) (s : State) → LegalRule e 64 → Has ws at (encode-bool e) → s .bools + splits e false ≤ limit → meet-rule ws at s ≡ mets (items (rule-trees e at (s .bools))) (pass-bools (splits e false) s)

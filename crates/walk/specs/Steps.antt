@@ -282,27 +282,34 @@ module _ (w : List ℤ) (l : ℕ) (t g : Bool) (at base n : ℕ) (inside : at �
     pub survey-disj : (r s : Surveyed) (k : ℕ) (a b : Bool) (q : ℕ) → Join true k a b q ≡ node-of (read-part w) u g at (word (read-part w) at) → SurveysAll w u t k a b q base n s → r ≡ closed-disj s → Surveys w l t g at base n r
     survey-disj r s k a b q e f i = subst (λ (y : Surveyed). Surveys w l t g at base n y) (sym i) (disj-of s k a b q (s .longs) e f refl)
 
-    split-found : (s : Surveyed) (h : Bool) (q b m : ℕ) → t ≡ true → b ≡ bump base 2 → Okay (read-part w) at (Cross h q) → SurveysAll w u true 2 false false q b m s
-        → Found w at n (step (read-part w) u (decode (read-part w) u) t g at base (Cross h q)) (surveyed (s .at) (s .base) n 1 0 0 2 2)
+    split-found : (h : Bool) (q b stop last : ℕ) → t ≡ true → b ≡ bump base 2 → Okay (read-part w) at (Cross h q)
+        → stop ≡ many (decode (read-part w) u true) 2 false false q b .end → last ≡ many (decode (read-part w) u true) 2 false false q b .next → q ≤ stop → stop ≤ length (read-part w) → last ≤ limit
+        → Found w at n (step (read-part w) u (decode (read-part w) u) t g at base (Cross h q)) (surveyed stop last n 1 0 0 2 2)
     unfolding step cross-step item cross-item num-item lines-of tallies counts
-    split-found s h q b m ht hb o f = rw ht (record {
-      end = f .end ∙ rw hb;
-      splits = f .splits ∙ rw hb;
+    split-found h q b stop last ht hb o x y f i k = rw ht (record {
+      end = x ∙ rw hb;
+      splits = y ∙ rw hb;
       count = omega arith;
       unit = refl;
       all = refl;
-      room = omega (arith, o .0, f .room);
-      inside = f .inside;
+      room = omega (arith, o .0, f);
+      inside = i;
       low = low;
-      low-base = f .low-base;
+      low-base = k;
       low-lines = omega arith;
       low-all = omega arith;
     })
 
+    -- of a split Xor or Iff only the end and the splitting's next number matter
+    pub survey-passed : (r : Surveyed) (h : Bool) (q b stop last : ℕ) → t ≡ true → Cross h q ≡ node-of (read-part w) u g at (word (read-part w) at) → b ≡ bump base 2
+        → stop ≡ many (decode (read-part w) u true) 2 false false q b .end → last ≡ many (decode (read-part w) u true) 2 false false q b .next → q ≤ stop → stop ≤ length (read-part w) → last ≤ limit
+        → r ≡ surveyed stop last n 1 0 0 2 2 → Surveys w l t g at base n r
+    survey-passed r h q b stop last ht e hb x y f j k i =
+        carry r (Cross h q) e (subst (λ (y : Surveyed). Found w at n (step (read-part w) u (decode (read-part w) u) t g at base (Cross h q)) y) (sym i) (split-found h q b stop last ht hb (okay (Cross h q) e) x y f j k))
+
     pub survey-split : (r s : Surveyed) (h : Bool) (q b m : ℕ) → t ≡ true → Cross h q ≡ node-of (read-part w) u g at (word (read-part w) at) → b ≡ bump base 2 → SurveysAll w u true 2 false false q b m s
         → r ≡ surveyed (s .at) (s .base) n 1 0 0 2 2 → Surveys w l t g at base n r
-    survey-split r s h q b m ht e hb f i =
-        carry r (Cross h q) e (subst (λ (y : Surveyed). Found w at n (step (read-part w) u (decode (read-part w) u) t g at base (Cross h q)) y) (sym i) (split-found s h q b m ht hb (okay (Cross h q) e) f))
+    survey-split r s h q b m ht e hb f i = survey-passed r h q b (s .at) (s .base) ht e hb (f .end) (f .splits) (omega (arith, f .room)) (f .inside) (f .low-base) i
 
     pub survey-cross : (r s v : Surveyed) (h : Bool) (q : ℕ) → t ≡ false → Cross h q ≡ node-of (read-part w) u g at (word (read-part w) at) → SurveysAll w u true 2 false h q base n s → SurveysAll w u true 2 true (not h) q base (s .n) v
         → r ≡ closed-cross s v → Surveys w l t g at base n r

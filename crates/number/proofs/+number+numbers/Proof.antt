@@ -18,7 +18,7 @@ use Rattle.number.proofs.number_comparison.Reads as number-comparison-r
 use Rattle.number.proofs.number_cross.Reads as number-cross-reads
 use Rattle.number.proofs.number_disj.Reads as number-disj-reads
 use Rattle.number.proofs.single.Reads as single-reads
-use Rattle.number.proofs.surveys.Reads as surveys-reads
+use Rattle.number.proofs.skips.Reads as skips-reads
 use Rattle.number.proofs.+number+numbers.{statement}
 use Rattle.number.proofs.+number+numbers.Tie.{close}
 use mathlib.Core.Path.{_≡_, refl, sym, ap, _∙_}
@@ -51,7 +51,7 @@ abbrev numbers-below : ℕ → In 1 numbers-kinds.ps
 numbers-below t = and 1 numbers-kinds.ps (falls 1 numbers-kinds.ps _<_ μ-numbers t) numbers.Pre
 
 abbrev number-claims : ℕ → number-lts.Claims
-number-claims t = (single-reads.Asked, single-reads.Learnt, found-reads.Asked, found-reads.Learnt, node-at-reads.Asked, node-at-reads.Learnt, declare-reads.Asked, declare-reads.Learnt, number-comparison-reads.Asked, number-comparison-reads.Learnt, number-below t, number.Post, numbers-below t, numbers.Post, number-disj-reads.Asked, number-disj-reads.Learnt, longer-reads.Asked, longer-reads.Learnt, bump-reads.Asked, bump-reads.Learnt, surveys-reads.Asked, surveys-reads.Learnt, number-cross-reads.Asked, number-cross-reads.Learnt)
+number-claims t = (single-reads.Asked, single-reads.Learnt, found-reads.Asked, found-reads.Learnt, node-at-reads.Asked, node-at-reads.Learnt, declare-reads.Asked, declare-reads.Learnt, number-comparison-reads.Asked, number-comparison-reads.Learnt, number-below t, number.Post, numbers-below t, numbers.Post, number-disj-reads.Asked, number-disj-reads.Learnt, longer-reads.Asked, longer-reads.Learnt, bump-reads.Asked, bump-reads.Learnt, skips-reads.Asked, skips-reads.Learnt, number-cross-reads.Asked, number-cross-reads.Learnt)
 
 abbrev numbers-claims : ℕ → numbers-lts.Claims
 numbers-claims t = (number-below t, number.Post, add-member-reads.Asked, add-member-reads.Learnt)
@@ -97,8 +97,8 @@ number-returns-2 t c = let e = join-is (sym (c .before .before .before .before .
       sized-disj ((c .before .before .before .before .before .before .before .before .before .before .before) .args .work .now) _ _ _ _ _ (at-in _ _ ((c .before .before .before .before .before .before .before .before .before .before .before) .pre .1 .0) ((c .before .before .before .before .before .before .before .before .before .before .before) .pre .1 .1 .0)) ((c .before .before .before .before .before .before .before .before .before .before .before) .pre .1 .1 .1 .0) _ (c .before .before .before .before .before .before .before .before .before .before .if1 .left) refl _ _ _ _ _ _ e (m .1) (c .number-disj .ensures .1),
     )
 
-number-surveys-requires : (t : ℕ) → number-lts.Need-surveys-requires (number-claims t) (number-at t) number.Post
-number-surveys-requires t c κs = let o = okay-at ((c .before .before .before .before .before .before .before .before .before) .args .work .now) _ _ _ _ (at-in _ _ ((c .before .before .before .before .before .before .before .before .before) .pre .1 .0) ((c .before .before .before .before .before .before .before .before .before) .pre .1 .1 .0)) (sym (c .before .before .before .before .h .given .1) ∙ c .before .before .before .before .before .before .node-at .ensures) in
+number-skips-requires : (t : ℕ) → number-lts.Need-skips-requires (number-claims t) (number-at t) number.Post
+number-skips-requires t c κs = let o = okay-at ((c .before .before .before .before .before .before .before .before .before) .args .work .now) _ _ _ _ (at-in _ _ ((c .before .before .before .before .before .before .before .before .before) .pre .1 .0) ((c .before .before .before .before .before .before .before .before .before) .pre .1 .1 .0)) (sym (c .before .before .before .before .h .given .1) ∙ c .before .before .before .before .before .before .node-at .ensures) in
     let k = read-length ((c .before .before .before .before .before .before .before .before .before) .args .work .now) ((c .before .before .before .before .before .before .before .before .before) .pre .1 .0) in
     omega (arith, k, o .1, (c .before .before .before .before .before .before .before .before .before) .pre .1, c .bump .ensures)
 
@@ -108,7 +108,7 @@ number-same-length-2 t c = refl
 number-returns-3 : (t : ℕ) → number-lts.Need-returns-3 (number-claims t) (number-at t) number.Post
 number-returns-3 t c = let e = sym (c .before .before .before .before .before .before .before .h .given .1) ∙ c .before .before .before .before .before .before .before .before .before .node-at .ensures in (
   met-as (c .found5 .ensures .0) (met-split _ _ _ _ _ _ _ _ (c .before .before .before .before .before .before .before .before .before .before .before .if1 .left) refl _ _ (c .before .before .before .before .before .if3 .taken) e ((c .before .before .before .before .before .before .before .before .before .before .before .before) .pre .1 .1 .1 .1 .0) ((c .before .before .before .before .before .before .before .before .before .before .before .before) .pre .1 .1 .1 .1 .1)),
-  sized-split ((c .before .before .before .before .before .before .before .before .before .before .before .before) .args .work .now) _ _ _ _ _ (at-in _ _ ((c .before .before .before .before .before .before .before .before .before .before .before .before) .pre .1 .0) ((c .before .before .before .before .before .before .before .before .before .before .before .before) .pre .1 .1 .0)) ((c .before .before .before .before .before .before .before .before .before .before .before .before) .pre .1 .1 .1 .0) _ (c .before .before .before .before .before .before .before .before .before .before .before .if1 .left) refl _ _ _ _ _ _ (c .before .before .before .before .before .if3 .taken) e (c .before .before .before .bump .ensures) (c .before .before .surveys .ensures) (c .found5 .ensures .1 ∙ c .before .longer2 .ensures),
+  sized-split ((c .before .before .before .before .before .before .before .before .before .before .before .before) .args .work .now) _ _ _ _ _ (at-in _ _ ((c .before .before .before .before .before .before .before .before .before .before .before .before) .pre .1 .0) ((c .before .before .before .before .before .before .before .before .before .before .before .before) .pre .1 .1 .0)) ((c .before .before .before .before .before .before .before .before .before .before .before .before) .pre .1 .1 .1 .0) _ (c .before .before .before .before .before .before .before .before .before .before .before .if1 .left) refl ((c .before .before .before .before .before .before .before .before .before .before .before .before) .pre .1 .0) _ _ _ _ _ _ (c .before .before .before .before .before .if3 .taken) e (c .before .before .before .bump .ensures) (c .before .before .skips .ensures) (c .found5 .ensures .1 ∙ c .before .longer2 .ensures),
 )
 
 number-numbers-requires-2 : (t : ℕ) → number-lts.Need-numbers-requires-2 (number-claims t) (number-at t) number.Post
@@ -209,7 +209,7 @@ pub +number+numbers-spec : {M : Type 1} → statement M
     (λ c κs. search needs)
     (λ c. search needs)
     (λ c κs. search needs)
-    (number-surveys-requires t)
+    (number-skips-requires t)
     (λ c κs. search needs)
     (λ c κs. search needs)
     (number-same-length-2 t)

@@ -108,34 +108,34 @@ skip-int-end-requires-2 : (t : ℕ) → skip-lts.Need-int-end-requires-2 (skip-c
 skip-int-end-requires-2 t c κs = ((c .before .before .before .before .before .before .before) .pre .1 .0, c .int-end .ensures .1 .1)
 
 skip-returns-2 : (t : ℕ) → skip-lts.Need-returns-2 (skip-claims t) (skip-at t) skip.Post
-skip-returns-2 t c = at-const ((c .before .before .before .before .before .before) .args .work .now) ((c .before .before .before .before .before .before) .pre .1 .0) _ _ _ _ _ _ _ _ _ (c .before .before .before .before .word .ensures) (c .before .before .before .within .ensures) (c .before .before .within2 .ensures) (c .before .word2 .ensures) (c .before .before .before .before .before .if1 .left) refl ((c .before .before .before .before .before .before) .pre .1 .1 .1) (c .match .keys1)
+skip-returns-2 t c = at-const ((c .before .before .before .before .before .before) .args .work .now) ((c .before .before .before .before .before .before) .pre .1 .0) _ _ _ _ _ _ _ _ _ (c .before .before .before .before .word .ensures) (c .before .before .before .within .ensures) (c .before .before .within2 .ensures) (c .before .word2 .ensures) (c .before .before .before .before .before .if1 .left) refl ((c .before .before .before .before .before .before) .pre .1 .1 .0) ((c .before .before .before .before .before .before) .pre .1 .1 .1) (c .match .keys1)
 
 skip-returns-3 : (t : ℕ) → skip-lts.Need-returns-3 (skip-claims t) (skip-at t) skip.Post
-skip-returns-3 t c = at-var ((c .before .before .before .before .before .before) .args .work .now) ((c .before .before .before .before .before .before) .pre .1 .0) _ _ _ _ _ _ _ _ _ (c .before .before .before .before .word .ensures) (c .before .before .before .within .ensures) (c .before .before .within2 .ensures) (c .before .word2 .ensures) (c .before .before .before .before .before .if1 .left) refl ((c .before .before .before .before .before .before) .pre .1 .1 .1) (c .match .keys2)
+skip-returns-3 t c = at-var ((c .before .before .before .before .before .before) .args .work .now) ((c .before .before .before .before .before .before) .pre .1 .0) _ _ _ _ _ _ _ _ _ (c .before .before .before .before .word .ensures) (c .before .before .before .within .ensures) (c .before .before .within2 .ensures) (c .before .word2 .ensures) (c .before .before .before .before .before .if1 .left) refl ((c .before .before .before .before .before .before) .pre .1 .1 .0) ((c .before .before .before .before .before .before) .pre .1 .1 .1) (c .match .keys2)
 
 skip-returns-4 : (t : ℕ) → skip-lts.Need-returns-4 (skip-claims t) (skip-at t) skip.Post
-skip-returns-4 t c = at-and ((c .before .before .before .before .before .before .before) .args .work .now) ((c .before .before .before .before .before .before .before) .pre .1 .0) _ _ _ _ _ _ _ _ _ (c .before .before .before .before .before .word .ensures) (c .before .before .before .before .within .ensures) (c .before .before .before .within2 .ensures) (c .before .before .word2 .ensures) (c .before .before .before .before .before .before .if1 .left) refl ((c .before .before .before .before .before .before .before) .pre .1 .1 .1) (c .before .match .keys3) _ _ (c .skips .ensures)
+skip-returns-4 t c = at-and ((c .before .before .before .before .before .before .before) .args .work .now) ((c .before .before .before .before .before .before .before) .pre .1 .0) _ _ _ _ _ _ _ _ _ (c .before .before .before .before .before .word .ensures) (c .before .before .before .before .within .ensures) (c .before .before .before .within2 .ensures) (c .before .before .word2 .ensures) (c .before .before .before .before .before .before .if1 .left) refl ((c .before .before .before .before .before .before .before) .pre .1 .1 .0) ((c .before .before .before .before .before .before .before) .pre .1 .1 .1) (c .before .match .keys3) _ _ (c .skips .ensures)
 
 skip-returns-5 : (t : ℕ) → skip-lts.Need-returns-5 (skip-claims t) (skip-at t) skip.Post
-skip-returns-5 t c = at-or ((c .before .before .before .before .before .before .before) .args .work .now) ((c .before .before .before .before .before .before .before) .pre .1 .0) _ _ _ _ _ _ _ _ _ (c .before .before .before .before .before .word .ensures) (c .before .before .before .before .within .ensures) (c .before .before .before .within2 .ensures) (c .before .before .word2 .ensures) (c .before .before .before .before .before .before .if1 .left) refl ((c .before .before .before .before .before .before .before) .pre .1 .1 .1) (c .before .match .keys4) _ _ (c .skips2 .ensures)
+skip-returns-5 t c = at-or ((c .before .before .before .before .before .before .before) .args .work .now) ((c .before .before .before .before .before .before .before) .pre .1 .0) _ _ _ _ _ _ _ _ _ (c .before .before .before .before .before .word .ensures) (c .before .before .before .before .within .ensures) (c .before .before .before .within2 .ensures) (c .before .before .word2 .ensures) (c .before .before .before .before .before .before .if1 .left) refl ((c .before .before .before .before .before .before .before) .pre .1 .1 .0) ((c .before .before .before .before .before .before .before) .pre .1 .1 .1) (c .before .match .keys4) _ _ (c .skips2 .ensures)
 
 skip-returns-6 : (t : ℕ) → skip-lts.Need-returns-6 (skip-claims t) (skip-at t) skip.Post
-skip-returns-6 t c = at-not ((c .before .before .before .before .before .before .before) .args .work .now) ((c .before .before .before .before .before .before .before) .pre .1 .0) _ _ _ _ _ _ _ _ _ (c .before .before .before .before .before .word .ensures) (c .before .before .before .before .within .ensures) (c .before .before .before .within2 .ensures) (c .before .before .word2 .ensures) (c .before .before .before .before .before .before .if1 .left) refl ((c .before .before .before .before .before .before .before) .pre .1 .1 .1) (c .before .match .keys5) _ _ (c .skip .ensures)
+skip-returns-6 t c = at-not ((c .before .before .before .before .before .before .before) .args .work .now) ((c .before .before .before .before .before .before .before) .pre .1 .0) _ _ _ _ _ _ _ _ _ (c .before .before .before .before .before .word .ensures) (c .before .before .before .before .within .ensures) (c .before .before .before .within2 .ensures) (c .before .before .word2 .ensures) (c .before .before .before .before .before .before .if1 .left) refl ((c .before .before .before .before .before .before .before) .pre .1 .1 .0) ((c .before .before .before .before .before .before .before) .pre .1 .1 .1) (c .before .match .keys5) _ _ (c .skip .ensures)
 
 skip-returns-7 : (t : ℕ) → skip-lts.Need-returns-7 (skip-claims t) (skip-at t) skip.Post
-skip-returns-7 t c = at-xor ((c .before .before .before .before .before .before .before .before) .args .work .now) ((c .before .before .before .before .before .before .before .before) .pre .1 .0) _ _ _ _ _ _ _ _ _ (c .before .before .before .before .before .before .word .ensures) (c .before .before .before .before .before .within .ensures) (c .before .before .before .before .within2 .ensures) (c .before .before .before .word2 .ensures) (c .before .before .before .before .before .before .before .if1 .left) refl ((c .before .before .before .before .before .before .before .before) .pre .1 .1 .1) (c .before .before .match .keys6) _ (c .before .inside-base .ensures) _ _ (c .skips3 .ensures)
+skip-returns-7 t c = at-xor ((c .before .before .before .before .before .before .before .before) .args .work .now) ((c .before .before .before .before .before .before .before .before) .pre .1 .0) _ _ _ _ _ _ _ _ _ (c .before .before .before .before .before .before .word .ensures) (c .before .before .before .before .before .within .ensures) (c .before .before .before .before .within2 .ensures) (c .before .before .before .word2 .ensures) (c .before .before .before .before .before .before .before .if1 .left) refl ((c .before .before .before .before .before .before .before .before) .pre .1 .1 .0) ((c .before .before .before .before .before .before .before .before) .pre .1 .1 .1) (c .before .before .match .keys6) _ (c .before .inside-base .ensures) _ _ (c .skips3 .ensures)
 
 skip-returns-8 : (t : ℕ) → skip-lts.Need-returns-8 (skip-claims t) (skip-at t) skip.Post
-skip-returns-8 t c = at-iff ((c .before .before .before .before .before .before .before .before) .args .work .now) ((c .before .before .before .before .before .before .before .before) .pre .1 .0) _ _ _ _ _ _ _ _ _ (c .before .before .before .before .before .before .word .ensures) (c .before .before .before .before .before .within .ensures) (c .before .before .before .before .within2 .ensures) (c .before .before .before .word2 .ensures) (c .before .before .before .before .before .before .before .if1 .left) refl ((c .before .before .before .before .before .before .before .before) .pre .1 .1 .1) (c .before .before .match .keys7) _ (c .before .inside-base2 .ensures) _ _ (c .skips4 .ensures)
+skip-returns-8 t c = at-iff ((c .before .before .before .before .before .before .before .before) .args .work .now) ((c .before .before .before .before .before .before .before .before) .pre .1 .0) _ _ _ _ _ _ _ _ _ (c .before .before .before .before .before .before .word .ensures) (c .before .before .before .before .before .within .ensures) (c .before .before .before .before .within2 .ensures) (c .before .before .before .word2 .ensures) (c .before .before .before .before .before .before .before .if1 .left) refl ((c .before .before .before .before .before .before .before .before) .pre .1 .1 .0) ((c .before .before .before .before .before .before .before .before) .pre .1 .1 .1) (c .before .before .match .keys7) _ (c .before .inside-base2 .ensures) _ _ (c .skips4 .ensures)
 
 skip-returns-9 : (t : ℕ) → skip-lts.Need-returns-9 (skip-claims t) (skip-at t) skip.Post
-skip-returns-9 t c = at-imp ((c .before .before .before .before .before .before .before) .args .work .now) ((c .before .before .before .before .before .before .before) .pre .1 .0) _ _ _ _ _ _ _ _ _ (c .before .before .before .before .before .word .ensures) (c .before .before .before .before .within .ensures) (c .before .before .before .within2 .ensures) (c .before .before .word2 .ensures) (c .before .before .before .before .before .before .if1 .left) refl ((c .before .before .before .before .before .before .before) .pre .1 .1 .1) (c .before .match .keys8) _ _ (c .skips5 .ensures)
+skip-returns-9 t c = at-imp ((c .before .before .before .before .before .before .before) .args .work .now) ((c .before .before .before .before .before .before .before) .pre .1 .0) _ _ _ _ _ _ _ _ _ (c .before .before .before .before .before .word .ensures) (c .before .before .before .before .within .ensures) (c .before .before .before .within2 .ensures) (c .before .before .word2 .ensures) (c .before .before .before .before .before .before .if1 .left) refl ((c .before .before .before .before .before .before .before) .pre .1 .1 .0) ((c .before .before .before .before .before .before .before) .pre .1 .1 .1) (c .before .match .keys8) _ _ (c .skips5 .ensures)
 
 skip-returns-10 : (t : ℕ) → skip-lts.Need-returns-10 (skip-claims t) (skip-at t) skip.Post
-skip-returns-10 t c = at-cmp ((c .before .before .before .before .before .before .before .before) .args .work .now) ((c .before .before .before .before .before .before .before .before) .pre .1 .0) _ _ _ _ _ _ _ _ _ (c .before .before .before .before .before .before .word .ensures) (c .before .before .before .before .before .within .ensures) (c .before .before .before .before .within2 .ensures) (c .before .before .before .word2 .ensures) (c .before .before .before .before .before .before .before .if1 .left) refl ((c .before .before .before .before .before .before .before .before) .pre .1 .1 .1) (c .before .before .match .keys9) _ _ (c .before .int-end .ensures .0) (c .int-end2 .ensures .0) (c .int-end2 .ensures .1 .1)
+skip-returns-10 t c = at-cmp ((c .before .before .before .before .before .before .before .before) .args .work .now) ((c .before .before .before .before .before .before .before .before) .pre .1 .0) _ _ _ _ _ _ _ _ _ (c .before .before .before .before .before .before .word .ensures) (c .before .before .before .before .before .within .ensures) (c .before .before .before .before .within2 .ensures) (c .before .before .before .word2 .ensures) (c .before .before .before .before .before .before .before .if1 .left) refl ((c .before .before .before .before .before .before .before .before) .pre .1 .1 .0) ((c .before .before .before .before .before .before .before .before) .pre .1 .1 .1) (c .before .before .match .keys9) _ _ (c .before .int-end .ensures .0) (c .int-end2 .ensures .0) (omega (arith, c .int-end2 .ensures .1 .0, c .before .int-end .ensures .1 .0, c .before .before .before .before .within2 .ensures, (c .before .before .before .before .before .before .before .before) .pre .1 .1 .0)) (c .int-end2 .ensures .1 .1)
 
 skip-returns-11 : (t : ℕ) → skip-lts.Need-returns-11 (skip-claims t) (skip-at t) skip.Post
-skip-returns-11 t c = at-other ((c .before .before .before .before .before .before) .args .work .now) ((c .before .before .before .before .before .before) .pre .1 .0) _ _ _ _ _ _ _ _ _ (c .before .before .before .before .word .ensures) (c .before .before .before .within .ensures) (c .before .before .within2 .ensures) (c .before .word2 .ensures) (c .before .before .before .before .before .if1 .left) refl ((c .before .before .before .before .before .before) .pre .1 .1 .1) (c .match .rest .0 .0 .0 .0 .0 .0 .0 .0 .1) (c .match .rest .0 .0 .0 .0 .0 .0 .0 .1) (c .match .rest .0 .0 .0 .0 .0 .0 .1) (c .match .rest .0 .0 .0 .0 .0 .1) (c .match .rest .0 .0 .0 .0 .1) (c .match .rest .0 .0 .0 .1) (c .match .rest .0 .0 .1) (c .match .rest .0 .1) (c .match .rest .1)
+skip-returns-11 t c = at-other ((c .before .before .before .before .before .before) .args .work .now) ((c .before .before .before .before .before .before) .pre .1 .0) _ _ _ _ _ _ _ _ _ (c .before .before .before .before .word .ensures) (c .before .before .before .within .ensures) (c .before .before .within2 .ensures) (c .before .word2 .ensures) (c .before .before .before .before .before .if1 .left) refl ((c .before .before .before .before .before .before) .pre .1 .1 .0) ((c .before .before .before .before .before .before) .pre .1 .1 .1) (c .match .rest .0 .0 .0 .0 .0 .0 .0 .0 .1) (c .match .rest .0 .0 .0 .0 .0 .0 .0 .1) (c .match .rest .0 .0 .0 .0 .0 .0 .1) (c .match .rest .0 .0 .0 .0 .0 .1) (c .match .rest .0 .0 .0 .0 .1) (c .match .rest .0 .0 .0 .1) (c .match .rest .0 .0 .1) (c .match .rest .0 .1) (c .match .rest .1)
 
 skips-loop-holds : (t : ℕ) → skips-lts.Need-loop-holds (skips-claims t) (skips-at t) skips.Post skips-Inv-loop skips-μ-loop
 skips-loop-holds t c = passing-first _ _ _ _ _ _ (c .pre .1 .1 .0) (c .pre .1 .1 .1)

@@ -16,6 +16,7 @@ use Rattle.number.proofs.longer.Reads as longer-reads
 use Rattle.number.proofs.met.Reads as met-reads
 use Rattle.number.proofs.node_at.Reads as node-at-reads
 use Rattle.number.proofs.single.Reads as single-reads
+use Rattle.number.proofs.skips.Reads as skips-reads
 use Rattle.number.proofs.+survey+surveys.{statement}
 use Rattle.number.proofs.+survey+surveys.Tie.{close}
 use mathlib.Core.Path.{_≡_, refl, sym, ap, _∙_}
@@ -23,7 +24,8 @@ use Prim.Native.Nat.{ℕ, _<_, _≤_, _+_, _-_, _*_, min}
 use native.Mathlib.Omega.{arith}
 use lib.ListN.{length}
 use Rattle.walk.specs.Decode.{read-part}
-use Rattle.walk.specs.Steps.{node-okay, okay-at, survey-none, survey-var, survey-cmp, survey-not, survey-conj, survey-disj, survey-split, survey-cross, Sofar, sofar-none, sofar-more, sofar-done}
+use Rattle.walk.specs.Steps.{node-okay, okay-at, survey-none, survey-var, survey-cmp, survey-not, survey-conj, survey-disj, survey-cross, Sofar, sofar-none, sofar-more, sofar-done}
+use Rattle.number.specs.Skip.{survey-skipped}
 use Rattle.number.proofs.Leaves.{read-length, join-is}
 
 abbrev μ-survey : Measures 1 survey-kinds.ps ℕ
@@ -45,7 +47,7 @@ abbrev surveys-below : ℕ → In 1 surveys-kinds.ps
 surveys-below t = and 1 surveys-kinds.ps (falls 1 surveys-kinds.ps _<_ μ-surveys t) surveys.Pre
 
 abbrev survey-claims : ℕ → survey-lts.Claims
-survey-claims t = (single-reads.Asked, single-reads.Learnt, node-at-reads.Asked, node-at-reads.Learnt, met-reads.Asked, met-reads.Learnt, survey-below t, survey.Post, surveys-below t, surveys.Post, close-disj-reads.Asked, close-disj-reads.Learnt, longer-reads.Asked, longer-reads.Learnt, bump-reads.Asked, bump-reads.Learnt, close-cross-reads.Asked, close-cross-reads.Learnt)
+survey-claims t = (single-reads.Asked, single-reads.Learnt, node-at-reads.Asked, node-at-reads.Learnt, met-reads.Asked, met-reads.Learnt, survey-below t, survey.Post, surveys-below t, surveys.Post, close-disj-reads.Asked, close-disj-reads.Learnt, longer-reads.Asked, longer-reads.Learnt, bump-reads.Asked, bump-reads.Learnt, skips-reads.Asked, skips-reads.Learnt, close-cross-reads.Asked, close-cross-reads.Learnt)
 
 abbrev surveys-claims : ℕ → surveys-lts.Claims
 surveys-claims t = (survey-below t, survey.Post, add-member-reads.Asked, add-member-reads.Learnt)
@@ -112,26 +114,26 @@ survey-enum-known-h t c = search needs
 survey-bump-requires : (t : ℕ) → survey-lts.Need-bump-requires (survey-claims t) (survey-at t) survey.Post
 survey-bump-requires t c κs = search needs
 
-survey-surveys-requires-2 : (t : ℕ) → survey-lts.Need-surveys-requires-2 (survey-claims t) (survey-at t) survey.Post
-survey-surveys-requires-2 t c κs = let o = okay-at ((c .before .before .before .before .before .before .before) .args .work .now) _ _ _ _ (at-in _ _ ((c .before .before .before .before .before .before .before) .pre .1 .0) ((c .before .before .before .before .before .before .before) .pre .1 .1 .0)) (sym (c .before .before .before .h .given .1) ∙ c .before .before .before .before .before .node-at .ensures) in
+survey-skips-requires : (t : ℕ) → survey-lts.Need-skips-requires (survey-claims t) (survey-at t) survey.Post
+survey-skips-requires t c κs = let o = okay-at ((c .before .before .before .before .before .before .before) .args .work .now) _ _ _ _ (at-in _ _ ((c .before .before .before .before .before .before .before) .pre .1 .0) ((c .before .before .before .before .before .before .before) .pre .1 .1 .0)) (sym (c .before .before .before .h .given .1) ∙ c .before .before .before .before .before .node-at .ensures) in
     let k = read-length ((c .before .before .before .before .before .before .before) .args .work .now) ((c .before .before .before .before .before .before .before) .pre .1 .0) in
-    omega (arith, k, o .0, o .1, (c .before .before .before .before .before .before .before) .pre .0, (c .before .before .before .before .before .before .before) .pre .1, c .bump .ensures)
+    omega (arith, k, o .1, (c .before .before .before .before .before .before .before) .pre .1, c .bump .ensures)
 
 survey-longer-requires-2 : (t : ℕ) → survey-lts.Need-longer-requires-2 (survey-claims t) (survey-at t) survey.Post
 survey-longer-requires-2 t c κs = search needs
 
 survey-returns-3 : (t : ℕ) → survey-lts.Need-returns-3 (survey-claims t) (survey-at t) survey.Post
-survey-returns-3 t c = survey-split ((c .before .before .before .before .before .before .before .before .before) .args .work .now) _ _ _ _ _ _ (at-in _ _ ((c .before .before .before .before .before .before .before .before .before) .pre .1 .0) ((c .before .before .before .before .before .before .before .before .before) .pre .1 .1 .0)) ((c .before .before .before .before .before .before .before .before .before) .pre .1 .1 .1 .0) ((c .before .before .before .before .before .before .before .before .before) .pre .1 .1 .1 .1) _ (c .before .before .before .before .before .before .before .before .if1 .left) refl _ _ _ _ _ _ (c .before .before .before .if3 .taken) (sym (c .before .before .before .before .before .h .given .1) ∙ c .before .before .before .before .before .before .before .node-at .ensures) (c .before .before .bump .ensures) (c .before .surveys2 .ensures) (c .longer2 .ensures)
+survey-returns-3 t c = survey-skipped ((c .before .before .before .before .before .before .before .before .before) .args .work .now) _ _ _ _ _ _ ((c .before .before .before .before .before .before .before .before .before) .pre .1 .0) (at-in _ _ ((c .before .before .before .before .before .before .before .before .before) .pre .1 .0) ((c .before .before .before .before .before .before .before .before .before) .pre .1 .1 .0)) ((c .before .before .before .before .before .before .before .before .before) .pre .1 .1 .1 .0) ((c .before .before .before .before .before .before .before .before .before) .pre .1 .1 .1 .1) _ (c .before .before .before .before .before .before .before .before .if1 .left) refl _ _ _ _ _ _ (c .before .before .before .if3 .taken) (sym (c .before .before .before .before .before .h .given .1) ∙ c .before .before .before .before .before .before .before .node-at .ensures) (c .before .before .bump .ensures) (c .before .skips .ensures) (c .longer2 .ensures)
 
-survey-surveys-requires-3 : (t : ℕ) → survey-lts.Need-surveys-requires-3 (survey-claims t) (survey-at t) survey.Post
-survey-surveys-requires-3 t c κs = let o = okay-at ((c .before .before .before .before .before .before) .args .work .now) _ _ _ _ (at-in _ _ ((c .before .before .before .before .before .before) .pre .1 .0) ((c .before .before .before .before .before .before) .pre .1 .1 .0)) (sym (c .before .before .h .given .1) ∙ c .before .before .before .before .node-at .ensures) in
+survey-surveys-requires-2 : (t : ℕ) → survey-lts.Need-surveys-requires-2 (survey-claims t) (survey-at t) survey.Post
+survey-surveys-requires-2 t c κs = let o = okay-at ((c .before .before .before .before .before .before) .args .work .now) _ _ _ _ (at-in _ _ ((c .before .before .before .before .before .before) .pre .1 .0) ((c .before .before .before .before .before .before) .pre .1 .1 .0)) (sym (c .before .before .h .given .1) ∙ c .before .before .before .before .node-at .ensures) in
     let k = read-length ((c .before .before .before .before .before .before) .args .work .now) ((c .before .before .before .before .before .before) .pre .1 .0) in
     omega (arith, k, o .0, o .1, (c .before .before .before .before .before .before) .pre .0, (c .before .before .before .before .before .before) .pre .1)
 
-survey-surveys-requires-4 : (t : ℕ) → survey-lts.Need-surveys-requires-4 (survey-claims t) (survey-at t) survey.Post
-survey-surveys-requires-4 t c κs = let o = okay-at ((c .before .before .before .before .before .before .before) .args .work .now) _ _ _ _ (at-in _ _ ((c .before .before .before .before .before .before .before) .pre .1 .0) ((c .before .before .before .before .before .before .before) .pre .1 .1 .0)) (sym (c .before .before .before .h .given .1) ∙ c .before .before .before .before .before .node-at .ensures) in
+survey-surveys-requires-3 : (t : ℕ) → survey-lts.Need-surveys-requires-3 (survey-claims t) (survey-at t) survey.Post
+survey-surveys-requires-3 t c κs = let o = okay-at ((c .before .before .before .before .before .before .before) .args .work .now) _ _ _ _ (at-in _ _ ((c .before .before .before .before .before .before .before) .pre .1 .0) ((c .before .before .before .before .before .before .before) .pre .1 .1 .0)) (sym (c .before .before .before .h .given .1) ∙ c .before .before .before .before .before .node-at .ensures) in
     let k = read-length ((c .before .before .before .before .before .before .before) .args .work .now) ((c .before .before .before .before .before .before .before) .pre .1 .0) in
-    omega (arith, k, o .0, o .1, (c .before .before .before .before .before .before .before) .pre .0, (c .before .before .before .before .before .before .before) .pre .1, c .surveys3 .ensures .low)
+    omega (arith, k, o .0, o .1, (c .before .before .before .before .before .before .before) .pre .0, (c .before .before .before .before .before .before .before) .pre .1, c .surveys2 .ensures .low)
 
 survey-close-cross-requires : (t : ℕ) → survey-lts.Need-close-cross-requires (survey-claims t) (survey-at t) survey.Post
 survey-close-cross-requires t c κs = search needs
@@ -149,7 +151,7 @@ survey-returns-7 : (t : ℕ) → survey-lts.Need-returns-7 (survey-claims t) (su
 survey-returns-7 t c = survey-conj ((c .before .before .before .before .before .before .before .before) .args .work .now) _ _ _ _ _ _ (at-in _ _ ((c .before .before .before .before .before .before .before .before) .pre .1 .0) ((c .before .before .before .before .before .before .before .before) .pre .1 .1 .0)) ((c .before .before .before .before .before .before .before .before) .pre .1 .1 .1 .0) ((c .before .before .before .before .before .before .before .before) .pre .1 .1 .1 .1) _ (c .before .before .before .before .before .before .before .if1 .left) refl _ _ _ _ _ _ (join-is (sym (c .before .before .before .before .d .given .1) ∙ c .before .before .before .before .before .before .node-at .ensures) (c .before .if2 .left)) (c .before .before .surveys .ensures) (c .longer .ensures)
 
 survey-returns-8 : (t : ℕ) → survey-lts.Need-returns-8 (survey-claims t) (survey-at t) survey.Post
-survey-returns-8 t c = survey-cross ((c .before .before .before .before .before .before .before .before .before) .args .work .now) _ _ _ _ _ _ (at-in _ _ ((c .before .before .before .before .before .before .before .before .before) .pre .1 .0) ((c .before .before .before .before .before .before .before .before .before) .pre .1 .1 .0)) ((c .before .before .before .before .before .before .before .before .before) .pre .1 .1 .1 .0) ((c .before .before .before .before .before .before .before .before .before) .pre .1 .1 .1 .1) _ (c .before .before .before .before .before .before .before .before .if1 .left) refl _ _ _ _ _ (c .before .before .before .if3 .left) (sym (c .before .before .before .before .before .h .given .1) ∙ c .before .before .before .before .before .before .before .node-at .ensures) (c .before .before .surveys3 .ensures) (c .before .surveys4 .ensures) (c .close-cross .ensures)
+survey-returns-8 t c = survey-cross ((c .before .before .before .before .before .before .before .before .before) .args .work .now) _ _ _ _ _ _ (at-in _ _ ((c .before .before .before .before .before .before .before .before .before) .pre .1 .0) ((c .before .before .before .before .before .before .before .before .before) .pre .1 .1 .0)) ((c .before .before .before .before .before .before .before .before .before) .pre .1 .1 .1 .0) ((c .before .before .before .before .before .before .before .before .before) .pre .1 .1 .1 .1) _ (c .before .before .before .before .before .before .before .before .if1 .left) refl _ _ _ _ _ (c .before .before .before .if3 .left) (sym (c .before .before .before .before .before .h .given .1) ∙ c .before .before .before .before .before .before .before .node-at .ensures) (c .before .before .surveys2 .ensures) (c .before .surveys3 .ensures) (c .close-cross .ensures)
 
 abbrev surveys-Inv-loop : surveys-lts.InvT-loop
 surveys-Inv-loop work at left t count base g h n r₀ rest₀ f₀ r rest f = Sofar work left t h count g at base n r rest f
@@ -202,11 +204,11 @@ pub +survey+surveys-spec : {M : Type 1} → statement M
     (survey-longer-requires t)
     (survey-enum-known-h t)
     (survey-bump-requires t)
-    (survey-surveys-requires-2 t)
+    (survey-skips-requires t)
     (survey-longer-requires-2 t)
     (survey-returns-3 t)
+    (survey-surveys-requires-2 t)
     (survey-surveys-requires-3 t)
-    (survey-surveys-requires-4 t)
     (survey-close-cross-requires t)
     (survey-returns-4 t)
     (survey-returns-5 t)
