@@ -20,7 +20,8 @@ use Rattle.sums.specs.LinearSum.{LinearSum, singleton, mul-sum, sub-sum}
 use Rattle.sums.specs.Linear.{linear-of, linear-of-same}
 use Rattle.sums.specs.Rising.{terms-of, Each, singleton-each, sub-sum-each}
 use Rattle.sums.specs.Bounds.{size, Room}
-use Rattle.sums.specs.Struct.{Sum, terms, sum-of, Stands}
+use Rattle.sums.specs.Struct.{terms, sum-of, Stands}
+use Rattle.sums.specs.declared.LinearSum.{LinearSum as Sum}
 use Rattle.sums.proofs.Laws.{stands-sum}
 use Rattle.nest.specs.Numbers.{count-of, number-at, number-behind}
 use Rattle.nest.specs.Nest.{Ready, Word, Linear as Linears}

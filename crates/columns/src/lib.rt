@@ -46,16 +46,14 @@ fn put_equality(work: &[i32], p: usize, out: &mut [i32], o: usize) -> Passed
     ensures { λ r. ⌜ Equality (now (work .entry)) p (r .next) (now (out .entry)) o (now (out .exit)) (r .at) ⌝ }
 {
     let e = work.len();
-    let mut vars = [0usize; 64];
-    let mut coefs = [0i32; 64];
-    let a = nest::linear_of(work, p, &work[5120..e], &mut vars, &mut coefs);
+    let a = nest::linear_of(work, p, &work[5120..e]);
     let next = a.next;
     let s = a.sum;
     let n = number_at(work, 7424 + p);
-    let d = nest::less_variable(&mut vars, &mut coefs, s, n);
+    let d = nest::less_variable(s, n);
     let b = writer::put(out, o, 0);
     let c = writer::put(out, b, 1);
-    let q = writer::put_linear(0, false, &vars, &coefs, d, out, c);
+    let q = writer::put_linear(0, false, d, out, c);
     Passed { next: next, at: q }
 }
 

@@ -18,7 +18,8 @@ use Rattle.sums.specs.LinearSum.{LinearSum, linear-sum, lowest, highest, get-do
 use Rattle.sums.specs.Linear.{linear-of, linear-of-same}
 use Rattle.sums.specs.Rising.{constant-of, terms-of, Among}
 use Rattle.sums.specs.Bounds.{domain-bounds-fit}
-use Rattle.sums.specs.Struct.{Sum, sum-of}
+use Rattle.sums.specs.Struct.{sum-of}
+use Rattle.sums.specs.declared.LinearSum.{LinearSum as Sum}
 use Rattle.sums.proofs.Laws.{stands-sum}
 use Rattle.nest.specs.Numbers.{count-of, number-at, number-behind}
 use Rattle.nest.specs.Nest.{Ready, Linear}

@@ -69,11 +69,9 @@ fn column_domain(work: &[i32], place: usize) -> Triple
     let e = work.len();
     let numbers = &work[5120..e];
     let bounds = &work[12032..e];
-    let mut vars = [0usize; 64];
-    let mut coefs = [0i32; 64];
-    let a = nest::linear_of(work, place, numbers, &mut vars, &mut coefs);
+    let a = nest::linear_of(work, place, numbers);
     let s = a.sum;
-    let b = nest::get_domain_linear_sum(&vars, &coefs, s, bounds);
+    let b = nest::get_domain_linear_sum(s, bounds);
     let low = b.low;
     let high = b.high;
     let apart = high - low;

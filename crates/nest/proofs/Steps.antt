@@ -6,7 +6,7 @@ use Prim.Native.Nat.{ℕ, zero, suc, _+_, _-_, _*_, _<_, _≤_, _^_}
 use native.Mathlib.Nat.{mul-le-mul-left}
 use native.Mathlib.Omega.{arith}
 use lib.Dec.{T, ltb}
-use lib.IntN.{ℤ, pos, negsuc, natAbs, +ℤ-idr}
+use lib.IntN.{ℤ, pos, negsuc, natAbs}
 use lib.Signed.{ltZ, nonNeg}
 use lib.ListN.{length, getD, length-append}
 use borrow.Author.Tests.{ltb-true, ltb-false}
@@ -20,13 +20,14 @@ use Rattle.syntax.specs.Syntax.{IntExpr, IConst, IVar, Linear as Total, Terms, 
 use Rattle.syntax.specs.Unique.{int-unique}
 use Rattle.syntax.specs.Lengths.{int-long, int-fits}
 use Rattle.limits.specs.Limits.{weight, terms-weight, heavy, heavy-terms, heavy-comparison, many-comparison, written, written-terms}
-use Rattle.sums.specs.LinearSum.{Term, LinearSum, linear-sum, constant, singleton, add-coef, add-terms, add-sum, mul-terms, mul-sum, sub-sum}
+use Rattle.sums.specs.LinearSum.{LinearSum, constant, singleton, add-sum, mul-sum, sub-sum}
 use Rattle.sums.specs.Rising.{terms-of, constant-proper, add-sum-proper, Each, constant-each, singleton-each, add-sum-each, mul-sum-each, sub-sum-each, Among, among-left, among-right}
 use Rattle.sums.specs.Linear.{linear-of, linear-terms, linear-of-among}
 use Rattle.sums.specs.Norm.{load, constant-load, add-sum-load, mul-sum-load}
 use Rattle.sums.specs.Bounds.{size, heavy-weight, linear-of-size, Room, room-among, comparison-room}
 use Rattle.sums.specs.Rising.{different-map}
-use Rattle.sums.specs.Struct.{Sum, terms, sum-of, Stands}
+use Rattle.sums.specs.Struct.{terms, sum-of, Stands}
+use Rattle.sums.specs.declared.LinearSum.{LinearSum as Sum}
 use Rattle.sums.proofs.Laws.{is-own, stands-sum, stands-to}
 use Rattle.nest.specs.Numbers.{count-of, number-at}
 use Rattle.nest.specs.Nest.{Ready, Word, Linear, Ready-comparison, Difference, Going}
@@ -264,16 +265,6 @@ module _ (ws numbers : List ℤ) (at rest p : ℕ) (s : Sum) (g : Going ws numbe
         same = ap (linear-terms (number-at numbers) (t .others)) (a-is ∙ ap (λ (l : LinearSum). add-sum (sum-of s) (mul-sum K l)) u-is ∙ ap (λ (z : ℤ). add-sum (sum-of s) (mul-sum z L)) (t .word)) ∙ t .same;
         end = omega (arith, q-is, t .end);
       }
-
--- ---- one variable less
-
-pub less-one : (c : ℤ) (ts : List Term) (n : ℕ) → linear-sum c (add-coef n (negsuc 0) ts) ≡ sub-sum (linear-sum c ts) (singleton n)
-unfolding sub-sum add-sum add-terms mul-sum mul-terms
-less-one c ts n = ap (λ (z : ℤ). linear-sum z (add-coef n (negsuc 0) ts)) (sym (+ℤ-idr c))
-
-pub less-room : (ts : List Term) (n : ℕ) → Room ts (terms-of (mul-sum (negsuc 0) (singleton n))) → length (add-coef n (negsuc 0) ts) ≤ 64
-unfolding Room mul-sum mul-terms
-less-room ts n h = h .0
 
 -- ---- the two sides of a comparison
 

@@ -18,7 +18,8 @@ use Rattle.sums.specs.Norm.{norm, load}
 use Rattle.sums.specs.Bounds.{size, reach, reach-weight, heavy-weight, linear-of-load, linear-of-size, Room, column-room}
 use Rattle.sums.specs.Domain.{linear-of-candidates}
 use Rattle.sums.specs.Domain.{Bounded as Ordered}
-use Rattle.sums.specs.Struct.{Sum, terms, sum-of, Stands}
+use Rattle.sums.specs.Struct.{terms, sum-of, Stands}
+use Rattle.sums.specs.declared.LinearSum.{LinearSum as Sum}
 use Rattle.nest.specs.Numbers.{number-at}
 use Rattle.nest.specs.Nest.{Word}
 use Rattle.nest.specs.Ranges.{domain-at, Bounded, domain-same}

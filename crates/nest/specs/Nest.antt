@@ -14,7 +14,8 @@ use Rattle.sums.specs.LinearSum.{sub-sum}
 use Rattle.sums.specs.Rising.{Rises, Each, Among}
 use Rattle.sums.specs.Linear.{linear-of, linear-terms}
 use Rattle.sums.specs.Bounds.{size}
-use Rattle.sums.specs.Struct.{Sum, terms, sum-of, Is, Stands}
+use Rattle.sums.specs.Struct.{terms, sum-of, Is, Stands}
+use Rattle.sums.specs.declared.LinearSum.{LinearSum as Sum}
 use Rattle.nest.specs.Numbers.{number-at}
 
 -- an expression stands at `at`, no part too heavy, its variables among at most 64

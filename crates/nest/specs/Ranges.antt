@@ -11,7 +11,8 @@ use Rattle.sums.specs.LinearSum.{Term, term, LinearSum, linear-sum, lowest, hig
 use Rattle.sums.specs.Rising.{terms-of, Each}
 use Rattle.sums.specs.Norm.{norm, load}
 use Rattle.sums.specs.Bounds.{reach}
-use Rattle.sums.specs.Struct.{Sum, terms, sum-of}
+use Rattle.sums.specs.Struct.{terms, sum-of}
+use Rattle.sums.specs.declared.LinearSum.{LinearSum as Sum}
 use Rattle.nest.specs.Nest.{Word}
 
 -- the domain of the emitted number v, by the bounds that stand at 2 v + a and 2 v + b

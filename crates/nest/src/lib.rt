@@ -1,22 +1,21 @@
 // Nested sums become one linear sum, by recursion over an integer expression's words; and the bounds of a sum.
-use sums::Head;
+use sums::LinearSum;
 ghost use mathlib.Core.Path.{_≡_};
 ghost use Prim.Native.Nat.{_+_, _*_, _<_, _≤_, _^_};
 ghost use lib.IntN.{pos, negsuc, natAbs};
 ghost use lib.ListN.{getD};
 ghost use Rattle.laws.specs.Ints.{times-low};
 ghost use Rattle.syntax.specs.Syntax.{Range, lower-bound, upper-bound};
-ghost use Rattle.sums.specs.LinearSum.{singleton, mul-sum, sub-sum, lowest, get-domain-linear-sum};
+ghost use Rattle.sums.specs.LinearSum.{singleton, add-sum, mul-sum, sub-sum, lowest, get-domain-linear-sum};
 ghost use Rattle.sums.specs.Rising.{terms-of};
 ghost use Rattle.sums.specs.Bounds.{size, Room, reach};
-ghost use Rattle.sums.specs.Struct.{terms-at, sum-at, sum-of, Wide, Made};
+ghost use Rattle.sums.specs.Struct.{terms, sum-of, Stands};
 ghost use Rattle.nest.specs.Numbers.{count-of, number-at};
 ghost use Rattle.nest.specs.Nest.{Ready, Word, Linear, Ready-comparison, Difference};
 ghost use Rattle.nest.specs.Ranges.{domain-at, Bounded};
 
-// A sum whose terms stand in two arrays, and where its expression ends.
 pub struct Nested {
-    pub sum: Head,
+    pub sum: LinearSum,
     pub next: usize,
 }
 
@@ -47,65 +46,51 @@ fn number_at(numbers: &[i32], v: usize) -> usize
 }
 
 // A constant or a variable.
-fn leaf(
-    ws: &[i32],
-    at: usize,
-    numbers: &[i32],
-    vars: &mut [usize; 64],
-    coefs: &mut [i32; 64],
-) -> Nested
-    requires { ⌜ Ready (now ws) at × (getD (now ws) at (pos 0) ≡ pos 22 → ⊥) × Wide (now vars) (now coefs) ⌝ }
-    ensures { λ r. ⌜ Linear (now (ws .entry)) (now (numbers .entry)) at (r .next) (sum-at (r .sum) (now (vars .exit)) (now (coefs .exit))) × Wide (now (vars .exit)) (now (coefs .exit)) ⌝ }
+fn leaf(ws: &[i32], at: usize, numbers: &[i32]) -> Nested
+    requires { ⌜ Ready (now ws) at × (getD (now ws) at (pos 0) ≡ pos 22 → ⊥) ⌝ }
+    ensures { λ r. ⌜ Linear (now (ws .entry)) (now (numbers .entry)) at (r .next) (r .sum) ⌝ }
 {
     let code = ws[at];
     let x = ws[at + 1];
     if code == 20 {
-        let s = Head {
-            constant: x,
-            count: 0,
-        };
+        let s = sums::constant(x);
         return Nested {
             sum: s,
             next: at + 2,
         };
     }
     let v = count_of(x);
-    let n = number_at(numbers, v);
-    let s = sums::singleton(vars, coefs, n);
+    let s = sums::singleton(number_at(numbers, v));
     Nested {
         sum: s,
         next: at + 2,
     }
 }
 
-// Each term is worked out in two arrays of its own, and added.
-pub fn linear_of(
-    ws: &[i32],
-    at: usize,
-    numbers: &[i32],
-    vars: &mut [usize; 64],
-    coefs: &mut [i32; 64],
-) -> Nested
-    requires { ⌜ Ready (now ws) at × Wide (now vars) (now coefs) ⌝ }
-    ensures { λ r. ⌜ Linear (now (ws .entry)) (now (numbers .entry)) at (r .next) (sum-at (r .sum) (now (vars .exit)) (now (coefs .exit))) × Wide (now (vars .exit)) (now (coefs .exit)) ⌝ }
+// The sum so far and the next term.
+fn add_product(sum: LinearSum, s: LinearSum, k: i32) -> LinearSum
+    requires { ⌜ (sum .count ≤ 64) × (s .count ≤ 64) × (natAbs k * size (sum-of s) < 2 ^ 31) × (size (sum-of sum) + natAbs k * size (sum-of s) < 2 ^ 31) × Room (terms sum) (terms-of (mul-sum k (sum-of s))) ⌝ }
+    ensures { λ r. ⌜ Stands r (add-sum (sum-of sum) (mul-sum k (sum-of s))) ⌝ }
+{
+    sums::add_sum(sum, sums::mul_sum(s, k))
+}
+
+pub fn linear_of(ws: &[i32], at: usize, numbers: &[i32]) -> Nested
+    requires { ⌜ Ready (now ws) at ⌝ }
+    ensures { λ r. ⌜ Linear (now (ws .entry)) (now (numbers .entry)) at (r .next) (r .sum) ⌝ }
 {
     let code = ws[at];
     if code != 22 {
-        return leaf(ws, at, numbers, vars, coefs);
+        return leaf(ws, at, numbers);
     }
     let mut rest = count_of(ws[at + 1]);
     let mut p = at + 2;
-    let mut sum = Head {
-        constant: 0,
-        count: 0,
-    };
-    let mut others = [0usize; 64];
-    let mut times = [0i32; 64];
+    let mut sum = sums::constant(0);
     while rest != 0 {
         let k = ws[p];
-        let o = linear_of(ws, p + 1, numbers, &mut others, &mut times);
-        let t = o.sum;
-        sum = sums::add_product(vars, coefs, sum, &others, &times, t, k);
+        let o = linear_of(ws, p + 1, numbers);
+        let s = o.sum;
+        sum = add_product(sum, s, k);
         p = o.next;
         rest -= 1;
     }
@@ -113,40 +98,26 @@ pub fn linear_of(
 }
 
 // The two sides of a comparison: left minus right.
-pub fn difference_of(
-    ws: &[i32],
-    at: usize,
-    numbers: &[i32],
-    vars: &mut [usize; 64],
-    coefs: &mut [i32; 64],
-) -> Nested
-    requires { ⌜ Ready-comparison (now ws) at × Wide (now vars) (now coefs) ⌝ }
-    ensures { λ r. ⌜ Difference (now (ws .entry)) (now (numbers .entry)) at (r .next) (sum-at (r .sum) (now (vars .exit)) (now (coefs .exit))) × Wide (now (vars .exit)) (now (coefs .exit)) ⌝ }
+pub fn difference_of(ws: &[i32], at: usize, numbers: &[i32]) -> Nested
+    requires { ⌜ Ready-comparison (now ws) at ⌝ }
+    ensures { λ r. ⌜ Difference (now (ws .entry)) (now (numbers .entry)) at (r .next) (r .sum) ⌝ }
 {
-    let left = linear_of(ws, at, numbers, vars, coefs);
+    let left = linear_of(ws, at, numbers);
     let p = left.next;
-    let mut others = [0usize; 64];
-    let mut times = [0i32; 64];
-    let right = linear_of(ws, p, numbers, &mut others, &mut times);
+    let right = linear_of(ws, p, numbers);
     let s = left.sum;
     let t = right.sum;
     let q = right.next;
-    let d = sums::add_product(vars, coefs, s, &others, &times, t, -1);
+    let d = sums::sub_sum(s, t);
     Nested { sum: d, next: q }
 }
 
 // A column's sum minus its new variable.
-pub fn less_variable(vars: &mut [usize; 64], coefs: &mut [i32; 64], s: Head, n: usize) -> Head
-    requires { ⌜ (s .count ≤ 64) × Room (terms-at (s .count) (now vars) (now coefs)) (terms-of (mul-sum (negsuc 0) (singleton n))) × (size (sum-of (sum-at s (now vars) (now coefs))) + 1 < 2 ^ 31) × Wide (now vars) (now coefs) ⌝ }
-    ensures { λ r. ⌜ Made r (now (vars .exit)) (now (coefs .exit)) (sub-sum (sum-of (sum-at s (now (vars .entry)) (now (coefs .entry)))) (singleton n)) ⌝ }
+pub fn less_variable(s: LinearSum, n: usize) -> LinearSum
+    requires { ⌜ (s .count ≤ 64) × Room (terms s) (terms-of (mul-sum (negsuc 0) (singleton n))) × (size (sum-of s) + 1 < 2 ^ 31) ⌝ }
+    ensures { λ r. ⌜ Stands r (sub-sum (sum-of s) (singleton n)) ⌝ }
 {
-    let k = s.constant;
-    let c = s.count;
-    let m = sums::add_coef(vars, coefs, c, n, -1);
-    Head {
-        constant: k,
-        count: m,
-    }
+    sums::sub_sum(s, sums::singleton(n))
 }
 
 pub struct Interval {
@@ -185,16 +156,16 @@ fn term_low(bounds: &[i32], v: usize, k: i32, a: usize, b: usize) -> i32
     times_low(k, low, high)
 }
 
-fn lowest(vars: &[usize; 64], coefs: &[i32; 64], s: Head, bounds: &[i32], a: usize, b: usize) -> i32
-    requires { ⌜ Bounded a b (now bounds) (sum-at s (now vars) (now coefs)) × Wide (now vars) (now coefs) ⌝ }
-    ensures { λ r. ⌜ r ≡ lowest (domain-at a b (now (bounds .entry))) (s .constant) (terms-at (s .count) (now (vars .entry)) (now (coefs .entry))) ⌝ }
+fn lowest(s: LinearSum, bounds: &[i32], a: usize, b: usize) -> i32
+    requires { ⌜ Bounded a b (now bounds) s ⌝ }
+    ensures { λ r. ⌜ r ≡ lowest (domain-at a b (now (bounds .entry))) (s .constant) (terms s) ⌝ }
 {
     let n = s.count;
     let mut sum = s.constant;
     let mut i: usize = 0;
     while i < n {
-        let v = vars[i];
-        let k = coefs[i];
+        let v = s.vars[i];
+        let k = s.coefs[i];
         let t = term_low(bounds, v, k, a, b);
         sum = sum + t;
         i += 1;
@@ -203,17 +174,12 @@ fn lowest(vars: &[usize; 64], coefs: &[i32; 64], s: Head, bounds: &[i32], a: usi
 }
 
 // `bounds` has the lowest and the highest value of each emitted integer.
-pub fn get_domain_linear_sum(
-    vars: &[usize; 64],
-    coefs: &[i32; 64],
-    s: Head,
-    bounds: &[i32],
-) -> Interval
-    requires { ⌜ Bounded 0 1 (now bounds) (sum-at s (now vars) (now coefs)) × Wide (now vars) (now coefs) ⌝ }
-    ensures { λ r. ⌜ Range (r .low) (r .high) ≡ get-domain-linear-sum (domain-at 0 1 (now (bounds .entry))) (sum-of (sum-at s (now (vars .entry)) (now (coefs .entry)))) ⌝ }
+pub fn get_domain_linear_sum(s: LinearSum, bounds: &[i32]) -> Interval
+    requires { ⌜ Bounded 0 1 (now bounds) s ⌝ }
+    ensures { λ r. ⌜ Range (r .low) (r .high) ≡ get-domain-linear-sum (domain-at 0 1 (now (bounds .entry))) (sum-of s) ⌝ }
 {
-    let low = lowest(vars, coefs, s, bounds, 0, 1);
-    let high = lowest(vars, coefs, s, bounds, 1, 0);
+    let low = lowest(s, bounds, 0, 1);
+    let high = lowest(s, bounds, 1, 0);
     Interval {
         low: low,
         high: high,

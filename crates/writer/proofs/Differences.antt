@@ -1,19 +1,31 @@
--- The sum of a comparison: what difference_of asks of its sides, and what it gives.
-use mathlib.Core.Path.{_≡_, refl, ap, _∙_, subst}
-use mathlib.Core.List.{List}
-use Prim.Native.Nat.{ℕ, _-_}
+-- The sum of a comparison: what linear_of and sub_sum ask at its sides, and what they give.
+use mathlib.Core.Path.{_≡_, refl, sym, ap, _∙_, subst}
+use mathlib.Core.Bool.{Bool, true, false, _||_}
+use mathlib.Core.List.{List, [], _∷_, _++_}
+use Prim.Native.Nat.{ℕ, _+_, _-_, _≤_, _<_, _^_}
 use native.Mathlib.Omega.{arith}
+use lib.Dec.{ltb}
 use lib.IntN.{ℤ, pos, negsuc}
 use lib.ListN.{length, getD, take, drop, length-drop}
 use lib.Seq.{take-all, getD-drop}
-use Rattle.syntax.specs.Syntax.{IntExpr, IConst, IVar, Linear, Terms, tnil, tmore}
-use Rattle.sums.specs.LinearSum.{LinearSum, constant, add-sum, mul-sum, sub-sum}
+use borrow.Author.Tests.{ltb-false}
+use Rattle.laws.specs.Bools.{or-no-l, or-no-r}
+use Rattle.laws.specs.Lists.{different}
+use Rattle.laws.specs.Slices.{Has, has-front, has-back}
+use Rattle.syntax.specs.Words.{max-weight, max-comparison-vars}
+use Rattle.syntax.specs.Syntax.{Domain, IntExpr, IConst, IVar, Linear, Terms, tnil, tmore, encode-int}
+use Rattle.limits.specs.Limits.{weight, heavy, heavy-comparison, written, many-comparison}
+use Rattle.sums.specs.LinearSum.{LinearSum, linear-sum, constant, add-sum, mul-sum, sub-sum}
 use Rattle.sums.specs.Linear.{linear-of, linear-terms}
-use Rattle.sums.specs.Struct.{Sum, Stands}
+use Rattle.sums.specs.Rising.{terms-of, Each, sub-sum-each, among-left, among-right}
+use Rattle.sums.specs.Bounds.{size, Room, linear-of-size, comparison-room}
+use Rattle.sums.specs.Struct.{terms, sum-of, Stands}
+use Rattle.sums.specs.declared.LinearSum.{LinearSum as Sum}
+use Rattle.sums.proofs.Laws.{stands-sum}
 use Rattle.nest.specs.Numbers.{count-of, number-at}
-use Rattle.nest.specs.Nest.{Ready-comparison, Difference}
+use Rattle.nest.specs.Nest.{Ready, Word, Linear as Linears}
 use Rattle.walk.specs.Item.{nat, int-entry, int-number}
-use Rattle.writer.specs.Fine.{Compares, Subtracted}
+use Rattle.writer.specs.Fine.{Sides, Compares, Subtracted}
 
 -- ---- the map's numbers
 
@@ -47,15 +59,87 @@ number-is w v = ap (λ (l : List ℤ). count-of (getD l v (pos 0)) - 1) (numbers
 linear-is : (w : List ℤ) (e : IntExpr) → linear-of (number-at (numbers w)) e ≡ linear-of (int-number w) e
 linear-is w e = linear-same (number-at (numbers w)) (int-number w) (number-is w) e
 
--- ---- what is asked and given
+-- ---- what is asked
 
-pub compares-ready : (w : List ℤ) (at : ℕ) → Compares w at → Ready-comparison w at
-compares-ready w at c = record { left = c .left; right = c .right; has = c .sides .has; domains = c .sides .domains; light = c .sides .light; few = c .sides .few }
+module _ (w : List ℤ) (at : ℕ) (c : Compares w at) where
+  abbrev lhs : IntExpr
+  lhs = c .left
 
-pub subtracted : (w : List ℤ) (at next : ℕ) (s : Sum) → Difference w (numbers w) at next s → Subtracted w at s
-subtracted w at next s x = record {
+  abbrev rhs : IntExpr
+  rhs = c .right
+
+  abbrev ds : List Domain
+  ds = c .sides .domains
+
+  few : different (written lhs ++ written rhs) ≤ 64
+  unfolding many-comparison
+  few = ltb-false max-comparison-vars (different (written lhs ++ written rhs)) (c .sides .few)
+
+  light-left : heavy ds lhs ≡ false
+  unfolding heavy-comparison
+  light-left = or-no-l (heavy ds lhs) _ (c .sides .light)
+
+  light-right : heavy ds rhs ≡ false
+  unfolding heavy-comparison
+  light-right = or-no-l (heavy ds rhs) _ (or-no-r (heavy ds lhs) _ (c .sides .light))
+
+  light-both : weight ds lhs + weight ds rhs ≤ max-weight
+  unfolding heavy-comparison
+  light-both = ltb-false max-weight (weight ds lhs + weight ds rhs) (or-no-r (heavy ds rhs) _ (or-no-r (heavy ds lhs) _ (c .sides .light)))
+
+  pub ready-left : Ready w at
+  ready-left = record {
+    tree = lhs;
+    has = has-front w at (encode-int lhs) (encode-int rhs) (c .sides .has);
+    domains = ds;
+    light = light-left;
+    vars = written lhs ++ written rhs;
+    few = few;
+    among = λ v m. among-left v (written lhs) (written rhs) m;
+  }
+
+  module _ (ns : List ℤ) (p : ℕ) (s : Sum) (x : Linears w ns at p s) where
+    abbrev left-is : Stands s (linear-of (number-at ns) lhs) × (p ≡ at + length (encode-int lhs))
+    left-is = x .right lhs (has-front w at (encode-int lhs) (encode-int rhs) (c .sides .has))
+
+    has-right : Has w p (encode-int rhs)
+    has-right = subst (λ (n : ℕ). Has w n (encode-int rhs)) (sym (left-is .1)) (has-back w at (encode-int lhs) (encode-int rhs) (c .sides .has))
+
+    pub ready-right : Ready w p
+    ready-right = record {
+      tree = rhs;
+      has = has-right;
+      domains = ds;
+      light = light-right;
+      vars = written lhs ++ written rhs;
+      few = few;
+      among = λ v m. among-right v (written lhs) (written rhs) m;
+    }
+
+    module _ (q : ℕ) (t : Sum) (y : Linears w ns p q t) where
+      abbrev right-is : Stands t (linear-of (number-at ns) rhs)
+      right-is = y .right rhs has-right .0
+
+      pub sub-asked : (s .count ≤ 64) × (t .count ≤ 64) × Room (terms s) (terms-of (mul-sum (negsuc 0) (sum-of t))) × (size (sum-of s) + size (sum-of t) < 2 ^ 31)
+      sub-asked =
+          let f = number-at ns in
+          let e = stands-sum s (linear-of f lhs) (left-is .0) in
+          let h = stands-sum t (linear-of f rhs) right-is in (
+            left-is .0 .room,
+            right-is .room,
+            subst (λ (l : LinearSum). Room (terms s) (terms-of (mul-sum (negsuc 0) l))) (sym h) (subst (λ (l : LinearSum). Room (terms-of l) (terms-of (mul-sum (negsuc 0) (linear-of f rhs)))) (sym e) (comparison-room f lhs rhs (c .sides .few))),
+            omega (arith, ap size e, ap size h, linear-of-size ds f lhs, linear-of-size ds f rhs, light-both),
+          )
+
+-- ---- what is given
+
+pub subtracted : (w : List ℤ) (at p q : ℕ) (s t r : Sum) → Linears w (numbers w) at p s → Linears w (numbers w) p q t → Stands r (sub-sum (sum-of s) (sum-of t)) → Subtracted w at r
+subtracted w at p q s t r x y z = record {
   right = λ a b h.
-      subst (λ (m : LinearSum). Stands s (sub-sum (linear-of (int-number w) a) m)) (linear-is w b)
-      (subst (λ (m : LinearSum). Stands s (sub-sum m (linear-of (number-at (numbers w)) b))) (linear-is w a) (x .right a b h .0));
-  words = x .words;
+      let l = x .right a (has-front w at (encode-int a) (encode-int b) h) in
+      let k = y .right b (subst (λ (n : ℕ). Has w n (encode-int b)) (sym (l .1)) (has-back w at (encode-int a) (encode-int b) h)) in
+      let e = stands-sum s _ (l .0) ∙ linear-is w a in
+      let g = stands-sum t _ (k .0) ∙ linear-is w b in
+      subst (λ (m : LinearSum). Stands r (sub-sum (linear-of (int-number w) a) m)) g (subst (λ (m : LinearSum). Stands r (sub-sum m (sum-of t))) e z);
+  words = subst (λ us. Each Word us) (sym (z .same)) (sub-sum-each Word (sum-of s) (sum-of t) (x .words) (y .words));
 }

@@ -19,7 +19,8 @@ use Rattle.syntax.specs.Syntax.{op-at, encode-op}
 use Rattle.sums.specs.LinearSum.{Term, term, LinearSum, sub-sum}
 use Rattle.sums.specs.Linear.{linear-of}
 use Rattle.sums.specs.Rising.{Each}
-use Rattle.sums.specs.Struct.{Sum, terms, sum-of}
+use Rattle.sums.specs.Struct.{terms, sum-of}
+use Rattle.sums.specs.declared.LinearSum.{LinearSum as Sum}
 use Rattle.clauses.specs.Clause.{linear}
 use Rattle.clauses.specs.Normalize.{negate-op-if}
 use Rattle.answer.specs.Answer.{term-words, linear-words}

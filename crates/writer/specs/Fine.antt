@@ -10,7 +10,8 @@ use Rattle.limits.specs.Limits.{heavy-comparison, many-comparison}
 use Rattle.sums.specs.LinearSum.{sub-sum}
 use Rattle.sums.specs.Linear.{linear-of}
 use Rattle.sums.specs.Rising.{Each}
-use Rattle.sums.specs.Struct.{Sum, terms, Stands}
+use Rattle.sums.specs.Struct.{terms, Stands}
+use Rattle.sums.specs.declared.LinearSum.{LinearSum as Sum}
 use Rattle.nest.specs.Nest.{Word}
 use Rattle.laws.specs.Writes.{Wrote}
 use Rattle.walk.specs.Item.{int-number, comparison}

@@ -9,7 +9,7 @@ ghost use Rattle.laws.specs.Lists.{flat};
 ghost use Rattle.laws.specs.Writes.{cap, Wrote};
 ghost use Rattle.syntax.specs.Syntax.{op-at, encode-op};
 ghost use Rattle.sums.specs.Rising.{Each};
-ghost use Rattle.sums.specs.Struct.{terms-at, sum-at, sum-of, Wide};
+ghost use Rattle.sums.specs.Struct.{terms, sum-of};
 ghost use Rattle.nest.specs.Nest.{Word};
 ghost use Rattle.clauses.specs.Clause.{linear};
 ghost use Rattle.clauses.specs.Normalize.{negate-op-if};
@@ -19,10 +19,10 @@ ghost use Rattle.walk.specs.Tree.{cons, nil};
 ghost use Rattle.walk.specs.Decode.{word as word-in, many, decode, tie-at, many-ties, cross-ties, ties-at, read-part, item-at, items-at, surveyed, Surveys, SurveysAll};
 ghost use Rattle.walk.specs.MeetTies.{Reaches, ReachesAll};
 ghost use Rattle.writer.specs.Suffix.{suffix, Stacked, extra-lits, Open};
-ghost use Rattle.writer.specs.Fine.{Compares, Compared, Fine, Fines};
+ghost use Rattle.writer.specs.Fine.{Compares, Subtracted, Compared, Fine, Fines};
 ghost use Rattle.writer.specs.Placed.{Placed, Tallied, share, Probed, ProbedAll, Listed, no-extras, RuleWrote};
 ghost use Rattle.writer.specs.Rules.{Writable};
-use sums::Head;
+use sums::LinearSum;
 use walk::Mode;
 use walk::Node;
 use walk::Surveyed;
@@ -140,15 +140,16 @@ fn op_word(k: usize, g: bool) -> i32
 }
 
 // The terms of a sum: variable and coefficient of each.
-fn put_terms(vars: &[usize; 64], coefs: &[i32; 64], n: usize, out: &mut [i32], o: usize) -> usize
-    requires { ⌜ (n ≤ 64) × Each Word (terms-at n (now vars) (now coefs)) × Wide (now vars) (now coefs) × Open (now out) o ⌝ }
-    ensures { λ r. ⌜ Wrote (now (out .entry)) o (flat (map term-words (terms-at n (now (vars .entry)) (now (coefs .entry))))) (now (out .exit)) r ⌝ }
+fn put_terms(s: LinearSum, out: &mut [i32], o: usize) -> usize
+    requires { ⌜ (s .count ≤ 64) × Each Word (terms s) × Open (now out) o ⌝ }
+    ensures { λ r. ⌜ Wrote (now (out .entry)) o (flat (map term-words (terms s))) (now (out .exit)) r ⌝ }
 {
+    let n = s.count;
     let mut i: usize = 0;
     let mut p = o;
     while i < n {
-        let v = vars[i];
-        let k = coefs[i];
+        let v = s.vars[i];
+        let k = s.coefs[i];
         let q = put(out, p, v as i32);
         p = put(out, q, k);
         i += 1;
@@ -157,37 +158,40 @@ fn put_terms(vars: &[usize; 64], coefs: &[i32; 64], n: usize, out: &mut [i32], o
 }
 
 // A comparison of a sum with 0, its operator k negated if g.
-pub fn put_linear(
-    k: usize,
-    g: bool,
-    vars: &[usize; 64],
-    coefs: &[i32; 64],
-    s: Head,
-    out: &mut [i32],
-    o: usize,
-) -> usize
-    requires { ⌜ (s .count ≤ 64) × Each Word (terms-at (s .count) (now vars) (now coefs)) × Wide (now vars) (now coefs) × Open (now out) o ⌝ }
-    ensures { λ r. ⌜ Wrote (now (out .entry)) o (linear-words (linear (negate-op-if g (op-at k)) (sum-of (sum-at s (now (vars .entry)) (now (coefs .entry)))))) (now (out .exit)) r ⌝ }
+pub fn put_linear(k: usize, g: bool, s: LinearSum, out: &mut [i32], o: usize) -> usize
+    requires { ⌜ (s .count ≤ 64) × Each Word (terms s) × Open (now out) o ⌝ }
+    ensures { λ r. ⌜ Wrote (now (out .entry)) o (linear-words (linear (negate-op-if g (op-at k)) (sum-of s))) (now (out .exit)) r ⌝ }
 {
     let c = s.constant;
     let n = s.count;
     let a = put(out, o, op_word(k, g));
     let b = put(out, a, c);
     let d = put(out, b, n as i32);
-    put_terms(vars, coefs, n, out, d)
+    put_terms(s, out, d)
 }
 
-// The words of a comparison: its operator k, negated if g, and where its sides stand. The sum is left minus right, with the final integer map.
+// The left side minus the right one, which stand at a place of the work slice, with the final integer map.
+fn difference(work: &[i32], at: usize) -> LinearSum
+    requires { ⌜ (5120 ≤ length (now work)) × Compares (now work) at ⌝ }
+    ensures { λ r. ⌜ Subtracted (now (work .entry)) at r ⌝ }
+{
+    let e = work.len();
+    let numbers = &work[5120..e];
+    let a = nest::linear_of(work, at, numbers);
+    let p = a.next;
+    let b = nest::linear_of(work, p, numbers);
+    let s = a.sum;
+    let t = b.sum;
+    sums::sub_sum(s, t)
+}
+
+// The words of a comparison: its operator k, negated if g, and where its sides stand.
 fn put_comparison(work: &[i32], at: usize, k: usize, g: bool, out: &mut [i32], o: usize) -> usize
     requires { ⌜ (5120 ≤ length (now work)) × Compares (now work) at × Open (now out) o ⌝ }
     ensures { λ r. ⌜ Compared (now (work .entry)) at k g (λ ws. ws) (now (out .entry)) o (now (out .exit)) r ⌝ }
 {
-    let e = work.len();
-    let mut vars = [0usize; 64];
-    let mut coefs = [0i32; 64];
-    let d = nest::difference_of(work, at, &work[5120..e], &mut vars, &mut coefs);
-    let s = d.sum;
-    put_linear(k, g, &vars, &coefs, s, out, o)
+    let s = difference(work, at);
+    put_linear(k, g, s, out, o)
 }
 
 // The clause of a comparison alone.

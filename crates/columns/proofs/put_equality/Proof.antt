@@ -1,5 +1,5 @@
 -- Three writes behind the column's sum less its variable.
-use mathlib.Core.Path.{refl, _∙_}
+use mathlib.Core.Path.{_∙_}
 use native.Mathlib.Omega.{arith}
 use Rattle.laws.specs.Writes.{wrote-length}
 use Rattle.writer.proofs.Laws.{open-next}
@@ -18,43 +18,31 @@ part-linear-of-end : tie.Need-part-linear-of-end
 part-linear-of-end c = search needs
 
 linear-of-requires : tie.Need-linear-of-requires
-linear-of-requires c κs = (ready (c .before .before .before .args .work .now) (c .before .before .before .args .p) (c .before .before .before .pre .0), (refl, refl))
+linear-of-requires c κs = ready (c .before .args .work .now) (c .before .args .p) (c .before .pre .0)
 
 add-number-at : tie.Need-add-number-at
-add-number-at c = omega (arith, inside (c .before .before .before .before .before .args .work .now) (c .before .before .before .before .before .args .p) (c .before .before .before .before .before .pre .0))
+add-number-at c = omega (arith, inside (c .before .before .before .args .work .now) (c .before .before .before .args .p) (c .before .before .before .pre .0))
 
 number-at-requires : tie.Need-number-at-requires
 number-at-requires c κs = search needs
 
 less-variable-requires : tie.Need-less-variable-requires
-less-variable-requires c κs =
-    let s = c .before .before .before .before .before .before .before .before in
-    let l = c .before .before .before .before .linear-of .ensures in
-    let q = less-asked (s .args .work .now) (s .args .p) (s .pre .0) _ _ (l .0) (c .before .before .number-at .result) in
-    (q .0, q .1, q .2, l .1)
+less-variable-requires c κs = less-asked (c .before .before .before .before .args .work .now) (c .before .before .before .before .args .p) (c .before .before .before .before .pre .0) _ _ (c .before .before .linear-of .ensures) (c .number-at .result)
 
 put-requires : tie.Need-put-requires
-put-requires c κs = c .before .before .before .before .before .before .before .before .before .before .pre .1
+put-requires c κs = c .before .before .before .before .before .before .pre .1
 
 put-requires-2 : tie.Need-put-requires-2
-put-requires-2 c κs = open-next (c .before .before .before .before .before .before .before .before .before .before .before .before .before .pre .1) (c .before .before .put .ensures)
+put-requires-2 c κs = open-next (c .before .before .before .before .before .before .before .before .before .pre .1) (c .before .before .put .ensures)
 
 put-linear-requires : tie.Need-put-linear-requires
-put-linear-requires c κs =
-    let s = c .before .before .before .before .before .before .before .before .before .before .before .before .before .before .before .before .before .before in
-    let n = c .before .before .before .before .before .before .before .before .before .before .before .before .number-at in
-    let d = c .before .before .before .before .before .before .before .before .before .less-variable .ensures in
-    let l = linear-asked (s .args .work .now) (s .args .p) (s .pre .0) _ _ (c .before .before .before .before .before .before .before .before .before .before .before .before .before .before .linear-of .ensures .0) (n .result) (n .ensures .1) _ (d .stands) in
-    (l .0, l .1, d .wide, open-next (open-next (s .pre .1) (c .before .before .before .before .before .before .before .put .ensures)) (c .before .before .before .before .put2 .ensures))
+put-linear-requires c κs = let l = linear-asked (c .before .before .before .before .before .before .before .before .before .before .before .before .args .work .now) (c .before .before .before .before .before .before .before .before .before .before .before .before .args .p) (c .before .before .before .before .before .before .before .before .before .before .before .before .pre .0) _ _ (c .before .before .before .before .before .before .before .before .before .before .linear-of .ensures) (c .before .before .before .before .before .before .before .before .number-at .result) (c .before .before .before .before .before .before .before .before .number-at .ensures .1) _ (c .before .before .before .before .before .before .before .less-variable .ensures) in (l .0, l .1, open-next (open-next (c .before .before .before .before .before .before .before .before .before .before .before .before .pre .1) (c .before .before .before .before .before .put .ensures)) (c .before .before .put2 .ensures))
 
 same-length : tie.Need-same-length
-same-length c = wrote-length (c .before .put-linear .ensures) ∙ wrote-length (c .before .before .before .before .before .before .put2 .ensures) ∙ wrote-length (c .before .before .before .before .before .before .before .before .before .put .ensures)
+same-length c = wrote-length (c .before .put-linear .ensures) ∙ wrote-length (c .before .before .before .before .put2 .ensures) ∙ wrote-length (c .before .before .before .before .before .before .before .put .ensures)
 
 returns : tie.Need-returns
-returns c =
-    let s = c .before .before .before .before .before .before .before .before .before .before .before .before .before .before .before .before .before .before .before .before in
-    let n = c .before .before .before .before .before .before .before .before .before .before .before .before .before .before .number-at in
-    equality-wrote (s .args .work .now) (s .args .p) (s .pre .0) _ _ (c .before .before .before .before .before .before .before .before .before .before .before .before .before .before .before .before .linear-of .ensures .0) (n .result) (n .ensures .1) _ (c .before .before .before .before .before .before .before .before .before .before .before .less-variable .ensures .stands) (n .ensures .0) (s .pre .1) (c .before .before .before .before .before .before .before .before .before .put .ensures) (c .before .before .before .before .before .before .put2 .ensures) (c .before .put-linear .ensures)
+returns c = equality-wrote (c .before .before .before .before .before .before .before .before .before .before .before .before .before .before .args .work .now) (c .before .before .before .before .before .before .before .before .before .before .before .before .before .before .args .p) (c .before .before .before .before .before .before .before .before .before .before .before .before .before .before .pre .0) _ _ (c .before .before .before .before .before .before .before .before .before .before .before .before .linear-of .ensures) (c .before .before .before .before .before .before .before .before .before .before .number-at .result) (c .before .before .before .before .before .before .before .before .before .before .number-at .ensures .1) _ (c .before .before .before .before .before .before .before .before .before .less-variable .ensures) (c .before .before .before .before .before .before .before .before .before .before .number-at .ensures .0) (c .before .before .before .before .before .before .before .before .before .before .before .before .before .before .pre .1) (c .before .before .before .before .before .before .before .put .ensures) (c .before .before .before .before .put2 .ensures) (c .before .put-linear .ensures)
 
 pub put-equality-spec : {M : Type 1} → statement M
 put-equality-spec =

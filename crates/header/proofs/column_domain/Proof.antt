@@ -1,5 +1,3 @@
--- The column's sum, its bounds, their distance.
-use mathlib.Core.Path.{refl}
 use mir.Syntax.{w32}
 use mir.Val.{SFits}
 use mir.Facts.{toZ-ofZ}
@@ -7,6 +5,10 @@ use Rattle.header.proofs.Columns.{column-ready, bounds-asked, column-ap
 use borrow.Author.Needs.{needs}
 use Rattle.header.proofs.column_domain.Statement.{statement}
 use Rattle.header.proofs.column_domain.Tie as tie
+use Rattle.header.proofs.column_domain.Reads as reads
+use Rattle.header.proofs.column_domain.Lts as lts
+use Rattle.nest.proofs.get_domain_linear_sum.Reads as get-domain-linear-sum-reads
+use Rattle.nest.proofs.linear_of.Reads as linear-of-reads
 
 sub-numbers : tie.Need-sub-numbers
 sub-numbers c = search needs
@@ -27,24 +29,24 @@ part-bounds-end : tie.Need-part-bounds-end
 part-bounds-end c = search needs
 
 linear-of-requires : tie.Need-linear-of-requires
-linear-of-requires c κs = (column-ready (c .before .before .before .before .pre .column), (refl, refl))
+linear-of-requires c κs = column-ready (c .before .before .pre .column)
 
 get-domain-linear-sum-requires : tie.Need-get-domain-linear-sum-requires
-get-domain-linear-sum-requires c κs = (bounds-asked (c .before .before .before .before .before .before .before .before .pre .column) (c .before .before .before .linear-of .ensures .0), c .before .before .before .linear-of .ensures .1)
+get-domain-linear-sum-requires c κs = bounds-asked (c .before .before .before .before .pre .column) (c .before .linear-of .ensures)
 
 sub-apart : tie.Need-sub-apart
 sub-apart c =
-    let x = c .before .before .before .before .before .before .before .before .before .before .before .pre in
-    let l = c .before .before .before .before .before .before .linear-of .ensures .0 in
+    let x = c .before .before .before .before .before .before .before .pre in
+    let l = c .before .before .before .before .linear-of .ensures in
     let b = c .before .before .get-domain-linear-sum in
     let f : SFits w32 (b .result .low) = search needs in
     let g : SFits w32 (b .result .high) = search needs in
     column-apart x l (b .ensures) (toZ-ofZ f) (toZ-ofZ g)
 
-add-t23 : tie.Need-add-t23
-add-t23 c =
-    let x = c .before .before .before .before .before .before .before .before .before .before .before .pre in
-    let l = c .before .before .before .before .before .before .linear-of .ensures .0 in
+add-t17 : tie.Need-add-t17
+add-t17 c =
+    let x = c .before .before .before .before .before .before .before .pre in
+    let l = c .before .before .before .before .linear-of .ensures in
     let b = c .before .before .get-domain-linear-sum in
     let f : SFits w32 (b .result .low) = search needs in
     let g : SFits w32 (b .result .high) = search needs in
@@ -53,8 +55,8 @@ add-t23 c =
 
 returns : tie.Need-returns
 returns c =
-    let x = c .before .before .before .before .before .before .before .before .before .before .before .pre in
-    let l = c .before .before .before .before .before .before .linear-of .ensures .0 in
+    let x = c .before .before .before .before .before .before .before .pre in
+    let l = c .before .before .before .before .linear-of .ensures in
     let b = c .before .before .get-domain-linear-sum in
     let f : SFits w32 (b .result .low) = search needs in
     let g : SFits w32 (b .result .high) = search needs in
@@ -75,5 +77,5 @@ column-domain-spec =
     linear-of-requires
     get-domain-linear-sum-requires
     sub-apart
-    add-t23
+    add-t17
     returns)

@@ -1,5 +1,5 @@
 -- The loop's invariant is `Going`; the words left fall at each call.
-use mathlib.Core.Path.{_≡_, refl, ap, _∙_}
+use mathlib.Core.Path.{_≡_, ap, _∙_}
 use Prim.Native.Nat.{ℕ, _+_, _-_, _<_, _≤_}
 use borrow.Author.Needs.{needs}
 use native.Mathlib.Omega.{arith}
@@ -13,41 +13,39 @@ use borrow.Fn.Kinds.{In}
 use borrow.Fn.PlainCycle.{Measures, is, falls, and}
 use Rattle.laws.specs.Signed.{value-is}
 use Rattle.nest.specs.Numbers.{count-of}
-use Rattle.sums.specs.Struct.{Wide, sum-at}
-use Rattle.sums.proofs.Laws.{constant-made}
 use Rattle.nest.specs.Nest.{Going}
 use Rattle.nest.proofs.Steps.{bits-not, ready-long, going-start, going-end, turn, turn-long, turn-ready, turn-asks, turn-next}
 use Rattle.nest.proofs.linear_of.Reads as linear-of
 use Rattle.nest.proofs.linear_of.Kinds as linear-of-kinds
 use Rattle.nest.proofs.+linear_of.Lts-linear_of as linear-of-lts
-use Rattle.sums.proofs.add_product.Reads as add-product-reads
+use Rattle.nest.proofs.add_product.Reads as add-product-reads
 use Rattle.nest.proofs.count_of.Reads as count-of-reads
 use Rattle.nest.proofs.leaf.Reads as leaf-reads
+use Rattle.sums.proofs.constant.Reads as constant-reads
 use Rattle.nest.proofs.+linear_of.{statement}
 use Rattle.nest.proofs.+linear_of.Tie.{close}
 
-abbrev μ-linear-of : Measures 4 linear-of-kinds.ps ℕ
+abbrev μ-linear-of : Measures 2 linear-of-kinds.ps ℕ
 μ-linear-of κs a = length (a .0 .now) - a .1 .0
 
-abbrev linear-of-at : ℕ → In 4 linear-of-kinds.ps
-linear-of-at t = and 4 linear-of-kinds.ps (is 4 linear-of-kinds.ps μ-linear-of t) linear-of.Pre
+abbrev linear-of-at : ℕ → In 2 linear-of-kinds.ps
+linear-of-at t = and 2 linear-of-kinds.ps (is 2 linear-of-kinds.ps μ-linear-of t) linear-of.Pre
 
-abbrev linear-of-below : ℕ → In 4 linear-of-kinds.ps
-linear-of-below t = and 4 linear-of-kinds.ps (falls 4 linear-of-kinds.ps _<_ μ-linear-of t) linear-of.Pre
+abbrev linear-of-below : ℕ → In 2 linear-of-kinds.ps
+linear-of-below t = and 2 linear-of-kinds.ps (falls 2 linear-of-kinds.ps _<_ μ-linear-of t) linear-of.Pre
 
 abbrev Inv-loop : linear-of-lts.InvT-loop
-Inv-loop ws at numbers vars₀ coefs₀ code rest₀ p₀ sum₀ others₀ times₀ vars coefs rest p sum others times =
-    Going ws numbers at rest p (sum-at sum vars coefs) × Wide vars coefs × Wide others times
+Inv-loop ws at numbers code rest₀ p₀ sum₀ rest p sum = Going ws numbers at rest p sum
 
 abbrev μ-loop : linear-of-lts.MeasureT-loop
-μ-loop ws at numbers vars₀ coefs₀ code rest₀ p₀ sum₀ others₀ times₀ vars coefs rest p sum others times = rest
+μ-loop ws at numbers code rest₀ p₀ sum₀ rest p sum = rest
 
 abbrev claims : ℕ → linear-of-lts.Claims
-claims t = (leaf-reads.Asked, leaf-reads.Learnt, count-of-reads.Asked, count-of-reads.Learnt, linear-of-below t, linear-of.Post, add-product-reads.Asked, add-product-reads.Learnt)
+claims t = (leaf-reads.Asked, leaf-reads.Learnt, count-of-reads.Asked, count-of-reads.Learnt, constant-reads.Asked, constant-reads.Learnt, linear-of-below t, linear-of.Post, add-product-reads.Asked, add-product-reads.Learnt)
 
 -- at the start: two words stand there
 long : (t : ℕ) (c : linear-of-lts.Start (claims t) (linear-of-at t) linear-of.Post Inv-loop μ-loop) → c .args .at + 2 ≤ length (now (c .args .ws))
-long t c = ready-long (now (c .args .ws)) (c .args .at) (c .pre .1 .0)
+long t c = ready-long (now (c .args .ws)) (c .args .at) (c .pre .1)
 
 mul-code : (t : ℕ) → linear-of-lts.Need-mul-code (claims t) (linear-of-at t) linear-of.Post Inv-loop μ-loop
 mul-code t c = omega (arith, long t c, c .good .0)
@@ -56,7 +54,7 @@ copy-code : (t : ℕ) → linear-of-lts.Need-shared-slice-copy-out-code (claims 
 copy-code t c = omega (arith, long t c)
 
 leaf-requires : (t : ℕ) → linear-of-lts.Need-leaf-requires (claims t) (linear-of-at t) linear-of.Post Inv-loop μ-loop
-leaf-requires t c κs = (c .before .before .before .before .pre .1 .0, bits-not (getD (now (c .before .before .before .before .args .ws)) (c .before .before .before .before .args .at) (pos 0)) 22 (c .before .before .if1 .taken), c .before .before .before .before .pre .1 .1)
+leaf-requires t c κs = (c .before .before .pre .1, bits-not (getD (now (c .before .before .args .ws)) (c .before .before .args .at) (pos 0)) 22 (c .if1 .taken))
 
 returns : (t : ℕ) → linear-of-lts.Need-returns (claims t) (linear-of-at t) linear-of.Post Inv-loop μ-loop
 returns t c = c .leaf .ensures
@@ -75,44 +73,38 @@ add-p t c = omega (arith, long t (c .before .before .before .before), c .before 
 
 loop-holds : (t : ℕ) → linear-of-lts.Need-loop-holds (claims t) (linear-of-at t) linear-of.Post Inv-loop μ-loop
 loop-holds t c =
-    let s = c .before .before .before .before in
-    let ws = now (s .args .ws) in
-    let at : ℕ = s .args .at in
-    let code : getD ws at (pos 0) ≡ pos 22 = value-is {z = getD ws at (pos 0)} (record { sfits = c .before .before .before .code .given }) (c .before .before .if1 .left) in
-    let n : c .count-of .result ≡ count-of (getD ws (at + 1) (pos 0)) = c .count-of .ensures .0 ∙ ap count-of (toZ-ofZ {w = w32} {z = getD ws (at + 1) (pos 0)} (record { sfits = c .before .count-of-arg .given })) in
-    let m = constant-made (pos 0) (now (s .args .vars)) (now (s .args .coefs)) (s .pre .1 .1) in
-    (rw n (going-start ws (now (s .args .numbers)) at (sum-at (record { constant = pos 0; count = 0 }) (now (s .args .vars)) (now (s .args .coefs))) (s .pre .1 .0) code (m .stands)), s .pre .1 .1, (refl, refl))
+    let ws = now (c .before .before .before .before .before .args .ws) in
+    let at : ℕ = c .before .before .before .before .before .args .at in
+    let code : getD ws at (pos 0) ≡ pos 22 = value-is {z = getD ws at (pos 0)} (record { sfits = c .before .before .before .before .code .given }) (c .before .before .before .if1 .left) in
+    let n : c .before .count-of .result ≡ count-of (getD ws (at + 1) (pos 0)) = c .before .count-of .ensures .0 ∙ ap count-of (toZ-ofZ {w = w32} {z = getD ws (at + 1) (pos 0)} (record { sfits = c .before .before .count-of-arg .given })) in
+    rw n (going-start ws (now (c .before .before .before .before .before .args .numbers)) at (c .constant .result) (c .before .before .before .before .before .pre .1) code (c .constant .ensures))
 
 mul-k : (t : ℕ) → linear-of-lts.Need-mul-k (claims t) (linear-of-at t) linear-of.Post Inv-loop μ-loop
 mul-k t c =
-    let g = c .before .loop .inv .0 in
-    omega (arith, turn-long _ _ _ _ _ _ g (turn _ _ _ _ _ _ g (c .loop-test .taken)), c .before .before .before .before .before .before .good .0)
+    let g = c .before .loop .inv in
+    omega (arith, turn-long _ _ _ _ _ _ g (turn _ _ _ _ _ _ g (c .loop-test .taken)), c .before .before .before .before .before .before .before .good .0)
 
 copy-k : (t : ℕ) → linear-of-lts.Need-shared-slice-copy-out-k (claims t) (linear-of-at t) linear-of.Post Inv-loop μ-loop
 copy-k t c =
-    let g = c .before .loop .inv .0 in
+    let g = c .before .loop .inv in
     omega (arith, turn-long _ _ _ _ _ _ g (turn _ _ _ _ _ _ g (c .loop-test .taken)))
 
 add-linear-of : (t : ℕ) → linear-of-lts.Need-add-linear-of (claims t) (linear-of-at t) linear-of.Post Inv-loop μ-loop
 add-linear-of t c =
-    let g = c .before .before .loop .inv .0 in
-    omega (arith, turn-long _ _ _ _ _ _ g (turn _ _ _ _ _ _ g (c .before .loop-test .taken)), c .before .before .before .before .before .before .before .good .0)
+    let g = c .before .before .loop .inv in
+    omega (arith, turn-long _ _ _ _ _ _ g (turn _ _ _ _ _ _ g (c .before .loop-test .taken)), c .before .before .before .before .before .before .before .before .good .0)
 
 linear-of-requires : (t : ℕ) → linear-of-lts.Need-linear-of-requires (claims t) (linear-of-at t) linear-of.Post Inv-loop μ-loop
 linear-of-requires t c κs =
-    let inv = c .before .before .before .before .loop .inv in
-    let g = inv .0 in
-    let u = turn _ _ _ _ _ _ g (c .before .before .before .loop-test .taken) in
-    (omega (arith, turn-long _ _ _ _ _ _ g u, g .low, c .before .before .before .before .before .before .before .before .before .pre .0), (turn-ready _ _ _ _ _ _ g u, inv .2))
+    let g = c .before .before .loop .inv in
+    let u = turn _ _ _ _ _ _ g (c .before .loop-test .taken) in
+    (omega (arith, turn-long _ _ _ _ _ _ g u, g .low, c .before .before .before .before .before .before .before .before .pre .0), turn-ready _ _ _ _ _ _ g u)
 
 add-product-requires : (t : ℕ) → linear-of-lts.Need-add-product-requires (claims t) (linear-of-at t) linear-of.Post Inv-loop μ-loop
 add-product-requires t c κs =
-    let inv = c .before .before .before .before .before .before .before .before .before .before .loop .inv in
-    let g = inv .0 in
-    let w = getD (now (c .before .before .before .before .before .before .before .before .before .before .before .before .before .before .before .args .ws)) (c .before .before .before .before .before .before .before .before .before .before .loop .p) (pos 0) in
-    let k : toZ w32 (ofZ w32 w) ≡ w = toZ-ofZ {w = w32} {z = w} (record { sfits = c .before .before .before .before .before .before .before .before .k .given }) in
-    let q = turn-asks _ _ _ _ _ _ g (turn _ _ _ _ _ _ g (c .before .before .before .before .before .before .before .before .before .loop-test .taken)) _ _ (c .before .before .before .before .before .linear-of .ensures .0) in
-    rw k ((q .0, q .1, inv .1, c .before .before .before .before .before .linear-of .ensures .1), (q .3, q .4))
+    let g = c .before .before .before .before .loop .inv in
+    let k : toZ w32 (ofZ w32 (getD (now (c .before .before .before .before .before .before .before .before .before .before .args .ws)) (c .before .before .before .before .loop .p) (pos 0))) ≡ getD (now (c .before .before .before .before .before .before .before .before .before .before .args .ws)) (c .before .before .before .before .loop .p) (pos 0) = toZ-ofZ {w = w32} {z = getD (now (c .before .before .before .before .before .before .before .before .before .before .args .ws)) (c .before .before .before .before .loop .p) (pos 0)} (record { sfits = c .before .before .k .given }) in
+    rw k (turn-asks _ _ _ _ _ _ g (turn _ _ _ _ _ _ g (c .before .before .before .loop-test .taken)) _ _ (c .before .linear-of .ensures))
 
 sub-rest : (t : ℕ) → linear-of-lts.Need-sub-rest (claims t) (linear-of-at t) linear-of.Post Inv-loop μ-loop
 sub-rest t c = search needs
@@ -122,15 +114,12 @@ loop-less t c = search needs
 
 loop-again : (t : ℕ) → linear-of-lts.Need-loop-again (claims t) (linear-of-at t) linear-of.Post Inv-loop μ-loop
 loop-again t c =
-    let inv = c .before .before .before .before .before .before .before .before .before .before .before .loop .inv in
-    let g = inv .0 in
-    let w = getD (now (c .before .before .before .before .before .before .before .before .before .before .before .before .before .before .before .before .args .ws)) (c .before .before .before .before .before .before .before .before .before .before .before .loop .p) (pos 0) in
-    let k : toZ w32 (ofZ w32 w) ≡ w = toZ-ofZ {w = w32} {z = w} (record { sfits = c .before .before .before .before .before .before .before .before .before .k .given }) in
-    let m = rw k at (c .add-product .ensures) in
-    (turn-next _ _ _ _ _ _ g (turn _ _ _ _ _ _ g (c .before .before .before .before .before .before .before .before .before .before .loop-test .taken)) _ _ (c .before .before .before .before .before .before .linear-of .ensures .0) _ (m .stands) _ (omega (arith, c .before .before .before .before .before .before .before .before .before .before .loop-test .taken)), m .wide, c .before .before .before .before .before .before .linear-of .ensures .1)
+    let g = c .before .before .before .before .before .loop .inv in
+    let k : toZ w32 (ofZ w32 (getD (now (c .before .before .before .before .before .before .before .before .before .before .before .args .ws)) (c .before .before .before .before .before .loop .p) (pos 0))) ≡ getD (now (c .before .before .before .before .before .before .before .before .before .before .before .args .ws)) (c .before .before .before .before .before .loop .p) (pos 0) = toZ-ofZ {w = w32} {z = getD (now (c .before .before .before .before .before .before .before .before .before .before .before .args .ws)) (c .before .before .before .before .before .loop .p) (pos 0)} (record { sfits = c .before .before .before .k .given }) in
+    turn-next _ _ _ _ _ _ g (turn _ _ _ _ _ _ g (c .before .before .before .before .loop-test .taken)) _ _ (c .before .before .linear-of .ensures) (c .add-product .result) (rw k at (c .add-product .ensures)) _ (omega (arith, c .before .before .before .before .loop-test .taken))
 
 returns-2 : (t : ℕ) → linear-of-lts.Need-returns-2 (claims t) (linear-of-at t) linear-of.Post Inv-loop μ-loop
-returns-2 t c = (going-end _ _ _ _ _ _ (c .before .loop .inv .0) (c .loop-test .left), c .before .loop .inv .1)
+returns-2 t c = going-end _ _ _ _ _ _ (c .before .loop .inv) (c .loop-test .left)
 
 pub +linear-of-spec : {M : Type 1} → statement M
 +linear-of-spec = close μ-linear-of λ t. linear-of-lts.spec (claims t) (linear-of-at t) linear-of.Post Inv-loop μ-loop
@@ -143,6 +132,7 @@ pub +linear-of-spec : {M : Type 1} → statement M
     (copy-count-of t)
     (λ c κs. search needs)
     (add-p t)
+    (λ c κs. search needs)
     (loop-holds t)
     (mul-k t)
     (copy-k t)

@@ -1,37 +1,30 @@
 -- The two calls and the difference, by the laws of Steps.
-use mathlib.Core.Path.{refl}
-use native.Mathlib.Omega.{arith}
 use denote.Ref.{now}
-use Rattle.sums.specs.LinearSum.{sub-sum}
 use Rattle.nest.proofs.Steps.{left-ready, right-ready, difference-asks, difference}
 use Rattle.nest.proofs.difference_of.Statement.{statement}
 use Rattle.nest.proofs.difference_of.Tie as tie
 
 linear-of-requires : tie.Need-linear-of-requires
-linear-of-requires c κs =
-    let s = c .before .before in
-    (left-ready (now (s .args .ws)) (now (s .args .numbers)) (s .args .at) (s .pre .0), s .pre .1)
+linear-of-requires c κs = left-ready (now (c .args .ws)) (now (c .args .numbers)) (c .args .at) (c .pre)
 
 linear-of-requires-2 : tie.Need-linear-of-requires-2
 linear-of-requires-2 c κs =
-    let s = c .before .before .before .before .before in
-    (right-ready (now (s .args .ws)) (now (s .args .numbers)) (s .args .at) (s .pre .0) _ _ (c .before .before .linear-of .ensures .0), (refl, refl))
+    let s = c .before in
+    right-ready (now (s .args .ws)) (now (s .args .numbers)) (s .args .at) (s .pre) (c .linear-of .result .next) (c .linear-of .result .sum) (c .linear-of .ensures)
 
-add-product-requires : tie.Need-add-product-requires
-add-product-requires c κs =
-    let b = c .before .before .before .before .before .before in
-    let a = b .before .before .before in
-    let s = a .before .before .before in
-    let q = difference-asks (now (s .args .ws)) (now (s .args .numbers)) (s .args .at) (s .pre .0) _ _ (a .linear-of .ensures .0) _ _ (b .linear-of2 .ensures .0) in
-    ((q .0, q .1, a .linear-of .ensures .1, b .linear-of2 .ensures .1), (omega (arith, q .3), q .2))
+sub-sum-requires : tie.Need-sub-sum-requires
+sub-sum-requires c κs =
+    let b = c .before .before in
+    let a = b .before in
+    let s = a .before in
+    difference-asks (now (s .args .ws)) (now (s .args .numbers)) (s .args .at) (s .pre) (a .linear-of .result .next) (a .linear-of .result .sum) (a .linear-of .ensures) (b .linear-of2 .result .next) (b .linear-of2 .result .sum) (b .linear-of2 .ensures)
 
 returns : tie.Need-returns
-unfolding sub-sum
 returns c =
-    let b = c .before .before .before .before .before .before .before in
-    let a = b .before .before .before in
-    let s = a .before .before .before in
-    (difference (now (s .args .ws)) (now (s .args .numbers)) (s .args .at) _ _ _ _ _ (a .linear-of .ensures .0) (b .linear-of2 .ensures .0) (c .add-product .ensures .stands), c .add-product .ensures .wide)
+    let b = c .before .before .before in
+    let a = b .before in
+    let s = a .before in
+    difference (now (s .args .ws)) (now (s .args .numbers)) (s .args .at) (a .linear-of .result .next) (b .linear-of2 .result .next) (a .linear-of .result .sum) (b .linear-of2 .result .sum) (c .sub-sum .result) (a .linear-of .ensures) (b .linear-of2 .ensures) (c .sub-sum .ensures)
 
 pub difference-of-spec : {M : Type 1} → statement M
-difference-of-spec = tie.close (tie.spec linear-of-requires linear-of-requires-2 add-product-requires returns)
+difference-of-spec = tie.close (tie.spec linear-of-requires linear-of-requires-2 sub-sum-requires returns)

@@ -11,7 +11,7 @@ use mir.Facts.{toZ-ofZ}
 use denote.Ref.{now}
 use Rattle.laws.specs.Signed.{value-is}
 use Rattle.sums.specs.LinearSum.{constant}
-use Rattle.sums.proofs.Laws.{stands-to, constant-made}
+use Rattle.sums.proofs.Laws.{stands-to}
 use Rattle.nest.specs.Numbers.{count-of, number-at}
 use Rattle.nest.proofs.Steps.{ready-long, leaf-constant, leaf-var, bits-not}
 use Rattle.nest.proofs.leaf.Statement.{statement}
@@ -35,6 +35,9 @@ mul-x c = omega (arith, long (c .before), c .before .good .0)
 shared-slice-copy-out-x : tie.Need-shared-slice-copy-out-x
 shared-slice-copy-out-x c = omega (arith, long (c .before))
 
+constant-requires : tie.Need-constant-requires
+constant-requires c κs = search needs
+
 -- the two words, from their bits
 abbrev Code : tie.After-x → ℤ
 Code c = getD (now (c .before .before .args .ws)) (c .before .before .args .at) (pos 0)
@@ -48,15 +51,15 @@ code-fits c = record { sfits = c .before .code .given }
 next-is : (c : tie.After-x) → toZ w32 (ofZ w32 (Next c)) ≡ Next c
 next-is c = toZ-ofZ {w = w32} {z = Next c} (record { sfits = c .x .given })
 
-add-t18 : tie.Need-add-t18
-add-t18 c = omega (arith, long (c .before .before .before), c .before .before .before .good .0)
+add-t15 : tie.Need-add-t15
+add-t15 c = omega (arith, long (c .before .before .before .before), c .before .before .before .before .good .0)
 
 returns : tie.Need-returns
 returns c =
-    let x = c .before in
+    let x = c .before .before in
     let s = x .before .before in
-    let m = constant-made (toZ w32 (ofZ w32 (Next x))) (now (s .args .vars)) (now (s .args .coefs)) (s .pre .2) in
-    (leaf-constant (now (s .args .ws)) (now (s .args .numbers)) (s .args .at) _ (s .pre .0) (value-is (code-fits x) (c .if1 .taken)) (stands-to _ _ _ (m .stands) (ap constant (next-is x))), m .wide)
+    leaf-constant (now (s .args .ws)) (now (s .args .numbers)) (s .args .at) (c .constant .result) (s .pre .0) (value-is (code-fits x) (c .before .if1 .taken))
+    (stands-to (c .constant .result) _ _ (c .constant .ensures) (ap constant (next-is x)))
 
 count-of-requires : tie.Need-count-of-requires
 count-of-requires c κs = search needs
@@ -68,21 +71,19 @@ singleton-requires : tie.Need-singleton-requires
 singleton-requires c κs = search needs
 
 add-t12 : tie.Need-add-t12
-add-t12 c = omega (arith, long (c .before .before .before .before .before .before .before .before), c .before .before .before .before .before .before .before .before .good .0)
+add-t12 c = omega (arith, long (c .before .before .before .before .before .before), c .before .before .before .before .before .before .good .0)
 
 returns-2 : tie.Need-returns-2
 returns-2 c =
-    let n = c .before .before .before in
+    let n = c .before in
     let k = n .before in
     let e = k .before in
     let x = e .before in
-    let s = x .before .before in (
-      leaf-var (now (s .args .ws)) (now (s .args .numbers)) (s .args .at) _ (s .pre .0) (n .number-at .result)
-          (bits-not (Code x) 20 (e .if1 .left)) (s .pre .1)
-          (n .number-at .ensures .0 ∙ ap (number-at (now (s .args .numbers))) (k .count-of .ensures .0 ∙ ap count-of (next-is x)))
-          (n .number-at .ensures .1) (c .singleton .ensures .stands),
-      c .singleton .ensures .wide,
-    )
+    let s = x .before .before in
+    leaf-var (now (s .args .ws)) (now (s .args .numbers)) (s .args .at) (c .singleton .result) (s .pre .0) (n .number-at .result)
+    (bits-not (Code x) 20 (e .if1 .left)) (s .pre .1)
+    (n .number-at .ensures .0 ∙ ap (number-at (now (s .args .numbers))) (k .count-of .ensures .0 ∙ ap count-of (next-is x)))
+    (n .number-at .ensures .1) (c .singleton .ensures)
 
 pub leaf-spec : {M : Type 1} → statement M
-leaf-spec = tie.close (tie.spec mul-code shared-slice-copy-out-code add-x mul-x shared-slice-copy-out-x add-t18 returns count-of-requires number-at-requires singleton-requires add-t12 returns-2)
+leaf-spec = tie.close (tie.spec mul-code shared-slice-copy-out-code add-x mul-x shared-slice-copy-out-x constant-requires add-t15 returns count-of-requires number-at-requires singleton-requires add-t12 returns-2)

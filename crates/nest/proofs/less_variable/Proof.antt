@@ -1,31 +1,29 @@
--- The difference with one term is the coefficient -1 added.
-use mathlib.Core.Path.{ap, _∙_}
+-- The difference with one term.
+use mathlib.Core.Path.{_≡_, ap, _∙_}
 use borrow.Author.Needs.{needs}
 use native.Mathlib.Omega.{arith}
-use mir.Syntax.{w32}
-use mir.Val.{SFits}
-use mir.Facts.{toZ-ofZ}
-use denote.Ref.{now}
-use Rattle.sums.specs.Norm.{load}
-use Rattle.sums.specs.Struct.{terms-at}
-use Rattle.sums.specs.Rising.{constant-of, terms-of}
-use Rattle.sums.proofs.Laws.{holds-then, holds-made}
-use Rattle.nest.proofs.Steps.{less-one, less-room}
+use Rattle.sums.specs.LinearSum.{singleton, sub-sum}
+use Rattle.sums.specs.Norm.{singleton-load}
+use Rattle.sums.specs.Bounds.{size}
+use Rattle.sums.specs.Struct.{sum-of}
+use Rattle.sums.proofs.Laws.{stands-sum, stands-to}
 use Rattle.nest.proofs.less_variable.Statement.{statement}
 use Rattle.nest.proofs.less_variable.Tie as tie
 
-add-coef-requires : tie.Need-add-coef-requires
-unfolding load
-add-coef-requires c κs =
-    let p = c .before .before .before .pre in
-    (p .0, p .3, less-room _ _ (p .1), omega (arith, p .2))
+singleton-requires : tie.Need-singleton-requires
+singleton-requires c κs = search needs
+
+single : (c : tie.After-singleton) → sum-of (c .singleton .result) ≡ singleton (c .before .args .n)
+single c = stands-sum (c .singleton .result) _ (c .singleton .ensures)
+
+sub-sum-requires : tie.Need-sub-sum-requires
+sub-sum-requires c κs =
+    let p = c .before .pre in
+    let z : size (sum-of (c .singleton .result)) ≡ 1 = ap size (single c) ∙ singleton-load (λ v. 1) (c .before .args .n) in
+    (p .0, c .singleton .ensures .room, rw (single c) (p .1), omega (arith, p .2))
 
 returns : tie.Need-returns
-returns c =
-    let s = c .before .before .before .before in
-    let f : SFits w32 (s .args .s .constant) = search needs in
-    let e = less-one (s .args .s .constant) (terms-at (s .args .s .count) (now (s .args .vars)) (now (s .args .coefs))) (s .args .n) in
-    holds-made _ _ _ _ (toZ-ofZ f ∙ ap constant-of e) (holds-then (c .add-coef .ensures) (ap terms-of e))
+returns c = stands-to (c .sub-sum .result) _ _ (c .sub-sum .ensures) (ap (sub-sum (sum-of (c .before .before .args .s))) (single (c .before)))
 
 pub less-variable-spec : {M : Type 1} → statement M
-less-variable-spec = tie.close (tie.spec add-coef-requires returns)
+less-variable-spec = tie.close (tie.spec singleton-requires sub-sum-requires returns)

@@ -1,11 +1,11 @@
 -- The invariant: the sum so far, with the terms to come, has the lowest value of the whole; and it stays small.
-use mathlib.Core.Path.{_≡_, refl, ap, _∙_}
+use mathlib.Core.Path.{_≡_, refl, _∙_}
 use mathlib.Core.List.{List, _∷_}
 use Prim.Native.Nat.{ℕ, suc, _+_, _-_, _<_, _≤_, _^_}
 use borrow.Author.Needs.{needs}
 use native.Mathlib.Omega.{arith}
 use lib.IntN.{ℤ, pos, natAbs, _+ℤ_}
-use lib.ListN.{length, getD, drop}
+use lib.ListN.{getD, drop}
 use mir.Syntax.{w32}
 use mir.Val.{SFits, toZ, ofZ}
 use mir.Facts.{toZ-ofZ}
@@ -16,8 +16,8 @@ use Rattle.sums.specs.LinearSum.{Term, term, lowest}
 use Rattle.sums.specs.Rising.{Each}
 use Rattle.sums.specs.Norm.{norm, load}
 use Rattle.sums.specs.Bounds.{reach}
-use Rattle.sums.specs.Struct.{terms-at}
-use Rattle.sums.proofs.Laws.{length-at, drop-at}
+use Rattle.sums.specs.Struct.{Is, terms}
+use Rattle.sums.proofs.Laws.{is-param, drop-term}
 use Rattle.nest.specs.Nest.{Word}
 use Rattle.nest.specs.Ranges.{domain-at}
 use Rattle.nest.proofs.Ranges.{low-more, norm-more, each-more, sum-small, low-end}
@@ -25,30 +25,24 @@ use Rattle.nest.proofs.lowest.Statement.{statement}
 use Rattle.nest.proofs.lowest.Tie as tie
 
 abbrev Inv-loop : tie.InvT-loop
-Inv-loop vars coefs bounds a b n sum₀ i₀ sum i =
+Inv-loop bounds a b s n sum₀ i₀ sum i =
     (i ≤ n)
-    × (lowest (domain-at a b bounds) (toZ w32 sum) (drop i (terms-at n vars coefs)) ≡ lowest (domain-at a b bounds) (toZ w32 sum₀) (terms-at n vars coefs))
-    × (natAbs (toZ w32 sum) + norm (λ u. reach (domain-at a b bounds u)) (drop i (terms-at n vars coefs)) < 2 ^ 31)
-    × Each Word (drop i (terms-at n vars coefs))
+    × (lowest (domain-at a b bounds) (toZ w32 sum) (drop i (terms s)) ≡ lowest (domain-at a b bounds) (s .constant) (terms s))
+    × (natAbs (toZ w32 sum) + norm (λ u. reach (domain-at a b bounds u)) (drop i (terms s)) < 2 ^ 31)
+    × Each Word (drop i (terms s))
 
 abbrev μ-loop : tie.MeasureT-loop
-μ-loop vars coefs bounds a b n sum₀ i₀ sum i = n - i
+μ-loop bounds a b s n sum₀ i₀ sum i = n - i
 
--- the terms
-abbrev Own : tie.Start Inv-loop μ-loop → List Term
-Own c = terms-at (c .args .s .count) (now (c .args .vars)) (now (c .args .coefs))
-
-own : (c : tie.Start Inv-loop μ-loop) → length (Own c) ≡ c .args .s .count
-own c = length-at (now (c .args .vars)) (now (c .args .coefs)) (c .pre .1 .0) (c .pre .1 .1) (c .args .s .count) (c .pre .0 .room)
-
-constant-is : (c : tie.After-struct-told Inv-loop μ-loop) → toZ w32 (ofZ w32 (c .before .args .s .constant)) ≡ c .before .args .s .constant
-constant-is c =
-    let f : SFits w32 (c .before .args .s .constant) = search needs in
-    toZ-ofZ f
+own : (c : tie.Start Inv-loop μ-loop) → Is (c .args .t1) (c .args .t1 .constant) (terms (c .args .t1))
+own c = is-param (c .args .t1) (search needs) (search needs) (c .pre .room)
 
 loop-holds : tie.Need-loop-holds Inv-loop μ-loop
 unfolding load
-loop-holds c = (omega arith, refl, rw (constant-is c) (c .before .pre .0 .light), c .before .pre .0 .words)
+loop-holds c =
+    let s = c .before in
+    let f : SFits w32 (s .args .t1 .constant) = search needs in
+    rw (toZ-ofZ f) (omega arith, refl, s .pre .light, s .pre .words)
 
 -- in a turn: the parameters, the terms, the turn's place and what stands there
 abbrev S : tie.In-loop Inv-loop μ-loop → tie.Start Inv-loop μ-loop
@@ -58,19 +52,19 @@ abbrev D : tie.In-loop Inv-loop μ-loop → ℕ → Domain
 D c = domain-at (S c .args .a) (S c .args .b) (now (S c .args .bounds))
 
 abbrev Ts : tie.In-loop Inv-loop μ-loop → List Term
-Ts c = Own (S c)
+Ts c = terms (S c .args .t1)
 
 abbrev I : tie.In-loop Inv-loop μ-loop → ℕ
 I c = c .before .loop .i
 
 abbrev At : tie.In-loop Inv-loop μ-loop → ℕ
-At c = getD (now (S c .args .vars)) (I c) 0
+At c = getD (S c .args .t1 .vars) (I c) 0
 
 abbrev Coef : tie.In-loop Inv-loop μ-loop → ℤ
-Coef c = getD (now (S c .args .coefs)) (I c) (pos 0)
+Coef c = getD (S c .args .t1 .coefs) (I c) (pos 0)
 
 here : (c : tie.In-loop Inv-loop μ-loop) → drop (I c) (Ts c) ≡ term (At c) (Coef c) ∷ drop (suc (I c)) (Ts c)
-here c = drop-at (now (S c .args .vars)) (now (S c .args .coefs)) (S c .pre .1 .0) (S c .pre .1 .1) (S c .args .s .count) (I c) (S c .pre .0 .room) (c .loop-test .taken)
+here c = drop-term (S c .args .t1) (search needs) (search needs) (own (S c) .room) (I c) (c .loop-test .taken)
 
 coef-is : (c : tie.After-k Inv-loop μ-loop) → toZ w32 (ofZ w32 (Coef (c .before .before))) ≡ Coef (c .before .before)
 coef-is c = toZ-ofZ {w = w32} {z = Coef (c .before .before)} (record { sfits = c .k .given })
@@ -91,7 +85,7 @@ term-low-requires : tie.Need-term-low-requires Inv-loop μ-loop
 term-low-requires c κs =
     let d = c .before .before in
     let inv = d .before .loop .inv in
-    rw (coef-is c) (each-more (D d) (Ts d) (I d) (At d) (Coef d) (here d) Word (inv .3) .0, S d .pre .0 .first, S d .pre .0 .second, omega (arith, norm-more (D d) (Ts d) (I d) (At d) (Coef d) (here d), inv .2))
+    rw (coef-is c) (each-more (D d) (Ts d) (I d) (At d) (Coef d) (here d) Word (inv .3) .0, S d .pre .first, S d .pre .second, omega (arith, norm-more (D d) (Ts d) (I d) (At d) (Coef d) (here d), inv .2))
 
 -- the product that was found
 abbrev Product : tie.In-loop Inv-loop μ-loop → ℤ
@@ -134,8 +128,7 @@ returns : tie.Need-returns Inv-loop μ-loop
 returns c =
     let b = c .before in
     let s = b .before .before in
-    low-end (domain-at (s .args .a) (s .args .b) (now (s .args .bounds))) (toZ w32 (b .loop .sum)) _ (Own s) (b .loop .i) (omega (arith, own s)) (b .loop .inv .1)
-    ∙ ap (λ (z : ℤ). lowest (domain-at (s .args .a) (s .args .b) (now (s .args .bounds))) z (Own s)) (constant-is (b .before))
+    low-end (domain-at (s .args .a) (s .args .b) (now (s .args .bounds))) (toZ w32 (b .loop .sum)) _ (terms (s .args .t1)) (b .loop .i) (omega (arith, own s .size)) (b .loop .inv .1)
 
 pub lowest-spec : {M : Type 1} → statement M
 lowest-spec = tie.close (tie.spec Inv-loop μ-loop loop-holds mul-v element-copy-out-v mul-k element-copy-out-k term-low-requires add-sum add-i loop-less loop-again returns)

@@ -1,17 +1,16 @@
-use mathlib.Core.Path.{_≡_, refl, _∙_}
+use mathlib.Core.Path.{_≡_, refl, sym, ap, _∙_}
 use mathlib.Core.List.{List, _∷_}
-use Prim.Native.Nat.{ℕ, _-_, _≤_, _+_}
+use Prim.Native.Nat.{ℕ, suc, _-_, _<_, _≤_, _+_}
 use native.Mathlib.Omega.{arith}
 use native.Mathlib.Numerals.{add-one}
 use lib.IntN.{ℤ, pos}
 use lib.ListN.{length, getD, drop}
 use mir.Syntax.{w32}
 use mir.Val.{SFits}
-use denote.Ref.{now}
-use Rattle.sums.specs.LinearSum.{Term, term}
+use Rattle.sums.specs.LinearSum.{term}
 use Rattle.sums.specs.Rising.{Each}
-use Rattle.sums.specs.Struct.{terms-at}
-use Rattle.sums.proofs.Laws.{length-at, drop-at}
+use Rattle.sums.specs.Struct.{Is, terms}
+use Rattle.sums.proofs.Laws.{is-param, drop-term}
 use Rattle.nest.specs.Nest.{Word}
 use Rattle.laws.specs.Writes.{Wrote, wrote-length}
 use Rattle.writer.specs.Suffix.{Open}
@@ -24,22 +23,19 @@ use Rattle.writer.proofs.put_terms.Lts as lts
 use Rattle.writer.proofs.put.Reads as put-reads
 
 abbrev Inv-loop : tie.InvT-loop
-Inv-loop vars coefs n out₀ o i₀ p₀ out i p = (i ≤ n) × Open out p × (length out ≡ length out₀) × Each Word (drop i (terms-at n vars coefs)) × ((c : List ℤ) (q : ℕ) → Wrote out p (terms-words (drop i (terms-at n vars coefs))) c q → Wrote out₀ o (terms-words (terms-at n vars coefs)) c q)
+Inv-loop out₀ o s n i₀ p₀ out i p = (i ≤ n) × Open out p × (length out ≡ length out₀) × Each Word (drop i (terms s)) × ((c : List ℤ) (q : ℕ) → Wrote out p (terms-words (drop i (terms s))) c q → Wrote out₀ o (terms-words (terms s)) c q)
 
 abbrev μ-loop : tie.MeasureT-loop
-μ-loop vars coefs n out₀ o i₀ p₀ out i p = n - i
+μ-loop out₀ o s n i₀ p₀ out i p = n - i
 
--- the terms
-abbrev Ts : tie.Start Inv-loop μ-loop → List Term
-Ts c = terms-at (c .args .n) (now (c .args .vars)) (now (c .args .coefs))
+own : (c : tie.Start Inv-loop μ-loop) → Is (c .args .t1) (c .args .t1 .constant) (terms (c .args .t1))
+own c = is-param (c .args .t1) (search needs) (search needs) (c .pre .0)
 
-here : (c : tie.In-loop Inv-loop μ-loop) → drop (c .before .loop .i) (Ts (c .before .before)) ≡ term (getD (now (c .before .before .args .vars)) (c .before .loop .i) 0) (getD (now (c .before .before .args .coefs)) (c .before .loop .i) (pos 0)) ∷ drop (c .before .loop .i + 1) (Ts (c .before .before))
-here c =
-    let s = c .before .before in
-    rw add-one (drop-at (now (s .args .vars)) (now (s .args .coefs)) (s .pre .2 .0) (s .pre .2 .1) (s .args .n) (c .before .loop .i) (s .pre .0) (c .loop-test .taken))
+here : (c : tie.In-loop Inv-loop μ-loop) → drop (c .before .loop .i) (terms (c .before .before .args .t1)) ≡ term (getD (c .before .before .args .t1 .vars) (c .before .loop .i) 0) (getD (c .before .before .args .t1 .coefs) (c .before .loop .i) (pos 0)) ∷ drop (c .before .loop .i + 1) (terms (c .before .before .args .t1))
+here c = rw add-one (drop-term (c .before .before .args .t1) (search needs) (search needs) (own (c .before .before) .room) (c .before .loop .i) (c .loop-test .taken))
 
 loop-holds : tie.Need-loop-holds Inv-loop μ-loop
-loop-holds c = (omega arith, c .pre .3, refl, c .pre .1, λ c q h. h)
+loop-holds c = (omega arith, c .pre .2, refl, c .pre .1, λ c q h. h)
 
 mul-v : tie.Need-mul-v Inv-loop μ-loop
 mul-v c = search needs
@@ -54,7 +50,7 @@ element-copy-out-k : tie.Need-element-copy-out-k Inv-loop μ-loop
 element-copy-out-k c = search needs
 
 cast-put : tie.Need-cast-put Inv-loop μ-loop
-cast-put c = let z : Word (getD (now (c .before .before .before .before .before .args .vars)) (c .before .before .before .before .loop .i) 0) = each-more Word _ _ _ _ (here ((c .before .before .before))) (c .before .before .before .before .loop .inv .3) .0 in omega arith
+cast-put c = let z : Word (getD (c .before .before .before .before .before .args .t1 .vars) (c .before .before .before .before .loop .i) 0) = each-more Word _ _ _ _ (here ((c .before .before .before))) (c .before .before .before .before .loop .inv .3) .0 in omega arith
 
 put-requires : tie.Need-put-requires Inv-loop μ-loop
 put-requires c κs = c .before .before .before .before .loop .inv .1
@@ -73,7 +69,7 @@ loop-again c =
     let l = c .before .before .before .before .before .before .before .before .before .loop in
     let h = here ((c .before .before .before .before .before .before .before .before)) in
     let m = each-more Word _ _ _ _ h (l .inv .3) in
-    let f : SFits w32 (getD (now (c .before .before .before .before .before .before .before .before .before .before .args .coefs)) (l .i) (pos 0)) = record { sfits = c .before .before .before .before .before .before .k .given } in
+    let f : SFits w32 (getD (c .before .before .before .before .before .before .before .before .before .before .args .t1 .coefs) (l .i) (pos 0)) = record { sfits = c .before .before .before .before .before .before .k .given } in
     let x = put-cast (m .0) (c .before .before .before .before .put .ensures) in
     let y = put-word f refl (c .before .put2 .ensures) in
     (omega arith, open-next (open-next (l .inv .1) x) y, wrote-length y ∙ wrote-length x ∙ l .inv .2, m .1, λ c q z. l .inv .4 c q (terms-step _ _ _ _ h (l .inv .1 .room) x y z))
@@ -82,7 +78,7 @@ same-length : tie.Need-same-length Inv-loop μ-loop
 same-length c = c .before .loop .inv .2
 
 returns : tie.Need-returns Inv-loop μ-loop
-returns c = c .before .loop .inv .4 _ _ (terms-end _ _ (Ts (c .before .before)) (c .before .loop .i) (omega (arith, length-at (now (c .before .before .args .vars)) (now (c .before .before .args .coefs)) (c .before .before .pre .2 .0) (c .before .before .pre .2 .1) (c .before .before .args .n) (c .before .before .pre .0), c .loop-test .left)) (c .before .loop .inv .1 .low))
+returns c = c .before .loop .inv .4 _ _ (terms-end _ _ (terms (c .before .before .args .t1)) (c .before .loop .i) (omega (arith, own (c .before .before) .size, c .loop-test .left)) (c .before .loop .inv .1 .low))
 
 pub put-terms-spec : {M : Type 1} → statement M
 put-terms-spec =
