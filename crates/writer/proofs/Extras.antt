@@ -314,27 +314,27 @@ module _ (w : List ℤ) (at n : ℕ) where
   rule-tree-fine h = fines-right w E (cons T nil) h .0
 
   -- x: the survey before the extras; y: behind them
-  pub rule-wrote : (x y : Surveyed) → Surveys w 64 false false at n n x → {out a b : List ℤ} {o m k p q : ℕ} → Surveys w 64 false false at n m y → Open out o → Listed w (items E) (x .base) out o a m k p
+  pub rule-wrote : (c : ℕ) (y : Surveyed) → c ≡ decode (read-part w) 64 false false at n .next → {out a b : List ℤ} {o m k p q : ℕ} → Surveys w 64 false false at n m y → Open out o → Listed w (items E) c out o a m k p
       → (s : List ℤ) → s ≡ [] → Wrote a p (item-at (read-part w) 64 false false at n .text w m s) b q → (j : ℕ) → j ≡ bump k (y .all) → RuleWrote w at n out o b (y .at) (y .n) j q
   unfolding items texts counts all-lines
-  rule-wrote x y hx {out} {a} {b} {o} {m} {k} {p} {q} hy h l s e i j hj =
+  rule-wrote c y hx {out} {a} {b} {o} {m} {k} {p} {q} hy h l s e i j hj =
       let i' : Wrote a p (item T .text w m [] ++ []) b q = subst (λ (v : List ℤ). Wrote a p v b q) (sym (append-nil _)) (rw e at i) in
       let t : Listed w (items (cons T nil)) m a p b (y .n) (y .all) q = record { wrote = i'; count = hy .count; lines = hy .all ∙ omega (arith, hy .all, hy .low-all); low = hy .low } in
       let r = trees-then E (cons T nil) h l t in
       record {
-        wrote = subst (λ (z : ℕ). Wrote out o (texts (items (rule-at (read-part w) 64 at n)) w z []) b q) (hx .splits) (r .wrote);
+        wrote = subst (λ (z : ℕ). Wrote out o (texts (items (rule-at (read-part w) 64 at n)) w z []) b q) hx (r .wrote);
         stop = hy .end;
-        count = r .count ∙ ap (counts (items (rule-at (read-part w) 64 at n)) w) (hx .splits);
+        count = r .count ∙ ap (counts (items (rule-at (read-part w) 64 at n)) w) hx;
         lines = hj ∙ r .lines;
       }
 
   -- where the splitting takes no number, only the rule is written
-  pub bare-rule-wrote : (x : Surveyed) → Surveys w 64 false false at n n x → x .base ≡ n → n < limit → {out b : List ℤ} {o q : ℕ} → Open out o
+  pub bare-rule-wrote : (c : ℕ) (x : Surveyed) → c ≡ decode (read-part w) 64 false false at n .next → Surveys w 64 false false at n n x → c ≡ n → n < limit → {out b : List ℤ} {o q : ℕ} → Open out o
       → (s : List ℤ) → s ≡ [] → Wrote out o (item-at (read-part w) 64 false false at n .text w n s) b q → RuleWrote w at n out o b (x .at) (x .n) (x .all) q
   unfolding items
-  bare-rule-wrote x v hb i {out} {b} {o} {q} h s e t =
-      let none : E ≡ nil = no-ties (read-part w) 64 false false at n i (sym (v .splits) ∙ hb) in
+  bare-rule-wrote c x hc v hb i {out} {b} {o} {q} h s e t =
+      let none : E ≡ nil = no-ties (read-part w) 64 false false at n i (sym hc ∙ hb) in
       let l : Listed w (items nil) n out o out n 0 o = listed-none h (omega arith) in
-      let l₁ : Listed w (items nil) (x .base) out o out n 0 o = subst (λ (k : ℕ). Listed w (items nil) k out o out n 0 o) (sym hb) l in
-      let l₂ : Listed w (items E) (x .base) out o out n 0 o = subst (λ (ts : Trees). Listed w (items ts) (x .base) out o out n 0 o) (sym none) l₁ in
-      rule-wrote x x v v h l₂ s e t (x .all) (omega (arith, v .low-all))
+      let l₁ : Listed w (items nil) c out o out n 0 o = subst (λ (k : ℕ). Listed w (items nil) k out o out n 0 o) (sym hb) l in
+      let l₂ : Listed w (items E) c out o out n 0 o = subst (λ (ts : Trees). Listed w (items ts) c out o out n 0 o) (sym none) l₁ in
+      rule-wrote c x hc v h l₂ s e t (x .all) (omega (arith, v .low-all))

@@ -728,7 +728,7 @@ pub fn write(
         Node::Cross(h, q) => {
             if t {
                 let c = number::bump(base, 2);
-                let x = number::surveys(work, q, under, true, 2, c, false, false, n);
+                let x = number::skips(work, q, under, true, 2, c);
                 let p = put_split(base, h, s, out, o);
                 let y = number::longer(x.at, x.base, n, 2);
                 return Walked { seen: y, o: p };
@@ -955,15 +955,16 @@ pub fn write_rule(work: &[i32], at: usize, n: usize, out: &mut [i32], o: usize) 
     requires { ⌜ Placed (now work) at n n × Open (now out) o × Writable (now work) at n ⌝ }
     ensures { λ r. ⌜ RuleWrote (now (work .entry)) at n (now (out .entry)) o (now (out .exit)) (r .at) (r .n) (r .lines) (r .o) ⌝ }
 {
-    let x = number::survey(work, at, 64, false, n, false, n);
+    let x = number::skip(work, at, 64, false, n);
     let m = x.base;
     if m == n {
         if n < 1073741824 {
             let q = write(work, at, 64, false, n, false, n, no_suffix(), out, o);
+            let y = q.seen;
             return Ruled {
-                at: x.at,
-                n: x.n,
-                lines: x.all,
+                at: y.at,
+                n: y.n,
+                lines: y.all,
                 o: q.o,
             };
         }

@@ -25,6 +25,8 @@ use Rattle.writer.proofs.write_longs.Kinds as write-longs-kinds
 use Rattle.writer.proofs.+write+write_all+write_disj+write_longs.Lts-write_longs as write-longs-lts
 use Rattle.number.proofs.node_at.Reads as node-at-reads
 use Rattle.number.proofs.surveys.Reads as surveys-reads
+use Rattle.number.proofs.skips.Reads as skips-reads
+use Rattle.number.specs.Skip.{survey-skipped}
 use Rattle.writer.proofs.put_split.Reads as put-split-reads
 use Rattle.number.proofs.fresh.Reads as fresh-reads
 use Rattle.number.proofs.bump.Reads as bump-reads
@@ -52,7 +54,7 @@ use Rattle.walk.specs.Decode.{many, decode, read-part, item-at, items-at, added
 use Rattle.writer.specs.Suffix.{Open, suffix, extra-lits}
 use Rattle.writer.specs.Placed.{Placed}
 use Rattle.writer.proofs.Laws.{open-next, stack-down, compared-length}
-use Rattle.walk.specs.Steps.{survey-none, survey-var, survey-cmp, survey-not, survey-conj, survey-disj, survey-split, survey-cross, Sofar as Seen, sofar-none as seen-none, sofar-more as seen-more, sofar-done as seen-done}
+use Rattle.walk.specs.Steps.{survey-none, survey-var, survey-cmp, survey-not, survey-conj, survey-disj, survey-cross, Sofar as Seen, sofar-none as seen-none, sofar-more as seen-more, sofar-done as seen-done}
 use Rattle.writer.proofs.Steps.{part-length, okay, placed-in, sofar-head, placed-at, placed-with, compares, fine-cmp, fine-not, fine-join, fine-cross, Sofar, sofar-none, sofar-more, sofar-skip}
 use Rattle.writer.proofs.PoolLaws.{items-lits}
 use Rattle.writer.proofs.Longer.{long-seen}
@@ -95,7 +97,7 @@ abbrev write-longs-below : ℕ → In 2 write-longs-kinds.ps
 write-longs-below t = and 2 write-longs-kinds.ps (falls 2 write-longs-kinds.ps _<_ μ-write-longs t) write-longs.Pre
 
 abbrev write-claims : ℕ → write-lts.Claims
-write-claims t = (write-none-reads.Asked, write-none-reads.Learnt, node-at-reads.Asked, node-at-reads.Learnt, write-var-reads.Asked, write-var-reads.Learnt, write-cmp-reads.Asked, write-cmp-reads.Learnt, write-below t, write.Post, surveys-reads.Asked, surveys-reads.Learnt, write-disj-below t, write-disj.Post, close-disj-reads.Asked, close-disj-reads.Learnt, write-all-below t, write-all.Post, longer-reads.Asked, longer-reads.Learnt, bump-reads.Asked, bump-reads.Learnt, put-split-reads.Asked, put-split-reads.Learnt, fresh-reads.Asked, fresh-reads.Learnt, close-cross-reads.Asked, close-cross-reads.Learnt)
+write-claims t = (write-none-reads.Asked, write-none-reads.Learnt, node-at-reads.Asked, node-at-reads.Learnt, write-var-reads.Asked, write-var-reads.Learnt, write-cmp-reads.Asked, write-cmp-reads.Learnt, write-below t, write.Post, surveys-reads.Asked, surveys-reads.Learnt, write-disj-below t, write-disj.Post, close-disj-reads.Asked, close-disj-reads.Learnt, write-all-below t, write-all.Post, longer-reads.Asked, longer-reads.Learnt, bump-reads.Asked, bump-reads.Learnt, skips-reads.Asked, skips-reads.Learnt, put-split-reads.Asked, put-split-reads.Learnt, fresh-reads.Asked, fresh-reads.Learnt, close-cross-reads.Asked, close-cross-reads.Learnt)
 
 abbrev write-all-claims : ℕ → write-all-lts.Claims
 write-all-claims t = (no-members-reads.Asked, no-members-reads.Learnt, write-below t, write.Post, add-member-reads.Asked, add-member-reads.Learnt)
@@ -168,14 +170,14 @@ write-same-length-3 : (t : ℕ) → write-lts.Need-same-length-3 (write-claims t
 write-same-length-3 t c = wrote-length (c .before .before .put-split .ensures)
 
 write-returns-3 : (t : ℕ) → write-lts.Need-returns-3 (write-claims t) (write-at t) write.Post
-write-returns-3 t c = (survey-split ((c .before .before .before .before .before .before .before .before .before .before .before .before) .args .work .now) _ _ _ _ _ _ (placed-in ((c .before .before .before .before .before .before .before .before .before .before .before .before) .pre .1 .0 .0)) ((c .before .before .before .before .before .before .before .before .before .before .before .before) .pre .1 .0 .0 .low) ((c .before .before .before .before .before .before .before .before .before .before .before .before) .pre .1 .0 .0 .low-base) _ (c .before .before .before .before .before .before .before .before .before .before .before .if1 .left) refl _ _ _ _ _ _ (c .before .before .before .before .before .before .if3 .taken) (sym (c .before .before .before .before .before .before .before .before .h .given .1) ∙ c .before .before .before .before .before .before .before .before .before .before .node-at .ensures) (c .before .before .before .before .before .bump .ensures) (c .before .before .before .before .surveys2 .ensures) (c .longer2 .ensures), write-split ((c .before .before .before .before .before .before .before .before .before .before .before .before) .args .work .now) _ _ _ _ _ _ (c .before .before .before .before .before .before .before .before .before .before .before .if1 .left) refl _ _ _ _ _ _ _ _ (c .before .before .before .before .before .before .if3 .taken) (sym (c .before .before .before .before .before .before .before .before .h .given .1) ∙ c .before .before .before .before .before .before .before .before .before .before .node-at .ensures) (c .before .before .put-split .ensures))
+write-returns-3 t c = (survey-skipped ((c .before .before .before .before .before .before .before .before .before .before .before .before) .args .work .now) _ _ _ _ _ _ (omega (arith, (c .before .before .before .before .before .before .before .before .before .before .before .before) .pre .1 .0 .0 .size)) (placed-in ((c .before .before .before .before .before .before .before .before .before .before .before .before) .pre .1 .0 .0)) ((c .before .before .before .before .before .before .before .before .before .before .before .before) .pre .1 .0 .0 .low) ((c .before .before .before .before .before .before .before .before .before .before .before .before) .pre .1 .0 .0 .low-base) _ (c .before .before .before .before .before .before .before .before .before .before .before .if1 .left) refl _ _ _ _ _ _ (c .before .before .before .before .before .before .if3 .taken) (sym (c .before .before .before .before .before .before .before .before .h .given .1) ∙ c .before .before .before .before .before .before .before .before .before .before .node-at .ensures) (c .before .before .before .before .before .bump .ensures) (c .before .before .before .before .skips .ensures) (c .longer2 .ensures), write-split ((c .before .before .before .before .before .before .before .before .before .before .before .before) .args .work .now) _ _ _ _ _ _ (c .before .before .before .before .before .before .before .before .before .before .before .if1 .left) refl _ _ _ _ _ _ _ _ (c .before .before .before .before .before .before .if3 .taken) (sym (c .before .before .before .before .before .before .before .before .h .given .1) ∙ c .before .before .before .before .before .before .before .before .before .before .node-at .ensures) (c .before .before .put-split .ensures))
+
+write-skips-requires : (t : ℕ) → write-lts.Need-skips-requires (write-claims t) (write-at t) write.Post
+write-skips-requires t c κs = let o = okay ((c .before .before .before .before .before .before .before) .args .work .now) _ _ _ _ _ _ ((c .before .before .before .before .before .before .before) .pre .1 .0 .0) (sym (c .before .before .before .h .given .1) ∙ c .before .before .before .before .before .node-at .ensures) in
+    omega (arith, o .1, part-length ((c .before .before .before .before .before .before .before) .args .work .now) ((c .before .before .before .before .before .before .before) .pre .1 .0 .0 .size), (c .before .before .before .before .before .before .before) .pre .1 .0 .0 .size, (c .before .before .before .before .before .before .before) .pre .1 .0 .0 .low-base, c .bump .ensures)
 
 write-surveys-requires-2 : (t : ℕ) → write-lts.Need-surveys-requires-2 (write-claims t) (write-at t) write.Post
-write-surveys-requires-2 t c κs = let o = okay ((c .before .before .before .before .before .before .before) .args .work .now) _ _ _ _ _ _ ((c .before .before .before .before .before .before .before) .pre .1 .0 .0) (sym (c .before .before .before .h .given .1) ∙ c .before .before .before .before .before .node-at .ensures) in
-    omega (arith, o .1, part-length ((c .before .before .before .before .before .before .before) .args .work .now) ((c .before .before .before .before .before .before .before) .pre .1 .0 .0 .size), (c .before .before .before .before .before .before .before) .pre .1 .0 .0 .size, (c .before .before .before .before .before .before .before) .pre .1 .0 .0 .low, c .bump .ensures)
-
-write-surveys-requires-3 : (t : ℕ) → write-lts.Need-surveys-requires-3 (write-claims t) (write-at t) write.Post
-write-surveys-requires-3 t c κs = let o = okay ((c .before .before .before .before .before .before) .args .work .now) _ _ _ _ _ _ ((c .before .before .before .before .before .before) .pre .1 .0 .0) (sym (c .before .before .h .given .1) ∙ c .before .before .before .before .node-at .ensures) in
+write-surveys-requires-2 t c κs = let o = okay ((c .before .before .before .before .before .before) .args .work .now) _ _ _ _ _ _ ((c .before .before .before .before .before .before) .pre .1 .0 .0) (sym (c .before .before .h .given .1) ∙ c .before .before .before .before .node-at .ensures) in
     omega (arith, o .1, part-length ((c .before .before .before .before .before .before) .args .work .now) ((c .before .before .before .before .before .before) .pre .1 .0 .0 .size), (c .before .before .before .before .before .before) .pre .1 .0 .0 .size, (c .before .before .before .before .before .before) .pre .1 .0 .0 .low, (c .before .before .before .before .before .before) .pre .1 .0 .0 .low-base)
 
 write-write-disj-requires-2 : (t : ℕ) → write-lts.Need-write-disj-requires-2 (write-claims t) (write-at t) write.Post
@@ -183,7 +185,7 @@ write-write-disj-requires-2 t c κs = let o = okay ((c .before .before .before .
   omega (arith, o .0, o .1, part-length ((c .before .before .before .before .before .before .before .before .before) .args .work .now) ((c .before .before .before .before .before .before .before .before .before) .pre .1 .0 .0 .size), (c .before .before .before .before .before .before .before .before .before) .pre .0),
   (
     (placed-at _ ((c .before .before .before .before .before .before .before .before .before) .pre .1 .0 .0) (o .1), (c .before .before .before .before .before .before .before .before .before) .pre .1 .0 .1, fine-cross ((c .before .before .before .before .before .before .before .before .before) .args .work .now) _ _ _ _ _ _ (c .before .before .before .before .before .before .before .before .if1 .left) refl _ _ (c .before .before .before .if3 .left) (sym (c .before .before .before .before .before .h .given .1) ∙ c .before .before .before .before .before .before .before .node-at .ensures) ((c .before .before .before .before .before .before .before .before .before) .pre .1 .0 .2) .0),
-    (tallied _ ((c .before .before .before .before .before .before .before .before .before) .pre .1 .0 .0 .size) (c .before .before .surveys3 .ensures), stack-down _ ((c .before .before .before .before .before .before .before .before .before) .pre .1 .1) (let y = (c .before .before .before .before .before .before .before .before .if1 .left) in omega arith), c .before .surveys4 .ensures .low),
+    (tallied _ ((c .before .before .before .before .before .before .before .before .before) .pre .1 .0 .0 .size) (c .before .before .surveys2 .ensures), stack-down _ ((c .before .before .before .before .before .before .before .before .before) .pre .1 .1) (let y = (c .before .before .before .before .before .before .before .before .if1 .left) in omega arith), c .before .surveys3 .ensures .low),
   ),
 )
 
@@ -191,8 +193,8 @@ write-write-disj-requires-3 : (t : ℕ) → write-lts.Need-write-disj-requires-3
 write-write-disj-requires-3 t c κs = let o = okay ((c .before .before .before .before .before .before .before .before .before .before .before .before .before .before) .args .work .now) _ _ _ _ _ _ ((c .before .before .before .before .before .before .before .before .before .before .before .before .before .before) .pre .1 .0 .0) (sym (c .before .before .before .before .before .before .before .before .before .before .h .given .1) ∙ c .before .before .before .before .before .before .before .before .before .before .before .before .node-at .ensures) in (
   omega (arith, o .0, o .1, part-length ((c .before .before .before .before .before .before .before .before .before .before .before .before .before .before) .args .work .now) ((c .before .before .before .before .before .before .before .before .before .before .before .before .before .before) .pre .1 .0 .0 .size), (c .before .before .before .before .before .before .before .before .before .before .before .before .before .before) .pre .0),
   (
-    (placed-with _ (placed-at _ ((c .before .before .before .before .before .before .before .before .before .before .before .before .before .before) .pre .1 .0 .0) (o .1)) (c .before .before .before .before .before .before .before .surveys3 .ensures .low), open-next ((c .before .before .before .before .before .before .before .before .before .before .before .before .before .before) .pre .1 .0 .1) (c .before .before .before .before .write-disj2 .ensures), fine-cross ((c .before .before .before .before .before .before .before .before .before .before .before .before .before .before) .args .work .now) _ _ _ _ _ _ (c .before .before .before .before .before .before .before .before .before .before .before .before .before .if1 .left) refl _ _ (c .before .before .before .before .before .before .before .before .if3 .left) (sym (c .before .before .before .before .before .before .before .before .before .before .h .given .1) ∙ c .before .before .before .before .before .before .before .before .before .before .before .before .node-at .ensures) ((c .before .before .before .before .before .before .before .before .before .before .before .before .before .before) .pre .1 .0 .2) .1),
-    (tallied _ ((c .before .before .before .before .before .before .before .before .before .before .before .before .before .before) .pre .1 .0 .0 .size) (c .before .before .before .before .before .before .surveys4 .ensures), stack-down _ ((c .before .before .before .before .before .before .before .before .before .before .before .before .before .before) .pre .1 .1) (let y = (c .before .before .before .before .before .before .before .before .before .before .before .before .before .if1 .left) in omega arith), omega (arith, c .before .bump2 .ensures)),
+    (placed-with _ (placed-at _ ((c .before .before .before .before .before .before .before .before .before .before .before .before .before .before) .pre .1 .0 .0) (o .1)) (c .before .before .before .before .before .before .before .surveys2 .ensures .low), open-next ((c .before .before .before .before .before .before .before .before .before .before .before .before .before .before) .pre .1 .0 .1) (c .before .before .before .before .write-disj2 .ensures), fine-cross ((c .before .before .before .before .before .before .before .before .before .before .before .before .before .before) .args .work .now) _ _ _ _ _ _ (c .before .before .before .before .before .before .before .before .before .before .before .before .before .if1 .left) refl _ _ (c .before .before .before .before .before .before .before .before .if3 .left) (sym (c .before .before .before .before .before .before .before .before .before .before .h .given .1) ∙ c .before .before .before .before .before .before .before .before .before .before .before .before .node-at .ensures) ((c .before .before .before .before .before .before .before .before .before .before .before .before .before .before) .pre .1 .0 .2) .1),
+    (tallied _ ((c .before .before .before .before .before .before .before .before .before .before .before .before .before .before) .pre .1 .0 .0 .size) (c .before .before .before .before .before .before .surveys3 .ensures), stack-down _ ((c .before .before .before .before .before .before .before .before .before .before .before .before .before .before) .pre .1 .1) (let y = (c .before .before .before .before .before .before .before .before .before .before .before .before .before .if1 .left) in omega arith), omega (arith, c .before .bump2 .ensures)),
   ),
 )
 
@@ -224,7 +226,7 @@ write-same-length-8 : (t : ℕ) → write-lts.Need-same-length-8 (write-claims t
 write-same-length-8 t c = wrote-length (c .before .before .write-disj3 .ensures) ∙ wrote-length (c .before .before .before .before .before .before .before .write-disj2 .ensures)
 
 write-returns-8 : (t : ℕ) → write-lts.Need-returns-8 (write-claims t) (write-at t) write.Post
-write-returns-8 t c = (survey-cross ((c .before .before .before .before .before .before .before .before .before .before .before .before .before .before .before .before .before) .args .work .now) _ _ _ _ _ _ (placed-in ((c .before .before .before .before .before .before .before .before .before .before .before .before .before .before .before .before .before) .pre .1 .0 .0)) ((c .before .before .before .before .before .before .before .before .before .before .before .before .before .before .before .before .before) .pre .1 .0 .0 .low) ((c .before .before .before .before .before .before .before .before .before .before .before .before .before .before .before .before .before) .pre .1 .0 .0 .low-base) _ (c .before .before .before .before .before .before .before .before .before .before .before .before .before .before .before .before .if1 .left) refl _ _ _ _ _ (c .before .before .before .before .before .before .before .before .before .before .before .if3 .left) (sym (c .before .before .before .before .before .before .before .before .before .before .before .before .before .h .given .1) ∙ c .before .before .before .before .before .before .before .before .before .before .before .before .before .before .before .node-at .ensures) (c .before .before .before .before .before .before .before .before .before .before .surveys3 .ensures) (c .before .before .before .before .before .before .before .before .before .surveys4 .ensures) (c .close-cross .ensures), write-cross ((c .before .before .before .before .before .before .before .before .before .before .before .before .before .before .before .before .before) .args .work .now) _ _ _ _ _ _ (c .before .before .before .before .before .before .before .before .before .before .before .before .before .before .before .before .if1 .left) refl _ _ _ _ _ _ _ _ (c .before .before .before .before .before .before .before .before .before .before .before .if3 .left) (sym (c .before .before .before .before .before .before .before .before .before .before .before .before .before .h .given .1) ∙ c .before .before .before .before .before .before .before .before .before .before .before .before .before .before .before .node-at .ensures) _ _ (c .before .before .before .before .before .before .before .before .before .before .surveys3 .ensures) (c .before .before .before .before .before .before .before .before .before .surveys4 .ensures) _ _ (c .before .before .before .before .before .fresh .ensures) (c .before .before .before .before .bump2 .ensures) ((c .before .before .before .before .before .before .before .before .before .before .before .before .before .before .before .before .before) .pre .1 .0 .1 .room) _ _ (c .before .before .before .before .before .before .before .write-disj2 .ensures) (c .before .before .write-disj3 .ensures))
+write-returns-8 t c = (survey-cross ((c .before .before .before .before .before .before .before .before .before .before .before .before .before .before .before .before .before) .args .work .now) _ _ _ _ _ _ (placed-in ((c .before .before .before .before .before .before .before .before .before .before .before .before .before .before .before .before .before) .pre .1 .0 .0)) ((c .before .before .before .before .before .before .before .before .before .before .before .before .before .before .before .before .before) .pre .1 .0 .0 .low) ((c .before .before .before .before .before .before .before .before .before .before .before .before .before .before .before .before .before) .pre .1 .0 .0 .low-base) _ (c .before .before .before .before .before .before .before .before .before .before .before .before .before .before .before .before .if1 .left) refl _ _ _ _ _ (c .before .before .before .before .before .before .before .before .before .before .before .if3 .left) (sym (c .before .before .before .before .before .before .before .before .before .before .before .before .before .h .given .1) ∙ c .before .before .before .before .before .before .before .before .before .before .before .before .before .before .before .node-at .ensures) (c .before .before .before .before .before .before .before .before .before .before .surveys2 .ensures) (c .before .before .before .before .before .before .before .before .before .surveys3 .ensures) (c .close-cross .ensures), write-cross ((c .before .before .before .before .before .before .before .before .before .before .before .before .before .before .before .before .before) .args .work .now) _ _ _ _ _ _ (c .before .before .before .before .before .before .before .before .before .before .before .before .before .before .before .before .if1 .left) refl _ _ _ _ _ _ _ _ (c .before .before .before .before .before .before .before .before .before .before .before .if3 .left) (sym (c .before .before .before .before .before .before .before .before .before .before .before .before .before .h .given .1) ∙ c .before .before .before .before .before .before .before .before .before .before .before .before .before .before .before .node-at .ensures) _ _ (c .before .before .before .before .before .before .before .before .before .before .surveys2 .ensures) (c .before .before .before .before .before .before .before .before .before .surveys3 .ensures) _ _ (c .before .before .before .before .before .fresh .ensures) (c .before .before .before .before .bump2 .ensures) ((c .before .before .before .before .before .before .before .before .before .before .before .before .before .before .before .before .before) .pre .1 .0 .1 .room) _ _ (c .before .before .before .before .before .before .before .write-disj2 .ensures) (c .before .before .write-disj3 .ensures))
 
 write-all-loop-holds : (t : ℕ) → write-all-lts.Need-loop-holds (write-all-claims t) (write-all-at t) write-all.Post write-all-Inv-loop write-all-μ-loop
 write-all-loop-holds t c = rw (c .no-members .ensures) (sofar-none ((c .before) .pre .1 .0 .0) ((c .before) .pre .1 .0 .1) ((c .before) .pre .1 .0 .2), seen-none ((c .before) .args .work .now) _ _ _ _ _ _ _ _ (placed-in ((c .before) .pre .1 .0 .0)) ((c .before) .pre .1 .0 .0 .low) ((c .before) .pre .1 .0 .0 .low-base), λ d r x. x)
@@ -351,9 +353,9 @@ write-write-var-requires t c κs = let o = okay ((c .before .before .before .bef
 write-write-cmp-requires : (t : ℕ) → write-lts.Need-write-cmp-requires (write-claims t) (write-at t) write.Post
 write-write-cmp-requires t c κs = ((c .before .before .before .before .before .before) .pre .1 .0 .0 .size, (c .before .before .before .before .before .before) .pre .1 .0 .0 .inside, compares ((c .before .before .before .before .before .before) .args .work .now) _ _ _ (fine-cmp ((c .before .before .before .before .before .before) .args .work .now) _ _ _ _ _ _ (c .before .before .before .before .before .if1 .left) refl _ _ (sym (c .before .before .q .given .1) ∙ c .before .before .before .before .node-at .ensures) ((c .before .before .before .before .before .before) .pre .1 .0 .2)), stack-down 0 ((c .before .before .before .before .before .before) .pre .1 .1) (omega arith), (c .before .before .before .before .before .before) .pre .1 .0 .1)
 
-write-surveys-requires-4 : (t : ℕ) → write-lts.Need-surveys-requires-4 (write-claims t) (write-at t) write.Post
-write-surveys-requires-4 t c κs = let o = okay ((c .before .before .before .before .before .before .before) .args .work .now) _ _ _ _ _ _ ((c .before .before .before .before .before .before .before) .pre .1 .0 .0) (sym (c .before .before .before .h .given .1) ∙ c .before .before .before .before .before .node-at .ensures) in
-    omega (arith, o .1, part-length ((c .before .before .before .before .before .before .before) .args .work .now) ((c .before .before .before .before .before .before .before) .pre .1 .0 .0 .size), (c .before .before .before .before .before .before .before) .pre .1 .0 .0 .size, c .surveys3 .ensures .low, (c .before .before .before .before .before .before .before) .pre .1 .0 .0 .low-base)
+write-surveys-requires-3 : (t : ℕ) → write-lts.Need-surveys-requires-3 (write-claims t) (write-at t) write.Post
+write-surveys-requires-3 t c κs = let o = okay ((c .before .before .before .before .before .before .before) .args .work .now) _ _ _ _ _ _ ((c .before .before .before .before .before .before .before) .pre .1 .0 .0) (sym (c .before .before .before .h .given .1) ∙ c .before .before .before .before .before .node-at .ensures) in
+    omega (arith, o .1, part-length ((c .before .before .before .before .before .before .before) .args .work .now) ((c .before .before .before .before .before .before .before) .pre .1 .0 .0 .size), (c .before .before .before .before .before .before .before) .pre .1 .0 .0 .size, c .surveys2 .ensures .low, (c .before .before .before .before .before .before .before) .pre .1 .0 .0 .low-base)
 
 write-all-add-member-requires : (t : ℕ) → write-all-lts.Need-add-member-requires (write-all-claims t) (write-all-at t) write-all.Post write-all-Inv-loop write-all-μ-loop
 write-all-add-member-requires t c κs = let i = c .before .before .before .before .before .loop .inv .1 in
@@ -385,13 +387,13 @@ pub +write+write-all+write-disj+write-longs-spec : {M : Type 1} → statement M
     (λ c κs. search needs)
     (λ c. search needs)
     (λ c κs. search needs)
-    (write-surveys-requires-2 t)
+    (write-skips-requires t)
     (write-put-split-requires t)
     (λ c κs. search needs)
     (write-same-length-3 t)
     (write-returns-3 t)
+    (write-surveys-requires-2 t)
     (write-surveys-requires-3 t)
-    (write-surveys-requires-4 t)
     (write-write-disj-requires-2 t)
     (λ c κs. search needs)
     (λ c κs. search needs)

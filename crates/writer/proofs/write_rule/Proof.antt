@@ -1,4 +1,5 @@
 use mathlib.Core.Path.{_≡_, refl, sym, ap, _∙_}
+use mathlib.Core.Bool.{false}
 use native.Mathlib.Omega.{arith}
 use Rattle.laws.specs.Writes.{wrote-length}
 use Rattle.writer.specs.Rules.{writable-fine}
@@ -9,8 +10,8 @@ use borrow.Author.Needs.{needs}
 use Rattle.writer.proofs.write_rule.Statement.{statement}
 use Rattle.writer.proofs.write_rule.Tie as tie
 
-survey-requires : tie.Need-survey-requires
-survey-requires c κs = let p = c .pre .0 in omega (arith, p .size, p .inside, p .low, p .low-base)
+skip-requires : tie.Need-skip-requires
+skip-requires c κs = let p = c .pre .0 in omega (arith, p .size, p .inside, p .low-base)
 
 no-suffix-requires : tie.Need-no-suffix-requires
 no-suffix-requires c κs = search needs
@@ -21,17 +22,17 @@ write-requires c κs =
     ((s .pre .0, s .pre .1, rule-tree-fine (s .args .work .now) _ _ (writable-fine _ _ _ (s .pre .2))), c .before .no-suffix .ensures .1)
 
 same-length : tie.Need-same-length
-same-length c = wrote-length (c .before .write .ensures .1)
+same-length c = wrote-length (c .before .before .write .ensures .1)
 
 returns : tie.Need-returns
 returns c =
-    let s = c .before .before .before .before .before .before .before in
-    bare-rule-wrote (s .args .work .now) _ _ _ (c .before .before .before .before .before .before .survey .ensures) (c .before .before .before .before .before .if1 .taken) (c .before .before .before .before .if2 .taken) (s .pre .1) _ (c .before .before .before .no-suffix .ensures .0) (c .before .write .ensures .1)
+    let s = c .before .before .before .before .before .before .before .before in
+    bare-rule-wrote (s .args .work .now) _ _ _ _ (c .before .before .before .before .before .before .before .skip .ensures .next false) (c .before .before .write .ensures .0) (c .before .before .before .before .before .before .if1 .taken) (c .before .before .before .before .before .if2 .taken) (s .pre .1) _ (c .before .before .before .before .no-suffix .ensures .0) (c .before .before .write .ensures .1)
 
 write-ties-requires : tie.Need-write-ties-requires
 write-ties-requires c κs =
     let s = c .before .before .before in
-    ((placed-with _ (s .pre .0) (c .before .before .survey .ensures .low-base), s .pre .1, rule-ties-fine (s .args .work .now) _ _ (writable-fine _ _ _ (s .pre .2))), omega arith)
+    ((placed-with _ (s .pre .0) (c .before .before .skip .ensures .low), s .pre .1, rule-ties-fine (s .args .work .now) _ _ (writable-fine _ _ _ (s .pre .2))), omega arith)
 
 no-suffix-requires-2 : tie.Need-no-suffix-requires-2
 no-suffix-requires-2 c κs = search needs
@@ -51,13 +52,13 @@ same-length-2 c = wrote-length (c .before .before .before .write2 .ensures .1) �
 returns-2 : tie.Need-returns-2
 returns-2 c =
     let s = c .before .before .before .before .before .before .before .before .before .before .before in
-    rule-wrote (s .args .work .now) _ _ _ _ (c .before .before .before .before .before .before .before .before .before .before .survey .ensures) (c .before .before .before .write2 .ensures .0) (s .pre .1) (c .before .before .before .before .before .before .before .write-ties .ensures .0) _ (c .before .before .before .before .before .no-suffix2 .ensures .0) (c .before .before .before .write2 .ensures .1) _ (c .bump .ensures)
+    rule-wrote (s .args .work .now) _ _ _ _ (c .before .before .before .before .before .before .before .before .before .before .skip .ensures .next false) (c .before .before .before .write2 .ensures .0) (s .pre .1) (c .before .before .before .before .before .before .before .write-ties .ensures .0) _ (c .before .before .before .before .before .no-suffix2 .ensures .0) (c .before .before .before .write2 .ensures .1) _ (c .bump .ensures)
 
 pub write-rule-spec : {M : Type 1} → statement M
 write-rule-spec =
     tie.close
     (tie.spec
-    survey-requires
+    skip-requires
     no-suffix-requires
     write-requires
     same-length
