@@ -1,13 +1,12 @@
 -- What the probe of an expression or of members says.
-use mathlib.Core.Path.{_≡_, refl, sym, ap, _∙_, subst}
-use mathlib.Core.Bool.{Bool, true, false, not, cond}
+use mathlib.Core.Path.{_≡_, refl, sym, ap, _∙_}
+use mathlib.Core.Bool.{Bool, true, false, not}
 use mathlib.Core.List.{List}
-use Prim.Native.Nat.{ℕ, zero, suc, _+_, _-_, _≤_}
+use Prim.Native.Nat.{ℕ, zero, suc, _-_}
 use native.Mathlib.Omega.{arith}
 use lib.IntN.{ℤ}
-use lib.ListN.{length}
-use Rattle.walk.specs.Item.{limit, Tally, tally, long, disj-lines, closed, Item, tallies, item, items, conj-item, disj-item, cross-item}
-use Rattle.walk.specs.Decode.{Read, many, step, cross-step, decode, read-part, item-at, items-at, surveyed, closed-disj, Surveys, SurveysAll}
+use Rattle.walk.specs.Item.{Tally, closed, Item, tallies, item, items, conj-item, disj-item, cross-item}
+use Rattle.walk.specs.Decode.{Read, step, cross-step, decode, read-part, item-at, items-at, surveyed, closed-disj, Surveys}
 use Rattle.walk.specs.Steps.{survey-not, survey-disj, Sofar, sofar-done, many-more}
 use Rattle.walk.specs.declared.Node.{Node}
 use Rattle.walk.specs.declared.Node.the-variants.{Not, Join, Cross}

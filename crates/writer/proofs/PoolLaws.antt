@@ -208,27 +208,27 @@ module _ (w : List ℤ) (l : ℕ) (t : Bool) (k : ℕ) (g h : Bool) (at base : �
   pub pools-none : m ≡ 0 → {out : List ℤ} {o : ℕ} → Open out o → Wrote out o (pools (items-at (read-part w) l t k g h at base) b w) out o
   pools-none e {out} {o} i = subst (λ (v : List ℤ). Wrote out o v out o) (sym (items-none (many (decode (read-part w) l t) k g h at base .trees) w b (sym hm ∙ e))) (wrote-none out o (i .low))
 
-  module _ (n : ℕ) (z : k ≡ 0 → ⊥) (s : Surveyed) (hs : Surveys w l t g at base n s) where
-    split-share : (b : Bool) → share b (tallies (items-at (read-part w) l t k g h at base)) ≡ share b (item-at (read-part w) l t g at base .unit) + share b (tallies (items-at (read-part w) l t (k - 1) h h (s .at) (s .base)))
+  module _ (z : k ≡ 0 → ⊥) (q c : ℕ) (hq : q ≡ decode (read-part w) l t g at base .end) (hc : c ≡ decode (read-part w) l t g at base .next) where
+    split-share : (b : Bool) → share b (tallies (items-at (read-part w) l t k g h at base)) ≡ share b (item-at (read-part w) l t g at base .unit) + share b (tallies (items-at (read-part w) l t (k - 1) h h q c))
     unfolding tallies
-    split-share true = rw (items-is w l t k g h at base n z s hs)
-    split-share false = rw (items-is w l t k g h at base n z s hs)
+    split-share true = rw (items-is w l t k g h at base z q c hq hc)
+    split-share false = rw (items-is w l t k g h at base z q c hq hc)
 
-    pub share-rest : (j : ℕ) → j ≡ share b (item-at (read-part w) l t g at base .unit) → (j ≤ m) × (m - j ≡ share b (tallies (items-at (read-part w) l t (k - 1) h h (s .at) (s .base))))
+    pub share-rest : (j : ℕ) → j ≡ share b (item-at (read-part w) l t g at base .unit) → (j ≤ m) × (m - j ≡ share b (tallies (items-at (read-part w) l t (k - 1) h h q c)))
     share-rest j e = let i = split-share b in (omega (arith, hm), omega (arith, hm))
 
-    pub share-long : (item-at (read-part w) l t g at base .unit .longs ≡ 0 → ⊥) → m ≡ share b (tallies (items-at (read-part w) l t (k - 1) h h (s .at) (s .base)))
+    pub share-long : (item-at (read-part w) l t g at base .unit .longs ≡ 0 → ⊥) → m ≡ share b (tallies (items-at (read-part w) l t (k - 1) h h q c))
     share-long f = let i = split-share b in let e = long-share (decode (read-part w) l t g at base .tree) b f in omega (arith, hm)
 
 pub share-found : (w : List ℤ) (l : ℕ) (t g : Bool) (at base n : ℕ) (b : Bool) (m : ℕ) (s : Surveyed) → Surveys w l t g at base n s → m ≡ cond b (s .lits) (s .cmps) → m ≡ share b (item-at (read-part w) l t g at base .unit)
 share-found w l t g at base n b m s hs e = e ∙ ap (λ (t : Tally). share b t) (hs .unit)
 
-pub pools-more : (w : List ℤ) (l : ℕ) (t : Bool) (k : ℕ) (g h : Bool) (at base n : ℕ) (b : Bool) (z : k ≡ 0 → ⊥) (s : Surveyed) → Surveys w l t g at base n s
-    → {out a c : List ℤ} {o p q : ℕ} → Open out o → Wrote out o (item-at (read-part w) l t g at base .pool b w) a p → Wrote a p (pools (items-at (read-part w) l t (k - 1) h h (s .at) (s .base)) b w) c q
+pub pools-more : (w : List ℤ) (l : ℕ) (t : Bool) (k : ℕ) (g h : Bool) (at base : ℕ) (b : Bool) (z : k ≡ 0 → ⊥) (e f : ℕ) → e ≡ decode (read-part w) l t g at base .end → f ≡ decode (read-part w) l t g at base .next
+    → {out a c : List ℤ} {o p q : ℕ} → Open out o → Wrote out o (item-at (read-part w) l t g at base .pool b w) a p → Wrote a p (pools (items-at (read-part w) l t (k - 1) h h e f) b w) c q
     → Wrote out o (pools (items-at (read-part w) l t k g h at base) b w) c q
 unfolding pools
-pools-more w l t k g h at base n b z s hs {out} {a} {c} {o} {p} {q} i x y =
-    subst (λ (is : List Item). Wrote out o (pools is b w) c q) (sym (items-is w l t k g h at base n z s hs)) (wrote-then (i .room) x y)
+pools-more w l t k g h at base b z e f he hf {out} {a} {c} {o} {p} {q} i x y =
+    subst (λ (is : List Item). Wrote out o (pools is b w) c q) (sym (items-is w l t k g h at base z e f he hf)) (wrote-then (i .room) x y)
 
 -- a longer member has nothing in the pool
 pub pool-skip : (w : List ℤ) (l : ℕ) (t g : Bool) (at base : ℕ) (b : Bool) → (item-at (read-part w) l t g at base .unit .longs ≡ 0 → ⊥) → {out : List ℤ} {o : ℕ} → Open out o → Wrote out o (item-at (read-part w) l t g at base .pool b w) out o

@@ -15,6 +15,7 @@ use Rattle.walk.specs.Steps.{Okay, okay-at, decode-level, many-more}
 use Rattle.walk.specs.declared.Node.{Node}
 use Rattle.walk.specs.declared.Node.the-variants.{Var, Cmp, Not, Join, Cross}
 use Rattle.walk.specs.declared.Surveyed.{Surveyed}
+use Rattle.number.specs.Skip.{Skips}
 use Rattle.writer.specs.Suffix.{Open}
 use Rattle.writer.specs.Fine.{Sides, Compares, Fine, Fines}
 use Rattle.writer.specs.Placed.{Placed}
@@ -86,21 +87,21 @@ module _ (w : List ℤ) (l u : ℕ) (t g : Bool) (at base : ℕ) (z : l ≡ 0 �
 
 -- ---- members
 
-module _ (w : List ℤ) (l : ℕ) (t : Bool) (k : ℕ) (g h : Bool) (at base n : ℕ) (z : k ≡ 0 → ⊥) (s : Surveyed) (hs : Surveys w l t g at base n s) where
+module _ (w : List ℤ) (l : ℕ) (t : Bool) (k : ℕ) (g h : Bool) (at base : ℕ) (z : k ≡ 0 → ⊥) (q c : ℕ) (hq : q ≡ decode (read-part w) l t g at base .end) (hc : c ≡ decode (read-part w) l t g at base .next) where
   abbrev R : Reader
   R = decode (read-part w) l t
 
-  trees-is : many R k g h at base .trees ≡ cons (R g at base .tree) (many R (k - 1) h h (s .at) (s .base) .trees)
+  trees-is : many R k g h at base .trees ≡ cons (R g at base .tree) (many R (k - 1) h h q c .trees)
   trees-is =
       ap (λ (r : Reads). r .trees) (many-more R k g h at base z)
-      ∙ ap (λ (x : ℕ). cons (R g at base .tree) (many R (k - 1) h h x (R g at base .next) .trees)) (sym (hs .end))
-      ∙ ap (λ (y : ℕ). cons (R g at base .tree) (many R (k - 1) h h (s .at) y .trees)) (sym (hs .splits))
+      ∙ ap (λ (x : ℕ). cons (R g at base .tree) (many R (k - 1) h h x (R g at base .next) .trees)) (sym hq)
+      ∙ ap (λ (y : ℕ). cons (R g at base .tree) (many R (k - 1) h h q y .trees)) (sym hc)
 
-  pub items-is : items-at (read-part w) l t k g h at base ≡ item-at (read-part w) l t g at base ∷ items-at (read-part w) l t (k - 1) h h (s .at) (s .base)
+  pub items-is : items-at (read-part w) l t k g h at base ≡ item-at (read-part w) l t g at base ∷ items-at (read-part w) l t (k - 1) h h q c
   unfolding items
   items-is = ap items trees-is
 
-  pub fines-rest : Fines w (many R k g h at base .trees) → Fines w (many R (k - 1) h h (s .at) (s .base) .trees)
+  pub fines-rest : Fines w (many R k g h at base .trees) → Fines w (many R (k - 1) h h q c .trees)
   unfolding Fine
   fines-rest x = subst (λ (ts : Trees). Fines w ts) trees-is x .1
 
@@ -128,7 +129,7 @@ sofar-more {w} {l = l} {t = t} {h = h} {q = q} {rest = rest} {f = f} {c = c} {e 
   same = wrote-length m ∙ x .same;
   after = omega (arith, x .after, y .room);
   fewer = omega (arith, x .fewer);
-  fine = fines-rest w l t rest f h q c e z s y (x .fine);
+  fine = fines-rest w l t rest f h q c z (s .at) (s .base) (y .end) (y .splits) (x .fine);
 }
 
 pub sofar-head : {w out₀ out : List ℤ} {l : ℕ} {t h : Bool} {at k q rest : ℕ} {f : Bool} {c e p : ℕ} → Sofar w out₀ l t h at k q rest f c e p out → (rest ≡ 0 → ⊥) → Fine w (decode (read-part w) l t f q c .tree)
@@ -136,6 +137,17 @@ sofar-head {w} {l = l} {t = t} {h = h} {q = q} {rest = rest} {f = f} {c = c} x z
 
 pub sofar-with : {w out₀ out : List ℤ} {l : ℕ} {t h : Bool} {at k q rest : ℕ} {f : Bool} {c e p : ℕ} (n : ℕ) → Sofar w out₀ l t h at k q rest f c e p out → n ≤ limit → Sofar w out₀ l t h at k q rest f c n p out
 sofar-with n x i = record { placed = placed-with n (x .placed) i; opened = x .opened; same = x .same; after = x .after; fewer = x .fewer; fine = x .fine }
+
+-- a member that is only skipped
+pub sofar-past : {w out₀ out : List ℤ} {l : ℕ} {t h : Bool} {at k q rest : ℕ} {f : Bool} {c e p : ℕ} (q' c' : ℕ) → Sofar w out₀ l t h at k q rest f c e p out → (rest ≡ 0 → ⊥) → Skips (read-part w) l t q c q' c' → Sofar w out₀ l t h at k q' (rest - 1) h c' e p out
+sofar-past {w} {l = l} {t = t} {h = h} {q = q} {rest = rest} {f = f} {c = c} q' c' x z y = record {
+  placed = record { size = x .placed .size; inside = y .inside; low = x .placed .low; low-base = y .low };
+  opened = x .opened;
+  same = x .same;
+  after = omega (arith, x .after, y .start);
+  fewer = omega (arith, x .fewer);
+  fine = fines-rest w l t rest f h q c z q' c' (y .end f) (y .next f) (x .fine);
+}
 
 -- a member of which nothing is written
 pub sofar-skip : {w out₀ out : List ℤ} {l : ℕ} {t h : Bool} {at k q rest : ℕ} {f : Bool} {c e p : ℕ} {s : Surveyed} → Sofar w out₀ l t h at k q rest f c e p out → (rest ≡ 0 → ⊥) → Surveys w l t f q c e s

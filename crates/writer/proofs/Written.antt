@@ -116,14 +116,14 @@ module _ (w : List ℤ) (l : ℕ) (t : Bool) (k : ℕ) (g h : Bool) (at base n :
   pub texts-more : {out a b : List ℤ} {o p q : ℕ} → Open out o → Wrote out o (this .text w n suf) a p → Wrote a p (texts rest w (s .n) suf) b q
       → Wrote out o (texts (items-at (read-part w) l t k g h at base) w n suf) b q
   unfolding texts
-  texts-more {out} {a} {b} {o} {p} {q} c x y = rw (items-is w l t k g h at base n z s hs, ← hs .count) (wrote-then (c .room) x y)
+  texts-more {out} {a} {b} {o} {p} {q} c x y = rw (items-is w l t k g h at base z (s .at) (s .base) (hs .end) (hs .splits), ← hs .count) (wrote-then (c .room) x y)
 
   module _ (d : Mode) (b : ℕ) (ls : List ℤ) (j : ℕ) where
     pub longs-skip : {out c : List ℤ} {o q : ℕ} → s .longs ≡ 0 → Wrote out o (long-texts d b ls rest w (s .n) j suf) c q → Wrote out o (long-texts d b ls (items-at (read-part w) l t k g h at base) w n j suf) c q
     unfolding long-texts
     longs-skip c y =
         let e : is-single this ≡ true = ap (λ (t : Tally). is-none (t .longs)) (sym (hs .unit)) ∙ ap is-none c in
-        rw (items-is w l t k g h at base n z s hs, e, ← hs .count) y
+        rw (items-is w l t k g h at base z (s .at) (s .base) (hs .end) (hs .splits), e, ← hs .count) y
 
     pub longs-more : {out a c : List ℤ} {o p q : ℕ} → (s .longs ≡ 0 → ⊥) → Open out o → (suf' : List ℤ) → suf' ≡ extra d b ls j ++ suf
         → Wrote out o (this .text w n suf') a p → Wrote a p (long-texts d b ls rest w (s .n) (j + 1) suf) c q
@@ -131,7 +131,7 @@ module _ (w : List ℤ) (l : ℕ) (t : Bool) (k : ℕ) (g h : Bool) (at base n :
     unfolding long-texts
     longs-more {out} {a} {c} {o} {p} {q} f i suf' hf x y =
         let e : is-single this ≡ false = ap (λ (t : Tally). is-none (t .longs)) (sym (hs .unit)) ∙ not-none (s .longs) f in
-        rw (items-is w l t k g h at base n z s hs, e, ← hs .count) (wrote-then (i .room) (rw hf at x) y)
+        rw (items-is w l t k g h at base z (s .at) (s .base) (hs .end) (hs .splits), e, ← hs .count) (wrote-then (i .room) (rw hf at x) y)
       where
         not-none : (x : ℕ) → (x ≡ 0 → ⊥) → is-none x ≡ false
         not-none zero h = absurd (h refl)

@@ -393,7 +393,7 @@ fn pools(
             f = h;
             continue;
         }
-        let y = number::survey(work, q, left, t, c, f, 0);
+        let y = number::skip(work, q, left, t, c);
         q = y.at;
         c = y.base;
         rest = rest - 1;

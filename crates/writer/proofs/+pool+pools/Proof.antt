@@ -2,6 +2,7 @@ use borrow.Author.Needs.{needs}
 use Prim.Native.Nat.{ℕ, _<_}
 use borrow.Fn.Kinds.{In}
 use borrow.Fn.PlainCycle.{Measures, is, falls, and}
+use Rattle.number.proofs.skip.Reads as skip-reads
 use Rattle.writer.proofs.found.Reads as found-reads
 use Rattle.writer.proofs.probe.Reads as probe-reads
 use Rattle.writer.proofs.pool.Reads as pool
@@ -14,23 +15,20 @@ use Rattle.number.proofs.node_at.Reads as node-at-reads
 use Rattle.writer.proofs.pool_var.Reads as pool-var-reads
 use Rattle.number.proofs.word.Reads as word-reads
 use Rattle.writer.proofs.pool_cmp.Reads as pool-cmp-reads
-use Rattle.number.proofs.survey.Reads as survey-reads
 use Rattle.number.proofs.Leaves.{join-is}
 use Rattle.writer.proofs.+pool+pools.{statement}
 use Rattle.writer.proofs.+pool+pools.Tie.{close}
 use mathlib.Core.Path.{_≡_, refl, sym, ap, _∙_}
-use mathlib.Core.Logic.{⊎-elim}
 use mathlib.Core.List.{List}
 use Prim.Native.Nat.{ℕ, _<_, _≤_, _+_, _-_, _*_, min}
 use native.Mathlib.Omega.{arith}
 use lib.IntN.{ℤ}
-use lib.ListN.{length}
 use Rattle.laws.specs.Writes.{Wrote, wrote-length}
 use Rattle.walk.specs.Item.{Tally, tallies, pools as pools-of}
-use Rattle.walk.specs.Decode.{read-part, item-at, items-at}
+use Rattle.walk.specs.Decode.{read-part, items-at}
 use Rattle.writer.specs.Placed.{Placed, share}
 use Rattle.writer.proofs.Laws.{compared-length}
-use Rattle.writer.proofs.Steps.{part-length, okay, placed-at, compares, fine-cmp, fine-not, fine-join, Sofar, sofar-none, sofar-more, sofar-with, sofar-head}
+use Rattle.writer.proofs.Steps.{part-length, okay, placed-at, compares, fine-cmp, fine-not, fine-join, Sofar, sofar-none, sofar-more, sofar-with, sofar-past, sofar-head}
 use Rattle.writer.proofs.PoolLaws.{pool-none, single-not, pool-var, pool-cmp, pool-not, pool-disj, pool-conj, pool-cross, pools-none, pools-more, some-left, share-not, share-disj, share-rest, share-long, share-found, pool-skip}
 
 abbrev μ-pool : Measures 2 pool-kinds.ps ℕ
@@ -55,7 +53,7 @@ abbrev pool-claims : ℕ → pool-lts.Claims
 pool-claims t = (node-at-reads.Asked, node-at-reads.Learnt, pool-var-reads.Asked, pool-var-reads.Learnt, word-reads.Asked, word-reads.Learnt, pool-cmp-reads.Asked, pool-cmp-reads.Learnt, pool-below t, pool.Post, pools-below t, pools.Post)
 
 abbrev pools-claims : ℕ → pools-lts.Claims
-pools-claims t = (probe-reads.Asked, probe-reads.Learnt, found-reads.Asked, found-reads.Learnt, pool-below t, pool.Post, survey-reads.Asked, survey-reads.Learnt)
+pools-claims t = (probe-reads.Asked, probe-reads.Learnt, found-reads.Asked, found-reads.Learnt, pool-below t, pool.Post, skip-reads.Asked, skip-reads.Learnt)
 
 abbrev pools-Inv-loop : pools-lts.InvT-loop
 pools-Inv-loop work at left t count base g h b m out₀ o q₀ rest₀ f₀ c₀ k₀ p₀ out q rest f c k p = Sofar work out₀ left t h at count q rest f c 0 p out × (k ≡ share b (tallies (items-at (read-part work) left t rest f h q c)))
@@ -144,7 +142,7 @@ pools-pool-requires t c κs = let z = some-left ((c .before .before .before .bef
 pools-sub-k : (t : ℕ) → pools-lts.Need-sub-k (pools-claims t) (pools-at t) pools.Post pools-Inv-loop pools-μ-loop
 pools-sub-k t c = let z = some-left ((c .before .before .before .before .before .before .before .before .before) .args .work .now) _ _ _ _ _ _ _ ((c .before .before .before .before .before .before .before .before .before) .args .b) _ (c .before .before .before .before .before .before .before .before .loop .inv .1) (c .before .before .before .before .before .before .before .loop-test .taken) in
     let v = c .before .before .before .before .before .before .probe .ensures .single (c .before .before .before .before .if1 .taken) in
-    share-rest ((c .before .before .before .before .before .before .before .before .before) .args .work .now) _ _ _ _ _ _ _ ((c .before .before .before .before .before .before .before .before .before) .args .b) _ (c .before .before .before .before .before .before .before .before .loop .inv .1) _ z _ v _ (share-found ((c .before .before .before .before .before .before .before .before .before) .args .work .now) _ _ _ _ _ _ ((c .before .before .before .before .before .before .before .before .before) .args .b) _ _ v (c .before .before .before .found .ensures)) .0
+    share-rest ((c .before .before .before .before .before .before .before .before .before) .args .work .now) _ _ _ _ _ _ _ ((c .before .before .before .before .before .before .before .before .before) .args .b) _ (c .before .before .before .before .before .before .before .before .loop .inv .1) z _ _ (v .end) (v .splits) _ (share-found ((c .before .before .before .before .before .before .before .before .before) .args .work .now) _ _ _ _ _ _ ((c .before .before .before .before .before .before .before .before .before) .args .b) _ _ v (c .before .before .before .found .ensures)) .0
 
 pools-sub-rest : (t : ℕ) → pools-lts.Need-sub-rest (pools-claims t) (pools-at t) pools.Post pools-Inv-loop pools-μ-loop
 pools-sub-rest t c = let z = some-left ((c .before .before .before .before .before .before .before .before .before) .args .work .now) _ _ _ _ _ _ _ ((c .before .before .before .before .before .before .before .before .before) .args .b) _ (c .before .before .before .before .before .before .before .before .loop .inv .1) (c .before .before .before .before .before .before .before .loop-test .taken) in omega (arith, z)
@@ -163,18 +161,20 @@ pools-loop-again t c = let i = c .before .before .before .before .before .before
     let z = some-left ((c .before .before .before .before .before .before .before .before .before) .args .work .now) _ _ _ _ _ _ _ ((c .before .before .before .before .before .before .before .before .before) .args .b) _ (c .before .before .before .before .before .before .before .before .loop .inv .1) (c .before .before .before .before .before .before .before .loop-test .taken) in
     let y = c .before .before .before .before .before .before .probe .ensures .single (c .before .before .before .before .if1 .taken) in
     let m = c .before .pool .ensures in
-    (sofar-with 0 (sofar-more (i .0) z y m) (omega arith), share-rest ((c .before .before .before .before .before .before .before .before .before) .args .work .now) _ _ _ _ _ _ _ ((c .before .before .before .before .before .before .before .before .before) .args .b) _ (i .1) _ z _ y _ (share-found ((c .before .before .before .before .before .before .before .before .before) .args .work .now) _ _ _ _ _ _ ((c .before .before .before .before .before .before .before .before .before) .args .b) _ _ y (c .before .before .before .found .ensures)) .1, λ d r x. i .2 d r (pools-more ((c .before .before .before .before .before .before .before .before .before) .args .work .now) _ _ _ _ _ _ _ _ _ z _ y (i .0 .opened) m x))
+    (sofar-with 0 (sofar-more (i .0) z y m) (omega arith), share-rest ((c .before .before .before .before .before .before .before .before .before) .args .work .now) _ _ _ _ _ _ _ ((c .before .before .before .before .before .before .before .before .before) .args .b) _ (i .1) z _ _ (y .end) (y .splits) _ (share-found ((c .before .before .before .before .before .before .before .before .before) .args .work .now) _ _ _ _ _ _ ((c .before .before .before .before .before .before .before .before .before) .args .b) _ _ y (c .before .before .before .found .ensures)) .1, λ d r x. i .2 d r (pools-more ((c .before .before .before .before .before .before .before .before .before) .args .work .now) _ _ _ _ _ _ _ _ z _ _ (y .end) (y .splits) (i .0 .opened) m x))
 
-pools-survey-requires : (t : ℕ) → pools-lts.Need-survey-requires (pools-claims t) (pools-at t) pools.Post pools-Inv-loop pools-μ-loop
-pools-survey-requires t c κs = let i = c .before .before .before .before .loop .inv .0 in omega (arith, i .placed .size, i .placed .inside, i .placed .low-base)
+pools-skip-requires : (t : ℕ) → pools-lts.Need-skip-requires (pools-claims t) (pools-at t) pools.Post pools-Inv-loop pools-μ-loop
+pools-skip-requires t c κs = let i = c .before .before .before .before .loop .inv .0 in omega (arith, i .placed .size, i .placed .inside, i .placed .low-base)
 
 pools-loop-again-2 : (t : ℕ) → pools-lts.Need-loop-again-2 (pools-claims t) (pools-at t) pools.Post pools-Inv-loop pools-μ-loop
 pools-loop-again-2 t c = let i = c .before .before .before .before .before .loop .inv in
     let z = some-left ((c .before .before .before .before .before .before) .args .work .now) _ _ _ _ _ _ _ ((c .before .before .before .before .before .before) .args .b) _ (c .before .before .before .before .before .loop .inv .1) (c .before .before .before .before .loop-test .taken) in
-    let y = c .survey .ensures in
+    let y = c .skip .ensures in
+    let e = y .end (c .before .before .before .before .before .loop .f) in
+    let n = y .next (c .before .before .before .before .before .loop .f) in
     let f = c .before .before .before .probe .ensures .longer (c .before .if1 .left) in
     let m = pool-skip ((c .before .before .before .before .before .before) .args .work .now) _ _ _ _ _ _ f (i .0 .opened) in
-    (sofar-with 0 (sofar-more (i .0) z y m) (omega arith), share-long ((c .before .before .before .before .before .before) .args .work .now) _ _ _ _ _ _ _ ((c .before .before .before .before .before .before) .args .b) _ (i .1) _ z _ y f, λ d r x. i .2 d r (pools-more ((c .before .before .before .before .before .before) .args .work .now) _ _ _ _ _ _ _ _ _ z _ y (i .0 .opened) m x))
+    (sofar-past _ _ (i .0) z y, share-long ((c .before .before .before .before .before .before) .args .work .now) _ _ _ _ _ _ _ ((c .before .before .before .before .before .before) .args .b) _ (i .1) z _ _ e n f, λ d r x. i .2 d r (pools-more ((c .before .before .before .before .before .before) .args .work .now) _ _ _ _ _ _ _ _ z _ _ e n (i .0 .opened) m x))
 
 pools-same-length : (t : ℕ) → pools-lts.Need-same-length (pools-claims t) (pools-at t) pools.Post pools-Inv-loop pools-μ-loop
 pools-same-length t c = c .before .loop .inv .0 .same
@@ -220,7 +220,7 @@ pub +pool+pools-spec : {M : Type 1} → statement M
     (pools-sub-rest t)
     (pools-loop-less t)
     (pools-loop-again t)
-    (pools-survey-requires t)
+    (pools-skip-requires t)
     (pools-sub-rest-2 t)
     (pools-loop-less-2 t)
     (pools-loop-again-2 t)

@@ -16,8 +16,8 @@ use Rattle.writer.proofs.probes.Kinds as probes-kinds
 use Rattle.writer.proofs.+probe+probes.Lts-probes as probes-lts
 use Rattle.writer.proofs.+probe+probes.{statement}
 use Rattle.writer.proofs.+probe+probes.Tie.{close}
-use mathlib.Core.Path.{_≡_, refl, sym, ap, _∙_}
-use Prim.Native.Nat.{ℕ, _<_, _≤_, _+_, _-_, _*_, min}
+use mathlib.Core.Path.{_≡_, refl, sym, _∙_}
+use Prim.Native.Nat.{ℕ, _<_, _+_, _-_, _*_, min}
 use native.Mathlib.Omega.{arith}
 use Rattle.walk.specs.Decode.{added}
 use Rattle.walk.specs.Steps.{survey-none, survey-var, survey-cmp, Sofar as Seen, sofar-none as seen-none, sofar-more as seen-more}

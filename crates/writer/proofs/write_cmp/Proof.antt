@@ -1,7 +1,4 @@
-use mathlib.Core.Path.{_≡_, subst}
 use native.Mathlib.Omega.{arith}
-use Prim.Native.Nat.{ℕ}
-use Rattle.writer.specs.Fine.{Compared}
 use Rattle.writer.proofs.Laws.{compared-length, compared-op}
 use borrow.Author.Needs.{needs}
 use Rattle.writer.proofs.write_cmp.Statement.{statement}
