@@ -223,11 +223,10 @@ module _ (ws numbers : List ℤ) (at rest p : ℕ) (s : Sum) (g : Going ws numbe
     numbered-product : Each (Among (map (number-at numbers) (g .vars))) (terms-of (mul-sum K (sum-of u)))
     numbered-product = mul-sum-each (Among (map (number-at numbers) (g .vars))) K (sum-of u) (rw (o .right (t .expr) (t .has-expr) .0 .same) (linear-of-among (number-at numbers) (g .vars) (t .expr) (t .among-expr)))
 
-    pub turn-asks : (s .count ≤ 64) × (u .count ≤ 64) × (natAbs K * size (sum-of u) < 2 ^ 31) × (size (sum-of s) + natAbs K * size (sum-of u) < 2 ^ 31) × Room (terms s) (terms-of (mul-sum K (sum-of u)))
+    pub turn-asks : (s .count ≤ 64) × (u .count ≤ 64) × (size (sum-of s) + natAbs K * size (sum-of u) < 2 ^ 31) × Room (terms s) (terms-of (mul-sum K (sum-of u)))
     turn-asks = (
       g .own .room,
       o .right (t .expr) (t .has-expr) .0 .room,
-      omega (arith, product-load, t .load),
       omega (arith, product-load, t .load),
       room-among (map (number-at numbers) (g .vars)) (omega (arith, different-map (number-at numbers) (g .vars), g .few)) (terms s) (terms-of (mul-sum K (sum-of u))) (g .rises) (g .numbered) numbered-product,
     )

@@ -6,7 +6,7 @@ ghost use lib.IntN.{pos, negsuc, natAbs};
 ghost use lib.ListN.{getD};
 ghost use Rattle.laws.specs.Ints.{times-low};
 ghost use Rattle.syntax.specs.Syntax.{Range, lower-bound, upper-bound};
-ghost use Rattle.sums.specs.LinearSum.{singleton, add-sum, mul-sum, sub-sum, lowest, get-domain-linear-sum};
+ghost use Rattle.sums.specs.LinearSum.{singleton, mul-sum, sub-sum, lowest, get-domain-linear-sum};
 ghost use Rattle.sums.specs.Rising.{terms-of};
 ghost use Rattle.sums.specs.Bounds.{size, Room, reach};
 ghost use Rattle.sums.specs.Struct.{terms, sum-of, Stands};
@@ -67,14 +67,6 @@ fn leaf(ws: &[i32], at: usize, numbers: &[i32]) -> Nested
     }
 }
 
-// The sum so far and the next term.
-fn add_product(sum: LinearSum, s: LinearSum, k: i32) -> LinearSum
-    requires { ⌜ (sum .count ≤ 64) × (s .count ≤ 64) × (natAbs k * size (sum-of s) < 2 ^ 31) × (size (sum-of sum) + natAbs k * size (sum-of s) < 2 ^ 31) × Room (terms sum) (terms-of (mul-sum k (sum-of s))) ⌝ }
-    ensures { λ r. ⌜ Stands r (add-sum (sum-of sum) (mul-sum k (sum-of s))) ⌝ }
-{
-    sums::add_sum(sum, sums::mul_sum(s, k))
-}
-
 pub fn linear_of(ws: &[i32], at: usize, numbers: &[i32]) -> Nested
     requires { ⌜ Ready (now ws) at ⌝ }
     ensures { λ r. ⌜ Linear (now (ws .entry)) (now (numbers .entry)) at (r .next) (r .sum) ⌝ }
@@ -90,7 +82,7 @@ pub fn linear_of(ws: &[i32], at: usize, numbers: &[i32]) -> Nested
         let k = ws[p];
         let o = linear_of(ws, p + 1, numbers);
         let s = o.sum;
-        sum = add_product(sum, s, k);
+        sum = sums::add_product(sum, s, k);
         p = o.next;
         rest -= 1;
     }

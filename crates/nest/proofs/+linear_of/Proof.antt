@@ -18,7 +18,7 @@ use Rattle.nest.proofs.Steps.{bits-not, ready-long, going-start, going-
 use Rattle.nest.proofs.linear_of.Reads as linear-of
 use Rattle.nest.proofs.linear_of.Kinds as linear-of-kinds
 use Rattle.nest.proofs.+linear_of.Lts-linear_of as linear-of-lts
-use Rattle.nest.proofs.add_product.Reads as add-product-reads
+use Rattle.sums.proofs.add_product.Reads as add-product-reads
 use Rattle.nest.proofs.count_of.Reads as count-of-reads
 use Rattle.nest.proofs.leaf.Reads as leaf-reads
 use Rattle.sums.proofs.constant.Reads as constant-reads
