@@ -29,7 +29,7 @@ pub struct Moved {
 // ---- numbers kept in arrays
 
 // The number at i; 0 where there is none.
-pub fn entry(a: &[i32], i: usize) -> usize
+fn entry(a: &[i32], i: usize) -> usize
     ensures { λ r. ⌜ ((r ≡ 0 → ⊥) → getD (now (a .entry)) i (pos 0) ≡ pos r) × (r < 8192) ⌝ }
 {
     if i >= a.len() {
@@ -47,7 +47,7 @@ pub fn entry(a: &[i32], i: usize) -> usize
 }
 
 // n at i, where there is room.
-pub fn store(a: &mut [i32], i: usize, n: usize)
+fn store(a: &mut [i32], i: usize, n: usize)
     ensures { λ _. ⌜ Only n (now (a .entry)) (now (a .exit)) ⌝ }
 {
     if i >= a.len() {
@@ -65,7 +65,7 @@ pub fn store(a: &mut [i32], i: usize, n: usize)
 // index i is waiting; at 6000 + k, the k-th statement to look at again.
 
 // The occurrence of a variable at p, if there is one, in the statement of index i: the first one in the statement counts.
-pub fn watch_at(words: &[i32], p: usize, i: usize, notes: &mut [i32]) {
+fn watch_at(words: &[i32], p: usize, i: usize, notes: &mut [i32]) {
     let code = entry(words, p);
     if code != 11 {
         return;
@@ -87,7 +87,7 @@ pub fn watch_at(words: &[i32], p: usize, i: usize, notes: &mut [i32]) {
     store(notes, v, p);
 }
 
-pub fn watch(words: &[i32], from: usize, to: usize, i: usize, notes: &mut [i32]) {
+fn watch(words: &[i32], from: usize, to: usize, i: usize, notes: &mut [i32]) {
     let mut p = from;
     while p < to {
         watch_at(words, p, i, notes);
@@ -96,7 +96,7 @@ pub fn watch(words: &[i32], from: usize, to: usize, i: usize, notes: &mut [i32])
 }
 
 // The next occurrence of a chain; 0: none.
-pub fn earlier(notes: &[i32], p: usize) -> usize
+fn earlier(notes: &[i32], p: usize) -> usize
     requires { ⌜ (p ≡ 0 → ⊥) × (p < 8192) ⌝ }
     ensures { λ r. ⌜ r < p ⌝ }
 {
@@ -105,7 +105,7 @@ pub fn earlier(notes: &[i32], p: usize) -> usize
 }
 
 // The statement of index i is set aside, unless it is waiting.
-pub fn mark(notes: &mut [i32], i: usize, count: usize) -> usize
+fn mark(notes: &mut [i32], i: usize, count: usize) -> usize
     requires { ⌜ (count ≤ 2048) × (i < 8192) ⌝ }
     ensures { λ r. ⌜ r ≤ 2048 ⌝ }
 {
@@ -122,7 +122,7 @@ pub fn mark(notes: &mut [i32], i: usize, count: usize) -> usize
 }
 
 // The statements of a chain, from the occurrence at `first` on.
-pub fn mark_chain(notes: &mut [i32], first: usize, marked: usize) -> usize
+fn mark_chain(notes: &mut [i32], first: usize, marked: usize) -> usize
     requires { ⌜ (marked ≤ 2048) × (first < 8192) ⌝ }
     ensures { λ r. ⌜ r ≤ 2048 ⌝ }
 {
@@ -137,7 +137,7 @@ pub fn mark_chain(notes: &mut [i32], first: usize, marked: usize) -> usize
 }
 
 // If the variable v is fixed, its statements are to be looked at again.
-pub fn push(work: &[i32], v: usize, notes: &mut [i32], count: usize) -> usize
+fn push(work: &[i32], v: usize, notes: &mut [i32], count: usize) -> usize
     requires { ⌜ count ≤ 2048 ⌝ }
     ensures { λ r. ⌜ r ≤ 2048 ⌝ }
 {
@@ -153,7 +153,7 @@ pub fn push(work: &[i32], v: usize, notes: &mut [i32], count: usize) -> usize
     mark_chain(notes, first, count)
 }
 
-pub fn push_at(work: &[i32], p: usize, notes: &mut [i32], count: usize) -> usize
+fn push_at(work: &[i32], p: usize, notes: &mut [i32], count: usize) -> usize
     requires { ⌜ count ≤ 2048 ⌝ }
     requires { ⌜ p < length (now work) ⌝ }
     ensures { λ r. ⌜ r ≤ 2048 ⌝ }
@@ -167,7 +167,7 @@ pub fn push_at(work: &[i32], p: usize, notes: &mut [i32], count: usize) -> usize
 }
 
 // The variables of the folded statement, those that are fixed now.
-pub fn push_fixed(work: &[i32], end: usize, notes: &mut [i32], marked: usize) -> usize
+fn push_fixed(work: &[i32], end: usize, notes: &mut [i32], marked: usize) -> usize
     requires { ⌜ marked ≤ 2048 ⌝ }
     requires { ⌜ end ≤ length (now work) ⌝ }
     ensures { λ r. ⌜ r ≤ 2048 ⌝ }
@@ -184,7 +184,7 @@ pub fn push_fixed(work: &[i32], end: usize, notes: &mut [i32], marked: usize) ->
 // ---- single statements
 
 // The statement at `at`, folded under the values fixed so far, and required.
-pub fn step(words: &[i32], at: usize, work: &mut [i32]) -> Stepped
+fn step(words: &[i32], at: usize, work: &mut [i32]) -> Stepped
     requires { ⌜ Ready-step (now words) at (now work) ⌝ }
     ensures { λ r. ⌜ Step-post (now (words .entry)) at (now (work .entry)) (now (work .exit)) (r .end) (r .status) × Next-post (now (words .entry)) at (r .next) ⌝ }
 {
@@ -198,13 +198,13 @@ pub fn step(words: &[i32], at: usize, work: &mut [i32]) -> Stepped
 }
 
 // Whether the folded statement, once required, may fix something later: a table, a constant and a variable do not.
-pub fn lasting(work: &[i32], end: usize) -> bool {
+fn lasting(work: &[i32], end: usize) -> bool {
     let kind = entry(work, 512);
     kind == 1 && end > 516
 }
 
 // The statement of index i, which stands from `at` to `next`, is noted if it may fix something later.
-pub fn note(
+fn note(
     words: &[i32],
     at: usize,
     next: usize,
@@ -224,7 +224,7 @@ pub fn note(
 }
 
 // After a step of this status.
-pub fn push_after(work: &[i32], end: usize, status: usize, notes: &mut [i32], count: usize) -> usize
+fn push_after(work: &[i32], end: usize, status: usize, notes: &mut [i32], count: usize) -> usize
     requires { ⌜ count ≤ 2048 ⌝ }
     requires { ⌜ end ≤ length (now work) ⌝ }
     ensures { λ r. ⌜ r ≤ 2048 ⌝ }
@@ -236,7 +236,7 @@ pub fn push_after(work: &[i32], end: usize, status: usize, notes: &mut [i32], co
 }
 
 // Every statement once, in order.
-pub fn sweep(
+fn sweep(
     words: &[i32],
     at: usize,
     statements: usize,
@@ -266,7 +266,7 @@ pub fn sweep(
 }
 
 // A statement that fixes nothing any more is forgotten.
-pub fn retire(work: &[i32], end: usize, places: &mut [i32], i: usize)
+fn retire(work: &[i32], end: usize, places: &mut [i32], i: usize)
     ensures { λ _. ⌜ Only 0 (now (places .entry)) (now (places .exit)) ⌝ }
 {
     let keep = lasting(work, end);
@@ -276,7 +276,7 @@ pub fn retire(work: &[i32], end: usize, places: &mut [i32], i: usize)
 }
 
 // The statement of index i again.
-pub fn again(
+fn again(
     words: &[i32],
     i: usize,
     work: &mut [i32],
@@ -302,7 +302,7 @@ pub fn again(
 }
 
 // Every statement that was set aside, those that come up on the way too.
-pub fn drain(
+fn drain(
     words: &[i32],
     work: &mut [i32],
     places: &mut [i32],
@@ -330,7 +330,7 @@ pub fn drain(
 }
 
 // Statements one by one, each again once one of its variables was fixed. 1: go on; 2: unsatisfiable.
-pub fn hurry(words: &[i32], at: usize, statements: usize, work: &mut [i32]) -> usize
+fn hurry(words: &[i32], at: usize, statements: usize, work: &mut [i32]) -> usize
     requires { ⌜ Ready-passes (now words) at statements (now work) ⌝ }
     ensures { λ r. ⌜ Hurry-post (now (words .entry)) at statements (now (work .entry)) (now (work .exit)) r ⌝ }
 {
@@ -347,7 +347,7 @@ pub fn hurry(words: &[i32], at: usize, statements: usize, work: &mut [i32]) -> u
 // ---- the passes
 
 // Every Boolean open.
-pub fn fill_open(work: &mut [i32])
+fn fill_open(work: &mut [i32])
     requires { ⌜ max-bools ≤ length (now work) ⌝ }
     ensures { λ _. ⌜ Opened (now (work .entry)) (now (work .exit)) ⌝ }
 {
@@ -359,7 +359,7 @@ pub fn fill_open(work: &mut [i32])
 }
 
 // The place behind n domains.
-pub fn domains_end(words: &[i32], d: usize, n: usize) -> usize
+fn domains_end(words: &[i32], d: usize, n: usize) -> usize
     requires { ⌜ Some-domains (now words) d n ⌝ }
     ensures { λ r. ⌜ Domains-end-post (now (words .entry)) d n r ⌝ }
 {
@@ -373,7 +373,7 @@ pub fn domains_end(words: &[i32], d: usize, n: usize) -> usize
 }
 
 // After a pass of this status, `left` of the first passes to come.
-pub fn after_pass(
+fn after_pass(
     words: &[i32],
     at: usize,
     count: usize,
@@ -398,14 +398,14 @@ pub fn after_pass(
     Optimized { status, end }
 }
 
-pub fn less_one(n: usize) -> usize
+fn less_one(n: usize) -> usize
     ensures { λ r. ⌜ r ≤ n ⌝ }
 {
     if n == 0 { 0 } else { n - 1 }
 }
 
 // Fold every statement of the set under the values fixed so far, require each rule, and again while a variable was fixed.
-pub fn run_passes(words: &[i32], at: usize, count: usize, work: &mut [i32]) -> Optimized
+fn run_passes(words: &[i32], at: usize, count: usize, work: &mut [i32]) -> Optimized
     requires { ⌜ Ready-passes (now words) at count (now work) ⌝ }
     ensures { λ r. ⌜ Passes-post (now (words .entry)) at count (now (work .entry)) (now (work .exit)) (r .status) (r .end) ⌝ }
 {
