@@ -1,17 +1,28 @@
-//! What the programs share: the port's call, the command line, and sets of many passes.
+//! What the programs share: the port's entries, the command line, and sets of many passes.
 pub mod links;
 
-extern "C" {
-    /// The port's call, in the static library of `planner`.
-    pub fn compile_set(
-        set: *const i32,
-        set_len: usize,
-        out: *mut i32,
-        out_len: usize,
-        work: *mut i32,
-        work_len: usize,
-    ) -> i64;
+/// An entry of the port that takes a set, an output slice and a work slice, all lent, and answers with a number.
+macro_rules! entry {
+    ($(#[$doc:meta])* $name:ident, $exported:ident, $answer:ty) => {
+        $(#[$doc])*
+        #[inline]
+        pub fn $name(set: &[i32], out: &mut [i32], work: &mut [i32]) -> $answer {
+            extern "C" {
+                fn $exported(s: *const i32, n: usize, o: *mut i32, m: usize, w: *mut i32, k: usize) -> $answer;
+            }
+            unsafe { $exported(set.as_ptr(), set.len(), out.as_mut_ptr(), out.len(), work.as_mut_ptr(), work.len()) }
+        }
+    };
 }
+
+entry!(
+    /// The call, in the static library of `planner`.
+    compile, compile_set, i64
+);
+entry!(
+    /// What folding and propagation leave, in the static library of `remaining`.
+    settle, settle_set, usize
+);
 
 /// Runs `SEED COUNT [FAMILY]` of the command line: COUNT sets of every family, or of one.
 pub fn run_families(

@@ -3,7 +3,7 @@
 //! The Rust's is building its problem from a set that was read, `optimize`, `normalize`, and writing the answer's words.
 
 use differential::links::case;
-use differential::{compile_set, exit_on_error, run_families};
+use differential::{compile, exit_on_error, run_families};
 use reference::call::timed;
 use reference::generate::Case;
 use reference::{call, refuse, Outcome};
@@ -36,10 +36,7 @@ fn times(case: &Case, work: &mut [i32]) -> Option<(f64, f64)> {
         black_box(timed(black_box(&read)));
     });
     let port = least(|| {
-        let set = black_box(&case.set);
-        black_box(unsafe {
-            compile_set(set.as_ptr(), set.len(), out.as_mut_ptr(), out.len(), work.as_mut_ptr(), work.len())
-        });
+        black_box(compile(black_box(&case.set), &mut out, work));
     });
     Some((rust, port))
 }

@@ -3,7 +3,7 @@
 //! `calls stack`: the deepest and the widest sets on a thread of 512 KiB. Status 1 on the first difference.
 
 use differential::links::case;
-use differential::{compile_set, exit_on_error, run_families};
+use differential::{compile, exit_on_error, run_families};
 use reference::generate::{Case, FAMILIES};
 use reference::{call, Outcome};
 use std::collections::BTreeMap;
@@ -24,8 +24,7 @@ impl Slices {
         self.out.resize(out_len, -5);
         self.work.clear();
         self.work.resize(work_len, -7);
-        let (out, work) = (&mut self.out, &mut self.work);
-        unsafe { compile_set(set.as_ptr(), set.len(), out.as_mut_ptr(), out.len(), work.as_mut_ptr(), work.len()) }
+        compile(set, &mut self.out, &mut self.work)
     }
 
     /// Whether the call gives what the reference says, with the rest of the output and all of the work slice zero.

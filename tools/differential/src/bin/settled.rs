@@ -3,19 +3,8 @@
 //! The family `links` is asked for by name.
 
 use differential::links::case;
-use differential::{exit_on_error, run_families};
+use differential::{exit_on_error, run_families, settle};
 use reference::settled::{settled, Settled};
-
-extern "C" {
-    fn settle_set(
-        set: *const i32,
-        set_len: usize,
-        out: *mut i32,
-        out_len: usize,
-        work: *mut i32,
-        work_len: usize,
-    ) -> usize;
-}
 
 const FAMILIES: [&str; 7] = ["rules", "chains", "comparisons", "tables", "mixed", "damaged", "limits"];
 const ROOMY: usize = 8192;
@@ -24,7 +13,7 @@ const ROOMY: usize = 8192;
 fn port(set: &[i32], out_len: usize, work_len: usize) -> Result<(usize, Vec<i32>), String> {
     let mut out = vec![-5; out_len];
     let mut work = vec![-7; work_len];
-    let n = unsafe { settle_set(set.as_ptr(), set.len(), out.as_mut_ptr(), out.len(), work.as_mut_ptr(), work.len()) };
+    let n = settle(set, &mut out, &mut work);
     match work.iter().position(|&w| w != 0) {
         Some(i) => Err(format!("work word {i} is {}", work[i])),
         None => Ok((n, out)),
