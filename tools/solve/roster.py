@@ -62,7 +62,11 @@ def by_evaluation(problem, roster):
 
 def find(text, solver="z3", timeout=60, program=listings.PROGRAM):
     """A checked roster of a set's text, or None where no roster exists."""
-    listing = listings.read(listings.run(text, program))
+    return of_listing(text, listings.read(listings.run(text, program)), solver, timeout)
+
+
+def of_listing(text, listing, solver="z3", timeout=60):
+    """The same with the set's listing at hand."""
     if listing.answer == "contradiction":
         return None
     problem, script = script_of(text, listing)
