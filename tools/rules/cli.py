@@ -57,7 +57,7 @@ def roster_lines(rules, roster, everything):
     for name, _, value in shown:
         yield "%s = %s" % (name, value)
     if len(shown) + len(free) < len(rules.bools) + len(rules.ints):
-        yield "the others are false or 0"
+        yield "the others are false or 0" if shown else "all are false or 0"
     if free:
         yield "any value does for: " + " ".join(free)
 
