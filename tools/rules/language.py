@@ -14,7 +14,7 @@ SUMS = ["+", "-", "*"]
 RESERVED = {*RULES, *SUMS, *CONSTANTS, *DECLARATIONS, "table", "if", "alldifferent"}
 STAR = "*"
 
-NUMBER = re.compile(r"-?[0-9]+")
+NUMBER = re.compile(r"0|-?[1-9][0-9]*")  # as in a set's text
 
 
 def is_name(text):

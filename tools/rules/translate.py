@@ -42,9 +42,9 @@ def shown(node, limit=40):
 def number(node):
     if node.text is None or not language.NUMBER.fullmatch(node.text):
         raise Wrong(node, "a number is expected, not %s" % shown(node))
-    value = int(node.text)
+    value = int(node.text[:20])  # enough of it to see that it is too large
     if abs(value) > sets.LIMIT:
-        raise Wrong(node, "a number from -%d to %d is expected, not %s" % (sets.LIMIT, sets.LIMIT, node.text))
+        raise Wrong(node, "a number from -%d to %d is expected, not %s" % (sets.LIMIT, sets.LIMIT, shown(node)))
     return value
 
 

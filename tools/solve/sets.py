@@ -24,7 +24,7 @@ MAX_BOOLS, MAX_INTS, MAX_COUNT, MAX_WORDS, MAX_LEVELS = 512, 256, 4096, 4096, 64
 
 Problem = namedtuple("Problem", "bools domains statements")
 
-LINE = re.compile(r"(bools|ints|int|statements|statement)=(-?[0-9]+(?:,-?[0-9]+)*)")
+LINE = re.compile(r"(bools|ints|int|statements|statement)=(-?[0-9]{1,10}(?:,-?[0-9]{1,10})*)")
 
 
 def values_of(domain):

@@ -11,8 +11,8 @@ def run(script, solver="z3", timeout=60):
     """What the solver prints after `sat`, or None where it says `unsat`. Anything else raises Failed."""
     try:
         done = subprocess.run(COMMANDS[solver], input=script.encode(), capture_output=True, timeout=timeout)
-    except FileNotFoundError:
-        raise Failed("%s is not installed: on Debian, apt-get install %s" % (solver, solver)) from None
+    except OSError as problem:
+        raise Failed("cannot run %s (%s): on Debian, apt-get install %s" % (solver, problem.strerror, solver)) from None
     except subprocess.TimeoutExpired:
         other = " or ".join("--solver " + name for name in COMMANDS if name != solver)
         raise Failed("%s gave no answer within %g seconds: try --timeout or %s" % (solver, timeout, other)) from None
