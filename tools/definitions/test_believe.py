@@ -78,5 +78,19 @@ class Believe(unittest.TestCase):
                 self.reached(root)
 
 
+class Counts(unittest.TestCase):
+    def lines(self, *roots):
+        reader = believe.Reader()
+        for root in roots:
+            reader.root(root)
+        return "{:,} lines in {} files".format(sum(len(d.lines) for d in reader.found), len({d.file for d in reader.found}))
+
+    def test_the_readme_has_the_counts(self):
+        with open(os.path.join(believe.ROOT, "README.md")) as file:
+            text = file.read()
+        self.assertIn(self.lines("station/Returned:Returns.exact", "station/Returned:Returns.unsatisfied"), text)
+        self.assertIn(self.lines("station/Returned:Returns"), text)
+
+
 if __name__ == "__main__":
     unittest.main()
