@@ -74,41 +74,17 @@ pub fn shift(work: &mut [i32], from: usize, end: usize, to: usize) -> usize
 
 // ---- the table
 
-const ACTIONS: [usize; 27] = [
-    0, // Xor false, false: false
-    1, // Xor false, true: true
-    4, // Xor false, unknown: right
-    1, // Xor true, false: true
-    0, // Xor true, true: false
-    5, // Xor true, unknown: not right
-    2, // Xor unknown, false: left
-    3, // Xor unknown, true: not left
-    6, // Xor unknown, unknown: keep
-    1, // Iff false, false: true
-    0, // Iff false, true: false
-    5, // Iff false, unknown: not right
-    0, // Iff true, false: false
-    1, // Iff true, true: true
-    4, // Iff true, unknown: right
-    3, // Iff unknown, false: not left
-    2, // Iff unknown, true: left
-    6, // Iff unknown, unknown: keep
-    1, // Imp false, false: true
-    1, // Imp false, true: true
-    1, // Imp false, unknown: true
-    0, // Imp true, false: false
-    1, // Imp true, true: true
-    4, // Imp true, unknown: right
-    3, // Imp unknown, false: not left
-    1, // Imp unknown, true: true
-    6, // Imp unknown, unknown: keep
-];
+// One number for each operator (Xor, Iff, Imp), three bits to an action: octal digit 3 * left + right, counted from the last, is the action for these sides.
+// Sides: 0 false, 1 true, 2 unknown. Actions: 0 false, 1 true, 2 left, 3 not left, 4 right, 5 not right, 6 keep.
+const ACTIONS: [u32; 3] = [0o632501410, 0o623410501, 0o613410111];
 
 pub fn action(op: usize, a: usize, b: usize) -> usize
     requires { ⌜ (op < 3) × (a < 3) × (b < 3) ⌝ }
     ensures { λ r. ⌜ ((o : Op) (x y : Option Bool) → op ≡ op-num o → a ≡ state-num x → b ≡ state-num y → r ≡ action-num (action-of o x y)) ⌝ }
 {
-    ACTIONS[op * 9 + a * 3 + b]
+    let n = ACTIONS[op];
+    let k = 9 * a + 3 * b;
+    ((n >> k) % 8) as usize
 }
 
 // ---- closing: the sides or members stand behind the place of the header
