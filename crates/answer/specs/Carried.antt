@@ -97,7 +97,7 @@ range-between : (d : Domain) (x : ℤ) → d ≡ Range (lower-bound d) (upper-bo
 range-between d x e = sym (ap (in-domain x) e)
 
 module _ (ds : List Domain) (b i : ℕ) (ε ι : IVal) where
-  abbrev Bounded : Log → Type 0
+  abbrev pub Bounded : Log → Type 0
   Bounded s = (j : ℕ) → j < next-int s → between (hull (domain-of (emitted-domains ds s) j)) (ι j) ≡ true
 
   in-columns : (s : Log) → Declared b i s → Bounded s → InColumns ι s
@@ -113,7 +113,7 @@ module _ (ds : List Domain) (b i : ℕ) (ε ι : IVal) where
   )
 
   module _ (inside : (v : ℕ) → v < i → between (hull (domain-of ds v)) (ε v) ≡ true) where
-    agrees-bounded : (s : Log) → Declared b i s → AgreesInts ε ι s → Bounded s
+    pub agrees-bounded : (s : Log) → Declared b i s → AgreesInts ε ι s → Bounded s
     unfolding emitted-domains newest
     agrees-bounded [] d a j k = absurd (omega arith)
     agrees-bounded (declared v ∷ s) d a j k = agrees-bounded s (d .1) a j k

@@ -87,13 +87,13 @@ domains-ordered (d ∷ ds) h (suc v) k = domains-ordered ds (h .1) v (omega arit
 -- ---- a set that settles: satisfying is passing its answer
 
 module _ (p : Problem) (well : WellFormed p) (f : Fixed) (ss : List Stmt) (end : optimize p ≡ settled f ss) (δ : Val) (ε : IVal) (inside : in-domains p ε ≡ true) where
-  abbrev b : ℕ
+  abbrev pub b : ℕ
   b = p .bools
 
-  abbrev i : ℕ
+  abbrev pub i : ℕ
   i = length (p .domains)
 
-  abbrev out : Out
+  abbrev pub out : Out
   out = normalize-stmts (p .domains) ss []
 
   declared : EveryStmts (λ v. v < b) (λ v. v < i) (p .stmts)
@@ -102,7 +102,7 @@ module _ (p : Problem) (well : WellFormed p) (f : Fixed) (ss : List Stmt) (end :
   folded : ss ≡ map (fold-stmt (p .domains) f) (p .stmts)
   folded = optimize-rests p declared f ss end .origin
 
-  ss-declared : EveryStmts (λ v. v < b) (λ v. v < i) ss
+  pub ss-declared : EveryStmts (λ v. v < b) (λ v. v < i) ss
   ss-declared = rw folded (fold-stmts-every (λ v. v < b) (λ v. v < i) (p .domains) f (p .stmts) declared)
 
   ss-standing : EveryStmts (λ v. Unit {0}) (Standing (p .domains) ε) ss
@@ -111,13 +111,13 @@ module _ (p : Problem) (well : WellFormed p) (f : Fixed) (ss : List Stmt) (end :
   ss-plain : Each Plain ss
   ss-plain = rw folded (folded-plain (p .domains) f b i (p .stmts) (well .stmts-well))
 
-  means : (ρ : Val) (ι : IVal) → Means δ ε ρ ι [] out (all (truth δ ε ρ ι (p .domains)) ss)
+  pub means : (ρ : Val) (ι : IVal) → Means δ ε ρ ι [] out (all (truth δ ε ρ ι (p .domains)) ss)
   means ρ ι = stmts-mean δ ε ρ ι (p .domains) ss [] ss-plain ss-standing
 
-  grown : Grows ε [] (out .1)
+  pub grown : Grows ε [] (out .1)
   grown = means (λ n. false) ε .grows
 
-  inside-bounds : (v : ℕ) → v < i → between (hull (domain-of (p .domains) v)) (ε v) ≡ true
+  pub inside-bounds : (v : ℕ) → v < i → between (hull (domain-of (p .domains) v)) (ε v) ≡ true
   inside-bounds v h = domain-between (domain-of (p .domains) v) (ε v) (domains-ordered (p .domains) (well .domains-well) v h) (in-domains-within p ε inside v h)
 
   -- ---- the answer's words, read back
