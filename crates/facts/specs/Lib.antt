@@ -1,1 +1,5 @@
 pub mod Sums
+pub mod Proper
+pub mod Loads
+pub mod Cases
+pub mod Loaded
