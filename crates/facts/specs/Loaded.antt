@@ -176,10 +176,10 @@ module _ (p : Problem) (well : WellFormed p) (f : Fixed) (ss : List Stmt) (end :
   -- every emitted integer has a value within its record
   records-sound : all sound-bounds (emitted-domains (p .domains) s) ≡ true
   records-sound = all-at (emitted-domains (p .domains) s) (λ j k.
-    let d : Domain = domain-of (emitted-domains (p .domains) s) j in
-    let fits = fits-agrees δ ε ρ ι s (fitting-exists δ ε (grown p well f ss end δ ε inside)) in
-    let x = agrees-bounded (p .domains) b i ε ι (inside-bounds p well f ss end δ ε inside) s (stmts-declared b i (p .domains) ss (ss-declared p well f ss end δ ε inside) [] tt) (fits .ints) j (omega (arith, length-emitted (p .domains) s)) in
-    leZ-trans (lower-bound d) (ι j) (upper-bound d) (and-l (leZ (lower-bound d) (ι j)) _ x) (and-r (leZ (lower-bound d) (ι j)) _ x))
+      let d : Domain = domain-of (emitted-domains (p .domains) s) j in
+      let fits = fits-agrees δ ε ρ ι s (fitting-exists δ ε (grown p well f ss end δ ε inside)) in
+      let x = agrees-bounded (p .domains) b i ε ι (inside-bounds p well f ss end δ ε inside) s (stmts-declared b i (p .domains) ss (ss-declared p well f ss end δ ε inside) [] tt) (fits .ints) j (omega (arith, length-emitted (p .domains) s)) in
+      leZ-trans (lower-bound d) (ι j) (upper-bound d) (and-l (leZ (lower-bound d) (ι j)) _ x) (and-r (leZ (lower-bound d) (ι j)) _ x))
 
   abbrev fixed-part : List ℤ
   fixed-part = map fixed-word (map f (below b))
