@@ -3,3 +3,4 @@ pub mod Proper
 pub mod Loads
 pub mod Cases
 pub mod Loaded
+pub mod Each
