@@ -28,7 +28,7 @@ use Rattle.fold.specs.Optimize.{Outcome, inconsistent, settled, optimize}
 use Rattle.fold.specs.Kept.{fold-stmts-every}
 use Rattle.fold.specs.Ends.{optimize-rests}
 use Rattle.fold.specs.Meaning.{optimize-satisfies, optimize-inconsistent}
-use Rattle.sums.specs.Domain.{rising-from, ordered}
+use Rattle.sums.specs.Domain.{rising-from, ordered, domain-between}
 use Rattle.clauses.specs.Clause.{clause-true}
 use Rattle.clauses.specs.Log.{Log}
 use Rattle.clauses.specs.Disjunction.{Out}
@@ -40,8 +40,8 @@ use Rattle.clauses.specs.Exist.{ints-of, bools-of, fitting-exists}
 use Rattle.tables.specs.ColumnMeaning.{Standing}
 use Rattle.tables.specs.TableMeaning.{table-means}
 use Rattle.answer.specs.Answer.{Answer, layout, answer-of, normalize, normalize-stmt, normalize-stmts}
-use Rattle.answer.specs.Passes.{Decoded, decode, passes-decoded, passes-with, Passes}
-use Rattle.answer.specs.ReadBack.{view-of, answer-back}
+use Rattle.answer.specs.Passes.{Decoded, decode, between, passes-decoded, passes-with, Passes}
+use Rattle.answer.specs.ReadBack.{hull, view-of, answer-back}
 use Rattle.answer.specs.Declared.{stmts-declared}
 use Rattle.answer.specs.Carried.{Carried, carried, carries}
 use Rattle.call.specs.Call.{Result, compiled, contradiction, refused, measured, answered, checked, when-read, call}
@@ -87,13 +87,13 @@ domains-ordered (d ∷ ds) h (suc v) k = domains-ordered ds (h .1) v (omega arit
 -- ---- a set that settles: satisfying is passing its answer
 
 module _ (p : Problem) (well : WellFormed p) (f : Fixed) (ss : List Stmt) (end : optimize p ≡ settled f ss) (δ : Val) (ε : IVal) (inside : in-domains p ε ≡ true) where
-  abbrev b : ℕ
+  abbrev pub b : ℕ
   b = p .bools
 
-  abbrev i : ℕ
+  abbrev pub i : ℕ
   i = length (p .domains)
 
-  abbrev out : Out
+  abbrev pub out : Out
   out = normalize-stmts (p .domains) ss []
 
   declared : EveryStmts (λ v. v < b) (λ v. v < i) (p .stmts)
@@ -102,7 +102,7 @@ module _ (p : Problem) (well : WellFormed p) (f : Fixed) (ss : List Stmt) (end :
   folded : ss ≡ map (fold-stmt (p .domains) f) (p .stmts)
   folded = optimize-rests p declared f ss end .origin
 
-  ss-declared : EveryStmts (λ v. v < b) (λ v. v < i) ss
+  pub ss-declared : EveryStmts (λ v. v < b) (λ v. v < i) ss
   ss-declared = rw folded (fold-stmts-every (λ v. v < b) (λ v. v < i) (p .domains) f (p .stmts) declared)
 
   ss-standing : EveryStmts (λ v. Unit {0}) (Standing (p .domains) ε) ss
@@ -111,11 +111,14 @@ module _ (p : Problem) (well : WellFormed p) (f : Fixed) (ss : List Stmt) (end :
   ss-plain : Each Plain ss
   ss-plain = rw folded (folded-plain (p .domains) f b i (p .stmts) (well .stmts-well))
 
-  means : (ρ : Val) (ι : IVal) → Means δ ε ρ ι [] out (all (truth δ ε ρ ι (p .domains)) ss)
+  pub means : (ρ : Val) (ι : IVal) → Means δ ε ρ ι [] out (all (truth δ ε ρ ι (p .domains)) ss)
   means ρ ι = stmts-mean δ ε ρ ι (p .domains) ss [] ss-plain ss-standing
 
-  grown : Grows ε [] (out .1)
+  pub grown : Grows ε [] (out .1)
   grown = means (λ n. false) ε .grows
+
+  pub inside-bounds : (v : ℕ) → v < i → between (hull (domain-of (p .domains) v)) (ε v) ≡ true
+  inside-bounds v h = domain-between (domain-of (p .domains) v) (ε v) (domains-ordered (p .domains) (well .domains-well) v h) (in-domains-within p ε inside v h)
 
   -- ---- the answer's words, read back
 
@@ -153,7 +156,7 @@ module _ (p : Problem) (well : WellFormed p) (f : Fixed) (ss : List Stmt) (end :
       let fits : Fits δ ε ρ ι s = fitting-exists δ ε grown in
       let m = optimize-satisfies p declared δ ε inside f ss end .0 h in
       let c : Carried b f out δ ε ρ ι = record { fixed = λ v x k e. m .0 v x e; agrees = fits-agrees δ ε ρ ι s fits; clauses = means ρ ι .complete fits (m .1) } in
-      record { bools = ρ; ints = ι; passing = passes-is ρ ι ∙ carries p f out δ ε ρ ι grown (stmts-declared b i (p .domains) ss ss-declared [] tt) c }
+      record { bools = ρ; ints = ι; passing = passes-is ρ ι ∙ carries p f out δ ε ρ ι grown (stmts-declared b i (p .domains) ss ss-declared [] tt) (means ρ ι .bounded) (means ρ ι .numbered) inside-bounds c }
 
 -- ---- the call
 

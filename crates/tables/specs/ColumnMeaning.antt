@@ -24,7 +24,7 @@ use Rattle.sums.specs.Domain.{ordered, between, domain-between, domain-holds}
 use Rattle.clauses.specs.Clause.{Clause, clause-true}
 use Rattle.clauses.specs.Log.{declared-int, column, Log, next-bool, next-int, get-int-var, int-var-at, convert-int-var}
 use Rattle.clauses.specs.Normalize.{IntOut, normalize-int-var, normalize-term, normalize-int-expr, normalize-terms}
-use Rattle.clauses.specs.Bounds.{clauses-bound, clauses-bound-append, sum-bound, sum-same}
+use Rattle.clauses.specs.Bounds.{clauses-bound, clauses-bound-append, sum-bound, sum-same, sub-sum-bound, ints-bound, ints-bound-append}
 use Rattle.clauses.specs.Valuation.{AgreesInts, Agrees, Fits, fits-agrees, all-true}
 use Rattle.clauses.specs.Grow.{Legal, Grows, same, grow, grows-trans, grows-int, get-int-below, grows-get-int, agrees-int, agrees-back, fits-back}
 use Rattle.clauses.specs.Means.{MeansInt}
@@ -154,6 +154,7 @@ module _ (ds : List Domain) (ε : IVal) where
       pub below : all (λ v. ltb v (next-int (c .log))) (c .vars) ≡ true
       pub as-many : length (c .vars) ≡ length xs
       pub no-literal : clauses-bound (c .clauses) ≡ 0
+      pub numbered : ints-bound (c .clauses) ≤ next-int (c .log)
       pub sound : Agrees δ ε ρ ι (c .log) → all-true ρ ι (c .clauses) ≡ true → map ι (c .vars) ≡ xs
       pub complete : Fits δ ε ρ ι (c .log) → all-true ρ ι (c .clauses) ≡ true
       pub inside : Agrees δ ε ρ ι (c .log) → all (λ v. in-domain (ι v) (domain-at (c .log) v)) (c .vars) ≡ true
@@ -169,6 +170,7 @@ module _ (ds : List Domain) (ε : IVal) where
           below = rw (lt-ltb n (next-int t) (get-int-below t v n e)) refl;
           as-many = refl;
           no-literal = refl;
+          numbered = omega arith;
           sound = λ a k. ap (λ (z : ℤ). z ∷ []) (agrees-int ε ι t (a .ints) v n e);
           complete = λ f. refl;
           inside = λ a. rw (int-var-domain ds t v n e, agrees-int ε ι t (a .ints) v n e, h .1) refl;
@@ -180,6 +182,7 @@ module _ (ds : List Domain) (ε : IVal) where
       below = unfold new-column in rw (lt-ltb v (suc v) (omega arith)) refl;
       as-many = unfold new-column in refl;
       no-literal = unfold new-column in omega arith;
+      numbered = unfold new-column in omega (arith, sub-sum-bound (x .0) (singleton v), m .bounded);
       sound = λ a k. unfold new-column in ap (λ (z : ℤ). z ∷ []) (eqZ-is (ι v) (sum-value ι (x .0)) (sym (new-column-true ρ ι x) ∙ k) ∙ m .value (older (unfold new-column in a)));
       complete = λ f. new-column-true ρ ι x ∙ is-eqZ (ι v) (sum-value ι (x .0)) (value-of (unfold new-column in f));
       inside = λ a. unfold new-column in rw (new-column-domain ds (x .0) d (x .1), own (unfold new-column in a)) refl;
@@ -230,6 +233,7 @@ module _ (ds : List Domain) (ε : IVal) where
       below = all-append (λ v. ltb v (next-int (b .log))) (a .vars) (b .vars) ∙ and-i _ _ (below-stays (q .grows) (a .vars) (p .below)) (q .below);
       as-many = length-append (a .vars) (b .vars) ∙ omega (arith, p .as-many, q .as-many, length-append xs ys);
       no-literal = omega (arith, clauses-bound-append (a .clauses) (b .clauses), p .no-literal, q .no-literal);
+      numbered = omega (arith, ints-bound-append (a .clauses) (b .clauses), p .numbered, q .numbered, grows-int (q .grows));
       sound = λ r h.
           let k = sym (all-append (clause-true ρ ι) (a .clauses) (b .clauses)) ∙ h in
           map-append ι (a .vars) (b .vars) ∙ both (p .sound (agrees-back (q .grows) r) (and-l (all-true ρ ι (a .clauses)) _ k)) (q .sound r (and-r (all-true ρ ι (a .clauses)) _ k));
@@ -242,5 +246,5 @@ module _ (ds : List Domain) (ε : IVal) where
 
     pub columns-mean : (es : List IntExpr) → EveryColumn Standing es → (s : Log) → ColumnsMean s (equivalent-int-vars ds es s) (map (int-value ε) es)
     unfolding equivalent-int-vars EveryColumn
-    columns-mean [] h s = record { grows = same; below = refl; as-many = refl; no-literal = refl; sound = λ a k. refl; complete = λ f. refl; inside = λ a. refl }
+    columns-mean [] h s = record { grows = same; below = refl; as-many = refl; no-literal = refl; numbered = omega arith; sound = λ a k. refl; complete = λ f. refl; inside = λ a. refl }
     columns-mean (e ∷ es) h s = columns-append s (equivalent-int-var ds e s) (equivalent-int-vars ds es (equivalent-int-var ds e s .log)) (int-value ε e ∷ []) (map (int-value ε) es) (column-means e (h .0) s) (columns-mean es (h .1) (equivalent-int-var ds e s .log))
