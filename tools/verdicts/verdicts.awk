@@ -60,12 +60,14 @@ function read_proofs(    path, place, folder, last, member, n, k) {
 }
 
 # The log: its errors in order, without those that only say that something else was not admitted; and each function's last word.
-function read_log(    line, log_file, rest, text) {
+function read_log(    line, log_file, rest, text, current) {
     log_file = where "/.log"
     tried = 0
     while ((getline line < log_file) > 0) {
         tried = 1
         if (line ~ /^logic=not-proved/) refused = 1
+        if (current && line ~ /^  computed as far as they go, /) error_more[current] = substr(line, 3)
+        if (line !~ /^ /) current = 0
         if (line ~ /^fn /) { text = line; sub(/^fn /, "", text); rest = text; sub(/: .*/, "", rest); word_on[rest] = substr(text, length(rest) + 3) }
         if (index(line, where "/") != 1 || !match(line, /\.antt:[0-9]+:[0-9]+: error: /)) continue
         if (line ~ /was not admitted/) continue
@@ -76,6 +78,7 @@ function read_log(    line, log_file, rest, text) {
         error_at[errors] = "-"
         if (match(text, /^`[^`]*`: /)) { error_at[errors] = substr(text, 2, RLENGTH - 4); text = substr(text, RLENGTH + 1) }
         error_text[errors] = text
+        current = errors
     }
     close(log_file)
 }
@@ -94,10 +97,17 @@ function member_at(path, upto,    line, n, member, file) {
     return member
 }
 
+# The start of an error's text, no character cut in two.
+function cut(text) {
+    text = substr(text, 1, 160)
+    sub(/[\300-\377][\200-\277]*$/, "", text)
+    return text
+}
+
 function verdict(e, program, what) {
     if (!e) { fail(program, what " has no error of its own"); return }
-    if (!is_fact(error_text[e])) { fail(program, what " is not refused at a fact: " error_at[e] ": " substr(error_text[e], 1, 160)); return }
-    print "verdicts: " crate "/" label " " program ": " what ", " error_path[e] ":" error_line[e] ": " error_at[e] ": " substr(error_text[e], 1, 110)
+    if (!is_fact(error_text[e])) { fail(program, what " is not refused at a fact: " error_at[e] ": " cut(error_text[e])); return }
+    print "verdicts: " crate "/" label " " program ": " what ", " error_path[e] ":" error_line[e] ": " error_at[e] ": " cut(e in error_more ? error_more[e] : error_text[e])
 }
 
 BEGIN {
@@ -131,8 +141,8 @@ BEGIN {
         if (!(changed in proof_of)) {
             # A function without a proof file: its own needs are not closed, and it calls nothing that is refused.
             if (word_on[path] ~ /`search` does not close/ && word_on[path] !~ /it calls/)
-                print "verdicts: " crate "/" label " " program ": " changed ", " substr(word_on[path], index(word_on[path], "`search`"), 110)
-            else fail(program, changed " has no proof file: " substr(word_on[path], 1, 160))
+                print "verdicts: " crate "/" label " " program ": " changed ", " cut(substr(word_on[path], index(word_on[path], "`search`")))
+            else fail(program, changed " has no proof file: " cut(word_on[path]))
             continue
         }
         own = shape = 0
@@ -143,7 +153,7 @@ BEGIN {
                 else if (!own && (edited[proof_of[changed]] == 1 || member_at(error_path[e], error_line[e]) == last)) own = e
             }
         # The closing definition names every need in order: an error there says that the code asks for others.
-        if (shape) fail(program, changed " has other needs than its proof: " error_at[shape] ": " substr(error_text[shape], 1, 160))
+        if (shape) fail(program, changed " has other needs than its proof: " error_at[shape] ": " cut(error_text[shape]))
         else verdict(own, program, changed)
     }
     print "counts " programs + 0 " " failures + 0
