@@ -60,30 +60,30 @@ Next-post ws at next = (ds : List Domain) (s : Stmt) → Domains ws 2 ds → Rea
 -- ---- any number of steps
 
 -- status 2: no values at rest have all of f. Any other: what is fixed now is no more than such values have
-pub record Hurried (ds : List Domain) (ss : List Stmt) (f : Fixed) (out out' : List ℤ) (status : ℕ) : Type 0 where
+pub record Advanced (ds : List Domain) (ss : List Stmt) (f : Fixed) (out out' : List ℤ) (status : ℕ) : Type 0 where
   pub now : Fixed
   pub values : Values out' now
   pub ahead : (status ≡ 2 → ⊥) → Extends f now × Below ds ss f now
   pub none : status ≡ 2 → NoRest ds ss f
   pub above : drop (max-bools + length (flat (map encode-stmt ss))) out' ≡ drop (max-bools + length (flat (map encode-stmt ss))) out
 
-abbrev pub Hurry-post : List ℤ → ℕ → ℕ → List ℤ → List ℤ → ℕ → Type 0
-Hurry-post ws at n out out' status = (ds : List Domain) (ss : List Stmt) (f : Fixed) → Domains ws 2 ds → Reads-stmts (length ds) ws at n ss → max-bools + length (flat (map encode-stmt ss)) ≤ length out → Values out f → Hurried ds ss f out out' status
+abbrev pub Worklist-post : List ℤ → ℕ → ℕ → List ℤ → List ℤ → ℕ → Type 0
+Worklist-post ws at n out out' status = (ds : List Domain) (ss : List Stmt) (f : Fixed) → Domains ws 2 ds → Reads-stmts (length ds) ws at n ss → max-bools + length (flat (map encode-stmt ss)) ≤ length out → Values out f → Advanced ds ss f out out' status
 
-pub record Ready-hurry (ws out places : List ℤ) : Type 0 where
+pub record Ready-worklist (ws out places : List ℤ) : Type 0 where
   pub at : ℕ
   pub count : ℕ
   pub ready : Ready-passes ws at count out
   pub placed : Places ws at count places
 
 abbrev pub Moves : List ℤ → List ℤ → List ℤ → List ℤ → List ℤ → ℕ → Type 0
-Moves ws out places out' places' status = (at n : ℕ) → Places ws at n places → Hurry-post ws at n out out' status × Places ws at n places'
+Moves ws out places out' places' status = (at n : ℕ) → Places ws at n places → Worklist-post ws at n out out' status × Places ws at n places'
 
 -- ---- after a pass
 
 -- a pass that fixed a variable may be followed by steps; after any other nothing is done
 pub record After-post (ws : List ℤ) (at n : ℕ) (out : List ℤ) (status end : ℕ) (out' : List ℤ) (status' end' : ℕ) : Type 0 where
-  pub hurried : status ≡ 1 → Hurry-post ws at n out out' status'
+  pub advanced : status ≡ 1 → Worklist-post ws at n out out' status'
   pub go-on : (status' ≡ 2 → ⊥) → (status' ≡ status) × (end' ≡ end)
   pub stop : status ≡ 1 → status' ≡ 2 → end' ≡ max-bools
   pub same : (status ≡ 1 → ⊥) → (out' ≡ out) × (status' ≡ status) × (end' ≡ end)

@@ -1,7 +1,7 @@
-use Rattle.propagate.proofs.drain.Statement.{statement}
-use Rattle.propagate.proofs.drain.Tie as tie
-use Rattle.propagate.proofs.drain.Reads as reads
-use Rattle.propagate.proofs.drain.Lts as lts
+use Rattle.propagate.proofs.run_queue.Statement.{statement}
+use Rattle.propagate.proofs.run_queue.Tie as tie
+use Rattle.propagate.proofs.run_queue.Reads as reads
+use Rattle.propagate.proofs.run_queue.Lts as lts
 use Rattle.propagate.proofs.again.Reads as again-reads
 use Rattle.propagate.proofs.entry.Reads as entry-reads
 use Rattle.propagate.proofs.store.Reads as store-reads
@@ -10,13 +10,13 @@ use mathlib.Core.Path.{_≡_, refl, _∙_}
 use native.Mathlib.Omega.{arith}
 use Prim.Native.Nat.{_-_, _≤_}
 use lib.ListN.{length}
-use Rattle.propagate.proofs.HurryLaws.{Moving, moving-first, moving-stop, moving-next, moves-as}
+use Rattle.propagate.proofs.WorklistLaws.{Moving, moving-first, moving-stop, moving-next, moves-as}
 
 abbrev Inv-loop : tie.InvT-loop
-Inv-loop words work₀ places₀ notes₀ marked k₀ count₀ work places notes k count = Moving words work₀ places₀ work places count × (k ≤ 2048) × (length places ≡ length places₀) × (length notes ≡ length notes₀)
+Inv-loop words work₀ places₀ watches₀ queued k₀ count₀ work places watches k count = Moving words work₀ places₀ work places count × (k ≤ 2048) × (length places ≡ length places₀) × (length watches ≡ length watches₀)
 
 abbrev μ-loop : tie.MeasureT-loop
-μ-loop words work₀ places₀ notes₀ marked k₀ count₀ work places notes k count = 2048 - k
+μ-loop words work₀ places₀ watches₀ queued k₀ count₀ work places watches k count = 2048 - k
 
 loop-holds : tie.Need-loop-holds Inv-loop μ-loop
 loop-holds c = (moving-first _ _ _ _ (c .pre .1) (c .pre .0), omega arith, refl, refl)
@@ -69,8 +69,8 @@ same-length-6 c = c .before .loop .inv .3
 returns-2 : tie.Need-returns-2 Inv-loop μ-loop
 returns-2 c = moves-as _ _ _ _ _ 0 1 (omega arith) (omega arith) (c .before .loop .inv .0 .moves)
 
-pub drain-spec : {M : Type 1} → statement M
-drain-spec =
+pub run-queue-spec : {M : Type 1} → statement M
+run-queue-spec =
     tie.close
     (tie.spec
     Inv-loop

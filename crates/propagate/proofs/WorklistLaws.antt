@@ -28,7 +28,7 @@ use Rattle.passes.specs.Want.{status-num, Values, Propagates}
 use Rattle.passes.specs.Statements.{Declared-stmts, Reads-stmt, Reads-stmts, Stmt-post, Stands-stmt, Prop-stmt-post}
 use Rattle.propagate.specs.Passes.{stmts-every, stmt-kept, open-count}
 use Rattle.propagate.specs.Optimized.{outcome, Ready-passes, Settles}
-use Rattle.propagate.specs.Hurry.{Only, Place, Place-in, Places, Ready-step, Steps-to, Step-post, Next-post, Hurried, Hurry-post, Ready-hurry, Moves, After-post}
+use Rattle.propagate.specs.Worklist.{Only, Place, Place-in, Places, Ready-step, Steps-to, Step-post, Next-post, Advanced, Worklist-post, Ready-worklist, Moves, After-post}
 use Rattle.propagate.proofs.PassLaws.{values-fixed, Going, Between}
 
 -- ---- numbers kept in arrays
@@ -182,11 +182,11 @@ step-fits ws at out out' end status s q l =
 -- ---- any number of steps
 
 module _ (ws : List ℤ) (at n : ℕ) where
-  pub hurried-none : (out : List ℤ) (status : ℕ) → (status ≡ 2 → ⊥) → Hurry-post ws at n out out status
-  hurried-none out status h ds ss f hd r room vs = record { now = f; values = vs; ahead = λ k. (λ v b e. e, λ g e a. e); none = λ k. absurd (h k); above = refl }
+  pub advanced-none : (out : List ℤ) (status : ℕ) → (status ≡ 2 → ⊥) → Worklist-post ws at n out out status
+  advanced-none out status h ds ss f hd r room vs = record { now = f; values = vs; ahead = λ k. (λ v b e. e, λ g e a. e); none = λ k. absurd (h k); above = refl }
 
-  pub hurried-then : (out mid out' : List ℤ) (a b : ℕ) → (a ≡ 2 → ⊥) → length mid ≡ length out → Hurry-post ws at n out mid a → Hurry-post ws at n mid out' b → Hurry-post ws at n out out' b
-  hurried-then out mid out' a b na l p q ds ss f hd r room vs =
+  pub advanced-then : (out mid out' : List ℤ) (a b : ℕ) → (a ≡ 2 → ⊥) → length mid ≡ length out → Worklist-post ws at n out mid a → Worklist-post ws at n mid out' b → Worklist-post ws at n out out' b
+  advanced-then out mid out' a b na l p q ds ss f hd r room vs =
       let x = p ds ss f hd r room vs in
       let y = q ds ss (x .now) hd r (omega arith) (x .values) in
       let xe = x .ahead na in
@@ -198,20 +198,20 @@ module _ (ws : List ℤ) (at n : ℕ) where
         above = y .above ∙ x .above;
       }
 
-  pub hurried-as : (out out' : List ℤ) (a b : ℕ) → (a ≡ 2 → ⊥) → (b ≡ 2 → ⊥) → Hurry-post ws at n out out' a → Hurry-post ws at n out out' b
-  hurried-as out out' a b na nb p ds ss f hd r room vs =
+  pub advanced-as : (out out' : List ℤ) (a b : ℕ) → (a ≡ 2 → ⊥) → (b ≡ 2 → ⊥) → Worklist-post ws at n out out' a → Worklist-post ws at n out out' b
+  advanced-as out out' a b na nb p ds ss f hd r room vs =
       let x = p ds ss f hd r room vs in
       record { now = x .now; values = x .values; ahead = λ k. x .ahead na; none = λ k. absurd (nb k); above = x .above }
 
-  pub hurried-step : (out out' : List ℤ) (p end status : ℕ) → Place-in ws at n p → Step-post ws p out out' end status → Hurry-post ws at n out out' status
-  hurried-step out out' p end status h q ds ss f hd r room vs =
+  pub advanced-step : (out out' : List ℤ) (p end status : ℕ) → Place-in ws at n p → Step-post ws p out out' end status → Worklist-post ws at n out out' status
+  advanced-step out out' p end status h q ds ss f hd r room vs =
       let x = h ds ss hd r in
       let sz = place-size (length ds) ws at n ss p x in
       let y = q ds (x .it) f hd (place-reads (length ds) ws at n ss p x r) (omega arith) vs in
       let ab = drop-up (max-bools + length (encode-stmt (x .it))) (max-bools + length (flat (map encode-stmt ss))) out' out (y .above) (omega arith) in
       rw (x .split) (go x y (prop-stmt (constant-folding-stmt ds f (x .it)) f) refl (y .props) (rw (x .split) at ab))
     where
-      go : (x : Place at ss p) (y : Steps-to ds (x .it) f out out' end status) (t : Status) → prop-stmt (constant-folding-stmt ds f (x .it)) f ≡ t → Propagates t (y .folded) out' status → drop (max-bools + length (flat (map encode-stmt (x .front ++ (x .it ∷ x .back))))) out' ≡ drop (max-bools + length (flat (map encode-stmt (x .front ++ (x .it ∷ x .back))))) out → Hurried ds (x .front ++ (x .it ∷ x .back)) f out out' status
+      go : (x : Place at ss p) (y : Steps-to ds (x .it) f out out' end status) (t : Status) → prop-stmt (constant-folding-stmt ds f (x .it)) f ≡ t → Propagates t (y .folded) out' status → drop (max-bools + length (flat (map encode-stmt (x .front ++ (x .it ∷ x .back))))) out' ≡ drop (max-bools + length (flat (map encode-stmt (x .front ++ (x .it ∷ x .back))))) out → Advanced ds (x .front ++ (x .it ∷ x .back)) f out out' status
       go x y unsatisfiable e pr ab =
           let s2 : status ≡ 2 = pr .statuses in
           record { now = pr .after; values = pr .values; ahead = λ k. absurd (k s2); none = λ k. step-none ds (x .front) (x .it) (x .back) f f (λ g d a. d) e; above = ab }
@@ -226,7 +226,7 @@ module _ (ws : List ℤ) (at n : ℕ) where
           low false h = absurd (omega arith)
 
   -- what is fixed now
-  pub ready-now : (out out' : List ℤ) (status : ℕ) → Hurry-post ws at n out out' status → length out' ≡ length out → Ready-passes ws at n out → Ready-passes ws at n out'
+  pub ready-now : (out out' : List ℤ) (status : ℕ) → Worklist-post ws at n out out' status → length out' ≡ length out → Ready-passes ws at n out → Ready-passes ws at n out'
   ready-now out out' status p l rp =
       let r = rp .ready in
       let y = p (r .ds) (r .them) (rp .fixed) (r .domains) (r .reads) (r .room) (rp .values) in
@@ -239,23 +239,23 @@ pub record Sweeping (ws : List ℤ) (at n : ℕ) (out₀ out places : List ℤ) 
   pub short : count ≤ 2048
   pub size : length out ≡ length out₀
   pub ready : Ready-passes ws at n out
-  pub hurried : Hurry-post ws at n out₀ out 0
+  pub advanced : Worklist-post ws at n out₀ out 0
   pub placed : Places ws at n places
   pub reached : Reached ws at n i next
 
 module _ (ws : List ℤ) (at n : ℕ) where
   pub sweep-first : (out places : List ℤ) → Ready-passes ws at n out → Places ws at n places → Sweeping ws at n out out places at 0 0
-  sweep-first out places r p = record { few = omega arith; short = omega arith; size = refl; ready = r; hurried = hurried-none ws at n out 0 (omega arith); placed = p; reached = reached-none ws at n }
+  sweep-first out places r p = record { few = omega arith; short = omega arith; size = refl; ready = r; advanced = advanced-none ws at n out 0 (omega arith); placed = p; reached = reached-none ws at n }
 
   module _ (out₀ out places : List ℤ) (p i count : ℕ) (l : i < n) (w : Sweeping ws at n out₀ out places p i count) where
     pub sweep-ready : Ready-step ws p out
     sweep-ready = place-ready ws at n out p (reached-place ws at n i p l (w .reached)) (w .ready)
 
     module _ (out' : List ℤ) (next end status : ℕ) (q : Step-post ws p out out' end status × Next-post ws p next) where
-      sweep-step : Hurry-post ws at n out₀ out' status
-      sweep-step = hurried-then ws at n out₀ out out' 0 status (omega arith) (w .size) (w .hurried) (hurried-step ws at n out out' p end status (reached-place ws at n i p l (w .reached)) (q .0))
+      sweep-step : Worklist-post ws at n out₀ out' status
+      sweep-step = advanced-then ws at n out₀ out out' 0 status (omega arith) (w .size) (w .advanced) (advanced-step ws at n out out' p end status (reached-place ws at n i p l (w .reached)) (q .0))
 
-      pub sweep-stop : Hurry-post ws at n out₀ out' status × Places ws at n places × (0 ≤ 2048)
+      pub sweep-stop : Worklist-post ws at n out₀ out' status × Places ws at n places × (0 ≤ 2048)
       sweep-stop = (sweep-step, w .placed, omega arith)
 
       pub sweep-fits : length out' ≡ length out → end ≤ length out'
@@ -268,52 +268,52 @@ module _ (ws : List ℤ) (at n : ℕ) where
             few = omega arith;
             short = lc;
             size = lo ∙ w .size;
-            ready = ready-now ws at n out out' status (hurried-step ws at n out out' p end status x (q .0)) lo (w .ready);
-            hurried = hurried-as ws at n out₀ out' status 0 h (omega arith) sweep-step;
+            ready = ready-now ws at n out out' status (advanced-step ws at n out out' p end status x (q .0)) lo (w .ready);
+            advanced = advanced-as ws at n out₀ out' status 0 h (omega arith) sweep-step;
             placed = places-only ws at n p places places' o (λ z. x) (w .placed);
             reached = reached-next ws at n i p l (w .reached) next (q .1);
           }
 
--- ---- `again`, `drain`
+-- ---- `again`, `run_queue`
 
 module _ (ws : List ℤ) where
   pub moves-none : (out places : List ℤ) (status : ℕ) → (status ≡ 2 → ⊥) → Moves ws out places out places status
-  moves-none out places status h at n p = (hurried-none ws at n out status h, p)
+  moves-none out places status h at n p = (advanced-none ws at n out status h, p)
 
   pub moves-then : (out₀ places₀ out places out' places' : List ℤ) (a b : ℕ) → (a ≡ 2 → ⊥) → length out ≡ length out₀ → Moves ws out₀ places₀ out places a → Moves ws out places out' places' b → Moves ws out₀ places₀ out' places' b
   moves-then out₀ places₀ out places out' places' a b na l p q at n r =
       let x = p at n r in
       let y = q at n (x .1) in
-      (hurried-then ws at n out₀ out out' a b na l (x .0) (y .0), y .1)
+      (advanced-then ws at n out₀ out out' a b na l (x .0) (y .0), y .1)
 
   pub moves-as : (out places out' places' : List ℤ) (a b : ℕ) → (a ≡ 2 → ⊥) → (b ≡ 2 → ⊥) → Moves ws out places out' places' a → Moves ws out places out' places' b
-  moves-as out places out' places' a b na nb p at n r = let x = p at n r in (hurried-as ws at n out out' a b na nb (x .0), x .1)
+  moves-as out places out' places' a b na nb p at n r = let x = p at n r in (advanced-as ws at n out out' a b na nb (x .0), x .1)
 
-  pub moved-ready : (out places out' places' : List ℤ) (a : ℕ) → Moves ws out places out' places' a → length out' ≡ length out → Ready-hurry ws out places → Ready-hurry ws out' places'
+  pub moved-ready : (out places out' places' : List ℤ) (a : ℕ) → Moves ws out places out' places' a → length out' ≡ length out → Ready-worklist ws out places → Ready-worklist ws out' places'
   moved-ready out places out' places' a p l r =
       let x = p (r .at) (r .count) (r .placed) in
       record { at = r .at; count = r .count; ready = ready-now ws (r .at) (r .count) out out' a (x .0) l (r .ready); placed = x .1 }
 
   module _ (out places : List ℤ) (i p : ℕ) (z : p ≡ 0 → ⊥) (h : getD places i (pos 0) ≡ pos p) where
-    pub again-ready : Ready-hurry ws out places → Ready-step ws p out
+    pub again-ready : Ready-worklist ws out places → Ready-step ws p out
     again-ready r = place-ready ws (r .at) (r .count) out p (r .placed .each i p z h) (r .ready)
 
     module _ (out' : List ℤ) (end status : ℕ) (q : Step-post ws p out out' end status) where
       pub again-moves : (places' : List ℤ) → Only 0 places places' → Moves ws out places out' places' status
-      again-moves places' o at n r = (hurried-step ws at n out out' p end status (r .each i p z h) q, places-only ws at n 0 places places' o (λ k. absurd (k refl)) r)
+      again-moves places' o at n r = (advanced-step ws at n out out' p end status (r .each i p z h) q, places-only ws at n 0 places places' o (λ k. absurd (k refl)) r)
 
-      pub again-fits : Ready-hurry ws out places → length out' ≡ length out → end ≤ length out'
+      pub again-fits : Ready-worklist ws out places → length out' ≡ length out → end ≤ length out'
       again-fits r l = step-fits ws p out out' end status (again-ready r) q l
 
 -- after some steps, none of them unsatisfiable; count: how many statements were set aside
 pub record Moving (ws out₀ places₀ out places : List ℤ) (count : ℕ) : Type 0 where
   pub few : count ≤ 2048
   pub size : length out ≡ length out₀
-  pub ready : Ready-hurry ws out places
+  pub ready : Ready-worklist ws out places
   pub moves : Moves ws out₀ places₀ out places 0
 
 module _ (ws : List ℤ) where
-  pub moving-first : (out places : List ℤ) (count : ℕ) → count ≤ 2048 → Ready-hurry ws out places → Moving ws out places out places count
+  pub moving-first : (out places : List ℤ) (count : ℕ) → count ≤ 2048 → Ready-worklist ws out places → Moving ws out places out places count
   moving-first out places count l r = record { few = l; size = refl; ready = r; moves = moves-none ws out places 0 (omega arith) }
 
   module _ (out₀ places₀ out places : List ℤ) (count : ℕ) (m : Moving ws out₀ places₀ out places count) (out' places' : List ℤ) (status count' : ℕ) (q : Moves ws out places out' places' status × (count' ≤ 2048)) where
@@ -326,7 +326,7 @@ module _ (ws : List ℤ) where
     pub moving-next : (status ≡ 2 → ⊥) → length out' ≡ length out → Moving ws out₀ places₀ out' places' count'
     moving-next h l = record { few = q .1; size = l ∙ m .size; ready = moved-ready ws out places out' places' status (q .0) l (m .ready); moves = moves-as ws out₀ places₀ out' places' status 0 h (omega arith) all-moves }
 
--- ---- `hurry`
+-- ---- `run_worklist`
 
 zeros-at : (m i : ℕ) → getD (replicate m (pos 0)) i (pos 0) ≡ pos 0
 zeros-at zero i = refl
@@ -337,26 +337,26 @@ pub places-none : (ws : List ℤ) (at n m : ℕ) → Places ws at n (replicate m
 places-none ws at n m = record { each = λ i p z e. absurd (z (pos-eq _ _ _ e (zeros-at m i))) }
 
 module _ (ws : List ℤ) (at n : ℕ) (out mid places : List ℤ) (s count : ℕ) where
-  pub hurry-stop : s ≡ 2 → Hurry-post ws at n out mid s × Places ws at n places × (count ≤ 2048) → Hurry-post ws at n out mid 2
-  hurry-stop h p = subst (λ (x : ℕ). Hurry-post ws at n out mid x) h (p .0)
+  pub run-worklist-stop : s ≡ 2 → Worklist-post ws at n out mid s × Places ws at n places × (count ≤ 2048) → Worklist-post ws at n out mid 2
+  run-worklist-stop h p = subst (λ (x : ℕ). Worklist-post ws at n out mid x) h (p .0)
 
-  pub hurry-ready : Hurry-post ws at n out mid s × Places ws at n places × (count ≤ 2048) → length mid ≡ length out → Ready-passes ws at n out → Ready-hurry ws mid places
-  hurry-ready p l r = record { at = at; count = n; ready = ready-now ws at n out mid s (p .0) l r; placed = p .1 }
+  pub run-worklist-ready : Worklist-post ws at n out mid s × Places ws at n places × (count ≤ 2048) → length mid ≡ length out → Ready-passes ws at n out → Ready-worklist ws mid places
+  run-worklist-ready p l r = record { at = at; count = n; ready = ready-now ws at n out mid s (p .0) l r; placed = p .1 }
 
-  pub hurry-end : (s ≡ 2 → ⊥) → Hurry-post ws at n out mid s × Places ws at n places × (count ≤ 2048) → length mid ≡ length out → (out' places' : List ℤ) (t : ℕ) → Moves ws mid places out' places' t → Hurry-post ws at n out out' t
-  hurry-end h p l out' places' t q = hurried-then ws at n out mid out' s t h l (p .0) (q at n (p .1) .0)
+  pub run-worklist-end : (s ≡ 2 → ⊥) → Worklist-post ws at n out mid s × Places ws at n places × (count ≤ 2048) → length mid ≡ length out → (out' places' : List ℤ) (t : ℕ) → Moves ws mid places out' places' t → Worklist-post ws at n out out' t
+  run-worklist-end h p l out' places' t q = advanced-then ws at n out mid out' s t h l (p .0) (q at n (p .1) .0)
 
 -- ---- after a pass
 
 module _ (ws : List ℤ) (at n : ℕ) (out : List ℤ) (status end : ℕ) where
   pub after-none : After-post ws at n out status end out status end
-  after-none = record { hurried = λ h. hurried-none ws at n out status (omega arith); go-on = λ h. (refl, refl); stop = λ h k. absurd (omega arith); same = λ h. (refl, refl, refl) }
+  after-none = record { advanced = λ h. advanced-none ws at n out status (omega arith); go-on = λ h. (refl, refl); stop = λ h k. absurd (omega arith); same = λ h. (refl, refl, refl) }
 
-  pub after-stop : (out' : List ℤ) (s : ℕ) → status ≡ 1 → s ≡ 2 → Hurry-post ws at n out out' s → After-post ws at n out status end out' 2 max-bools
-  after-stop out' s h k p = record { hurried = λ e. subst (λ (x : ℕ). Hurry-post ws at n out out' x) k p; go-on = λ e. absurd (e refl); stop = λ e d. refl; same = λ e. absurd (e h) }
+  pub after-stop : (out' : List ℤ) (s : ℕ) → status ≡ 1 → s ≡ 2 → Worklist-post ws at n out out' s → After-post ws at n out status end out' 2 max-bools
+  after-stop out' s h k p = record { advanced = λ e. subst (λ (x : ℕ). Worklist-post ws at n out out' x) k p; go-on = λ e. absurd (e refl); stop = λ e d. refl; same = λ e. absurd (e h) }
 
-  pub after-hurry : (out' : List ℤ) (s : ℕ) → status ≡ 1 → (s ≡ 2 → ⊥) → Hurry-post ws at n out out' s → After-post ws at n out status end out' status end
-  after-hurry out' s h k p = record { hurried = λ e. hurried-as ws at n out out' s status k (omega arith) p; go-on = λ e. (refl, refl); stop = λ e d. absurd (omega arith); same = λ e. absurd (e h) }
+  pub after-run-worklist : (out' : List ℤ) (s : ℕ) → status ≡ 1 → (s ≡ 2 → ⊥) → Worklist-post ws at n out out' s → After-post ws at n out status end out' status end
+  after-run-worklist out' s h k p = record { advanced = λ e. advanced-as ws at n out out' s status k (omega arith) p; go-on = λ e. (refl, refl); stop = λ e d. absurd (omega arith); same = λ e. absurd (e h) }
 
 -- ---- the passes go on from there
 
@@ -386,7 +386,7 @@ module _ (ws : List ℤ) (at n : ℕ) (out : List ℤ) (status end : ℕ) (out' 
   opens-after rp h =
       let n2 : status' ≡ 2 → ⊥ = omega arith in
       let r = rp .ready in
-      let y = a .hurried (fixed-before n2 h) (r .ds) (r .them) (rp .fixed) (r .domains) (r .reads) (r .room) (rp .values) in
+      let y = a .advanced (fixed-before n2 h) (r .ds) (r .them) (rp .fixed) (r .domains) (r .reads) (r .room) (rp .values) in
       let e : fixed-in out ≡ rp .fixed = values-fixed out (rp .fixed) (rp .values) (omega (arith, r .room)) in
       let e' : fixed-in out' ≡ y .now = values-fixed out' (y .now) (y .values) (omega (arith, r .room)) in
       rw (e, e') (open-less (rp .fixed) (y .now) (y .ahead n2 .0))
@@ -396,8 +396,8 @@ module _ (ws : List ℤ) (at n : ℕ) (out : List ℤ) (status end : ℕ) (out' 
 
   module _ (out₀ : List ℤ) (b : Between ws at n out₀ out status end) where
     module _ (ds : List Domain) (ss : List Stmt) (before : Outcome) (hd : Domains ws 2 ds) (rd : Reads-stmts (length ds) ws at n ss) (room : max-bools + length (flat (map encode-stmt ss)) ≤ length out₀) (g : Going ds ss before out₀ out) where
-      steps : status ≡ 1 → Hurried ds ss (g .now) out out' status'
-      steps h = a .hurried h ds ss (g .now) hd rd (omega (arith, b .size)) (g .values)
+      steps : status ≡ 1 → Advanced ds ss (g .now) out out' status'
+      steps h = a .advanced h ds ss (g .now) hd rd (omega (arith, b .size)) (g .values)
 
       go-on : status ≡ 1 → (status' ≡ 2 → ⊥) → Going ds ss before out₀ out'
       go-on h n2 =
@@ -436,7 +436,7 @@ module _ (ws : List ℤ) (at n : ℕ) (out : List ℤ) (status end : ℕ) (out' 
             let h : status ≡ 1 = eqb-true status 1 t in
             record {
               size = l ∙ b .size;
-              ready = ready-now ws at n out out' status' (a .hurried h) l (b .ready);
+              ready = ready-now ws at n out out' status' (a .advanced h) l (b .ready);
               going = λ k ds ss f fuel hd rd room vs en. go-on ds ss (passes ds (suc fuel) f ss) hd rd room (b .going h ds ss f fuel hd rd room vs en) h (omega arith);
               ended = λ k ds ss f fuel hd rd room vs en. stop ds ss (passes ds (suc fuel) f ss) hd rd room (b .going h ds ss f fuel hd rd room vs en) h (stopped (eqb status' 2) refl h k);
             }
