@@ -37,7 +37,7 @@ use Rattle.clauses.specs.Grow.{Grows}
 use Rattle.clauses.specs.Means.{Means, means-none, means-append}
 use Rattle.clauses.specs.RuleMeaning.{read-rule-means}
 use Rattle.clauses.specs.Exist.{ints-of, bools-of, fitting-exists}
-use Rattle.tables.specs.ColumnMeaning.{Standing}
+use Rattle.tables.specs.ColumnMeaning.{WithinDomain}
 use Rattle.tables.specs.TableMeaning.{table-means}
 use Rattle.answer.specs.Answer.{Answer, layout, answer-of, normalize, normalize-stmt, normalize-stmts}
 use Rattle.answer.specs.Passes.{Decoded, decode, between, passes-decoded, passes-with, Passes}
@@ -46,7 +46,7 @@ use Rattle.answer.specs.Declared.{stmts-declared}
 use Rattle.answer.specs.Carried.{Carried, carried, carries}
 use Rattle.call.specs.Call.{Result, compiled, contradiction, refused, measured, answered, checked, when-read, call}
 use Rattle.call.specs.Claim.{within, satisfied, Passed, NotRefused, Exact, Consequences}
-use Rattle.call.specs.Ready.{well-declared, Plain, folded-plain}
+use Rattle.call.specs.WellRead.{well-declared, Plain, folded-plain}
 use Rattle.call.specs.Known.{optimize-known}
 use Rattle.call.specs.Consequences.{consequences}
 
@@ -56,12 +56,12 @@ module _ (δ : Val) (ε : IVal) (ρ : Val) (ι : IVal) (ds : List Domain) where
   abbrev pub truth : Stmt → Bool
   truth = stmt-holds δ ε (λ n. false)
 
-  pub stmt-means : (t : Stmt) (s : Log) → Plain t → EveryStmt (λ v. Unit {0}) (Standing ds ε) t → Means δ ε ρ ι s (normalize-stmt ds t s) (truth t)
+  pub stmt-means : (t : Stmt) (s : Log) → Plain t → EveryStmt (λ v. Unit {0}) (WithinDomain ds ε) t → Means δ ε ρ ι s (normalize-stmt ds t s) (truth t)
   unfolding normalize-stmt EveryStmt
   stmt-means (Rule e) s h k = read-rule-means δ ε ρ ι e s (λ n. false) h
   stmt-means (Table es rows) s h k = unfold stmt-holds in table-means δ ε ρ ι ds es rows s h k
 
-  pub stmts-mean : (ts : List Stmt) (s : Log) → Each Plain ts → EveryStmts (λ v. Unit {0}) (Standing ds ε) ts → Means δ ε ρ ι s (normalize-stmts ds ts s) (all truth ts)
+  pub stmts-mean : (ts : List Stmt) (s : Log) → Each Plain ts → EveryStmts (λ v. Unit {0}) (WithinDomain ds ε) ts → Means δ ε ρ ι s (normalize-stmts ds ts s) (all truth ts)
   unfolding normalize-stmts EveryStmts
   stmts-mean [] s h k = means-none δ ε ρ ι s
   stmts-mean (t ∷ ts) s h k =
@@ -105,8 +105,8 @@ module _ (p : Problem) (well : WellFormed p) (f : Fixed) (ss : List Stmt) (end :
   pub ss-declared : EveryStmts (λ v. v < b) (λ v. v < i) ss
   ss-declared = rw folded (fold-stmts-every (λ v. v < b) (λ v. v < i) (p .domains) f (p .stmts) declared)
 
-  ss-standing : EveryStmts (λ v. Unit {0}) (Standing (p .domains) ε) ss
-  ss-standing = every-stmts-map (λ v. v < b) (λ v. v < i) (λ v. Unit {0}) (Standing (p .domains) ε) (λ v h. tt) (λ v h. (domains-ordered (p .domains) (well .domains-well) v h, in-domains-within p ε inside v h)) ss ss-declared
+  ss-standing : EveryStmts (λ v. Unit {0}) (WithinDomain (p .domains) ε) ss
+  ss-standing = every-stmts-map (λ v. v < b) (λ v. v < i) (λ v. Unit {0}) (WithinDomain (p .domains) ε) (λ v h. tt) (λ v h. (domains-ordered (p .domains) (well .domains-well) v h, in-domains-within p ε inside v h)) ss ss-declared
 
   ss-plain : Each Plain ss
   ss-plain = rw folded (folded-plain (p .domains) f b i (p .stmts) (well .stmts-well))

@@ -31,7 +31,7 @@ use Rattle.clauses.specs.Normalize.{negate-op-if}
 use Rattle.answer.specs.Answer.{linear-words}
 use Rattle.walk.specs.Item.{nat, int-entry, int-number}
 use Rattle.walk.specs.Decode.{word, read-part}
-use Rattle.walk.specs.Meets.{part-short}
+use Rattle.walk.specs.NumberingSteps.{part-short}
 use Rattle.writer.specs.Suffix.{Open}
 use Rattle.writer.specs.Rules.{has-part}
 use Rattle.writer.proofs.Differences.{numbers, number-is}

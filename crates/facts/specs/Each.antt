@@ -16,9 +16,9 @@ use Rattle.clauses.specs.Valuation.{Agrees, Fits, fits-agrees}
 use Rattle.clauses.specs.Grow.{Grows, agrees-back, fits-back}
 use Rattle.clauses.specs.Means.{Means}
 use Rattle.clauses.specs.Exist.{ints-of, bools-of, fitting-exists}
-use Rattle.tables.specs.ColumnMeaning.{Standing}
+use Rattle.tables.specs.ColumnMeaning.{WithinDomain}
 use Rattle.answer.specs.Answer.{normalize-stmt, normalize-stmts}
-use Rattle.call.specs.Ready.{Plain}
+use Rattle.call.specs.WellRead.{Plain}
 use Rattle.call.specs.Demand.{truth, stmt-means, stmts-mean}
 
 -- the clauses made for each statement, from the log s on
@@ -46,7 +46,7 @@ EachExact δ ε s (t ∷ ts) (cs ∷ css) = ((stmt-holds δ ε (λ n. false) t �
 
 module _ (δ : Val) (ε : IVal) (ds : List Domain) where
   -- from a statement on; whole: the log behind the last one, and values that fit it
-  from-here : (ts : List Stmt) (s whole : Log) (ρ : Val) (ι : IVal) → Each Plain ts → EveryStmts (λ v. Unit {0}) (Standing ds ε) ts → whole ≡ normalize-stmts ds ts s .1 → Fits δ ε ρ ι whole → EachExact δ ε whole ts (clauses-each ds ts s)
+  from-here : (ts : List Stmt) (s whole : Log) (ρ : Val) (ι : IVal) → Each Plain ts → EveryStmts (λ v. Unit {0}) (WithinDomain ds ε) ts → whole ≡ normalize-stmts ds ts s .1 → Fits δ ε ρ ι whole → EachExact δ ε whole ts (clauses-each ds ts s)
   unfolding clauses-each normalize-stmts EveryStmts
   from-here [] s whole ρ ι p k e f = tt
   from-here (t ∷ ts) s whole ρ ι p k e f =
@@ -60,7 +60,7 @@ module _ (δ : Val) (ε : IVal) (ds : List Domain) where
         from-here ts (a .1) whole ρ ι (p .1) (k .1) e f,
       )
 
-  pub each-exact : (ts : List Stmt) → Each Plain ts → EveryStmts (λ v. Unit {0}) (Standing ds ε) ts → EachExact δ ε (normalize-stmts ds ts [] .1) ts (clauses-each ds ts [])
+  pub each-exact : (ts : List Stmt) → Each Plain ts → EveryStmts (λ v. Unit {0}) (WithinDomain ds ε) ts → EachExact δ ε (normalize-stmts ds ts [] .1) ts (clauses-each ds ts [])
   each-exact ts p k =
       let whole : Log = normalize-stmts ds ts [] .1 in
       let ι : IVal = ints-of ε whole in

@@ -27,7 +27,7 @@ use Rattle.sums.specs.Norm.{norm, load, singleton-load, add-coef-norm, mul-sum-
 use Rattle.sums.specs.Bounds.{heavy-weight, size, Coefficients, Fits, Every, add-steps, sum-steps, computed, computed-comparison, linear-of-load, linear-of-size, reach, reach-weight, computed-fits, comparison-fits, domain-bounds-fit}
 use Rattle.folded.specs.Folded.{fold-stmt-light}
 use Rattle.call.specs.Call.{Accepted}
-use Rattle.call.specs.Ready.{well-declared}
+use Rattle.call.specs.WellRead.{well-declared}
 
 abbrev pub max-i32 : ℕ
 max-i32 = 2147483647

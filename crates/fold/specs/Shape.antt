@@ -178,27 +178,27 @@ module _ (ds : List Domain) where
   SettledStmts (Table es rows ∷ ss) = (map (fold-int ds) es ≡ es) × SettledStmts ss
 
   -- requiring met no contradiction
-  abbrev Fine : Status → Type 0
-  Fine unsatisfiable = ⊥
-  Fine (updated c g) = Unit {0}
+  abbrev Satisfiable : Status → Type 0
+  Satisfiable unsatisfiable = ⊥
+  Satisfiable (updated c g) = Unit {0}
 
-  then-fine : {X : Type 0} (s : Status) (next : Fixed → Status) → Fine (and-then s next) → ((g : Fixed) → Fine s → Fine (next g) → X) → X
+  then-fine : {X : Type 0} (s : Status) (next : Fixed → Status) → Satisfiable (and-then s next) → ((g : Fixed) → Satisfiable s → Satisfiable (next g) → X) → X
   then-fine unsatisfiable next h k = absurd h
   then-fine (updated c g) next h k = k g tt (go (next g) h)
     where
-      go : (t : Status) → Fine (worst c t) → Fine t
+      go : (t : Status) → Satisfiable (worst c t) → Satisfiable t
       go unsatisfiable q = q
       go (updated d g') q = tt
 
-  root-true : (b : Bool) (f : Fixed) → Fine (prop (Const b) true f) → b ≡ true
+  root-true : (b : Bool) (f : Fixed) → Satisfiable (prop (Const b) true f) → b ≡ true
   unfolding prop
   root-true true f h = refl
   root-true false f h = absurd h
 
-  root-settled : (e : BoolExpr) (f : Fixed) → Folded e → Fine (prop e true f) → SettledRoot (is-const e) e
+  root-settled : (e : BoolExpr) (f : Fixed) → Folded e → Satisfiable (prop e true f) → SettledRoot (is-const e) e
   root-settled e f h fine = const-or e (λ b q. let r = root-true b f (rw q at fine) in rw q r) (λ q. let s = solid e h q in rw q s)
 
-  settled-stmts : (ss : List Stmt) (f g : Fixed) → Fine (prop-stmts (map (fold-stmt ds f) ss) g) → SettledStmts (map (fold-stmt ds f) ss)
+  settled-stmts : (ss : List Stmt) (f g : Fixed) → Satisfiable (prop-stmts (map (fold-stmt ds f) ss) g) → SettledStmts (map (fold-stmt ds f) ss)
   unfolding prop-stmts fold-stmt SettledStmts
   settled-stmts [] f g fine = tt
   settled-stmts (Rule e ∷ ss) f g fine = then-fine (prop (fold ds f e) true g) (prop-stmts (map (fold-stmt ds f) ss)) fine (λ g' a b. (root-settled (fold ds f e) g (fold-folded f e) a, settled-stmts ss f g' b))

@@ -26,7 +26,7 @@ use Rattle.nest.specs.Nest.{Ready, Linear}
 use Rattle.nest.specs.Ranges.{domain-at, Bounded}
 use Rattle.nest.specs.Column.{Same-bounds, column-bounded, column-domain}
 use Rattle.walk.specs.Item.{nat, int-map, int-entry, int-number}
-use Rattle.statements.specs.ReadyKeeps.{free-from}
+use Rattle.statements.specs.NumberedKeeps.{free-from}
 use Rattle.header.specs.Emitted.{Column, SomeColumn, ColumnDomain}
 use Rattle.writer.proofs.Differences.{count-nat}
 

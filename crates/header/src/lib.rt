@@ -7,7 +7,7 @@ ghost use lib.ListN.{length, getD};
 ghost use Rattle.laws.specs.Writes.{cap, Wrote};
 ghost use Rattle.walk.specs.Item.{nat};
 ghost use Rattle.writer.specs.Suffix.{Open};
-ghost use Rattle.statements.specs.Ready.{SomeReady};
+ghost use Rattle.statements.specs.Stages.{SomeReady};
 ghost use Rattle.header.specs.Emitted.{naturals, maps-words, SomeColumn, ColumnDomain, SomeDeclared, DeclaredDomain, SomeEmits, EmittedDomain, Put, SomeNumbered, PutAll};
 ghost use Rattle.header.specs.Headed.{Headed};
 use walk::Counters;

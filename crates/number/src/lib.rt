@@ -7,7 +7,7 @@ ghost use lib.IntN.{ℤ, pos, negsuc};
 ghost use lib.ListN.{length, getD, set, take};
 ghost use Rattle.walk.specs.Item.{limit, bump as bump-of, nat, mode-in, fresh-in, lines-in, var-item, meet-bool, meet-int-var, meet-int, mets, item, items};
 ghost use Rattle.walk.specs.Decode.{word as word-in, past, below as below-of, int-end as int-end-of, node-of, constant-node, comparison-node, read-part, surveyed, closed-disj, closed-cross, fresh-of, added, Surveys, SurveysAll, int-at, item-at, items-at, decode, many-ties, tie-at, cross-ties, ties-at};
-ghost use Rattle.walk.specs.Meets.{Met};
+ghost use Rattle.walk.specs.NumberingSteps.{Met};
 ghost use Rattle.walk.specs.MeetTies.{Reaches, ReachesAll, meet-rule};
 ghost use Rattle.walk.specs.MeetColumns.{number-column, meet-column-at, meet-columns-at};
 ghost use Rattle.number.specs.Sized.{Sized, SizedAll};

@@ -24,7 +24,7 @@ use Rattle.rows.specs.Stars.{values-in, is-free, is-single, is-longer, count-ro
 use Rattle.rows.specs.Stands.{small, cells-words, length-cells, stars-stand, values-stand}
 use Rattle.walk.specs.Item.{mode-in, fresh-in}
 use Rattle.statements.specs.Table.{values, is-long, is-one, long-rows, single-rows, star-fresh, free-rows, starred, table-fresh}
-use Rattle.call.specs.Ready.{rows-wide}
+use Rattle.call.specs.WellRead.{rows-wide}
 
 -- k rows of n cells stand at a place of the work slice
 pub record RowsStand (w : List ℤ) (at n k : ℕ) (rows : List (List Cell)) : Type 0 where

@@ -5,7 +5,7 @@ ghost use lib.ListN.{length};
 ghost use Rattle.walk.specs.Item.{limit};
 ghost use Rattle.walk.specs.Decode.{read-part};
 ghost use Rattle.statements.specs.NumberColumns.{columns-end};
-ghost use Rattle.statements.specs.Ready.{SomeFolded};
+ghost use Rattle.statements.specs.Stages.{SomeFolded};
 ghost use Rattle.numbered.specs.Fresh.{Freshens};
 ghost use Rattle.numbered.specs.Stands.{SomeStmt, SomeTable, StmtEnds, StmtMet, TableMet};
 ghost use Rattle.numbered.specs.Numbered.{NumberedAll};

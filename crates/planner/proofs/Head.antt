@@ -14,7 +14,7 @@ use Rattle.clauses.specs.Log.{next-bool, next-int, get-bool-var, get-int-var}
 use Rattle.tables.specs.Tables.{emitted-domains}
 use Rattle.tables.specs.Emitted.{length-emitted}
 use Rattle.answer.specs.Answer.{fixed-word, map-word, domain-words}
-use Rattle.statements.specs.Ready.{log-of, head-words}
+use Rattle.statements.specs.Stages.{log-of, head-words}
 
 triples-length : (ds : List Domain) → length (flat (map domain-words ds)) ≡ 3 * length ds
 triples-length [] = refl

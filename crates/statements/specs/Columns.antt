@@ -26,7 +26,7 @@ use Rattle.walk.specs.Item.{limit, bump, nat, bool-map, int-map, emitted-ints, 
 use Rattle.walk.specs.Grow.{Grows, same, then, Fit, back}
 use Rattle.walk.specs.Ints.{int-grows, int-bools, var-found, int-linear}
 use Rattle.walk.specs.Num.{max-emitted, code, Recorded, Numbered, recorded-set, bool-other, int-other, int-num, expr-num}
-use Rattle.walk.specs.Two.{Low}
+use Rattle.walk.specs.TwoWalks.{Low}
 pub use Rattle.walk.specs.MeetColumns.{column-map, number-column}
 pub use Rattle.syntax.specs.Lengths.{int-long as int-words}
 use Rattle.statements.specs.Kept.{Kept, kept-same, kept-then, int-var-kept, expr-kept}

@@ -12,7 +12,7 @@ use Rattle.words.specs.Exact.{Each}
 use Rattle.walk.specs.Item.{nat, State, meet-int}
 use Rattle.walk.specs.Legal.{LegalInt}
 use Rattle.walk.specs.Decode.{word, int-end}
-use Rattle.walk.specs.Standing.{int-is}
+use Rattle.walk.specs.DecodeExact.{int-is}
 use Rattle.walk.specs.MeetColumns.{meet-column-at, meet-columns-at}
 use Rattle.statements.specs.Columns.{meet-column, meet-columns}
 

@@ -22,7 +22,7 @@ use Rattle.fold.specs.Shape.{Solid, SolidMembers, SettledStmts, settled-shape}
 use Rattle.fold.specs.Kept.{fold-depth, fold-stmts-every}
 use Rattle.folded.specs.Folded.{fold-stmt-light, fold-stmt-few}
 use Rattle.clauses.specs.Bounds.{expr-bound, members-bound}
-use Rattle.call.specs.Ready.{well-declared, Plain, folded-plain}
+use Rattle.call.specs.WellRead.{well-declared, Plain, folded-plain}
 use Rattle.walk.specs.Legal.{LegalInt, LegalTerms, Legal, LegalMembers}
 use Rattle.walk.specs.Rule.{LegalRule, true-rule, legal-rule}
 use Rattle.statements.specs.Statements.{LegalStmt, LegalStmts}

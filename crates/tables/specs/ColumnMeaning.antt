@@ -65,8 +65,8 @@ module _ {ε : IVal} where
 
 module _ (ds : List Domain) (ε : IVal) where
   -- what reading and the assignment give of a declared variable
-  abbrev pub Standing : ℕ → Type 0
-  Standing v = (ordered (domain-of ds v) ≡ true) × Within ds ε v
+  abbrev pub WithinDomain : ℕ → Type 0
+  WithinDomain v = (ordered (domain-of ds v) ≡ true) × Within ds ε v
 
   abbrev domain-at : Log → ℕ → Domain
   domain-at t n = domain-of (emitted-domains ds t) n
@@ -77,18 +77,18 @@ module _ (ds : List Domain) (ε : IVal) where
     abbrev Bounded : ℕ → Type 0
     Bounded n = between (domain-at t n) (ι n) ≡ true
 
-    declared-bounded : (v n : ℕ) → Standing v → get-int-var v t ≡ some n → Bounded n
+    declared-bounded : (v n : ℕ) → WithinDomain v → get-int-var v t ≡ some n → Bounded n
     declared-bounded v n h e = rw (int-var-domain ds t v n e, agrees-int ε ι t a v n e) (domain-between (domain-of ds v) (ε v) (h .0) (h .1))
 
     mutual
       unfolding normalize-int-expr normalize-int-var normalize-term EveryInt
 
-      int-bounded : (e : IntExpr) → EveryInt Standing e → (s : Log) → Grows ε (normalize-int-expr e s .1) t → Each Bounded (terms-of (normalize-int-expr e s .0))
+      int-bounded : (e : IntExpr) → EveryInt WithinDomain e → (s : Log) → Grows ε (normalize-int-expr e s .1) t → Each Bounded (terms-of (normalize-int-expr e s .0))
       int-bounded (IConst c) h = λ s g. constant-each Bounded c
       int-bounded (IVar v) h = λ s g. singleton-each Bounded (convert-int-var v s .0) (declared-bounded v (convert-int-var v s .0) h (grows-get-int g v (convert-int-var v s .0) (convert-gets v s)))
       int-bounded (Linear ts) h = λ s g. terms-bounded ts h (constant (pos 0)) s g (constant-each Bounded (pos 0))
 
-      terms-bounded : (ts : Terms) → EveryTerm Standing ts → (sum : LinearSum) (s : Log) → Grows ε (normalize-terms ts sum s .1) t → Each Bounded (terms-of sum) → Each Bounded (terms-of (normalize-terms ts sum s .0))
+      terms-bounded : (ts : Terms) → EveryTerm WithinDomain ts → (sum : LinearSum) (s : Log) → Grows ε (normalize-terms ts sum s .1) t → Each Bounded (terms-of sum) → Each Bounded (terms-of (normalize-terms ts sum s .0))
       terms-bounded tnil h = λ sum s g b. b
       terms-bounded (tmore k e ts) h = λ sum s g b.
           let x = normalize-int-expr e s in
@@ -98,7 +98,7 @@ module _ (ds : List Domain) (ε : IVal) where
   -- ---- a new variable
 
   -- what a column may be made of: a sum over numbers given, within its domain
-  column-legal : (e : IntExpr) → EveryInt Standing e → (s : Log) → let x = normalize-int-expr e s in Legal ε (column (x .0) (get-domain-linear-sum (domain-at (x .1)) (x .0))) (x .1)
+  column-legal : (e : IntExpr) → EveryInt WithinDomain e → (s : Log) → let x = normalize-int-expr e s in Legal ε (column (x .0) (get-domain-linear-sum (domain-at (x .1)) (x .0))) (x .1)
   column-legal e h s =
       let x = normalize-int-expr e s in
       (int-expr-means (λ n. false) ε (λ n. false) ε e s .bounded, λ ι a. domain-holds (domain-at (x .1)) ι (x .0) (int-bounded ι (x .1) a e h s same))
@@ -126,7 +126,7 @@ module _ (ds : List Domain) (ε : IVal) where
     pub admits : (z : ℤ) → all-true ρ (with-value ι (next-int (normalize-int-expr e s .1)) z) (new-column ds (normalize-int-expr e s) .clauses) ≡ eqZ z (int-value ε e)
     pub inside : in-domain (int-value ε e) (domain-at (new-column ds (normalize-int-expr e s) .log) (next-int (normalize-int-expr e s .1))) ≡ true
 
-  pub column-one-value : (e : IntExpr) → EveryInt Standing e → (s : Log) (δ ρ : Val) (ι : IVal) → Agrees δ ε ρ ι (normalize-int-expr e s .1) → OneValue e s ρ ι
+  pub column-one-value : (e : IntExpr) → EveryInt WithinDomain e → (s : Log) (δ ρ : Val) (ι : IVal) → Agrees δ ε ρ ι (normalize-int-expr e s .1) → OneValue e s ρ ι
   column-one-value e h s δ ρ ι a =
       record {
         admits = λ z. new-column-true ρ (with-value ι v z) x ∙ rw (with-value-new ι v z) (ap (eqZ z) (sum-same v (with-value ι v z) ι (with-value-old ι v z) (x .0) (m .bounded) ∙ m .value a));
@@ -159,7 +159,7 @@ module _ (ds : List Domain) (ε : IVal) where
       pub complete : Fits δ ε ρ ι (c .log) → all-true ρ ι (c .clauses) ≡ true
       pub inside : Agrees δ ε ρ ι (c .log) → all (λ v. in-domain (ι v) (domain-at (c .log) v)) (c .vars) ≡ true
 
-    old-column-means : (v : ℕ) → Standing v → (s : Log) → ColumnsMean s (old-column (convert-int-var v s)) (ε v ∷ [])
+    old-column-means : (v : ℕ) → WithinDomain v → (s : Log) → ColumnsMean s (old-column (convert-int-var v s)) (ε v ∷ [])
     unfolding old-column
     old-column-means v h s =
         let n : ℕ = convert-int-var v s .0 in
@@ -176,7 +176,7 @@ module _ (ds : List Domain) (ε : IVal) where
           inside = λ a. rw (int-var-domain ds t v n e, agrees-int ε ι t (a .ints) v n e, h .1) refl;
         }
 
-    new-column-means : (e : IntExpr) → EveryInt Standing e → (s : Log) → ColumnsMean s (new-column ds (normalize-int-expr e s)) (int-value ε e ∷ [])
+    new-column-means : (e : IntExpr) → EveryInt WithinDomain e → (s : Log) → ColumnsMean s (new-column ds (normalize-int-expr e s)) (int-value ε e ∷ [])
     new-column-means e h s = record {
       grows = unfold new-column in grow (column (x .0) d) (column-legal e h s) (m .grows);
       below = unfold new-column in rw (lt-ltb v (suc v) (omega arith)) refl;
@@ -209,7 +209,7 @@ module _ (ds : List Domain) (ε : IVal) where
         own : Agrees δ ε ρ ι (column (x .0) d ∷ x .1) → in-domain (ι v) d ≡ true
         own a = a .ints .0
 
-    column-means : (e : IntExpr) → EveryInt Standing e → (s : Log) → ColumnsMean s (equivalent-int-var ds e s) (int-value ε e ∷ [])
+    column-means : (e : IntExpr) → EveryInt WithinDomain e → (s : Log) → ColumnsMean s (equivalent-int-var ds e s) (int-value ε e ∷ [])
     unfolding equivalent-int-var
     column-means (IVar v) h s = unfold int-value EveryInt in old-column-means v h s
     column-means (IConst c) h s = new-column-means (IConst c) h s
@@ -244,7 +244,7 @@ module _ (ds : List Domain) (ε : IVal) where
         both : {us vs : List ℤ} → us ≡ xs → vs ≡ ys → us ++ vs ≡ xs ++ ys
         both e f = cc
 
-    pub columns-mean : (es : List IntExpr) → EveryColumn Standing es → (s : Log) → ColumnsMean s (equivalent-int-vars ds es s) (map (int-value ε) es)
+    pub columns-mean : (es : List IntExpr) → EveryColumn WithinDomain es → (s : Log) → ColumnsMean s (equivalent-int-vars ds es s) (map (int-value ε) es)
     unfolding equivalent-int-vars EveryColumn
     columns-mean [] h s = record { grows = same; below = refl; as-many = refl; no-literal = refl; numbered = omega arith; sound = λ a k. refl; complete = λ f. refl; inside = λ a. refl }
     columns-mean (e ∷ es) h s = columns-append s (equivalent-int-var ds e s) (equivalent-int-vars ds es (equivalent-int-var ds e s .log)) (int-value ε e ∷ []) (map (int-value ε) es) (column-means e (h .0) s) (columns-mean es (h .1) (equivalent-int-var ds e s .log))

@@ -24,7 +24,7 @@ use Rattle.tables.specs.Tables.{linear-eq, linear-ne, is-star, Row, cell
 use Rattle.tables.specs.Agree.{wide, row-permits, row-holds-permits}
 use Rattle.tables.specs.PlainMeaning.{plain-table-means}
 use Rattle.tables.specs.StarMeaning.{star-table-means}
-use Rattle.tables.specs.ColumnMeaning.{Standing, ColumnsMean, columns-mean}
+use Rattle.tables.specs.ColumnMeaning.{WithinDomain, ColumnsMean, columns-mean}
 
 -- ---- the clauses of rows name no Boolean
 
@@ -151,7 +151,7 @@ module _ (δ : Val) (ε : IVal) (ρ : Val) (ι : IVal) (ds : List Domain) where
   held-permitted es vs rows e = any-cong (row-holds ε es) (λ cs. row-permits cs (map ι vs)) rows (λ cs. row-holds-permits ε es cs ∙ ap (row-permits cs) (sym e))
 
   -- a table's rows have as many cells as it has columns (reading); its columns write variables whose domains are ordered and hold their values
-  pub table-means : (es : List IntExpr) (rows : List (List Cell)) (s : Log) → all (wide (length es)) rows ≡ true → EveryColumn (Standing ds ε) es
+  pub table-means : (es : List IntExpr) (rows : List (List Cell)) (s : Log) → all (wide (length es)) rows ≡ true → EveryColumn (WithinDomain ds ε) es
       → Means δ ε ρ ι s (normalize-table ds es rows s) (stmt-holds δ ε ρ (Table es rows))
   unfolding normalize-table stmt-holds
   table-means es rows s w h = record {

@@ -36,7 +36,7 @@ use Rattle.statements.specs.Table.{starred, columns-below, domains-agree, suppo
 use Rattle.statements.specs.Statements.{Stable, supports-stable, table-words}
 use Rattle.statements.specs.Whole.{lowest}
 use Rattle.statements.specs.Saved.{Saved, saved-same, saved-below, saved-above, saved-then, saved-less, has-saved}
-use Rattle.call.specs.Ready.{rows-wide}
+use Rattle.call.specs.WellRead.{rows-wide}
 use Rattle.numbered.specs.Fresh.{RowsStand, rows-small, stars-are}
 use Rattle.columns.specs.Standing.{Standing}
 use Rattle.columns.specs.Describing.{column-words, AllKnown, Describable, SomeDescribable, Described}

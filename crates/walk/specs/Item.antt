@@ -88,8 +88,8 @@ unfoldable mutual
   meet-terms (tmore k e ts) s = meet-terms ts (meet-int e s)
 
 -- k new numbers
-unfoldable pub pass-bools : ℕ → State → State
-pass-bools k s = record { work = s .work; bools = bump (s .bools) k; ints = s .ints }
+unfoldable pub walk-bools : ℕ → State → State
+walk-bools k s = record { work = s .work; bools = bump (s .bools) k; ints = s .ints }
 
 -- ---- words
 
@@ -281,7 +281,7 @@ disj-item is = record {
   count = λ w n. bump (counts is w n) (fresh (tallies is));
   pool = λ b w. cond (is-none (tallies is .longs)) (pools is b w) [];
   text = λ w n suf. disj-text is w n (counts is w n) suf;
-  met = λ s. pass-bools (fresh (tallies is)) (mets is s);
+  met = λ s. walk-bools (fresh (tallies is)) (mets is s);
 }
 
 unfoldable pub cross-item : List Item → List Item → Item
@@ -290,7 +290,7 @@ cross-item is js = record {
   count = λ w n. bump (bump (counts js w (counts is w n)) (fresh (tallies is))) (fresh (tallies js));
   pool = λ b w. [];
   text = λ w n suf. let p = counts is w n in let b = counts js w p in disj-text is w n b suf ++ disj-text js w p (bump b (fresh (tallies is))) suf;
-  met = λ s. pass-bools (fresh (tallies js)) (pass-bools (fresh (tallies is)) (mets js (mets is s)));
+  met = λ s. walk-bools (fresh (tallies js)) (walk-bools (fresh (tallies is)) (mets js (mets is s)));
 }
 
 -- the side's clauses, each with the literal behind it

@@ -8,7 +8,7 @@ use Rattle.syntax.specs.Syntax.{IntExpr, IConst, IVar, Linear, Terms, tnil, tmo
 use Rattle.syntax.specs.Written.{EveryInt, EveryTerm}
 use Rattle.walk.specs.Tree.{Tree, num, Trees, nil, cons, pair, size, append, joined, splits, splits-members, crossed, resolve, resolves, tie, both-tied, ties, ties-members}
 use Rattle.walk.specs.Item.{limit}
-use Rattle.walk.specs.Good.{Proper, Propers}
+use Rattle.walk.specs.Implements.{Proper, Propers}
 
 -- declared variables within l levels
 unfoldable mutual

@@ -17,7 +17,7 @@ use Rattle.syntax.specs.Written.{EveryInt, EveryTerm}
 use Rattle.sums.specs.LinearSum.{LinearSum, constant, add-sum, mul-sum}
 use Rattle.clauses.specs.Log.{Made, declared, aux, side, declared-int, column, Log, next-bool, next-int, get-bool-var, get-int-var, bool-var-at, int-var-at, convert-bool-var, convert-int-var}
 use Rattle.clauses.specs.Normalize.{normalize-int-var, normalize-term, normalize-int-expr, normalize-terms}
-use Rattle.walk.specs.Item.{limit, bump, is-none, bool-map, int-map, emitted-ints, nat, bool-entry, int-entry, State, new-bool, meet-bool, new-int, meet-int-var, meet-int, meet-terms, pass-bools}
+use Rattle.walk.specs.Item.{limit, bump, is-none, bool-map, int-map, emitted-ints, nat, bool-entry, int-entry, State, new-bool, meet-bool, new-int, meet-int-var, meet-int, meet-terms, walk-bools}
 use Rattle.walk.specs.Grow.{Grows, Fit}
 use Rattle.walk.specs.Ints.{terms-grow}
 

@@ -18,7 +18,7 @@ use Rattle.walk.specs.declared.Mode.the-variants.{Pool, Pass, Two, Each}
 use Rattle.walk.specs.declared.Node.{Node}
 use Rattle.walk.specs.declared.Node.the-variants.{Var, Cmp, Not, Join, Cross}
 use Rattle.walk.specs.declared.Surveyed.{Surveyed}
-use Rattle.walk.specs.Good.{tally-eq}
+use Rattle.walk.specs.Implements.{tally-eq}
 
 -- ---- where the parts lie
 

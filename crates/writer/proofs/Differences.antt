@@ -25,7 +25,7 @@ use Rattle.sums.proofs.Laws.{stands-sum}
 use Rattle.nest.specs.Numbers.{count-of, number-at}
 use Rattle.nest.specs.Nest.{Ready, Word, Linear as Linears}
 use Rattle.walk.specs.Item.{nat, int-entry, int-number}
-use Rattle.writer.specs.Fine.{Sides, Compares, Subtracted}
+use Rattle.writer.specs.ComparisonsFit.{Sides, Compares, Subtracted}
 
 -- ---- the map's numbers
 

@@ -19,7 +19,7 @@ use Rattle.walk.specs.declared.Node.the-variants.{Var, Cmp, Not, Join, Cross}
 use Rattle.walk.specs.declared.Surveyed.{Surveyed}
 use Rattle.writer.specs.declared.Suffix.{Suffix}
 use Rattle.writer.specs.Suffix.{Open}
-use Rattle.writer.specs.Fine.{Compared, Fine}
+use Rattle.writer.specs.ComparisonsFit.{Compared, ComparisonsFit}
 use Rattle.writer.specs.Placed.{Tallied}
 use Rattle.writer.proofs.Steps.{part-length, Is, up, fine-cmp, items-is}
 
@@ -63,7 +63,7 @@ module _ (w : List ℤ) (l u : ℕ) (t g : Bool) (at base : ℕ) (z : l ≡ 0 �
   unfolding step item
   write-var v q e y = up w l u t g at base z hu Of (Var v q) e y
 
-  pub write-cmp : (c q : ℕ) → Is w l u t g at base z hu (Cmp c q) → Fine w (decode F l t g at base .tree) → (k : ℕ) → k ≡ word F (at + 1) → Compared w (at + 2) k g (clause-text [] suf 1) out o a p → Goal
+  pub write-cmp : (c q : ℕ) → Is w l u t g at base z hu (Cmp c q) → ComparisonsFit w (decode F l t g at base .tree) → (k : ℕ) → k ≡ word F (at + 1) → Compared w (at + 2) k g (clause-text [] suf 1) out o a p → Goal
   unfolding step item cmp-item
   write-cmp c q e f k hk x =
       let y : Compared w (at + 2) (word F (at + 1)) g (clause-text [] suf 1) out o a p = subst (λ (k : ℕ). Compared w (at + 2) k g (clause-text [] suf 1) out o a p) hk x in

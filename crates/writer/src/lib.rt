@@ -19,7 +19,7 @@ ghost use Rattle.walk.specs.Tree.{cons, nil};
 ghost use Rattle.walk.specs.Decode.{word as word-in, many, decode, tie-at, many-ties, cross-ties, ties-at, read-part, item-at, items-at, surveyed, Surveys, SurveysAll};
 ghost use Rattle.walk.specs.MeetTies.{Reaches, ReachesAll};
 ghost use Rattle.writer.specs.Suffix.{suffix, Stacked, extra-lits, Open};
-ghost use Rattle.writer.specs.Fine.{Compares, Subtracted, Compared, Fine, Fines};
+ghost use Rattle.writer.specs.ComparisonsFit.{Compares, Subtracted, Compared, ComparisonsFit, Fines};
 ghost use Rattle.writer.specs.Placed.{Placed, Tallied, share, Probed, ProbedAll, Listed, no-extras, RuleWrote};
 ghost use Rattle.writer.specs.Rules.{Writable};
 use sums::LinearSum;
@@ -415,7 +415,7 @@ fn pool(
     out: &mut [i32],
     o: usize,
 ) -> usize
-    requires { ⌜ Placed (now work) at base 0 × Open (now out) o × Fine (now work) (decode (read-part (now work)) left t g at base .tree) ⌝ }
+    requires { ⌜ Placed (now work) at base 0 × Open (now out) o × ComparisonsFit (now work) (decode (read-part (now work)) left t g at base .tree) ⌝ }
     requires { ⌜ (item-at (read-part (now work)) left t g at base .unit .longs ≡ 0) × (m ≡ share b (item-at (read-part (now work)) left t g at base .unit)) ⌝ }
     ensures { λ r. ⌜ Wrote (now (out .entry)) o (item-at (read-part (now (work .entry))) left t g at base .pool b (now (work .entry))) (now (out .exit)) r ⌝ }
 {
@@ -701,7 +701,7 @@ pub fn write(
     out: &mut [i32],
     o: usize,
 ) -> Walked
-    requires { ⌜ Placed (now work) at base n × Open (now out) o × Fine (now work) (decode (read-part (now work)) left t g at base .tree) ⌝ }
+    requires { ⌜ Placed (now work) at base n × Open (now out) o × ComparisonsFit (now work) (decode (read-part (now work)) left t g at base .tree) ⌝ }
     requires { ⌜ Stacked s left ⌝ }
     ensures { λ r. ⌜ Surveys (now (work .entry)) left t g at base n (r .seen) × Wrote (now (out .entry)) o (item-at (read-part (now (work .entry))) left t g at base .text (now (work .entry)) n (suffix s)) (now (out .exit)) (r .o) ⌝ }
 {
@@ -796,7 +796,7 @@ fn put_tie(
     out: &mut [i32],
     o: usize,
 ) -> Tied
-    requires { ⌜ Placed (now work) at base n × Open (now out) o × Fine (now work) (tie-at (decode (read-part (now work)) left true) v at base) ⌝ }
+    requires { ⌜ Placed (now work) at base n × Open (now out) o × ComparisonsFit (now work) (tie-at (decode (read-part (now work)) left true) v at base) ⌝ }
     requires { ⌜ (left ≤ 63) × (v ≤ limit + 1) ⌝ }
     ensures { λ r. ⌜ Listed (now (work .entry)) (items (cons (tie-at (decode (read-part (now (work .entry))) left true) v at base) nil)) n (now (out .entry)) o (now (out .exit)) (r .n) (r .lines) (r .o) × Reaches (read-part (now (work .entry))) left true at base (r .at) (r .base) ⌝ }
 {

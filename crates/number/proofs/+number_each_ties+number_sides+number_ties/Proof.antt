@@ -23,7 +23,7 @@ use native.Mathlib.Omega.{arith}
 use lib.ListN.{length}
 use Rattle.walk.specs.Decode.{read-part}
 use Rattle.walk.specs.Steps.{okay-at}
-use Rattle.walk.specs.Meets.{Met}
+use Rattle.walk.specs.NumberingSteps.{Met}
 use Rattle.walk.specs.MeetTies.{reaches-sides, reaches-none, reaches-var, reaches-cmp, reaches-not, reaches-join, reaches-cross, reaches-split, TiesSofar, ties-start, ties-again, ties-done, ties-zero, ties-var, ties-cmp, ties-not, ties-join, ties-cross, ties-split, met-sides}
 use Rattle.number.proofs.Leaves.{read-length, at-in}
 use Rattle.number.proofs.Members.{met-as}

@@ -6,7 +6,7 @@ use Rattle.number.proofs.number_tie.Lts as lts
 use Rattle.number.proofs.number.Reads as number-reads
 use mathlib.Core.Path.{_≡_, refl, sym, ap, _∙_}
 use native.Mathlib.Omega.{arith}
-use Rattle.walk.specs.Meets.{Met}
+use Rattle.walk.specs.NumberingSteps.{Met}
 use Rattle.walk.specs.MeetTies.{met-tie}
 
 number-requires : tie.Need-number-requires

@@ -24,12 +24,12 @@ use Rattle.clauses.specs.Log.{Log, next-bool, get-bool-var, get-int-var}
 use Rattle.clauses.specs.Disjunction.{Out}
 use Rattle.tables.specs.Tables.{emitted-domains}
 use Rattle.answer.specs.Answer.{fixed-word, map-word, domain-words, clause-words, layout, answer-of, normalize, normalize-stmts}
-use Rattle.call.specs.Ready.{well-declared}
+use Rattle.call.specs.WellRead.{well-declared}
 use Rattle.walk.specs.Item.{State}
 use Rattle.walk.specs.Legal.{LegalInt}
 use Rattle.walk.specs.Rule.{LegalRule}
 use Rattle.walk.specs.Decode.{read-part}
-use Rattle.walk.specs.Meets.{state-of}
+use Rattle.walk.specs.NumberingSteps.{state-of}
 use Rattle.walk.specs.Num.{Numbered}
 use Rattle.walk.specs.declared.Counters.{Counters}
 use Rattle.statements.specs.Columns.{ColumnRecord}
@@ -139,7 +139,7 @@ pub record Folded (p : Problem) (f : Fixed) (ss : List Stmt) (w : List ℤ) : Ty
   pub empty : Empty w
 
 -- after it: the maps, the records and the columns' numbers of the log
-pub record Ready (p : Problem) (f : Fixed) (ss : List Stmt) (w : List ℤ) (c : Counters) : Type 0 where
+pub record NumberedSet (p : Problem) (f : Fixed) (ss : List Stmt) (w : List ℤ) (c : Counters) : Type 0 where
   pub set : Settled p f ss
   pub values : (v : ℕ) → v < 512 → getD w v (pos 0) ≡ fixed-word (f v)
   pub stands : Has (read-part w) 512 (stmts-words ss)
@@ -183,4 +183,4 @@ pub record SomeReady (set w : List ℤ) (b i : ℕ) (c : Counters) : Type 0 wher
   pub words : set ≡ encode it
   pub bools : b ≡ it .bools
   pub ints : i ≡ length (it .domains)
-  pub ready : Ready it fixed stmts w c
+  pub ready : NumberedSet it fixed stmts w c

@@ -49,18 +49,18 @@ module _ (w : List ℤ) where
     single : (ls : List BoolLit) (ks : List LinearLit) → cs ≡ clause ls ks ∷ [] → i .unit ≡ tally 0 (length ls) (length ks) 0 → i .pool true w ≡ words ls → i .pool false w ≡ linears ks → Shape i cs
     many : 2 ≤ length cs → i .unit ≡ long (min (length cs) limit) → i .pool true w ≡ [] → i .pool false w ≡ [] → Shape i cs
 
-  pub record GoodAt (i : Item) (s : Log) (o : Out) : Type 0 where
+  pub record ImplementsAt (i : Item) (s : Log) (o : Out) : Type 0 where
     pub count : i .count w (next-bool s) ≡ next-bool (o .1)
     pub text : (suf : List ℤ) → i .text w (next-bool s) suf ≡ layout suf (o .0)
     pub shape : Shape i (o .0)
 
-  pub record Good (i : Item) (r : Run) : Type 0 where
+  pub record Implements (i : Item) (r : Run) : Type 0 where
     pub grows : (s : Log) → Grows s (r s .1)
-    pub at : (s : Log) → Fit w (r s .1) → GoodAt i s (r s)
+    pub at : (s : Log) → Fit w (r s .1) → ImplementsAt i s (r s)
 
   pub data Goods : List Item → Runs → Type 0 where
     none : Goods [] no-run
-    more : {i : Item} {r : Run} {is : List Item} {rs : Runs} → Good i r → Goods is rs → Goods (i ∷ is) (run-then r rs)
+    more : {i : Item} {r : Run} {is : List Item} {rs : Runs} → Implements i r → Goods is rs → Goods (i ∷ is) (run-then r rs)
 
   -- the members sorted
   pub record Sorts (is : List Item) (s : Log) (o : Outs) : Type 0 where
@@ -88,7 +88,7 @@ module _ (w : List ℤ) where
   shape-lines i cs (single ls ks e u p q) = rw (u, e) (omega arith)
   shape-lines i cs (many h u p q) = rw u
 
-  sorts-more : (i : Item) (is : List Item) (s : Log) (a : Out) (b : Outs) → GoodAt i s a → Sorts is (a .1) b → Sorts (i ∷ is) s (a .0 ∷ b .0, b .1)
+  sorts-more : (i : Item) (is : List Item) (s : Log) (a : Out) (b : Outs) → ImplementsAt i s a → Sorts is (a .1) b → Sorts (i ∷ is) s (a .0 ∷ b .0, b .1)
   unfolding sorted tallies all-lines counts pools texts long-texts long-layout layout
   sorts-more i is s (zs, t) b g h = go zs (g .shape) (g .text)
     where
@@ -191,7 +191,7 @@ module _ (w : List ℤ) where
   shape-some i cs (single ls ks e u p q) = rw e (omega arith)
   shape-some i cs (many h u p q) = omega arith
 
-  pub conj-good : (is : List Item) (rs : Runs) → Goods is rs → 2 ≤ length is → Good (conj-item is) (normalize-conjunction rs)
+  pub conj-good : (is : List Item) (rs : Runs) → Goods is rs → 2 ≤ length is → Implements (conj-item is) (normalize-conjunction rs)
   unfolding conj-item normalize-conjunction
   conj-good is rs gs h = record {
     grows = goods-grows gs;
@@ -200,7 +200,7 @@ module _ (w : List ℤ) where
         record { count = x .count; text = x .text; shape = many (omega (arith, x .size)) (ap long (x .lines)) refl refl };
   }
 
-  pub disj-good : (is : List Item) (rs : Runs) → Goods is rs → Good (disj-item is) (disjunction-of rs)
+  pub disj-good : (is : List Item) (rs : Runs) → Goods is rs → Implements (disj-item is) (disjunction-of rs)
   unfolding disj-item disjunction-of
   disj-good is rs gs = record {
     grows = λ s. then (goods-grows gs s) (disj-grows (rs s .0) (rs s .1));
@@ -214,7 +214,7 @@ module _ (w : List ℤ) where
         };
   }
 
-  pub cross-good : (is js : List Item) (rs qs : Runs) → Goods is rs → Goods js qs → Good (cross-item is js) (cross-run rs qs)
+  pub cross-good : (is js : List Item) (rs qs : Runs) → Goods is rs → Goods js qs → Implements (cross-item is js) (cross-run rs qs)
   unfolding cross-item cross-run
   cross-good is js rs qs gs hs = record {
     grows = λ s.
@@ -250,10 +250,10 @@ module _ (w : List ℤ) where
   length-add l [] = refl
   length-add l (c ∷ cs) = ap suc (length-add l cs)
 
-  beside-text : (i : Item) (s : Log) (o : Out) (v : ℕ) (g : Bool) (suf : List ℤ) → v < limit → GoodAt i s o → i .text w (next-bool s) (word-of (v + 1) g ∷ suf) ≡ layout suf (add-bool-each (lit v g) (o .0))
+  beside-text : (i : Item) (s : Log) (o : Out) (v : ℕ) (g : Bool) (suf : List ℤ) → v < limit → ImplementsAt i s o → i .text w (next-bool s) (word-of (v + 1) g ∷ suf) ≡ layout suf (add-bool-each (lit v g) (o .0))
   beside-text i s o v g suf h x = x .text (word-of (v + 1) g ∷ suf) ∙ ap (λ y. layout (y ∷ suf) (o .0)) (ap (λ n. word-of n g) (add-one v) ∙ word-lit v g h) ∙ sym (layout-add (lit v g) suf (o .0))
 
-  pub tied-good : (v : ℕ) (i j : Item) (r q : Run) → v < limit → Good i r → Good j q → Good (tied-item v i j) (cross-run (two r (num-run v true)) (two q (num-run v false)))
+  pub tied-good : (v : ℕ) (i j : Item) (r q : Run) → v < limit → Implements i r → Implements j q → Implements (tied-item v i j) (cross-run (two r (num-run v true)) (two q (num-run v false)))
   unfolding tied-item cross-run run-then num-run no-run
   tied-good v i j r q h x y = record {
     grows = λ s.
@@ -280,7 +280,7 @@ module _ (w : List ℤ) where
 
   -- ---- leaves
 
-  pub num-good : (n : ℕ) (g : Bool) → n < limit → Good (num-item n g) (num-run n g)
+  pub num-good : (n : ℕ) (g : Bool) → n < limit → Implements (num-item n g) (num-run n g)
   unfolding num-item num-run layout
   num-good n g h = record {
     grows = λ s. same;
@@ -293,7 +293,7 @@ module _ (w : List ℤ) where
         };
   }
 
-  pub cmp-good : (o : CmpOp) (a b : IntExpr) (g : Bool) → Good (cmp-item o a b g) (normalize-comparison o g (normalize-int-expr a) (normalize-int-expr b))
+  pub cmp-good : (o : CmpOp) (a b : IntExpr) (g : Bool) → Implements (cmp-item o a b g) (normalize-comparison o g (normalize-int-expr a) (normalize-int-expr b))
   unfolding cmp-item normalize-comparison layout comparison
   cmp-good o a b g = record {
     grows = λ s. then (int-grows a s) (int-grows b (normalize-int-expr a s .1));
@@ -312,7 +312,7 @@ module _ (w : List ℤ) where
   }
 
   var-at : (v : ℕ) (g : Bool) (s : Log) (n : ℕ) (t : Log) → get-bool-var v t ≡ some n → Fit w t → cond (eqb (bool-entry w v) (next-bool s + 1)) (bump (next-bool s) 1) (next-bool s) ≡ next-bool t
-      → GoodAt (var-item v g) s (lit-clauses n g, t)
+      → ImplementsAt (var-item v g) s (lit-clauses n g, t)
   unfolding var-item layout
   var-at v g s n t h f c =
       let e : word-of (bool-entry w v) g ≡ lit-word (lit n g) = rw (f .agree v n h) (word-lit n g (omega (arith, bool-below t v n h, f .small))) in
@@ -322,7 +322,7 @@ module _ (w : List ℤ) where
         shape = single (lit n g ∷ []) [] refl refl (ap (λ x. x ∷ []) e) refl;
       }
 
-  pub var-good : (v : ℕ) (g : Bool) → Good (var-item v g) (normalize-var v g)
+  pub var-good : (v : ℕ) (g : Bool) → Implements (var-item v g) (normalize-var v g)
   unfolding normalize-var convert-bool-var
   var-good v g = record { grows = λ s. gr s (get-bool-var v s) refl; at = λ s f. go s (get-bool-var v s) refl f }
     where
@@ -330,7 +330,7 @@ module _ (w : List ℤ) where
       gr s nothing e = grow-declared v s e
       gr s (some n) e = same
 
-      go : (s : Log) (o : Option ℕ) → get-bool-var v s ≡ o → Fit w (bool-var-at o v s .1) → GoodAt (var-item v g) s (lit-clauses (bool-var-at o v s .0) g, bool-var-at o v s .1)
+      go : (s : Log) (o : Option ℕ) → get-bool-var v s ≡ o → Fit w (bool-var-at o v s .1) → ImplementsAt (var-item v g) s (lit-clauses (bool-var-at o v s .0) g, bool-var-at o v s .1)
       go s nothing e f =
           let p : bool-entry w v ≡ suc (next-bool s) = f .agree v (next-bool s) (bool-here v s) in
           var-at v g s (next-bool s) (declared v ∷ s) (bool-here v s) f (rw (eq-eqb (bool-entry w v) (next-bool s + 1) (omega arith)) (omega (arith, f .small)))
@@ -346,7 +346,7 @@ module _ (w : List ℤ) where
   mutual
     unfolding item run Proper
 
-    pub item-good : (t : Tree) → Proper t → Good (item t) (run t)
+    pub item-good : (t : Tree) → Proper t → Implements (item t) (run t)
     item-good (var v g) p = var-good v g
     item-good (num n g) p = num-good n g p
     item-good (cmp k o a b g) p = cmp-good o a b g

@@ -16,11 +16,11 @@ use Rattle.clauses.specs.Log.{Log, next-bool, next-int, get-bool-var, get-int-v
 use Rattle.clauses.specs.Disjunction.{Out, Outs, normalize-disjunction}
 use Rattle.clauses.specs.Normalize.{Run, Runs, no-run, run-then, two, normalize-conjunction, disjunction-of, cross as cross-run, lit-clauses, normalize-var, normalize-comparison, normalize-int-expr}
 use Rattle.walk.specs.Tree.{Tree, var, num, cmp, conj, disj, cross, tied, Trees, nil, cons, num-run, run, runs}
-use Rattle.walk.specs.Item.{limit, bump, State, pass-bools, fresh, tallies, mets, Item, var-item, num-item, cmp-item, conj-item, disj-item, cross-item, tied-item, all-lines, texts, counts, item, items}
+use Rattle.walk.specs.Item.{limit, bump, State, walk-bools, fresh, tallies, mets, Item, var-item, num-item, cmp-item, conj-item, disj-item, cross-item, tied-item, all-lines, texts, counts, item, items}
 use Rattle.walk.specs.Grow.{Grows, same, then, Fit, back}
 use Rattle.walk.specs.Ints.{int-grows}
 use Rattle.walk.specs.Texts.{layout, Auxed, here, above, disjunction-auxed, Untouched, auxed-untouched}
-use Rattle.walk.specs.Good.{Proper, Propers, Good, Goods, Sorts, goods-grows, goods-sorts, disj-grows, disj-at, beside, shape-some, var-good, item-good, items-good}
+use Rattle.walk.specs.Implements.{Proper, Propers, Implements, Goods, Sorts, goods-grows, goods-sorts, disj-grows, disj-at, beside, shape-some, var-good, item-good, items-good}
 use Rattle.walk.specs.Num.{max-emitted, code, Recorded, Numbered, numbered-fit, bool-num, expr-num}
 
 -- the counters of a log, low enough
@@ -62,8 +62,8 @@ module _ (Column : Log → ℤ → LinearSum → Domain → Type 0) where
     small = l;
   }
 
-  pub pass-num : (st : State) (z e : Log) (k : ℕ) → Numbered Column st z → Untouched z e → Recorded Column (st .work) e → next-bool e ≡ next-bool z + k → next-bool e ≤ limit → Numbered Column (pass-bools k st) e
-  unfolding pass-bools
+  pub pass-num : (st : State) (z e : Log) (k : ℕ) → Numbered Column st z → Untouched z e → Recorded Column (st .work) e → next-bool e ≡ next-bool z + k → next-bool e ≤ limit → Numbered Column (walk-bools k st) e
+  unfolding walk-bools
   pass-num st z e k h u r c l = record {
     map = λ v hv. h .map v hv ∙ ap code (sym (u .keep v));
     map-int = λ v hv. h .map-int v hv ∙ ap code (sym (u .keep-int v));
@@ -82,7 +82,7 @@ module _ (Column : Log → ℤ → LinearSum → Domain → Type 0) where
 
   -- behind a disjunction
   disj-num : (ts : Trees) → Propers ts → (s z : Log) (st : State) → Grows (runs ts s .1) z → Numbered Column st z → next-bool (normalize-disjunction (runs ts s .0) z .1) ≤ limit
-      → Numbered Column (pass-bools (fresh (tallies (items ts))) st) (normalize-disjunction (runs ts s .0) z .1)
+      → Numbered Column (walk-bools (fresh (tallies (items ts))) st) (normalize-disjunction (runs ts s .0) z .1)
   disj-num ts p s z st g h l =
       let o = runs ts s in
       let e = normalize-disjunction (o .0) z .1 in
@@ -135,14 +135,14 @@ module _ (Column : Log → ℤ → LinearSum → Domain → Type 0) where
 
   -- ---- the two passes over trees. w: any work slice with the maps of a log that is at least as long
 
-  pub record TwoPasses (ts : Trees) (s : Log) (st : State) : Type 0 where
+  pub record BothWalks (ts : Trees) (s : Log) (st : State) : Type 0 where
     pub numbered : Numbered Column (mets (items ts) st) (runs ts s .1)
     pub text : (w : List ℤ) → Fit w (runs ts s .1) → (suf : List ℤ) → texts (items ts) w (st .bools) suf ≡ layout suf (flat (runs ts s .0))
     pub count : (w : List ℤ) → Fit w (runs ts s .1) → counts (items ts) w (st .bools) ≡ next-bool (runs ts s .1)
     pub lines : all-lines (items ts) ≡ min (length (flat (runs ts s .0))) limit
 
-  pub two-passes : (ts : Trees) → Propers ts → (s : Log) (st : State) → Numbered Column st s → Low (runs ts s .1) → TwoPasses ts s st
-  two-passes ts p s st h l =
+  pub both-walks : (ts : Trees) → Propers ts → (s : Log) (st : State) → Numbered Column st s → Low (runs ts s .1) → BothWalks ts s st
+  both-walks ts p s st h l =
       let x = nums-good ts p s st h l in
       let b : st .bools ≡ next-bool s = h .bools in
       record {

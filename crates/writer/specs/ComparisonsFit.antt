@@ -40,15 +40,15 @@ pub record Compared (w : List ℤ) (at k : ℕ) (g : Bool) (words : List ℤ →
   pub wrote : (a b : IntExpr) → Has w at (encode-int a ++ encode-int b) → Wrote out o (words (comparison w (op-at k) a b g)) out' o'
 
 unfoldable mutual
-  pub Fine : List ℤ → Tree → Type 0
-  Fine w (var v g) = Unit {0}
-  Fine w (num n g) = Unit {0}
-  Fine w (cmp p o a b g) = Sides w (p + 2) a b
-  Fine w (conj ts) = Fines w ts
-  Fine w (disj ts) = Fines w ts
-  Fine w (cross ts us) = Fines w ts × Fines w us
-  Fine w (tied v t u) = Fine w t × Fine w u
+  pub ComparisonsFit : List ℤ → Tree → Type 0
+  ComparisonsFit w (var v g) = Unit {0}
+  ComparisonsFit w (num n g) = Unit {0}
+  ComparisonsFit w (cmp p o a b g) = Sides w (p + 2) a b
+  ComparisonsFit w (conj ts) = Fines w ts
+  ComparisonsFit w (disj ts) = Fines w ts
+  ComparisonsFit w (cross ts us) = Fines w ts × Fines w us
+  ComparisonsFit w (tied v t u) = ComparisonsFit w t × ComparisonsFit w u
 
   pub Fines : List ℤ → Trees → Type 0
   Fines w nil = Unit {0}
-  Fines w (cons t ts) = Fine w t × Fines w ts
+  Fines w (cons t ts) = ComparisonsFit w t × Fines w ts

@@ -14,15 +14,15 @@ use Rattle.clauses.specs.Log.{declared, aux, side, declared-int, column, Log, n
 use Rattle.answer.specs.Answer.{normalize-stmt}
 use Rattle.walk.specs.Item.{nat, bool-map, int-map, emitted-ints, bool-entry, int-entry}
 use Rattle.walk.specs.Decode.{read-part}
-use Rattle.walk.specs.Meets.{state-of}
+use Rattle.walk.specs.NumberingSteps.{state-of}
 use Rattle.walk.specs.Num.{max-emitted, Recorded, Numbered}
 use Rattle.walk.specs.declared.Counters.{Counters}
 use Rattle.statements.specs.Columns.{ColumnRecord}
 use Rattle.statements.specs.Statements.{AllInPlace}
-use Rattle.statements.specs.Ready.{stmts-words, settled-short, log-of, Ready}
+use Rattle.statements.specs.Stages.{stmts-words, settled-short, log-of, NumberedSet}
 pub use Rattle.statements.specs.Saved.{free-from}
 use Rattle.statements.specs.Saved.{Saved, saved-below, in-place-saved}
-use Rattle.statements.specs.ReadyEntry.{settled-emitted}
+use Rattle.statements.specs.NumberedEntry.{settled-emitted}
 
 part-same : (w w' : List ℤ) → take free-from w' ≡ take free-from w → read-part w' ≡ read-part w
 unfolding read-part
@@ -69,7 +69,7 @@ module _ {w w' : List ℤ} (same : Saved 0 w w') where
         let n = length-append (encode-stmt t) (stmts-words ss) in
         (in-place-saved F ds at t s (omega arith) (omega (arith, n)) same (k .0), all-placed-same (at + length (encode-stmt t)) ss (normalize-stmt ds t s .1) (omega (arith, n)) (k .1))
 
-pub ready-keeps : {p : Problem} {f : Fixed} {ss : List Stmt} {w w' : List ℤ} {c : Counters} → take free-from w' ≡ take free-from w → length w' ≡ length w → Ready p f ss w c → Ready p f ss w' c
+pub ready-keeps : {p : Problem} {f : Fixed} {ss : List Stmt} {w w' : List ℤ} {c : Counters} → take free-from w' ≡ take free-from w → length w' ≡ length w → NumberedSet p f ss w c → NumberedSet p f ss w' c
 ready-keeps {p} {f} {ss} {w} {w'} {c} e l r =
     let q : read-part w ≡ read-part w' = sym (part-same w w' e) in
     let same : Saved 0 w w' = saved-below e l in

@@ -10,14 +10,14 @@ use Rattle.clauses.specs.Log.{next-int}
 use Rattle.clauses.specs.Grow.{Grows as GrowsFrom, same}
 use Rattle.walk.specs.Grow.{Fit}
 use Rattle.walk.specs.Decode.{read-part}
-use Rattle.walk.specs.Meets.{state-of}
+use Rattle.walk.specs.NumberingSteps.{state-of}
 use Rattle.walk.specs.Num.{numbered-fit}
-use Rattle.walk.specs.Two.{Low}
+use Rattle.walk.specs.TwoWalks.{Low}
 use Rattle.walk.specs.declared.Counters.{Counters}
 use Rattle.statements.specs.Columns.{ColumnRecord}
 use Rattle.statements.specs.Whole.{lowest, grown, declared, emitted, log-low}
 use Rattle.statements.specs.Records.{Entry, entry-at}
-use Rattle.statements.specs.Ready.{stmts-words, Settled, settled-short, log-of, Ready}
+use Rattle.statements.specs.Stages.{stmts-words, Settled, settled-short, log-of, NumberedSet}
 
 module _ {p : Problem} {f : Fixed} {ss : List Stmt} (s : Settled p f ss) where
   -- two words for each emitted integer, beside the declared domains
@@ -33,7 +33,7 @@ module _ {p : Problem} {f : Fixed} {ss : List Stmt} (s : Settled p f ss) where
   pub settled-low : Low (log-of p ss)
   settled-low = log-low p (s .well) f ss (s .ends) (s .unrefused) short few
 
-module _ {p : Problem} {f : Fixed} {ss : List Stmt} {w : List ℤ} {c : Counters} (r : Ready p f ss w c) where
+module _ {p : Problem} {f : Fixed} {ss : List Stmt} {w : List ℤ} {c : Counters} (r : NumberedSet p f ss w c) where
   pub ready-fit : Fit w (log-of p ss)
   ready-fit = numbered-fit (ColumnRecord (read-part w) (p .domains)) (state-of w c) (log-of p ss) (r .numbered) (settled-low (r .set) .bools)
 

@@ -12,7 +12,7 @@ use lib.Dec.{eqb}
 use borrow.Author.Tests.{ne-eqb}
 use Rattle.syntax.specs.Syntax.{IntExpr, IConst, IVar, Linear, Terms, tnil, tmore}
 use Rattle.walk.specs.Tree.{Tree, Trees, nil, cons, joined}
-use Rattle.walk.specs.Item.{limit, bump, is-none, nat, bool-map, int-map, emitted-ints, bool-entry, int-entry, State, new-bool, meet-bool, new-int, meet-int-var, meet-int, meet-terms, pass-bools, Tally, fresh, Item, tallies, mets, var-item, cmp-item, num-item, conj-item, disj-item, cross-item, item, items}
+use Rattle.walk.specs.Item.{limit, bump, is-none, nat, bool-map, int-map, emitted-ints, bool-entry, int-entry, State, new-bool, meet-bool, new-int, meet-int-var, meet-int, meet-terms, walk-bools, Tally, fresh, Item, tallies, mets, var-item, cmp-item, num-item, conj-item, disj-item, cross-item, item, items}
 use Rattle.walk.specs.Decode.{word, past, below, terms, int-step, int-at, int-end, node-of, Read, Reads, Reader, many, as-tree, cross-step, step, decode, read-part, Surveys}
 use Rattle.walk.specs.Steps.{decode-level, many-more}
 use Rattle.walk.specs.declared.Node.{Node}
@@ -153,7 +153,7 @@ terms-done l w c k at w' d rest q x e = record {
 
 module _ (ws : List ℤ) (l : ℕ) (t g : Bool) (at base : ℕ) (s : State) where
   pub number-none : l ≡ 0 → s .bools ≤ limit → s ≡ item (decode ws l t g at base .tree) .met s
-  unfolding decode item disj-item mets tallies pass-bools
+  unfolding decode item disj-item mets tallies walk-bools
   number-none e h = rw e (state-to s (omega arith))
     where
       state-to : (s : State) → s .bools ≡ bump (s .bools) 0 → s ≡ record { work = s .work; bools = bump (s .bools) 0; ints = s .ints }
@@ -180,12 +180,12 @@ module _ (ws : List ℤ) (l : ℕ) (t g : Bool) (at base : ℕ) (s : State) wher
     number-conj k a b q e = at-node (Join false k a b q) e
 
     pub number-disj : (k : ℕ) (a b : Bool) (q : ℕ) → Join true k a b q ≡ node-of ws u g at (word ws at)
-        → pass-bools (fresh (tallies (items (many (decode ws u t) k a b q base .trees)))) (mets (items (many (decode ws u t) k a b q base .trees)) s) ≡ item (decode ws l t g at base .tree) .met s
+        → walk-bools (fresh (tallies (items (many (decode ws u t) k a b q base .trees)))) (mets (items (many (decode ws u t) k a b q base .trees)) s) ≡ item (decode ws l t g at base .tree) .met s
     unfolding step item disj-item
     number-disj k a b q e = at-node (Join true k a b q) e
 
     pub number-split : (h : Bool) (q : ℕ) → t ≡ true → s .bools ≤ limit → Cross h q ≡ node-of ws u g at (word ws at) → s ≡ item (decode ws l t g at base .tree) .met s
-    unfolding step cross-step item cross-item num-item mets tallies pass-bools
+    unfolding step cross-step item cross-item num-item mets tallies walk-bools
     number-split h q ht low e = ap (λ (b : ℕ). record { work = s .work; bools = b; ints = s .ints }) (omega arith) ∙ at-split ht ∙ at-node (Cross h q) e
       where
         at-split : t ≡ true → record { work = s .work; bools = bump (bump (s .bools) 0) 0; ints = s .ints } ≡ item (step ws u (decode ws u) t g at base (Cross h q) .tree) .met s
@@ -193,12 +193,12 @@ module _ (ws : List ℤ) (l : ℕ) (t g : Bool) (at base : ℕ) (s : State) wher
 
     pub number-cross : (h : Bool) (q : ℕ) → t ≡ false → Cross h q ≡ node-of ws u g at (word ws at)
         → (let is = items (many (decode ws u true) 2 false h q base .trees) in let js = items (many (decode ws u true) 2 true (not h) q base .trees) in
-        pass-bools (fresh (tallies js)) (pass-bools (fresh (tallies is)) (mets js (mets is s)))) ≡ item (decode ws l t g at base .tree) .met s
+        walk-bools (fresh (tallies js)) (walk-bools (fresh (tallies is)) (mets js (mets is s)))) ≡ item (decode ws l t g at base .tree) .met s
     unfolding step cross-step item cross-item
     number-cross h q ht e = at-cross ht ∙ at-node (Cross h q) e
       where
         at-cross : t ≡ false → (let is = items (many (decode ws u true) 2 false h q base .trees) in let js = items (many (decode ws u true) 2 true (not h) q base .trees) in
-            pass-bools (fresh (tallies js)) (pass-bools (fresh (tallies is)) (mets js (mets is s)))) ≡ item (step ws u (decode ws u) t g at base (Cross h q) .tree) .met s
+            walk-bools (fresh (tallies js)) (walk-bools (fresh (tallies is)) (mets js (mets is s)))) ≡ item (step ws u (decode ws u) t g at base (Cross h q) .tree) .met s
         at-cross ht = rw ht
 
 -- ---- members, one after another
@@ -286,19 +286,19 @@ module _ (w : List ℤ) (l : ℕ) (t g : Bool) (at base : ℕ) (c : Counters) wh
     met-conj w' r k a b q e x = met-to (number-conj (read-part w) l t g at base (state-of w c) u z hu k a b q e) x
 
     pub met-disj : (w' : List ℤ) (d r : Counters) (k : ℕ) (a b : Bool) (q : ℕ) → Join true k a b q ≡ node-of (read-part w) u g at (word (read-part w) at) → Met (mets (items (many (decode (read-part w) u t) k a b q base .trees))) w c w' d
-        → Met (pass-bools (fresh (tallies (items (many (decode (read-part w') u t) k a b q base .trees))))) w' d w' r → Meets w' r
+        → Met (walk-bools (fresh (tallies (items (many (decode (read-part w') u t) k a b q base .trees))))) w' d w' r → Meets w' r
     met-disj w' d r k a b q e x y =
-        met-to (number-disj (read-part w) l t g at base (state-of w c) u z hu k a b q e) (met-after (λ ws. pass-bools (fresh (tallies (items (many (decode ws u t) k a b q base .trees))))) x y)
+        met-to (number-disj (read-part w) l t g at base (state-of w c) u z hu k a b q e) (met-after (λ ws. walk-bools (fresh (tallies (items (many (decode ws u t) k a b q base .trees))))) x y)
 
     pub met-split : (h : Bool) (q : ℕ) → t ≡ true → Cross h q ≡ node-of (read-part w) u g at (word (read-part w) at) → c .bools ≤ limit → c .ints ≤ limit → Meets w c
     met-split h q ht e a b = record { state = number-split (read-part w) l t g at base (state-of w c) u z hu h q ht a e; part = refl; size = refl; low = a; low-ints = b }
 
     pub met-cross : (v w' : List ℤ) (d e p r : Counters) (h : Bool) (q : ℕ) → t ≡ false → Cross h q ≡ node-of (read-part w) u g at (word (read-part w) at)
         → Met (mets (items (many (decode (read-part w) u true) 2 false h q base .trees))) w c v d → Met (mets (items (many (decode (read-part v) u true) 2 true (not h) q base .trees))) v d w' e
-        → Met (pass-bools (fresh (tallies (items (many (decode (read-part w') u true) 2 false h q base .trees))))) w' e w' p
-        → Met (pass-bools (fresh (tallies (items (many (decode (read-part w') u true) 2 true (not h) q base .trees))))) w' p w' r → Meets w' r
+        → Met (walk-bools (fresh (tallies (items (many (decode (read-part w') u true) 2 false h q base .trees))))) w' e w' p
+        → Met (walk-bools (fresh (tallies (items (many (decode (read-part w') u true) 2 true (not h) q base .trees))))) w' p w' r → Meets w' r
     met-cross v w' d e p r h q ht i x y m n =
         met-to (number-cross (read-part w) l t g at base (state-of w c) u z hu h q ht i)
-        (met-after (λ ws. pass-bools (fresh (tallies (items (many (decode ws u true) 2 true (not h) q base .trees)))))
-        (met-after (λ ws. pass-bools (fresh (tallies (items (many (decode ws u true) 2 false h q base .trees)))))
+        (met-after (λ ws. walk-bools (fresh (tallies (items (many (decode ws u true) 2 true (not h) q base .trees)))))
+        (met-after (λ ws. walk-bools (fresh (tallies (items (many (decode ws u true) 2 false h q base .trees)))))
         (met-after (λ ws. mets (items (many (decode ws u true) 2 true (not h) q base .trees))) x y) m) n)
