@@ -4,15 +4,15 @@ use mathlib.Core.Path.{_≡_}
 use mathlib.Core.Bool.{Bool, true, false, not, _&&_, Bool·beq, cond}
 use mathlib.Core.List.{List, [], _∷_}
 use Prim.Native.Nat.{ℕ, zero, suc}
-use lib.IntN.{ℤ, pos, negsuc, natAbs, _+ℤ_, _*ℤ_}
+use lib.IntN.{ℤ, pos, negsuc, natAbs}
 use lib.Signed.{leZ}
 use lib.Dec.{ltb}
 use lib.ListN.{length, getD, drop}
 use Rattle.laws.specs.Ints.{eqZ}
 use Rattle.laws.specs.Lists.{all, below}
 use Rattle.syntax.specs.Syntax.{op-at}
-use Rattle.syntax.specs.Satisfies.{Val, IVal, compare}
-use Rattle.sums.specs.LinearSum.{Term, term, LinearSum, linear-sum}
+use Rattle.syntax.specs.Satisfies.{Val, IVal}
+use Rattle.sums.specs.LinearSum.{Term, term, linear-sum}
 use Rattle.clauses.specs.Clause.{BoolLit, lit, LinearLit, linear, Clause, clause, clause-true}
 
 -- ---- the clauses of words. Each function gives what it read and the words after it

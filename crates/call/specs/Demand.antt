@@ -1,21 +1,20 @@
 -- Demand 3: for every set that is not refused, an assignment within the domains satisfies every statement exactly when it passes the answer.
 use mathlib.Core.Path.{_≡_, refl, sym, ap, _∙_}
 use mathlib.Core.Logic.{_↔_}
-use mathlib.Core.Bool.{Bool, true, false, _&&_, _||_, cond, false≢true}
-use mathlib.Core.Option.{Option, some}
-use mathlib.Core.List.{List, [], _∷_, _++_, map}
-use Prim.Native.Nat.{ℕ, zero, suc, _≤_, _<_}
+use mathlib.Core.Bool.{Bool, true, false, _||_, cond, false≢true}
+use mathlib.Core.List.{List, [], _∷_, map}
+use Prim.Native.Nat.{ℕ, zero, suc, _<_}
 use native.Mathlib.Omega.{arith}
 use lib.IntN.{ℤ}
 use lib.Signed.{ltZ}
 use lib.Dec.{ltb}
-use lib.ListN.{length, length-map, getD}
+use lib.ListN.{length, length-map}
 use Rattle.laws.specs.Bools.{and-i}
-use Rattle.laws.specs.Lists.{all, from, below, length-from}
+use Rattle.laws.specs.Lists.{all, below, length-from}
 use Rattle.syntax.specs.Words.{min-work-words, max-set-words, max-answer-words}
-use Rattle.syntax.specs.Syntax.{Domain, Range, Enumerative, domain-of, IntExpr, Cell, Stmt, Rule, Table, Problem}
+use Rattle.syntax.specs.Syntax.{Domain, Range, Enumerative, domain-of, Stmt, Rule, Table, Problem}
 use Rattle.syntax.specs.Satisfies.{Val, IVal, stmt-holds, in-domains, satisfies}
-use Rattle.syntax.specs.Written.{EveryStmt, EveryStmts, every-stmts-map, Within, in-domains-within}
+use Rattle.syntax.specs.Written.{EveryStmt, EveryStmts, every-stmts-map, in-domains-within}
 use Rattle.words.specs.Parse.{Parsed, ok, refuse}
 use Rattle.words.specs.Exact.{Each}
 use Rattle.read.specs.Read.{read-set}
@@ -23,16 +22,14 @@ use Rattle.read.specs.WellFormed.{RisingFrom, WellDomain, WellFormed}
 use Rattle.read.specs.Exact.{set-sound}
 use Rattle.limits.specs.Limits.{check}
 use Rattle.fold.specs.Fold.{Fixed, constant-folding-stmt as fold-stmt}
-use Rattle.fold.specs.FoldMeaning.{Agrees as AgreesFixed}
 use Rattle.fold.specs.Optimize.{Outcome, inconsistent, settled, optimize}
 use Rattle.fold.specs.Kept.{fold-stmts-every}
 use Rattle.fold.specs.Ends.{optimize-rests}
 use Rattle.fold.specs.Meaning.{optimize-satisfies, optimize-inconsistent}
 use Rattle.sums.specs.Domain.{rising-from, ordered, domain-between}
-use Rattle.clauses.specs.Clause.{clause-true}
 use Rattle.clauses.specs.Log.{Log}
 use Rattle.clauses.specs.Disjunction.{Out}
-use Rattle.clauses.specs.Valuation.{Fits, fits-agrees, all-true}
+use Rattle.clauses.specs.Valuation.{Fits, fits-agrees}
 use Rattle.clauses.specs.Grow.{Grows}
 use Rattle.clauses.specs.Means.{Means, means-none, means-append}
 use Rattle.clauses.specs.RuleMeaning.{read-rule-means}
@@ -44,7 +41,7 @@ use Rattle.answer.specs.Passes.{Decoded, decode, between, passes-decoded, passe
 use Rattle.answer.specs.ReadBack.{hull, view-of, answer-back}
 use Rattle.answer.specs.Declared.{stmts-declared}
 use Rattle.answer.specs.Carried.{Carried, carried, carries}
-use Rattle.call.specs.Call.{Result, compiled, contradiction, refused, measured, answered, checked, when-read, call}
+use Rattle.call.specs.Call.{Result, compiled, refused, measured, answered, checked, when-read, call}
 use Rattle.call.specs.Claim.{within, satisfied, Passed, NotRefused, Exact, Consequences}
 use Rattle.call.specs.WellRead.{well-declared, Plain, folded-plain}
 use Rattle.call.specs.Known.{optimize-known}

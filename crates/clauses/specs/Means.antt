@@ -7,7 +7,7 @@ use Prim.Native.Nat.{_≤_}
 use native.Mathlib.Omega.{arith}
 use lib.IntN.{ℤ}
 use Rattle.laws.specs.Bools.{and-mono, or-mono}
-use Rattle.laws.specs.Lists.{all, any, flat, all-append}
+use Rattle.laws.specs.Lists.{flat, all-append}
 use Rattle.syntax.specs.Satisfies.{Val, IVal}
 use Rattle.sums.specs.LinearSum.{sum-value}
 use Rattle.clauses.specs.Clause.{Clause, clause, clause-true}

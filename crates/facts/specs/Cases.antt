@@ -1,7 +1,7 @@
 -- A loader's tests computed: P1's and P9's answers pass them; each of the others fails one.
 use mathlib.Core.Path.{_≡_, refl}
 use mathlib.Core.Bool.{Bool, true, false}
-use mathlib.Core.List.{List, [], _∷_, map}
+use mathlib.Core.List.{List, [], _∷_}
 use Prim.Native.Nat.{ℕ}
 use lib.IntN.{ℤ, pos, negℤ}
 use Rattle.facts.specs.Loads.{take-word, take-times, take-counted, take-record, take-literal, take-terms, take-comparison, take-clause, loads-with, loads}

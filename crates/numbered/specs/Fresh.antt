@@ -8,7 +8,7 @@ use lib.IntN.{ℤ, natAbs}
 use lib.Dec.{leb}
 use lib.ListN.{length, take, drop, length-map}
 use lib.Seq.{drop-drop}
-use borrow.Author.Tests.{eq-eqb, le-leb}
+use borrow.Author.Tests.{le-leb}
 use Rattle.laws.specs.Bools.{and-i}
 use Rattle.laws.specs.Ints.{eqZ}
 use Rattle.laws.specs.Lists.{any, all, keep-if, filter}
@@ -18,7 +18,6 @@ use Rattle.syntax.specs.Syntax.{Cell, star, value, encode-cell}
 use Rattle.words.specs.Exact.{Each}
 use Rattle.read.specs.WellFormed.{WellCell, WellRow}
 use Rattle.tables.specs.Tables.{Row, is-star}
-use Rattle.tables.specs.Agree.{wide}
 use Rattle.rows.specs.Rows.{rows-of, row-at}
 use Rattle.rows.specs.Stars.{values-in, is-free, is-single, is-longer, count-rows}
 use Rattle.rows.specs.Stands.{small, cells-words, length-cells, stars-stand, values-stand}

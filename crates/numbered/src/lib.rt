@@ -69,7 +69,7 @@ fn number_statement(work: &mut [i32], at: usize, c: Counters) -> Counters
 }
 
 // Where the statement at a place ends.
-pub fn statement_end(work: &[i32], at: usize) -> usize
+fn statement_end(work: &[i32], at: usize) -> usize
     requires { ⌜ SomeStmt (now work) at 0 × (4608 ≤ length (now work)) ⌝ }
     ensures { λ r. ⌜ StmtEnds (now (work .entry)) at r ⌝ }
 {

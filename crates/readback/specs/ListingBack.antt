@@ -3,13 +3,13 @@ use mathlib.Core.Path.{_≡_, refl, sym, ap, _∙_}
 use mathlib.Core.Bool.{Bool, true, false, _||_, cond}
 use mathlib.Core.List.{List, [], _∷_, _++_, map, append-assoc, append-nil}
 use mathlib.Core.Option.{Option, none, some}
-use Prim.Native.Nat.{ℕ, zero, suc, _+_}
+use Prim.Native.Nat.{ℕ, zero, suc}
 use native.Mathlib.Omega.{arith}
 use lib.IntN.{ℤ, pos}
 use lib.Dec.{ltb}
 use lib.ListN.{length, take, drop, length-map}
 use lib.Seq.{take-append-seam, drop-append-seam}
-use Rattle.laws.specs.Lists.{flat, counted, from, below, length-from}
+use Rattle.laws.specs.Lists.{flat, counted, below, length-from}
 use Rattle.syntax.specs.Words.{max-set-words, min-work-words, max-answer-words}
 use Rattle.syntax.specs.Syntax.{Domain, Stmt, Problem, encode}
 use Rattle.words.specs.Parse.{Parsed, ok, refuse}

@@ -1,5 +1,5 @@
 -- What the numbered work slice says of a set's emitted integers: there are few, and each has its entry (Records).
-use mathlib.Core.List.{List, [], _∷_}
+use mathlib.Core.List.{List, []}
 use Prim.Native.Nat.{ℕ, _+_, _*_, _≤_, _<_}
 use native.Mathlib.Omega.{arith}
 use lib.IntN.{ℤ}

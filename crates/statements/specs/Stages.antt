@@ -1,9 +1,9 @@
 -- What every later pass may take for granted: a set that was accepted and settled, what is known of its folded statements,
 -- and the work slice before and after numbering.
-use mathlib.Core.Path.{_≡_, refl, sym, ap, _∙_}
-use mathlib.Core.Bool.{Bool, true, false, _||_}
+use mathlib.Core.Path.{_≡_, sym, ap, _∙_}
+use mathlib.Core.Bool.{false}
 use mathlib.Core.List.{List, [], _∷_, _++_, map, append-assoc}
-use Prim.Native.Nat.{ℕ, zero, suc, _+_, _*_, _≤_, _<_}
+use Prim.Native.Nat.{ℕ, _+_, _*_, _≤_, _<_}
 use native.Mathlib.Omega.{arith}
 use lib.IntN.{ℤ, pos}
 use lib.ListN.{length, getD, length-append, length-map}
@@ -11,7 +11,7 @@ use Rattle.laws.specs.Lists.{any, flat, below, counted}
 use Rattle.laws.specs.Slices.{Has}
 use Rattle.syntax.specs.Words.{max-count, max-set-words}
 use Rattle.syntax.specs.Syntax.{Domain, Range, Enumerative, IntExpr, BoolExpr, Cell, Stmt, Rule, Table, encode-domain, encode-stmt, Problem, encode}
-use Rattle.syntax.specs.Written.{EveryInt, EveryColumn, EveryStmt, EveryStmts, every-int-map}
+use Rattle.syntax.specs.Written.{EveryColumn, EveryStmt, EveryStmts, every-int-map}
 use Rattle.words.specs.Exact.{Each}
 use Rattle.read.specs.WellFormed.{WellDomain, WellInt, WellRow, WellStmt, WellFormed}
 use Rattle.limits.specs.Limits.{any-comparison, any-part, heavy, heavy-comparison, many-comparison, many-column, check}
@@ -21,11 +21,9 @@ use Rattle.fold.specs.Ends.{optimize-rests}
 use Rattle.fold.specs.Kept.{fold-int-depth, fold-stmts-size}
 use Rattle.clauses.specs.Clause.{Clause}
 use Rattle.clauses.specs.Log.{Log, next-bool, get-bool-var, get-int-var}
-use Rattle.clauses.specs.Disjunction.{Out}
 use Rattle.tables.specs.Tables.{emitted-domains}
 use Rattle.answer.specs.Answer.{fixed-word, map-word, domain-words, clause-words, layout, answer-of, normalize, normalize-stmts}
 use Rattle.call.specs.WellRead.{well-declared}
-use Rattle.walk.specs.Item.{State}
 use Rattle.walk.specs.Legal.{LegalInt}
 use Rattle.walk.specs.Rule.{LegalRule}
 use Rattle.walk.specs.Decode.{read-part}
@@ -33,7 +31,7 @@ use Rattle.walk.specs.NumberingSteps.{state-of}
 use Rattle.walk.specs.Num.{Numbered}
 use Rattle.walk.specs.declared.Counters.{Counters}
 use Rattle.statements.specs.Columns.{ColumnRecord}
-use Rattle.statements.specs.Statements.{LegalStmt, LegalStmts, AllInPlace}
+use Rattle.statements.specs.Statements.{LegalStmts, AllInPlace}
 use Rattle.statements.specs.Settled.{int-depth, int-legal, Light, settled-declared, settled-light, settled-legal}
 use Rattle.statements.specs.Whole.{Empty}
 

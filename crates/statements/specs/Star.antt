@@ -2,23 +2,23 @@
 use mathlib.Core.Path.{_≡_, refl, sym, ap, _∙_, subst}
 use mathlib.Core.Bool.{Bool, true, false, _||_, cond, false≢true}
 use mathlib.Core.List.{List, [], _∷_, _++_, map, append-nil}
-use Prim.Native.Nat.{ℕ, zero, suc, _+_, _≤_, _<_}
+use Prim.Native.Nat.{ℕ, _+_, _≤_}
 use native.Mathlib.Omega.{arith}
-use lib.IntN.{ℤ, pos}
+use lib.IntN.{ℤ}
 use lib.ListN.{length}
 use Rattle.laws.specs.Lists.{any, flat}
 use Rattle.laws.specs.Bools.{or-no-l, or-no-r, or-pick}
 use Rattle.syntax.specs.Syntax.{Cell, star, value}
 use Rattle.clauses.specs.Clause.{Clause, clause}
 use Rattle.clauses.specs.Log.{Log, next-bool}
-use Rattle.clauses.specs.Disjunction.{Out, Outs, satisfied, sorted, pooled, with-longer, finish-sorted, normalize-disjunction}
+use Rattle.clauses.specs.Disjunction.{Out, Outs, satisfied, sorted, finish-sorted, normalize-disjunction}
 use Rattle.clauses.specs.Normalize.{Run, Runs, no-run, run-then, normalize-conjunction, disjunction-of}
-use Rattle.tables.specs.Tables.{linear-eq, is-star, star-row, star-table}
-use Rattle.answer.specs.Answer.{clause-words, linear-words}
+use Rattle.tables.specs.Tables.{linear-eq, star-row, star-table}
+use Rattle.answer.specs.Answer.{linear-words}
 use Rattle.walk.specs.Item.{tally, fresh, tallies, clause-text, Item, conj-item, disj-item}
 use Rattle.walk.specs.Grow.{Grows, same, Fit, back}
 use Rattle.walk.specs.Texts.{layout}
-use Rattle.walk.specs.Implements.{Shape, single, ImplementsAt, Implements, Goods, none, more, goods-sorts, disj-grows, disj-at, conj-good, disj-good}
+use Rattle.walk.specs.Implements.{single, ImplementsAt, Implements, Goods, none, more, goods-sorts, disj-grows, disj-at, conj-good, disj-good}
 
 -- ---- one cell: the variable has the value
 

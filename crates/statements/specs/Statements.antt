@@ -2,21 +2,20 @@
 -- F: the folded words in the work slice, in which the statements stand from a place on.
 use mathlib.Core.Path.{_≡_, refl, sym, ap, _∙_, subst}
 use mathlib.Core.Bool.{Bool, true, false, cond}
-use mathlib.Core.List.{List, [], _∷_, _++_, map, append-assoc}
-use Prim.Native.Nat.{ℕ, zero, suc, _+_, _-_, _≤_, _<_, min}
+use mathlib.Core.List.{List, [], _∷_, _++_, map}
+use Prim.Native.Nat.{ℕ, _+_, _≤_, _<_}
 use native.Mathlib.Omega.{arith}
-use lib.IntN.{ℤ, pos, negsuc}
-use lib.ListN.{length, getD, length-append}
+use lib.IntN.{ℤ, pos}
+use lib.ListN.{length, length-append}
 use Rattle.laws.specs.Lists.{any, flat}
-use Rattle.laws.specs.Slices.{Has, has-front, has-back, has-rest}
-use Rattle.syntax.specs.Syntax.{Domain, domain-of, IntExpr, encode-int, BoolExpr, encode-bool, Cell, encode-cell, Stmt, Rule, Table, encode-stmt}
-use Rattle.syntax.specs.Satisfies.{Val, IVal}
+use Rattle.laws.specs.Slices.{Has, has-front, has-back}
+use Rattle.syntax.specs.Syntax.{Domain, domain-of, IntExpr, encode-int, BoolExpr, Cell, encode-cell, Stmt, Rule, Table, encode-stmt}
+use Rattle.syntax.specs.Satisfies.{IVal}
 use Rattle.syntax.specs.Written.{EveryColumn, EveryStmts}
 use Rattle.limits.specs.Limits.{heavy, many-column}
 use Rattle.words.specs.Exact.{Each}
 use Rattle.sums.specs.LinearSum.{LinearSum}
-use Rattle.clauses.specs.Clause.{Clause}
-use Rattle.clauses.specs.Log.{Log, aux, next-bool, next-int}
+use Rattle.clauses.specs.Log.{Log, next-bool, next-int}
 use Rattle.clauses.specs.Disjunction.{Out}
 use Rattle.clauses.specs.Normalize.{normalize-conjunction}
 use Rattle.clauses.specs.Split.{normalize-and-register-expr, tseitin-transformation-bool as split}
@@ -34,10 +33,10 @@ use Rattle.walk.specs.Grow.{Grows, same, then, Fit, back}
 use Rattle.walk.specs.Texts.{Auxed, here, above, disjunction-auxed}
 use Rattle.walk.specs.Num.{max-emitted, Numbered}
 use Rattle.walk.specs.TwoWalks.{Low, low-back, runs-grow}
-use Rattle.walk.specs.Rule.{LegalRule, true-rule, legal-rule, rule-propers, split-num, Passes, rule-walks}
+use Rattle.walk.specs.Rule.{LegalRule, true-rule, legal-rule, rule-propers, split-num, rule-walks}
 use Rattle.statements.specs.Kept.{Kept, kept-same, trees-kept}
 use Rattle.statements.specs.Columns.{ColumnRecord, Grown, grown-same, kept-grown, grown-then, grown-less, Placed, placed-keeps}
-use Rattle.statements.specs.Table.{starred, table-fresh, meet-table, table-text, TablePasses, table-walks, table-grows, words-append, columns-bools}
+use Rattle.statements.specs.Table.{starred, table-fresh, meet-table, table-text, table-walks, table-grows, words-append}
 
 -- ---- one statement at a place: its numbering, its words, the counter behind it
 

@@ -1,34 +1,33 @@
 -- A table statement in the two passes: its columns, then its rows, starred or not.
 use mathlib.Core.Path.{_≡_, refl, sym, ap, _∙_, subst}
-use mathlib.Core.Bool.{Bool, true, false, _||_, cond, false≢true}
-use mathlib.Core.Option.{some}
+use mathlib.Core.Bool.{Bool, true, false, cond, false≢true}
 use mathlib.Core.List.{List, [], _∷_, _++_, map, append-assoc}
-use Prim.Native.Nat.{ℕ, zero, suc, _+_, _-_, _≤_, _<_, min}
+use Prim.Native.Nat.{ℕ, zero, suc, _+_, _≤_, _<_}
 use native.Mathlib.Omega.{arith}
-use lib.IntN.{ℤ, pos, negsuc}
-use lib.ListN.{length, getD, length-append}
+use lib.IntN.{ℤ}
+use lib.ListN.{length, length-append}
 use Rattle.laws.specs.Bools.{or-no-l, or-no-r}
-use Rattle.laws.specs.Lists.{any, flat, flat-append, any-cong}
-use Rattle.laws.specs.Slices.{Has, has-front, has-back, has-rest}
-use Rattle.syntax.specs.Syntax.{Domain, domain-of, IntExpr, IConst, IVar, Linear, encode-int, Cell, star, value, encode-cell}
+use Rattle.laws.specs.Lists.{any, flat, any-cong}
+use Rattle.laws.specs.Slices.{Has}
+use Rattle.syntax.specs.Syntax.{Domain, domain-of, IntExpr, IConst, IVar, Linear, encode-int, Cell, star, value}
 use Rattle.syntax.specs.Written.{EveryColumn}
 use Rattle.limits.specs.Limits.{heavy, many-column}
 use Rattle.sums.specs.LinearSum.{LinearSum}
 use Rattle.clauses.specs.Clause.{Clause}
-use Rattle.clauses.specs.Log.{Log, column, next-bool, next-int, get-int-var, convert-int-var}
-use Rattle.clauses.specs.Disjunction.{Out, normalize-disjunction}
+use Rattle.clauses.specs.Log.{Log, next-bool, next-int, convert-int-var}
+use Rattle.clauses.specs.Disjunction.{Out}
 use Rattle.clauses.specs.Normalize.{normalize-int-expr, normalize-int-var}
 use Rattle.clauses.specs.Grow.{get-int-below as int-below}
 use Rattle.tables.specs.Tables.{Columns, emitted-domains, is-star, new-column, old-column, equivalent-int-var, equivalent-int-vars, star-row, star-table, plain-table, normalize-extension-supports, normalize-table}
 use Rattle.answer.specs.Answer.{clause-words}
-use Rattle.walk.specs.Item.{limit, bump, bool-map, State, walk-bools, Tally, tally, long, mode-in, fresh-in, fresh, tallies, Item, conj-item, disj-item}
+use Rattle.walk.specs.Item.{limit, bump, bool-map, State, walk-bools, Tally, tally, mode-in, fresh-in, fresh, tallies, Item, conj-item}
 use Rattle.walk.specs.Grow.{Grows, same, then, Fit, back}
-use Rattle.walk.specs.Texts.{layout, layout-words, Auxed, Untouched, disjunction-auxed, auxed-untouched}
-use Rattle.walk.specs.Implements.{Implements, disj-grows}
+use Rattle.walk.specs.Texts.{layout-words, Auxed, Untouched, disjunction-auxed, auxed-untouched}
+use Rattle.walk.specs.Implements.{disj-grows}
 use Rattle.walk.specs.Ints.{var-found, int-bools}
 use Rattle.walk.specs.Num.{max-emitted, Numbered, numbered-fit}
 use Rattle.walk.specs.TwoWalks.{Low, pass-num, auxed-recorded}
-use Rattle.statements.specs.Columns.{ColumnRecord, Grown, grown-same, meet-columns, column-numbers, columns-clauses, Placed, MetAll, columns-met, columns-grow, columns-are}
+use Rattle.statements.specs.Columns.{ColumnRecord, Grown, meet-columns, column-numbers, columns-clauses, Placed, MetAll, columns-met, columns-grow, columns-are}
 use Rattle.statements.specs.Star.{eq-item, row-items, joined, row-item, no-equality, any-free, star-item, star-good, free-table, star-count}
 
 -- ---- how many new numbers a starred table takes: by the count of equalities of each row

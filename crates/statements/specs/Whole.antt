@@ -1,6 +1,6 @@
 -- The answer's words by the two passes: after numbering, the maps and counters of the work slice and the statements' words make up the layout.
-use mathlib.Core.Path.{_≡_, refl, sym, ap, _∙_}
-use mathlib.Core.Bool.{Bool, true, false, _||_, false≢true}
+use mathlib.Core.Path.{_≡_, refl, sym}
+use mathlib.Core.Bool.{true, false, false≢true}
 use mathlib.Core.Option.{Option, none as nothing, some}
 use mathlib.Core.List.{List, [], _∷_, _++_, map}
 use Prim.Native.Nat.{ℕ, zero, suc, _+_, _*_, _≤_, _<_}
@@ -15,25 +15,24 @@ use Rattle.laws.specs.Slices.{Has}
 use Rattle.syntax.specs.Syntax.{Domain, Range, Enumerative, lower-bound, in-domain, domain-of, Stmt, encode-stmt, Problem}
 use Rattle.syntax.specs.Satisfies.{IVal}
 use Rattle.syntax.specs.Written.{EveryStmts, every-stmts-map}
-use Rattle.words.specs.Exact.{Each}
-use Rattle.read.specs.WellFormed.{WellDomain, WellFormed}
+use Rattle.read.specs.WellFormed.{WellFormed}
 use Rattle.limits.specs.Limits.{check}
 use Rattle.fold.specs.Fold.{Fixed}
 use Rattle.fold.specs.Optimize.{settled, optimize}
 use Rattle.sums.specs.Domain.{ordered}
-use Rattle.clauses.specs.Log.{Log, next-bool, next-int, get-bool-var, get-int-var}
+use Rattle.clauses.specs.Log.{Log, next-int, get-bool-var, get-int-var}
 use Rattle.clauses.specs.Disjunction.{Out}
 use Rattle.clauses.specs.Grow.{Grows as GrowsFrom}
 use Rattle.tables.specs.Tables.{emitted-domains}
 use Rattle.tables.specs.ColumnMeaning.{WithinDomain}
-use Rattle.answer.specs.Answer.{Answer, fixed-word, map-word, domain-words, clause-words, layout, answer-of, normalize, normalize-stmts}
+use Rattle.answer.specs.Answer.{fixed-word, map-word, domain-words, clause-words, layout, answer-of, normalize, normalize-stmts}
 use Rattle.answer.specs.Declared.{Declared, stmts-declared}
 use Rattle.call.specs.Demand.{stmts-mean, domains-ordered}
-use Rattle.walk.specs.Item.{limit, bool-map, bool-entry, int-entry, State}
+use Rattle.walk.specs.Item.{bool-entry, int-entry, State}
 use Rattle.walk.specs.Num.{max-emitted, code, Recorded, Numbered, numbered-fit}
 use Rattle.walk.specs.TwoWalks.{Low}
 use Rattle.statements.specs.Columns.{ColumnRecord}
-use Rattle.statements.specs.Statements.{Stable, meet-stmts, stmts-text, LegalStmts, AllInPlace, StmtsWalks, stmts-walks}
+use Rattle.statements.specs.Statements.{Stable, meet-stmts, stmts-text, StmtsWalks, stmts-walks}
 use Rattle.statements.specs.Bounds.{stmts-low}
 use Rattle.statements.specs.Emitted.{emitted-few}
 use Rattle.statements.specs.Settled.{settled-declared, settled-plain, settled-few, settled-legal}

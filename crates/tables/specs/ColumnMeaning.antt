@@ -4,28 +4,28 @@ use mathlib.Core.Path.{_≡_, refl, sym, ap, _∙_}
 use mathlib.Core.Bool.{Bool, true, false, _&&_, _||_, cond}
 use mathlib.Core.Option.{Option, none as nothing, some}
 use mathlib.Core.List.{List, [], _∷_, _++_, map, map-append}
-use Prim.Native.Nat.{ℕ, suc, _+_, _≤_, _<_}
+use Prim.Native.Nat.{ℕ, suc, _≤_, _<_}
 use native.Mathlib.Omega.{arith}
 use lib.IntN.{ℤ, pos}
 use lib.ListN.{length, length-append}
 use lib.Dec.{eqb, ltb}
 use borrow.Author.Tests.{ltb-true, lt-ltb, eq-eqb, ne-eqb}
-use Rattle.laws.specs.Bools.{never, and-l, and-r, and-i, eq1}
+use Rattle.laws.specs.Bools.{and-l, and-r, and-i, eq1}
 use Rattle.laws.specs.Ints.{eqZ}
 use Rattle.laws.specs.Order.{eqZ-is, eqZ-sym, is-eqZ}
-use Rattle.laws.specs.Lists.{any, all, all-append}
+use Rattle.laws.specs.Lists.{all, all-append}
 use Rattle.syntax.specs.Syntax.{Domain, in-domain, domain-of, Eq, IntExpr, IConst, IVar, Linear, Terms, tnil, tmore}
 use Rattle.syntax.specs.Satisfies.{Val, IVal, int-value}
 use Rattle.syntax.specs.Written.{EveryInt, EveryTerm, EveryColumn, Within}
-use Rattle.sums.specs.LinearSum.{LinearSum, constant, singleton, add-sum, mul-sum, sub-sum, get-domain-linear-sum, sum-value}
+use Rattle.sums.specs.LinearSum.{LinearSum, constant, singleton, add-sum, mul-sum, get-domain-linear-sum, sum-value}
 use Rattle.sums.specs.Value.{singleton-value, compare-sum}
 use Rattle.sums.specs.Rising.{terms-of, Each, constant-each, singleton-each, add-sum-each, mul-sum-each}
 use Rattle.sums.specs.Domain.{ordered, between, domain-between, domain-holds}
-use Rattle.clauses.specs.Clause.{Clause, clause-true}
-use Rattle.clauses.specs.Log.{declared-int, column, Log, next-bool, next-int, get-int-var, int-var-at, convert-int-var}
+use Rattle.clauses.specs.Clause.{clause-true}
+use Rattle.clauses.specs.Log.{declared-int, column, Log, next-int, get-int-var, int-var-at, convert-int-var}
 use Rattle.clauses.specs.Normalize.{IntOut, normalize-int-var, normalize-term, normalize-int-expr, normalize-terms}
-use Rattle.clauses.specs.Bounds.{clauses-bound, clauses-bound-append, sum-bound, sum-same, sub-sum-bound, ints-bound, ints-bound-append}
-use Rattle.clauses.specs.Valuation.{AgreesInts, Agrees, Fits, fits-agrees, all-true}
+use Rattle.clauses.specs.Bounds.{clauses-bound, clauses-bound-append, sum-same, sub-sum-bound, ints-bound, ints-bound-append}
+use Rattle.clauses.specs.Valuation.{AgreesInts, Agrees, Fits, all-true}
 use Rattle.clauses.specs.Grow.{Legal, Grows, same, grow, grows-trans, grows-int, get-int-below, grows-get-int, agrees-int, agrees-back, fits-back}
 use Rattle.clauses.specs.Means.{MeansInt}
 use Rattle.clauses.specs.NormalizeMeaning.{int-expr-means}

@@ -1,10 +1,9 @@
 -- A starred table is the Or over its rows of the And of their unstarred equalities: its clauses say that some row's cells permit the values.
-use mathlib.Core.Path.{_≡_, refl, sym, ap, _∙_}
+use mathlib.Core.Path.{_≡_, refl}
 use mathlib.Core.Bool.{Bool, true, false, _&&_, _||_}
 use mathlib.Core.List.{List, [], _∷_, map}
-use Prim.Native.Nat.{ℕ, _≤_, max}
+use Prim.Native.Nat.{ℕ, _≤_}
 use native.Mathlib.Omega.{arith}
-use lib.IntN.{ℤ}
 use lib.Dec.{ltb}
 use borrow.Author.Tests.{ltb-true}
 use Rattle.laws.specs.Bools.{and-l, and-r, eq2}
@@ -13,13 +12,13 @@ use Rattle.laws.specs.Order.{eqZ-sym}
 use Rattle.laws.specs.Lists.{any, all}
 use Rattle.syntax.specs.Syntax.{Cell, star, value}
 use Rattle.syntax.specs.Satisfies.{Val, IVal}
-use Rattle.clauses.specs.Clause.{Clause, clause, clause-true}
-use Rattle.clauses.specs.Log.{Log, next-bool, next-int}
+use Rattle.clauses.specs.Clause.{clause-true}
+use Rattle.clauses.specs.Log.{Log, next-int}
 use Rattle.clauses.specs.Bounds.{clauses-bound, lists-bound, ints-bound, int-lists-bound}
 use Rattle.clauses.specs.Valuation.{any-all-true}
 use Rattle.clauses.specs.Means.{Means}
 use Rattle.clauses.specs.DisjunctionMeaning.{disjunction-means}
-use Rattle.tables.specs.Tables.{linear-eq, star-row, star-table}
+use Rattle.tables.specs.Tables.{star-row, star-table}
 use Rattle.tables.specs.Agree.{row-permits}
 use Rattle.tables.specs.PlainMeaning.{linear-eq-true}
 

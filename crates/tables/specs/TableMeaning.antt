@@ -1,8 +1,8 @@
 -- The clauses of a table statement mean the statement, in the form in which a rule's do (Means), from any log.
 use mathlib.Core.Path.{_≡_, refl, sym, ap, _∙_}
-use mathlib.Core.Bool.{Bool, true, false, not, _&&_, _||_, cond}
-use mathlib.Core.List.{List, [], _∷_, _++_, map}
-use Prim.Native.Nat.{ℕ, zero, suc, _≤_, _<_, max}
+use mathlib.Core.Bool.{Bool, true, false, not, cond}
+use mathlib.Core.List.{List, [], _∷_, map}
+use Prim.Native.Nat.{ℕ, zero, suc, _≤_, _<_}
 use native.Mathlib.Omega.{arith}
 use lib.IntN.{ℤ}
 use lib.Dec.{ltb}
@@ -13,11 +13,11 @@ use Rattle.laws.specs.Lists.{any, all, keep-if, filter, flat, any-cong, all-app
 use Rattle.syntax.specs.Syntax.{Domain, in-domain, domain-of, enumerate, IntExpr, Cell, Table}
 use Rattle.syntax.specs.Satisfies.{Val, IVal, int-value, row-holds, stmt-holds}
 use Rattle.syntax.specs.Written.{EveryColumn}
-use Rattle.clauses.specs.Clause.{Clause, clause-true}
-use Rattle.clauses.specs.Log.{Log, next-bool, next-int}
+use Rattle.clauses.specs.Clause.{clause-true}
+use Rattle.clauses.specs.Log.{Log, next-int}
 use Rattle.clauses.specs.Bounds.{clauses-bound, clauses-bound-append, linears-bound, linears-bound-append, ints-bound, ints-bound-append}
-use Rattle.clauses.specs.Valuation.{Agrees, Fits, fits-agrees, all-true}
-use Rattle.clauses.specs.Grow.{Grows, same, grows-trans, grows-int, agrees-back, fits-back}
+use Rattle.clauses.specs.Valuation.{Agrees, fits-agrees, all-true}
+use Rattle.clauses.specs.Grow.{same, grows-trans, grows-int, agrees-back, fits-back}
 use Rattle.clauses.specs.Disjunction.{Out}
 use Rattle.clauses.specs.Means.{Means}
 use Rattle.tables.specs.Tables.{linear-eq, linear-ne, is-star, Row, cell-value, cell-at, sort-rows, within, groups, takes, differs, column-clause, column-clauses, prefixes, plain-clauses, plain-table, star-table, emitted-domains, Columns, equivalent-int-vars, normalize-extension-supports, normalize-table}

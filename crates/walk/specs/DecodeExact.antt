@@ -1,22 +1,22 @@
 -- Where the words of a legal rule stand, the decoder reads its tree, its extras, its end and the splitting's next number.
-use mathlib.Core.Path.{_≡_, refl, sym, ap, _∙_, subst}
-use mathlib.Core.Bool.{Bool, true, false, not, cond}
+use mathlib.Core.Path.{_≡_, refl, ap, _∙_, subst}
+use mathlib.Core.Bool.{Bool, true, false, not}
 use mathlib.Core.List.{List, [], _∷_, _++_}
 use mathlib.Core.Logic.{_⊎_, inl, inr}
-use Prim.Native.Nat.{ℕ, zero, suc, _+_, _-_, _≤_, _<_, min}
+use Prim.Native.Nat.{ℕ, zero, suc, _+_, _-_, _≤_, _<_}
 use native.Mathlib.Omega.{arith}
 use native.Mathlib.Numerals.{sub-one, add-one}
-use lib.IntN.{ℤ, pos, negsuc}
+use lib.IntN.{ℤ, pos}
 use borrow.Author.Tests.{lt-ltb}
 use lib.ListN.{length, getD, length-append}
 use Rattle.laws.specs.Slices.{Has, has-fits, has-front, has-back, has-word, has-rest}
 use Rattle.syntax.specs.Syntax.{CmpOp, Eq, Ne, Le, Lt, Ge, Gt, op-at, encode-op, IntExpr, IConst, IVar, Linear, Terms, tnil, tmore, count-terms, encode-int, encode-terms, BoolExpr, Const, Var, NVar, And, Or, Not, Xor, Iff, Imp, Cmp, Members, none, more, count-members, encode-bool, encode-members}
-use Rattle.walk.specs.Tree.{Tree, num, cmp, tied, Trees, nil, cons, pair, append, joined, splits, splits-members, crossed, resolve, resolves, tie, both-tied, ties, ties-members}
+use Rattle.walk.specs.Tree.{Tree, num, tied, Trees, nil, cons, pair, append, splits, splits-members, crossed, resolve, resolves, both-tied, ties, ties-members}
 use Rattle.walk.specs.Item.{limit, bump, nat}
 use Rattle.walk.specs.Legal.{LegalInt, LegalTerms, Legal, LegalMembers}
 use Rattle.walk.specs.Resolve.{rule-trees}
 use Rattle.walk.specs.Rule.{LegalRule, true-rule, legal-rule}
-use Rattle.walk.specs.Decode.{word, past, terms, int-step, int-at, int-end, node-of, Read, Reads, many, as-tree, cross-step, step, decode, many-ties, tie-at, cross-ties, ties-step, ties-at}
+use Rattle.walk.specs.Decode.{word, past, terms, int-step, int-at, node-of, Read, Reads, many, cross-step, step, decode, many-ties, tie-at, cross-ties, ties-step, ties-at}
 
 -- ---- words at a place
 
@@ -241,11 +241,6 @@ ties-level ws (suc l) t at n h = rw sub-one
 append-nil : (ts : Trees) → append ts nil ≡ ts
 append-nil nil = refl
 append-nil (cons t ts) = ap (cons t) (append-nil ts)
-
--- of two sides
-sides-ties : (p : Bool → ℕ → ℕ → Read) (q : ℕ → ℕ → Trees) (at n : ℕ) (x : Tree) (d m : ℕ) (ts us : Trees) → p false at n ≡ reading x d m → q at n ≡ ts → q d m ≡ us → many-ties p q 2 at n ≡ append ts us
-unfolding many-ties
-sides-ties p q at n x d m ts us a b c = rw (a, b, c, append-nil us)
 
 split-ties : (p : Bool → Bool → ℕ → ℕ → Read) (q : Bool → ℕ → ℕ → Trees) (at n j : ℕ) (x y : Bool → Tree) (d e m k : ℕ) (ts us : Trees) → bump n 2 ≡ j
     → ((g : Bool) → p true g at j ≡ reading (x g) d m) → ((g : Bool) → p true g d m ≡ reading (y g) e k) → q true at j ≡ ts → q true d m ≡ us

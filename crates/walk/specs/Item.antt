@@ -1,16 +1,15 @@
 -- What the two walks compute of a tree, in one package: its tally, the counter behind it, its pool words, its words, its numbering.
 -- The maps and the emitted integers' records are words of the work slice; counters stop at a limit, and the numbers of a set are far below.
-use mathlib.Core.Path.{_≡_, refl}
-use mathlib.Core.Bool.{Bool, true, false, not, cond}
-use mathlib.Core.List.{List, [], _∷_, _++_, map}
-use Prim.Native.Nat.{ℕ, zero, suc, _+_, _-_, _≤_, _<_, min}
+use mathlib.Core.Bool.{Bool, true, false, cond}
+use mathlib.Core.List.{List, [], _∷_, _++_}
+use Prim.Native.Nat.{ℕ, zero, suc, _+_, _-_, min}
 use lib.IntN.{ℤ, pos, negsuc, negℤ}
 use lib.ListN.{length, getD, set}
 use lib.Dec.{eqb, leb}
 use Rattle.syntax.specs.Syntax.{CmpOp, IntExpr, IConst, IVar, Linear, Terms, tnil, tmore}
 use Rattle.sums.specs.LinearSum.{sub-sum}
 use Rattle.sums.specs.Linear.{linear-of}
-use Rattle.clauses.specs.Clause.{LinearLit, linear}
+use Rattle.clauses.specs.Clause.{linear}
 use Rattle.clauses.specs.Normalize.{negate-op-if}
 use Rattle.answer.specs.Answer.{linear-words}
 use Rattle.walk.specs.Tree.{Tree, var, num, cmp, conj, disj, cross, tied, Trees, nil, cons}

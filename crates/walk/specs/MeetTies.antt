@@ -1,26 +1,25 @@
 -- The numbering of the extras, step by step, and of a whole rule. Laws for the code of the numbering pass.
 use mathlib.Core.Path.{_≡_, refl, sym, ap, _∙_, subst}
-use mathlib.Core.Bool.{Bool, true, false, not, cond}
-use mathlib.Core.List.{List, [], _∷_, _++_}
-use Prim.Native.Nat.{ℕ, zero, suc, _+_, _-_, _≤_, _<_, min}
+use mathlib.Core.Bool.{Bool, true, false, not}
+use mathlib.Core.List.{List}
+use Prim.Native.Nat.{ℕ, zero, suc, _+_, _-_, _≤_, _<_}
 use native.Mathlib.Omega.{arith}
 use native.Mathlib.Numerals.{sub-one}
-use lib.IntN.{ℤ, pos}
+use lib.IntN.{ℤ}
 use lib.ListN.{length}
 use Rattle.laws.specs.Slices.{Has}
 use Rattle.syntax.specs.Syntax.{BoolExpr, encode-bool}
-use Rattle.walk.specs.Tree.{Tree, tied, Trees, nil, cons, append, both-tied, splits}
+use Rattle.walk.specs.Tree.{Tree, Trees, nil, cons, append, both-tied, splits}
 use Rattle.walk.specs.Item.{limit, bump, State, walk-bools, mets, tied-item, item, items}
-use Rattle.walk.specs.Decode.{word, node-of, Read, Reads, Reader, many, cross-step, step, decode, many-ties, tie-at, cross-ties, ties-step, ties-at, read-part, Surveys}
+use Rattle.walk.specs.Decode.{word, node-of, Read, Reads, Reader, many, cross-step, step, decode, many-ties, tie-at, cross-ties, ties-step, ties-at, read-part}
 use Rattle.walk.specs.Resolve.{rule-trees}
 use Rattle.walk.specs.Rule.{LegalRule}
-use Rattle.walk.specs.DecodeExact.{rule-at, RuleStands, rule-stands}
+use Rattle.walk.specs.DecodeExact.{rule-at, rule-stands}
 use Rattle.walk.specs.NoTies.{many-same, decode-same, no-ties}
 use Rattle.walk.specs.Steps.{Okay, node-okay, decode-level, many-more}
 use Rattle.walk.specs.NumberingSteps.{state-of, Met, met-none, met-to, met-after, part-short}
 use Rattle.walk.specs.declared.Node.{Node}
 use Rattle.walk.specs.declared.Node.the-variants.{Var, Cmp, Not, Join, Cross}
-use Rattle.walk.specs.declared.Surveyed.{Surveyed}
 use Rattle.walk.specs.declared.Counters.{Counters}
 
 pub mets-append : (ts us : Trees) (s : State) → mets (items (append ts us)) s ≡ mets (items us) (mets (items ts) s)

@@ -1,19 +1,17 @@
 -- What one step of the numbering says of the tree that is read. Laws for the code of the numbering pass.
-use mathlib.Core.Path.{_≡_, refl, sym, ap, _∙_, subst}
-use mathlib.Core.Bool.{Bool, true, false, not, cond}
-use mathlib.Core.List.{List, [], _∷_, _++_}
-use Prim.Native.Nat.{ℕ, zero, suc, _+_, _-_, _*_, _≤_, _<_, min}
+use mathlib.Core.Path.{_≡_, refl, sym, ap, _∙_}
+use mathlib.Core.Bool.{Bool, true, false, not}
+use mathlib.Core.List.{List}
+use Prim.Native.Nat.{ℕ, zero, suc, _+_, _-_, _≤_}
 use native.Mathlib.Omega.{arith}
 use native.Mathlib.Numerals.{sub-one}
-use lib.IntN.{ℤ, pos, negsuc}
-use lib.ListN.{length, getD, set, take, length-set, length-take}
+use lib.IntN.{ℤ, pos}
+use lib.ListN.{length, getD, set, length-set, length-take}
 use lib.Seq.{take-set-le}
-use lib.Dec.{eqb}
 use borrow.Author.Tests.{ne-eqb}
-use Rattle.syntax.specs.Syntax.{IntExpr, IConst, IVar, Linear, Terms, tnil, tmore}
-use Rattle.walk.specs.Tree.{Tree, Trees, nil, cons, joined}
-use Rattle.walk.specs.Item.{limit, bump, is-none, nat, bool-map, int-map, emitted-ints, bool-entry, int-entry, State, new-bool, meet-bool, new-int, meet-int-var, meet-int, meet-terms, walk-bools, Tally, fresh, Item, tallies, mets, var-item, cmp-item, num-item, conj-item, disj-item, cross-item, item, items}
-use Rattle.walk.specs.Decode.{word, past, below, terms, int-step, int-at, int-end, node-of, Read, Reads, Reader, many, as-tree, cross-step, step, decode, read-part, Surveys}
+use Rattle.syntax.specs.Syntax.{IntExpr}
+use Rattle.walk.specs.Item.{limit, bump, nat, bool-map, int-map, emitted-ints, bool-entry, int-entry, State, meet-bool, meet-int-var, meet-int, meet-terms, walk-bools, fresh, tallies, mets, var-item, cmp-item, num-item, conj-item, disj-item, cross-item, item, items}
+use Rattle.walk.specs.Decode.{word, past, below, terms, int-step, int-at, int-end, node-of, Read, Reads, Reader, many, cross-step, step, decode, read-part, Surveys}
 use Rattle.walk.specs.Steps.{decode-level, many-more}
 use Rattle.walk.specs.declared.Node.{Node}
 use Rattle.walk.specs.declared.Node.the-variants.{Var, Cmp, Not, Join, Cross}
@@ -33,9 +31,6 @@ pub record Met (f : State → State) (w : List ℤ) (c : Counters) (w' : List �
 
 pub met-none : (w : List ℤ) (c : Counters) → c .bools ≤ limit → c .ints ≤ limit → Met (λ s. s) w c w c
 met-none w c a b = record { state = refl; part = refl; size = refl; low = a; low-ints = b }
-
-pub met-then : {f g : State → State} {w w' w'' : List ℤ} {c d e : Counters} → Met f w c w' d → Met g w' d w'' e → Met (λ s. g (f s)) w c w'' e
-met-then {f} {g} x y = record { state = y .state ∙ ap g (x .state); part = y .part ∙ x .part; size = y .size ∙ x .size; low = y .low; low-ints = y .low-ints }
 
 pub met-to : {f g : State → State} {w w' : List ℤ} {c d : Counters} → f (state-of w c) ≡ g (state-of w c) → Met f w c w' d → Met g w c w' d
 met-to e x = record { state = x .state ∙ e; part = x .part; size = x .size; low = x .low; low-ints = x .low-ints }

@@ -1,27 +1,27 @@
 -- The two passes over a rule: splitting takes its numbers first, then its extras and the rewritten rule are numbered and written in order.
-use mathlib.Core.Path.{_≡_, refl, sym, ap, _∙_, subst}
+use mathlib.Core.Path.{_≡_, refl, sym, _∙_, subst}
 use mathlib.Core.Bool.{Bool, true, false}
-use mathlib.Core.List.{List, [], _∷_, _++_, map}
-use Prim.Native.Nat.{ℕ, suc, _+_, _≤_, _<_, min}
+use mathlib.Core.List.{List, [], _∷_, map}
+use Prim.Native.Nat.{ℕ, _+_, _≤_, _<_, min}
 use native.Mathlib.Omega.{arith}
 use lib.IntN.{ℤ}
 use lib.ListN.{length}
 use Rattle.laws.specs.Lists.{flat}
 use Rattle.syntax.specs.Syntax.{Domain, BoolExpr, Const, Var, NVar, And, Or, Not, Xor, Iff, Imp, Cmp, Members, none, more}
 use Rattle.sums.specs.LinearSum.{LinearSum}
-use Rattle.clauses.specs.Log.{Log, next-bool, next-int, get-bool-var, get-int-var, side}
+use Rattle.clauses.specs.Log.{Log, next-bool, side}
 use Rattle.clauses.specs.Disjunction.{Out}
-use Rattle.clauses.specs.Normalize.{no-run, run-then, normalize-conjunction, normalize-bool-expr}
+use Rattle.clauses.specs.Normalize.{normalize-conjunction, normalize-bool-expr}
 use Rattle.clauses.specs.Split.{unsplit, split-not, split-members, split-two, split-sides, split-more, tseitin-transformation-bool as split, tseitin-transformation-members as split-each, normalize-each, normalize-and-register-expr}
 use Rattle.answer.specs.Answer.{clause-words}
-use Rattle.walk.specs.Tree.{Trees, nil, cons, conj, joined, append, splits, resolve, ties, run, runs}
-use Rattle.walk.specs.Resolve.{Sided, split-sided, rule-trees, rule-runs}
-use Rattle.walk.specs.Item.{limit, bump, State, walk-bools, mets, texts, counts, all-lines, lines-of, closed, conj-item, item, items}
-use Rattle.walk.specs.Grow.{Grows, same, then, Fit}
-use Rattle.walk.specs.Texts.{Untouched, layout, layout-words}
+use Rattle.walk.specs.Tree.{Trees, nil, cons, splits, resolve, ties, runs}
+use Rattle.walk.specs.Resolve.{split-sided, rule-trees, rule-runs}
+use Rattle.walk.specs.Item.{limit, bump, State, walk-bools, mets, texts, counts, all-lines, lines-of, conj-item, item, items}
+use Rattle.walk.specs.Grow.{Fit}
+use Rattle.walk.specs.Texts.{layout-words}
 use Rattle.walk.specs.Implements.{Proper, Propers}
 use Rattle.walk.specs.Num.{Recorded, Numbered}
-use Rattle.walk.specs.TwoWalks.{Low, low-back, runs-grow, pass-num, BothWalks, both-walks}
+use Rattle.walk.specs.TwoWalks.{Low, runs-grow, pass-num, BothWalks, both-walks}
 use Rattle.walk.specs.Legal.{Legal, proper, proper-ties, propers-append}
 
 -- a rule that the passes leave: true, or legal

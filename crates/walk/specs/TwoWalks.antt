@@ -1,26 +1,24 @@
 -- The two passes over trees: numbering gives the state of the log, and writing with its maps the words of the Rust's clauses.
 use mathlib.Core.Path.{_≡_, refl, sym, ap, _∙_}
-use mathlib.Core.Bool.{Bool, true, false, cond}
-use mathlib.Core.Option.{Option, none as nothing, some}
-use mathlib.Core.List.{List, [], _∷_, _++_}
-use Prim.Native.Nat.{ℕ, zero, suc, _+_, _≤_, _<_, min, max}
+use mathlib.Core.Bool.{true, false}
+use mathlib.Core.List.{List, [], _∷_}
+use Prim.Native.Nat.{ℕ, _+_, _≤_, min}
 use native.Mathlib.Omega.{arith}
-use lib.IntN.{ℤ, pos}
-use lib.ListN.{length, getD, set, length-set, replicate}
-use lib.Seq.{getD-set-same, getD-set-other}
+use lib.IntN.{ℤ}
+use lib.ListN.{length}
 use Rattle.laws.specs.Lists.{flat}
 use Rattle.syntax.specs.Syntax.{Domain}
 use Rattle.sums.specs.LinearSum.{LinearSum}
-use Rattle.clauses.specs.Clause.{Clause, lit}
-use Rattle.clauses.specs.Log.{Log, next-bool, next-int, get-bool-var, get-int-var, aux, bool-var-at, convert-bool-var}
-use Rattle.clauses.specs.Disjunction.{Out, Outs, normalize-disjunction}
-use Rattle.clauses.specs.Normalize.{Run, Runs, no-run, run-then, two, normalize-conjunction, disjunction-of, cross as cross-run, lit-clauses, normalize-var, normalize-comparison, normalize-int-expr}
+use Rattle.clauses.specs.Clause.{lit}
+use Rattle.clauses.specs.Log.{Log, next-bool, next-int, get-bool-var, convert-bool-var}
+use Rattle.clauses.specs.Disjunction.{normalize-disjunction}
+use Rattle.clauses.specs.Normalize.{no-run, run-then, normalize-conjunction, disjunction-of, cross as cross-run, lit-clauses, normalize-var, normalize-comparison, normalize-int-expr}
 use Rattle.walk.specs.Tree.{Tree, var, num, cmp, conj, disj, cross, tied, Trees, nil, cons, num-run, run, runs}
-use Rattle.walk.specs.Item.{limit, bump, State, walk-bools, fresh, tallies, mets, Item, var-item, num-item, cmp-item, conj-item, disj-item, cross-item, tied-item, all-lines, texts, counts, item, items}
+use Rattle.walk.specs.Item.{limit, State, walk-bools, fresh, tallies, mets, var-item, num-item, cmp-item, conj-item, disj-item, cross-item, tied-item, all-lines, texts, counts, item, items}
 use Rattle.walk.specs.Grow.{Grows, same, then, Fit, back}
 use Rattle.walk.specs.Ints.{int-grows}
 use Rattle.walk.specs.Texts.{layout, Auxed, here, above, disjunction-auxed, Untouched, auxed-untouched}
-use Rattle.walk.specs.Implements.{Proper, Propers, Implements, Goods, Sorts, goods-grows, goods-sorts, disj-grows, disj-at, beside, shape-some, var-good, item-good, items-good}
+use Rattle.walk.specs.Implements.{Proper, Propers, goods-sorts, disj-grows, disj-at, beside, shape-some, var-good, item-good, items-good}
 use Rattle.walk.specs.Num.{max-emitted, code, Recorded, Numbered, numbered-fit, bool-num, expr-num}
 
 -- the counters of a log, low enough

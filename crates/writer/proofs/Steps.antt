@@ -1,19 +1,19 @@
 -- What a step of the walks reads: the parts of a tree, their comparisons, and what is left of a member list.
 use mathlib.Core.Path.{_≡_, refl, sym, ap, _∙_, subst}
-use mathlib.Core.Bool.{Bool, true, false, not, cond}
-use mathlib.Core.List.{List, [], _∷_, _++_}
-use Prim.Native.Nat.{ℕ, zero, suc, _+_, _-_, _≤_, _<_, min}
+use mathlib.Core.Bool.{Bool, true, false, not}
+use mathlib.Core.List.{List, _∷_}
+use Prim.Native.Nat.{ℕ, _+_, _-_, _≤_}
 use native.Mathlib.Omega.{arith}
-use lib.IntN.{ℤ, pos}
+use lib.IntN.{ℤ}
 use lib.ListN.{length, length-take}
-use Rattle.laws.specs.Writes.{cap, Wrote, wrote-none, wrote-length}
+use Rattle.laws.specs.Writes.{Wrote, wrote-none, wrote-length}
 use Rattle.syntax.specs.Syntax.{IntExpr}
-use Rattle.walk.specs.Tree.{Tree, Trees, nil, cons, joined}
-use Rattle.walk.specs.Item.{limit, Tally, Item, item, items}
-use Rattle.walk.specs.Decode.{word, past, int-at, node-of, Read, Reads, Reader, many, as-tree, cross-step, step, decode, read-part, item-at, items-at, Surveys}
+use Rattle.walk.specs.Tree.{Trees, cons, joined}
+use Rattle.walk.specs.Item.{limit, items}
+use Rattle.walk.specs.Decode.{word, past, int-at, node-of, Read, Reads, Reader, many, cross-step, step, decode, read-part, item-at, items-at, Surveys}
 use Rattle.walk.specs.Steps.{Okay, okay-at, decode-level, many-more}
 use Rattle.walk.specs.declared.Node.{Node}
-use Rattle.walk.specs.declared.Node.the-variants.{Var, Cmp, Not, Join, Cross}
+use Rattle.walk.specs.declared.Node.the-variants.{Cmp, Not, Join, Cross}
 use Rattle.walk.specs.declared.Surveyed.{Surveyed}
 use Rattle.number.specs.Skip.{Skips}
 use Rattle.writer.specs.Suffix.{Open}

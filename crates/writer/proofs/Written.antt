@@ -2,22 +2,18 @@
 use mathlib.Core.Path.{_≡_, refl, sym, ap, _∙_, subst}
 use mathlib.Core.Bool.{Bool, true, false, not, cond}
 use mathlib.Core.List.{List, [], _∷_, _++_, append-nil}
-use Prim.Native.Nat.{ℕ, zero, suc, _+_, _-_, _≤_, _<_, min}
+use Prim.Native.Nat.{ℕ, zero, suc, _+_, _-_, _≤_}
 use native.Mathlib.Omega.{arith}
 use lib.IntN.{ℤ, pos}
 use lib.ListN.{length, getD}
-use lib.Seq.{sets}
 use lib.Dec.{eqb}
 use Rattle.laws.specs.Writes.{cap, Wrote, wrote-none, wrote-then}
-use Rattle.walk.specs.Tree.{Tree, Trees, num, pair, crossed}
-use Rattle.walk.specs.Item.{bump, is-none, is-single, Tally, tally, mode-in, fresh-in, fresh, nat, bool-map, bool-entry, word-of, clause-text, comparison, block, extra, pool-text, Item, tallies, counts, pools, texts, long-texts, disj-text, item, items, var-item, num-item, cmp-item, conj-item, disj-item, cross-item}
-use Rattle.walk.specs.Decode.{word, past, int-at, node-of, Read, many, as-tree, step, cross-step, decode, read-part, item-at, items-at, Surveys, SurveysAll}
+use Rattle.walk.specs.Item.{bump, is-none, is-single, Tally, tally, mode-in, fresh-in, nat, bool-entry, word-of, clause-text, block, extra, pool-text, Item, tallies, counts, pools, texts, long-texts, disj-text, item, items, var-item, num-item, cmp-item, conj-item, disj-item, cross-item}
+use Rattle.walk.specs.Decode.{word, Read, many, step, cross-step, decode, read-part, item-at, items-at, Surveys, SurveysAll}
 use Rattle.walk.specs.declared.Mode.{Mode}
 use Rattle.walk.specs.declared.Mode.the-variants.{Pool, Pass, Two, Each}
-use Rattle.walk.specs.declared.Node.{Node}
 use Rattle.walk.specs.declared.Node.the-variants.{Var, Cmp, Not, Join, Cross}
 use Rattle.walk.specs.declared.Surveyed.{Surveyed}
-use Rattle.writer.specs.declared.Suffix.{Suffix}
 use Rattle.writer.specs.Suffix.{Open}
 use Rattle.writer.specs.ComparisonsFit.{Compared, ComparisonsFit}
 use Rattle.writer.specs.Placed.{Tallied}

@@ -4,21 +4,21 @@ use mathlib.Core.Bool.{Bool, true, false, not, _||_}
 use mathlib.Core.List.{List, [], _∷_, _++_, map}
 use Prim.Native.Nat.{ℕ, suc, _+_, _≤_, _<_, min}
 use native.Mathlib.Omega.{arith}
-use lib.IntN.{ℤ, pos}
+use lib.IntN.{ℤ}
 use lib.ListN.{length, take, drop, take-append-drop, length-drop}
 use lib.Seq.{drop-append-le, take-append-le}
 use Rattle.laws.specs.Bools.{or-no-l, or-no-r}
 use Rattle.laws.specs.Lists.{flat}
 use Rattle.laws.specs.Slices.{Has, has-fits, has-front, has-back, has-rest}
 use Rattle.laws.specs.Writes.{Wrote, wrote-to}
-use Rattle.syntax.specs.Syntax.{Domain, IntExpr, encode-op, encode-int, BoolExpr, Const, Var, NVar, And, Or, Not, Xor, Iff, Imp, Cmp, Members, none, more, count-members, encode-bool, encode-members}
+use Rattle.syntax.specs.Syntax.{Domain, IntExpr, encode-int, BoolExpr, Const, Var, NVar, And, Or, Not, Xor, Iff, Imp, Cmp, Members, none, more, encode-bool, encode-members}
 use Rattle.limits.specs.Limits.{heavy-comparison, many-comparison, any-comparison, any-comparison-members}
 use Rattle.sums.specs.LinearSum.{LinearSum}
 use Rattle.clauses.specs.Clause.{negate-if}
 use Rattle.clauses.specs.Log.{Log, next-bool}
 use Rattle.clauses.specs.Split.{normalize-and-register-expr}
 use Rattle.answer.specs.Answer.{clause-words}
-use Rattle.walk.specs.Tree.{Tree, Trees, nil, cons, pair, append, joined, splits, splits-members, crossed, resolve, resolves, tie, both-tied, ties, ties-members}
+use Rattle.walk.specs.Tree.{Tree, Trees, nil, cons, pair, append, joined, splits, crossed, resolve, resolves, tie, both-tied, ties, ties-members}
 use Rattle.walk.specs.Resolve.{rule-trees}
 use Rattle.walk.specs.Item.{limit, bump, State, counts, texts, all-lines, items}
 use Rattle.walk.specs.Grow.{Fit}
@@ -27,7 +27,7 @@ use Rattle.walk.specs.TwoWalks.{Low}
 use Rattle.walk.specs.Rule.{LegalRule, rule-walks}
 use Rattle.walk.specs.Decode.{decode, read-part}
 use Rattle.walk.specs.DecodeExact.{rule-at, rule-stands}
-use Rattle.writer.specs.ComparisonsFit.{Sides, ComparisonsFit, Fines}
+use Rattle.writer.specs.ComparisonsFit.{ComparisonsFit, Fines}
 use Rattle.writer.specs.Placed.{RuleWrote}
 
 -- ---- words of a part are words of the whole

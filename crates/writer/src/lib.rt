@@ -1,12 +1,11 @@
 // The words of a rule's clauses, written straight into the output in their final form.
 ghost use mathlib.Core.Path.{_≡_};
-ghost use mathlib.Core.Bool.{Bool, true, false, not, cond};
-ghost use mathlib.Core.List.{List, [], _∷_, _++_, map};
-ghost use Prim.Native.Nat.{ℕ, _+_, _*_, _-_, _≤_, _<_, min};
-ghost use lib.IntN.{ℤ, pos};
+ghost use mathlib.Core.Bool.{true, false, not, cond};
+ghost use mathlib.Core.List.{[], _∷_, _++_, map};
+ghost use Prim.Native.Nat.{_+_, _*_, _-_, _≤_, _<_, min};
 ghost use lib.ListN.{length};
 ghost use Rattle.laws.specs.Lists.{flat};
-ghost use Rattle.laws.specs.Writes.{cap, Wrote};
+ghost use Rattle.laws.specs.Writes.{Wrote};
 ghost use Rattle.syntax.specs.Syntax.{op-at, encode-op};
 ghost use Rattle.sums.specs.Rising.{Each};
 ghost use Rattle.sums.specs.Struct.{terms, sum-of};
@@ -689,7 +688,7 @@ fn write_disj(
 }
 
 // The clauses of the expression at a place, negated if g, each with the suffix; t: an Xor or Iff stands above.
-pub fn write(
+fn write(
     work: &[i32],
     at: usize,
     left: usize,

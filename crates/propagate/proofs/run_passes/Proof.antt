@@ -7,7 +7,6 @@ use Rattle.propagate.proofs.less_one.Reads as less-one-reads
 use Rattle.passes.proofs.constant_prop_stmts.Reads as constant-prop-stmts-reads
 use Rattle.passes.proofs.fold_stmts.Reads as fold-stmts-reads
 use borrow.Author.Needs.{needs}
-use mathlib.Core.Path.{_≡_, sym, _∙_}
 use mathlib.Core.Bool.{cond}
 use Prim.Native.Nat.{_+_}
 use lib.Dec.{eqb}
