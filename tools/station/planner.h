@@ -1,25 +1,85 @@
-/* The normaliser for C: link target/staticlib/libstation.a, which `rt staticlib station` makes. */
+/* The normaliser for C and C++: link target/staticlib/libstation.a, which `rt staticlib station` makes
+   (x86-64 Linux; the archive's only undefined symbols are memcpy, memmove and memset).
+
+   For every entry below, whatever is lent:
+
+   Slices      A slice is a pointer and a length in elements, lent for the time of the call. Any contents and any lengths may
+               be lent, 0 included; NULL only with length 0. The slices of one call do not overlap, and int32_t are aligned.
+   Memory      No heap, no globals, no files: an entry uses the lent slices and the stack, nothing else. So calls on different
+               slices may run at once in any number of threads. Every call ends.
+   Stack       Lend a thread 512 KiB. The most that compile_set was seen to use is 232,312 bytes: stack.c beside this paints a
+               thread's stack, calls with the deepest and widest sets (22,022 of them), and looks how far down the paint is
+               gone. This is measured, not proved.
+   Work slice  PLANNER_WORK_WORDS words or more, else PLANNER_SHORT_WORK. What is in it does not matter; it is zero after
+               every call.
+   Words       of a set and of an answer: docs/FORMAT.md.
+
+   What an entry returns and what it leaves in the slices is proved (crates/station/specs/Returned.antt, Joined.antt); tools/station/claims.c
+   tries what is said here by calls from C. */
 #ifndef PLANNER_H
 #define PLANNER_H
 #include <stddef.h>
 #include <stdint.h>
 
-/* Compiles a set's words into out. Any words and any lengths may be lent; the three slices do not overlap.
-   Returns the number of words written to out, a refusal's number negated (-1 to -12), or -100 for a contradiction.
-   out is zero behind the words written, and wholly so after a refusal or a contradiction; work is zero after every call.
-   work has at least 16384 words (else -1); the set is only read. The words are those of docs/FORMAT.md. */
+#ifdef __cplusplus
+extern "C" {
+#endif
+
+enum {
+    PLANNER_WORK_WORDS = 16384,        /* the shortest work slice */
+    PLANNER_SET_WORDS = 4096,          /* the longest set */
+    PLANNER_ANSWER_WORDS = 16777216    /* the longest answer: an output slice needs no more */
+};
+
+/* What an entry returns for a contradiction, and its refusals: the number of document 01's table (16, 17: document 02), negated. */
+enum {
+    PLANNER_CONTRADICTION = -100,      /* no assignment satisfies the set: folding alone shows it */
+    PLANNER_SHORT_WORK = -1,           /* the work slice has fewer than 16384 words */
+    PLANNER_LONG_SET = -2,             /* the set has more than 4096 words */
+    PLANNER_SET_ENDS = -3,             /* the set ends early, or words follow the last statement */
+    PLANNER_OUT_OF_RANGE = -4,         /* a count, value, operator or cell is out of range */
+    PLANNER_UNKNOWN_CODE = -5,         /* an expression, statement or domain code is unknown at its place */
+    PLANNER_UNDECLARED = -6,           /* a variable is not declared */
+    PLANNER_BAD_DOMAIN = -7,           /* a domain is empty or its values do not rise */
+    PLANNER_TOO_DEEP = -8,             /* an expression is deeper than 64 levels */
+    PLANNER_TOO_HEAVY = -9,            /* a weight is over 1073741823 */
+    PLANNER_MANY_VARIABLES = -10,      /* over 64 different integer variables in one comparison, or over 63 in one column */
+    PLANNER_WIDE_COLUMN = -11,         /* a column's span is over 4096 */
+    PLANNER_SHORT_OUTPUT = -12,        /* the answer is longer than the output slice, or than 16777216 words */
+    PLANNER_DECLARATIONS_DIFFER = -16, /* of a join: the declarations differ word by word */
+    PLANNER_LONG_JOIN = -17            /* the joined set is longer than 4096 words, or than the buffer */
+};
+
+/* compile_set: a set's words into an answer's.
+
+   Returns the number of words written to out (3 or more), PLANNER_CONTRADICTION, or a refusal, -1 to -12.
+   set      is only read.
+   out      is zero behind the words written, and wholly so after a contradiction or a refusal. What it held does not matter.
+   out_len  The listing program lends 16384 words, enough for most sets; the answer of the worked example (docs/EXAMPLE.md) has
+            261, that of a week of 34 blocks and 6 scorers (tools/rules/week 34 6) 3,109. Short sets can have long answers, so
+            no length is enough for all. On PLANNER_SHORT_OUTPUT nothing is wrong with the set: call again with out twice as
+            long, up to PLANNER_ANSWER_WORDS (64 MiB). If that is refused too, the rules have to be written in a shorter way.
+            An output of 0 words tests a set: whatever is returned but PLANNER_SHORT_OUTPUT, any other output gives too. */
 int64_t compile_set(const int32_t *set, size_t set_len, int32_t *out, size_t out_len, int32_t *work, size_t work_len);
 
-/* Joins two sets with identical declarations: the declarations, the first set's statements, the second's, into buffer.
-   Returns the number of words written, or a refusal's number negated: -1; the first set's -2 to -11; the second's; -16 where the
-   declarations differ word by word; -17 where the joined set is over 4096 words or over the buffer. Any words and any lengths may be lent;
-   buffer and work overlap neither each other nor the sets. buffer is zero behind the words written, and wholly so after a refusal;
-   work is zero after every call; the sets are only read. A joined set is never refused by -1 to -11 with the same work slice. */
+/* join_sets: two sets with identical declarations as one: the declarations, the first set's statements, the second's.
+
+   Returns the number of words written to buffer (3 or more), or a refusal: -1; the first set's, -2 to -11; the second's;
+   PLANNER_DECLARATIONS_DIFFER; PLANNER_LONG_JOIN. PLANNER_SET_WORDS words of buffer are enough for all.
+   first, second  are only read; they may be the same words.
+   buffer         is zero behind the words written, and wholly so after a refusal. What it held does not matter.
+   With the same work slice compile_set refuses no joined set by -1 to -11. */
 int64_t join_sets(const int32_t *first, size_t first_len, const int32_t *second, size_t second_len, int32_t *buffer, size_t buffer_len, int32_t *work, size_t work_len);
 
-/* Finds a joined statement by its number, from 1, without joining: returns the set it came from, 1 or 2, and stores in place that number,
-   the statement's start in that set and how many words it has (any further words of place are zero; of a shorter place, the first words).
-   Returns 0 and stores zeros where no statement has the number, or where the join is refused whatever the buffer. work is zero after every call. */
+/* find_statement: where a statement of the joined set stands, by its number from 1, without joining.
+
+   Returns the set that it came from, 1 or 2, or 0 where no statement has the number or join_sets refuses the sets in any buffer.
+   place    receives that number, the statement's start in that set's words and how many words it has (0, 0, 0 for none);
+            lend three words. What lies behind them is zero; of fewer words, those are written that there is room for. */
 int64_t find_statement(const int32_t *first, size_t first_len, const int32_t *second, size_t second_len, int32_t *place, size_t place_len, int32_t *work, size_t work_len, size_t number);
+
+#ifdef __cplusplus
+}
+#endif
 
 #endif
