@@ -14,7 +14,7 @@
                every call.
    Words       of a set and of an answer: docs/FORMAT.md.
 
-   What an entry returns and what it leaves in the slices is proved (crates/station/specs/Returned.antt); tools/station/claims.c
+   What an entry returns and what it leaves in the slices is proved (crates/station/specs/Returned.antt, Joined.antt); tools/station/claims.c
    tries what is said here by calls from C. */
 #ifndef PLANNER_H
 #define PLANNER_H
@@ -31,7 +31,7 @@ enum {
     PLANNER_ANSWER_WORDS = 16777216    /* the longest answer: an output slice needs no more */
 };
 
-/* What an entry returns for a contradiction, and its refusals: the number of document 01's table, negated. */
+/* What an entry returns for a contradiction, and its refusals: the number of document 01's table (16, 17: document 02), negated. */
 enum {
     PLANNER_CONTRADICTION = -100,      /* no assignment satisfies the set: folding alone shows it */
     PLANNER_SHORT_WORK = -1,           /* the work slice has fewer than 16384 words */
@@ -45,7 +45,9 @@ enum {
     PLANNER_TOO_HEAVY = -9,            /* a weight is over 1073741823 */
     PLANNER_MANY_VARIABLES = -10,      /* over 64 different integer variables in one comparison, or over 63 in one column */
     PLANNER_WIDE_COLUMN = -11,         /* a column's span is over 4096 */
-    PLANNER_SHORT_OUTPUT = -12         /* the answer is longer than the output slice, or than 16777216 words */
+    PLANNER_SHORT_OUTPUT = -12,        /* the answer is longer than the output slice, or than 16777216 words */
+    PLANNER_DECLARATIONS_DIFFER = -16, /* of a join: the declarations differ word by word */
+    PLANNER_LONG_JOIN = -17            /* the joined set is longer than 4096 words, or than the buffer */
 };
 
 /* compile_set: a set's words into an answer's.
@@ -59,6 +61,22 @@ enum {
             long, up to PLANNER_ANSWER_WORDS (64 MiB). If that is refused too, the rules have to be written in a shorter way.
             An output of 0 words tests a set: whatever is returned but PLANNER_SHORT_OUTPUT, any other output gives too. */
 int64_t compile_set(const int32_t *set, size_t set_len, int32_t *out, size_t out_len, int32_t *work, size_t work_len);
+
+/* join_sets: two sets with identical declarations as one: the declarations, the first set's statements, the second's.
+
+   Returns the number of words written to buffer (3 or more), or a refusal: -1; the first set's, -2 to -11; the second's;
+   PLANNER_DECLARATIONS_DIFFER; PLANNER_LONG_JOIN. PLANNER_SET_WORDS words of buffer are enough for all.
+   first, second  are only read; they may be the same words.
+   buffer         is zero behind the words written, and wholly so after a refusal. What it held does not matter.
+   With the same work slice compile_set refuses no joined set by -1 to -11. */
+int64_t join_sets(const int32_t *first, size_t first_len, const int32_t *second, size_t second_len, int32_t *buffer, size_t buffer_len, int32_t *work, size_t work_len);
+
+/* find_statement: where a statement of the joined set stands, by its number from 1, without joining.
+
+   Returns the set that it came from, 1 or 2, or 0 where no statement has the number or join_sets refuses the sets in any buffer.
+   place    receives that number, the statement's start in that set's words and how many words it has (0, 0, 0 for none);
+            lend three words. What lies behind them is zero; of fewer words, those are written that there is room for. */
+int64_t find_statement(const int32_t *first, size_t first_len, const int32_t *second, size_t second_len, int32_t *place, size_t place_len, int32_t *work, size_t work_len, size_t number);
 
 #ifdef __cplusplus
 }

@@ -357,7 +357,8 @@ fn rules(set: &[i32], work: &[i32], at: usize, n: usize, ni: usize, m: usize) ->
 
 // ---- statements
 
-fn statement(set: &[i32], work: &[i32], at: usize, ni: usize, m: usize) -> usize
+// The place behind the statement, or 0 where the test hits.
+pub fn statement(set: &[i32], work: &[i32], at: usize, ni: usize, m: usize) -> usize
     requires { ⌜ Ready-stmt (now set) (now work) at ni × (ni < 2147483648) ⌝ }
     ensures { λ r. ⌜ Stmt-post (now (set .entry)) (now (work .entry)) at ni m r ⌝ }
 {

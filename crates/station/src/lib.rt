@@ -1,6 +1,12 @@
 // What a station links: every entry for C, over the proved calls. A slice is a pointer and a length in C (tools/station/planner.h).
+use join::Joined;
 use planner::Answer;
+ghost use mathlib.Core.Path.{_≡_};
+ghost use Prim.Native.Nat.{_<_};
+ghost use lib.IntN.{pos};
+ghost use lib.ListN.{set};
 ghost use Rattle.station.specs.Returned.{Returns};
+ghost use Rattle.station.specs.Joined.{Join-returns, Find-returns};
 
 // The number of words written, the refusal's number negated, or -100 for a contradiction.
 #[no_mangle]
@@ -12,4 +18,52 @@ pub extern "C" fn compile_set(set: &[i32], output: &mut [i32], work: &mut [i32])
         Answer::Contradiction => -100,
         Answer::Refused(k) => 0 - (k as i64),
     }
+}
+
+// The joined set's words into the buffer: their number, or the refusal's number negated.
+#[no_mangle]
+pub extern "C" fn join_sets(
+    first: &[i32],
+    second: &[i32],
+    buffer: &mut [i32],
+    work: &mut [i32],
+) -> i64
+    ensures { λ r. ⌜ Join-returns (now (first .entry)) (now (second .entry)) (now (buffer .entry)) (now (work .entry)) (now (buffer .exit)) (now (work .exit)) r ⌝ }
+{
+    match join::join(first, second, buffer, work) {
+        Joined::Words(n) => n as i64,
+        Joined::Refused(k) => 0 - (k as i64),
+    }
+}
+
+// A number stored at a place, where there is one.
+fn put(place: &mut [i32], i: usize, n: usize)
+    requires { ⌜ n < 2147483648 ⌝ }
+    ensures { λ _. ⌜ now (place .exit) ≡ set (now (place .entry)) i (pos n) ⌝ }
+{
+    if i < place.len() {
+        place[i] = n as i32;
+    }
+}
+
+// Where a joined statement stands: its set's number, 1 or 2, 0 for none, is returned and stored; behind it where the statement starts, and how many words it has.
+#[no_mangle]
+pub extern "C" fn find_statement(
+    first: &[i32],
+    second: &[i32],
+    place: &mut [i32],
+    work: &mut [i32],
+    number: usize,
+) -> i64
+    ensures { λ r. ⌜ Find-returns (now (first .entry)) (now (second .entry)) (now (place .entry)) (now (work .entry)) (now (place .exit)) (now (work .exit)) number r ⌝ }
+{
+    refuse::clear(place);
+    let p = join::find_place(first, second, work, number);
+    let set = p.set;
+    let from = p.from;
+    let words = p.to - from;
+    put(place, 0, set);
+    put(place, 1, from);
+    put(place, 2, words);
+    set as i64
 }

@@ -20,6 +20,7 @@ pub mod answer;
 pub mod call;
 pub mod cases;
 pub mod generate;
+pub mod join;
 pub mod listing;
 pub mod meaning;
 mod passes;

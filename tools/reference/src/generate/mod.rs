@@ -5,6 +5,7 @@ mod expressions;
 mod heavy;
 mod lengths;
 pub mod limits;
+pub mod pairs;
 mod places;
 mod rng;
 mod tables;
