@@ -74,6 +74,7 @@ module _ {set w : List ℤ} {n : ℕ} (x : SomeEmits set w n) where
     wrote = λ p f ss c e. let h = d p f ss c e in three-words (domain-of (emitted p ss) n) l (record { low-is = i ∙ h .low-is; high-is = j ∙ h .high-is; size-is = m ∙ h .size-is }) u v t;
     pairs = λ p f ss c e. let h = d p f ss c e in stored-pairs w n y z pair-room (emitted p ss) (i ∙ h .low-is) (j ∙ h .high-is) (e .pairs);
     below = stored-below w n y z pair-room;
+    above = λ k g. other w n y z pair-room k (λ e. omega arith) (λ e. omega arith);
     size = stored-size w n y z pair-room;
   }
 
@@ -85,6 +86,7 @@ pub record Going (set w₀ : List ℤ) (count : ℕ) (out₀ : List ℤ) (o : �
   pub room : Open out at
   pub cap₀ : length out₀ ≤ cap
   pub below : take free-from w ≡ take free-from w₀
+  pub above : (k : ℕ) → free-from + 2 * n ≤ k → getD w k (pos 0) ≡ getD w₀ k (pos 0)
   pub size : length w ≡ length w₀
   pub size-out : length out ≡ length out₀
   pub pairs : (p : Problem) (f : Fixed) (ss : List Stmt) (c : Counters) → set ≡ encode p → NumberedSet p f ss w₀ c → count ≡ c .ints → Pairs (emitted p ss) w n
@@ -97,6 +99,7 @@ going-start {set} {w} {count} {out} {o} s h = record {
   room = h;
   cap₀ = h .room;
   below = refl;
+  above = λ k h. refl;
   size = refl;
   size-out = refl;
   pairs = λ p f ss c e r a k l. absurd (omega arith);
@@ -132,6 +135,7 @@ module _ {set w₀ : List ℤ} {count : ℕ} {out₀ : List ℤ} {o : ℕ} {w ou
     room = open-next (g .room) (here l x);
     cap₀ = g .cap₀;
     below = x .below ∙ g .below;
+    above = λ k h. x .above k (omega arith) ∙ g .above k (omega arith);
     size = x .size ∙ g .size;
     size-out = wrote-length (here l x) ∙ g .size-out;
     pairs = λ p f ss c e r a. x .pairs p f ss c (emits l p f ss c e r a);
@@ -145,6 +149,8 @@ module _ {set w₀ : List ℤ} {count : ℕ} {out₀ : List ℤ} {o : ℕ} {w ou
     wrote = λ p f ss c e r a.
         let m : length (emitted p ss) ≤ n = omega (arith, length-emitted (p .domains) (log-of p ss), r .numbered .ints, a) in
         wrote-to (ap (λ (ds : List Domain). flat (map domain-words ds)) (take-all n (emitted p ss) m)) (g .wrote p f ss c e r a);
+    pairs = λ p f ss c e r a k h. g .pairs p f ss c e r a k (omega arith);
     below = g .below;
+    above = λ k h. g .above k (omega (arith, g .low));
     size = g .size;
   }

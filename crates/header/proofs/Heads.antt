@@ -112,6 +112,8 @@ header-done {set} {w} {w'} {out} {a} {e} {d} {out'} {b} {i} {o} {p} {q} {r} {c} 
       let g = wrote-then l x (wrote-then (omega (arith, wrote-length x)) y (wrote-then (omega (arith, wrote-length x, wrote-length y)) z (t .wrote m f ss c k h refl))) in
       let n : List ℤ = pos (c .bools) ∷ pos (c .ints) ∷ flat (map domain-words (emitted m ss)) in
       wrote-to (ap (λ (j : ℕ). maps-words w j i ++ n) u ∙ ap (λ (j : ℕ). maps-words w (m .bools) j ++ n) v ∙ header-is m f ss w c h) g;
+  pairs = λ m f ss k h. t .pairs m f ss c k h refl;
   below = t .below;
+  above = t .above;
   size = t .size;
 }

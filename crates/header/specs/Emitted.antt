@@ -106,6 +106,7 @@ pub record Put (set w : List ℤ) (n : ℕ) (out : List ℤ) (o : ℕ) (w' out' 
   pub wrote : (p : Problem) (f : Fixed) (ss : List Stmt) (c : Counters) → Emits set w n p f ss c → Wrote out o (domain-words (domain-of (emitted p ss) n)) out' o'
   pub pairs : (p : Problem) (f : Fixed) (ss : List Stmt) (c : Counters) → Emits set w n p f ss c → Pairs (emitted p ss) w' (n + 1)
   pub below : take free-from w' ≡ take free-from w
+  pub above : (k : ℕ) → free-from + 2 * n + 2 ≤ k → getD w' k (pos 0) ≡ getD w k (pos 0)
   pub size : length w' ≡ length w
 
 -- ---- all of them
@@ -121,5 +122,7 @@ pub record SomeNumbered (set w : List ℤ) (count : ℕ) : Type 0 where
 
 pub record PutAll (set w : List ℤ) (count : ℕ) (out : List ℤ) (o : ℕ) (w' out' : List ℤ) (o' : ℕ) : Type 0 where
   pub wrote : (p : Problem) (f : Fixed) (ss : List Stmt) (c : Counters) → set ≡ encode p → NumberedSet p f ss w c → count ≡ c .ints → Wrote out o (flat (map domain-words (emitted p ss))) out' o'
+  pub pairs : (p : Problem) (f : Fixed) (ss : List Stmt) (c : Counters) → set ≡ encode p → NumberedSet p f ss w c → count ≡ c .ints → Pairs (emitted p ss) w' count
   pub below : take free-from w' ≡ take free-from w
+  pub above : (k : ℕ) → free-from + 2 * count ≤ k → getD w' k (pos 0) ≡ getD w k (pos 0)
   pub size : length w' ≡ length w

@@ -2,7 +2,7 @@
 use mathlib.Core.Path.{_≡_, refl, sym, ap, _∙_, subst}
 use mathlib.Core.Bool.{Bool, true, false, cond}
 use mathlib.Core.List.{List, [], _∷_, _++_, map, map-append}
-use Prim.Native.Nat.{ℕ, suc, _+_, _-_, _≤_, _<_}
+use Prim.Native.Nat.{ℕ, _+_, _-_, _≤_, _<_}
 use native.Mathlib.Omega.{arith}
 use lib.IntN.{ℤ, pos}
 use lib.Dec.{ltb}
@@ -12,7 +12,7 @@ use borrow.Author.Tests.{lt-ltb, le-ltb, ltb-false}
 use Rattle.laws.specs.Ints.{apart}
 use Rattle.laws.specs.Lists.{flat, counted, flat-append}
 use Rattle.syntax.specs.Words.{min-work-words, max-set-words}
-use Rattle.syntax.specs.Syntax.{Problem, encode-domain, encode-stmt, encode}
+use Rattle.syntax.specs.Syntax.{Problem, encode-stmt, encode}
 use Rattle.words.specs.Parse.{Parsed, ok, refuse}
 use Rattle.read.specs.Read.{read-set}
 use Rattle.reader.specs.declared.Declared.{Declared}
@@ -22,7 +22,7 @@ use Rattle.accept.specs.Walk.{bounds-place, Bounds}
 use Rattle.accept.specs.Accepted.{accepted, table-read, table-after}
 use Rattle.accept.specs.Taken.{Taken, accepted-ok, accepted-refused, taken-set, taken-bounds, declared-is}
 use Rattle.join.specs.Join.{limited, admitted, declaration-words, same-words, both, Agreement, agreed, refusal, compared, agree-read, agreement}
-use Rattle.join.specs.Joined.{same-is, is-admitted, encode-parts, Agrees, agreement-is}
+use Rattle.join.specs.Joined.{same-is, is-admitted, encode-parts, agreement-is}
 use Rattle.join.specs.Steps.{pair-of, agreed-of, Ready-both, Compare-post, Agree-post}
 use Rattle.join.specs.declared.Pair.{Pair}
 use Rattle.join.specs.declared.Agreed as declared-agreed

@@ -1,22 +1,22 @@
 -- A joined statement found: in the first set, in the second, or nowhere; and its words as a part of that set. Assumes nothing.
 use mathlib.Core.Path.{_≡_, refl, sym, ap, _∙_, subst}
-use mathlib.Core.Bool.{Bool, false}
-use mathlib.Core.List.{List, [], _∷_, _++_, map}
+use mathlib.Core.Bool.{false}
+use mathlib.Core.List.{List, [], _∷_, _++_}
 use Prim.Native.Nat.{ℕ, zero, suc, _+_, _-_, _*_, _≤_, _<_}
 use native.Mathlib.Omega.{arith}
 use lib.IntN.{ℤ}
-use lib.ListN.{length, take, drop, getD, length-append, List·getD-append, List·getD-eq-default}
+use lib.ListN.{length, take, drop, getD, List·getD-append, List·getD-eq-default}
 use lib.Seq.{getD-append-add}
 use Rattle.laws.specs.Lists.{any}
 use Rattle.laws.specs.Slices.{Has, has-fits}
-use Rattle.syntax.specs.Syntax.{Domain, Stmt, encode-stmt, Problem, encode}
+use Rattle.syntax.specs.Syntax.{Stmt, encode-stmt, Problem}
 use Rattle.limits.specs.Limits.{check}
 use Rattle.accept.specs.Walk.{Bounds, Stmts-at, test-stmt, check-stmts}
 use Rattle.accept.specs.Accepted.{Set-of, check-is, stmts-stand}
-use Rattle.join.specs.Join.{declaration-words, both, Agreement, agreed, refusal, agreement, Found, in-first, in-second, nowhere, placed, statements-place, statements-of, statement-at, words-of, address-of}
+use Rattle.join.specs.Join.{declaration-words, agreement, Found, in-first, in-second, nowhere, placed, statements-place, statements-of, statement-at, words-of, address-of}
 use Rattle.join.specs.Joined.{stmt-long, no-limit, Admitted, Agrees, agreement-is}
 use Rattle.join.specs.Found.{Stands}
-use Rattle.join.specs.Steps.{pair-of, agreed-of, Listed, Ready-nth, Part, Part-post, Ready-find, Agree-post}
+use Rattle.join.specs.Steps.{Listed, Ready-nth, Part-post, Ready-find, Agree-post}
 use Rattle.join.specs.Contract.{place-of}
 use Rattle.join.proofs.AgreeLaws.{refused-is, agreed-is}
 use Rattle.join.specs.declared.Pair.{Pair}

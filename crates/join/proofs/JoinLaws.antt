@@ -1,5 +1,5 @@
 -- The entry's cases: refused, over the buffer, joined. Assumes nothing.
-use mathlib.Core.Path.{_≡_, refl, sym, ap, _∙_, subst}
+use mathlib.Core.Path.{_≡_, refl, sym, ap, _∙_}
 use mathlib.Core.List.{List}
 use Prim.Native.Nat.{ℕ, _≤_, _<_}
 use native.Mathlib.Omega.{arith}
@@ -9,7 +9,7 @@ use lib.Seq.{sets}
 use borrow.Author.Tests.{lt-ltb, le-ltb}
 use Rattle.syntax.specs.Syntax.{Problem, encode}
 use Rattle.refuse.specs.Refuse.{zeros}
-use Rattle.join.specs.Join.{both, Agreement, agreed, refusal, agreement, Joining, joined, refused, sized, join, buffer-after}
+use Rattle.join.specs.Join.{both, agreed, refusal, agreement, Joining, joined, refused, sized, join, buffer-after}
 use Rattle.join.specs.Steps.{pair-of, Agree-post, Ready-write, Write-post}
 use Rattle.join.specs.Contract.{answer-of, Joins}
 use Rattle.join.specs.declared.Pair.{Pair}

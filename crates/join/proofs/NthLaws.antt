@@ -1,6 +1,6 @@
 -- One of a set's statements, found by passing those before it: what each step asks and gives. Assumes nothing.
 use mathlib.Core.Path.{_≡_, refl, sym, ap, _∙_}
-use mathlib.Core.Bool.{Bool, true, false, cond}
+use mathlib.Core.Bool.{false}
 use mathlib.Core.List.{List, [], _∷_, map}
 use Prim.Native.Nat.{ℕ, zero, suc, _+_, _-_, _<_}
 use native.Mathlib.Omega.{arith}
@@ -12,7 +12,7 @@ use Rattle.laws.specs.Slices.{has-front, has-back}
 use Rattle.syntax.specs.Syntax.{Domain, Stmt, encode-stmt}
 use Rattle.accept.specs.Walk.{Bounds, Usable-stmts, Stmt-at, Ready-stmt, test-stmt, Stmt-post}
 use Rattle.join.specs.Join.{Found, nowhere, placed}
-use Rattle.join.specs.Steps.{Listed, Ready-nth, Nth, Nth-post, Part, Part-post}
+use Rattle.join.specs.Steps.{Listed, Ready-nth, Nth-post, Part-post}
 
 module _ (ws work : List ℤ) (at ni : ℕ) where
   -- a list of statements taken apart

@@ -1,18 +1,18 @@
 -- The joined words in the buffer: the first set, its count of statements stored anew, the second set's statements behind it. Assumes nothing.
 use mathlib.Core.Path.{_≡_, refl, sym, ap, _∙_}
 use mathlib.Core.List.{List, [], _∷_, _++_, map, append-assoc}
-use Prim.Native.Nat.{ℕ, suc, _+_, _-_, _≤_, _<_}
+use Prim.Native.Nat.{ℕ, _+_, _-_, _≤_, _<_}
 use native.Mathlib.Omega.{arith}
 use lib.IntN.{ℤ, pos}
 use lib.ListN.{length, drop, set, length-append, length-set}
-use lib.Seq.{sets, length-sets, drop-append-add}
+use lib.Seq.{sets, drop-append-add}
 use Rattle.laws.specs.Lists.{flat, counted}
 use Rattle.laws.specs.Writes.{sets-append}
 use Rattle.syntax.specs.Syntax.{Problem, encode-stmt, encode}
 use Rattle.words.specs.Parse.{ok}
 use Rattle.join.specs.Join.{declaration-words, both, agreed, agreement, statements-place}
-use Rattle.join.specs.Joined.{encode-parts, Agrees, agreement-is}
-use Rattle.join.specs.Steps.{pair-of, Ready-write, Write-post}
+use Rattle.join.specs.Joined.{encode-parts, agreement-is}
+use Rattle.join.specs.Steps.{Ready-write, Write-post}
 use Rattle.join.specs.declared.Pair.{Pair}
 use Rattle.join.proofs.WordLaws.{stored-anew}
 use Rattle.join.proofs.AgreeLaws.{both-words, both-length}

@@ -3,7 +3,7 @@ use mathlib.Core.Path.{_≡_, refl, sym, ap, _∙_}
 use mathlib.Core.List.{List, [], _∷_, _++_, map, map-append}
 use Prim.Native.Nat.{ℕ, zero, suc, _+_, _≤_}
 use native.Mathlib.Omega.{arith}
-use lib.IntN.{ℤ, pos}
+use lib.IntN.{ℤ}
 use lib.ListN.{length, take, getD}
 use lib.Seq.{take-length}
 use borrow.Author.Tests.{ltb-false}
@@ -13,7 +13,7 @@ use Rattle.syntax.specs.Words.{max-set-words}
 use Rattle.syntax.specs.Syntax.{Problem, Stmt, encode-stmt, encode}
 use Rattle.words.specs.Exact.{Each}
 use Rattle.join.specs.Join.{declaration-words, both, Agreement, agreed, refusal, agreement, Found, in-first, in-second, nowhere, placed, statements-place, statements-of, statement-at, words-of}
-use Rattle.join.specs.Joined.{encode-parts, each-append, stmt-long, Agrees, agreement-is}
+use Rattle.join.specs.Joined.{encode-parts, each-append, stmt-long, agreement-is}
 
 -- an encoded set's statements stand behind its declarations and their count
 pub stmts-stand : (ws : List ℤ) (p : Problem) → ws ≡ encode p → Has ws (statements-place p) (flat (map encode-stmt (p .stmts)))

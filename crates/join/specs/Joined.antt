@@ -2,7 +2,7 @@
 use mathlib.Core.Path.{_≡_, refl, sym, ap, _∙_}
 use mathlib.Core.Bool.{Bool, true, false, cond}
 use mathlib.Core.List.{List, [], _∷_, _++_, map}
-use Prim.Native.Nat.{ℕ, zero, suc, _+_, _≤_}
+use Prim.Native.Nat.{ℕ, zero, suc, _≤_}
 use native.Mathlib.Omega.{arith}
 use lib.IntN.{ℤ, pos}
 use lib.Dec.{ltb}
@@ -20,7 +20,7 @@ use Rattle.read.specs.Read.{read-set}
 use Rattle.read.specs.WellFormed.{WellStmt, WellFormed}
 use Rattle.read.specs.Exact.{set-sound, set-complete, set-unique}
 use Rattle.limits.specs.Limits.{any-part, heavy, heavy-comparison, many-comparison, many-column, wide-column, check}
-use Rattle.join.specs.Join.{limited, admitted, declaration-words, same-words, both, Agreement, agreed, refusal, compared, agree-read, agreement, Joining, joined, refused, sized, join}
+use Rattle.join.specs.Join.{limited, admitted, declaration-words, same-words, both, Agreement, agreed, refusal, compared, agree-read, agreement, joined, refused, sized, join}
 
 -- ---- the same words
 

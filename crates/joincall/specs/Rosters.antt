@@ -1,20 +1,20 @@
 -- Request 2.8's claim: the rosters that pass the joined set's answer are those that pass both sets' answers. Assumes nothing.
-use mathlib.Core.Path.{_≡_, refl, sym, ap, _∙_}
+use mathlib.Core.Path.{_≡_, refl, sym, ap}
 use mathlib.Core.Logic.{_↔_}
-use mathlib.Core.Bool.{Bool, true, false}
-use mathlib.Core.List.{List, [], _++_}
+use mathlib.Core.Bool.{true}
+use mathlib.Core.List.{List, []}
 use Prim.Native.Nat.{ℕ}
 use lib.IntN.{ℤ}
 use lib.ListN.{length}
-use Rattle.syntax.specs.Syntax.{Problem, Stmt}
-use Rattle.syntax.specs.Satisfies.{Val, IVal, in-domains}
+use Rattle.syntax.specs.Syntax.{Problem}
+use Rattle.syntax.specs.Satisfies.{Val, IVal}
 use Rattle.words.specs.Parse.{ok}
 use Rattle.read.specs.Read.{read-set}
 use Rattle.call.specs.Call.{call}
-use Rattle.call.specs.Claim.{within, Passed, NotRefused, SameVariables, Called}
+use Rattle.call.specs.Claim.{within, Passed, NotRefused, Called}
 use Rattle.call.specs.Demand.{demand-3-consequences}
 use Rattle.join.specs.Join.{both, joined, join}
-use Rattle.join.specs.Joined.{Admitted, admitted-is, Agrees, JoinOf, join-is}
+use Rattle.join.specs.Joined.{admitted-is, join-is}
 
 -- a set that reads as q, and a call of it; q declares what p declares
 abbrev called : (p q : Problem) (set : List ℤ) (out-length work-length : ℕ) → read-set set ≡ ok q [] → q .bools ≡ p .bools → q .domains ≡ p .domains → NotRefused (call set out-length work-length) → Called p (q .stmts)

@@ -9,7 +9,9 @@ use Rattle.fold.specs.Fold.{Fixed}
 use Rattle.walk.specs.declared.Counters.{Counters}
 use Rattle.statements.specs.Stages.{stmts-words, Folded, NumberedSet}
 
--- end: where the folded statements end
+-- end: where the folded statements end. The fixed values and the statements' words stay; the maps, the records and the columns' numbers are
+-- those of the log (NumberedSet). Free, but for their number, are the words from 4608 on that belong to no declared variable, emitted integer or
+-- column: the call reads none of them before it writes them, and clears all
 pub record NumberedAll (w : List ℤ) (end : ℕ) (w' : List ℤ) (c : Counters) : Type 0 where
   pub ready : (p : Problem) (f : Fixed) (ss : List Stmt) → Folded p f ss w → end ≡ 512 + length (stmts-words ss) → NumberedSet p f ss w' c
   pub size : length w' ≡ length w

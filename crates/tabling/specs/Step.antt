@@ -61,7 +61,8 @@ pub record SomeTable (set w : List ℤ) (q triples m : ℕ) (out : List ℤ) (o 
   pub rows : List (List Cell)
   pub it : At place (Table exprs rows) set w q triples m out o
 
--- its clauses are written behind k others, and the work slice is saved from its end on
+-- its clauses are written behind k others, and the work slice is saved from its end to the free region. Free, but for their number, are the
+-- words before its end (a table's rows are sorted in place) and those of the free region (its columns are described there)
 pub record Did (x : Place) (t : Stmt) (w : List ℤ) (q : ℕ) (out : List ℤ) (o k : ℕ) (w' out' : List ℤ) (e m' o' k' : ℕ) : Type 0 where
   pub clauses : Clauses out o k (after x t .0) out' o' k'
   pub next : e ≡ q + length (encode-stmt t)

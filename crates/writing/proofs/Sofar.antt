@@ -21,7 +21,7 @@ use Rattle.statements.specs.Whole.{start}
 use Rattle.statements.specs.Stages.{stmts-words, clauses-of, log-of}
 use Rattle.statements.specs.NumberedEntry.{settled-emitted, settled-low, ready-fit}
 use Rattle.statements.specs.Along.{zeros, StmtAt, Rest, rest-start, rest-first, rest-next}
-use Rattle.statements.specs.Saved.{Saved, saved-same, saved-then, has-saved, fit-saved, in-place-saved}
+use Rattle.statements.specs.Saved.{Saved, saved-same, saved-then, saved-less, has-saved, fit-saved, in-place-saved}
 use Rattle.tabling.proofs.After.{triples-stay}
 use Rattle.tabling.specs.Step.{Place, after, At, SomeAt, Did}
 use Rattle.writing.specs.Writing.{Writable}
@@ -70,6 +70,9 @@ module _ {set w₀ : List ℤ} {end triples : ℕ} {out₀ : List ℤ} {o₀ : �
 
     pub sofar-size : length w ≡ length w₀
     sofar-size = v .saved .size
+
+    pub sofar-saved : Saved end w₀ w
+    sofar-saved = saved-less (omega (arith, v .left .place, h .ends)) (v .saved)
 
     pub sofar-out : length out ≡ length out₀
     sofar-out = wrote-length (v .wrote .words)

@@ -16,6 +16,7 @@ use Rattle.writer.specs.Placed.{RuleWrote}
 use Rattle.rows.specs.Emit.{Clauses, Behind}
 use Rattle.rows.specs.declared.Written.{Written}
 use Rattle.statements.specs.Stages.{stmts-words, clauses-of, log-of, NumberedSet}
+use Rattle.statements.specs.Saved.{Saved}
 
 -- the set's words, the work slice after numbering, and the answer with its emitted integers' words from `triples` on, in front of o
 pub record Writable (p : Problem) (f : Fixed) (ss : List Stmt) (c : Counters) (set w : List ℤ) (end triples : ℕ) (out : List ℤ) (o : ℕ) : Type 0 where
@@ -33,10 +34,12 @@ pub record SomeWritable (set w : List ℤ) (end triples : ℕ) (out : List ℤ) 
   pub counters : Counters
   pub writable : Writable it fixed stmts counters set w end triples out o
 
--- the clauses of all statements in order, from o on
+-- the clauses of all statements in order, from o on. The words of the work slice from `end` to the free region stay: the maps, the records,
+-- the columns' numbers. Free, but for their number, are those before `end` (a table's rows are sorted in place) and those of the free
+-- region (its columns are described there): the call reads neither afterwards, and clears all
 pub record WrittenAll (set w : List ℤ) (end triples : ℕ) (out : List ℤ) (o : ℕ) (w' out' : List ℤ) (r : Written) : Type 0 where
   pub clauses : (p : Problem) (f : Fixed) (ss : List Stmt) (c : Counters) → Writable p f ss c set w end triples out o → Clauses out o 0 (clauses-of p ss) out' (r .at) (r .clauses)
-  pub size : length w' ≡ length w
+  pub saved : Saved end w w'
 
 -- the rule behind the code word at q is written; the count of clauses is no more than the place
 pub record RuleStep (w : List ℤ) (q m : ℕ) (out : List ℤ) (o k : ℕ) (out' : List ℤ) (e m' o' k' : ℕ) : Type 0 where

@@ -1,5 +1,3 @@
-use mathlib.Core.Path.{refl}
-use native.Mathlib.Omega.{arith}
 use Rattle.join.proofs.FindLaws.{find-few, first-ready, second-ready, find-zero, find-first, find-second, find-beyond}
 use borrow.Author.Needs.{needs}
 use Rattle.join.proofs.find.Statement.{statement}

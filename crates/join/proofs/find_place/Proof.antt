@@ -1,4 +1,4 @@
-use mathlib.Core.Path.{sym, ap, _∙_}
+use mathlib.Core.Path.{ap, _∙_}
 use Rattle.refuse.specs.Refuse.{zeros}
 use Rattle.join.specs.Join.{statement-at}
 use Rattle.join.specs.Contract.{place-of}

@@ -1,5 +1,4 @@
-use mathlib.Core.Path.{sym, ap, _∙_}
-use native.Mathlib.Omega.{arith}
+use mathlib.Core.Path.{ap, _∙_}
 use Rattle.refuse.specs.Refuse.{zeros}
 use Rattle.join.proofs.JoinLaws.{join-refused, join-over, join-ready, join-done}
 use borrow.Author.Needs.{needs}

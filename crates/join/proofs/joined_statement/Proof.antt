@@ -1,8 +1,5 @@
-use mathlib.Core.Path.{_≡_, sym, ap, _∙_}
-use native.Mathlib.Omega.{arith}
-use Rattle.join.specs.Join.{statement-at, words-of, address-of}
 use Rattle.join.specs.Found.{statement-stands}
-use Rattle.join.proofs.FindLaws.{Cut, cut-first, cut-second, cut-none}
+use Rattle.join.proofs.FindLaws.{cut-first, cut-second, cut-none}
 use borrow.Author.Needs.{needs}
 use Rattle.join.proofs.joined_statement.Statement.{statement}
 use Rattle.join.proofs.joined_statement.Tie as tie

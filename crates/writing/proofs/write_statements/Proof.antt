@@ -5,7 +5,7 @@ use Rattle.syntax.specs.Syntax.{Stmt, Problem}
 use Rattle.fold.specs.Fold.{Fixed}
 use Rattle.walk.specs.declared.Counters.{Counters}
 use Rattle.writing.specs.Writing.{Writable}
-use Rattle.writing.proofs.Sofar.{Sofar, sofar-start, sofar-at, sofar-behind, sofar-next, sofar-size, sofar-out, sofar-end}
+use Rattle.writing.proofs.Sofar.{Sofar, sofar-start, sofar-at, sofar-behind, sofar-next, sofar-size, sofar-saved, sofar-out, sofar-end}
 use Rattle.writing.proofs.write_statements.Statement.{statement}
 use Rattle.writing.proofs.write_statements.Tie as tie
 
@@ -42,7 +42,7 @@ same-length-2 c = let h = c .before .before .pre .writable in sofar-out h (c .be
 returns : tie.Need-returns Inv-loop μ-loop
 returns c = record {
   clauses = λ p f ss d h. sofar-end h (c .before .loop .inv p f ss d h) (omega (arith, c .loop-test .left));
-  size = let h = c .before .before .pre .writable in sofar-size h (c .before .loop .inv _ _ _ _ h);
+  saved = let h = c .before .before .pre .writable in sofar-saved h (c .before .loop .inv _ _ _ _ h);
 }
 
 pub write-statements-spec : {M : Type 1} → statement M
