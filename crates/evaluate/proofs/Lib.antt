@@ -1,1 +1,3 @@
-mod IntLaws
+pub mod IntLaws
+pub mod SkipLaws
+pub mod BoolLaws
