@@ -10,7 +10,7 @@ use lib.ListN.{length, getD, length-append}
 use mir.Syntax.{w32}
 use mir.Val.{SFits, ofZ}
 use borrow.Author.Tests.{eq-eqb, ne-eqb, eqb-true, eqb-false}
-use Rattle.laws.specs.Bools.{or-no-l, or-no-r}
+use Rattle.laws.specs.Bools.{never, beq-same, or-no-l, or-no-r}
 use Rattle.laws.specs.Ints.{eqZ, pos-eq}
 use Rattle.laws.specs.Order.{is-eqZ, not-eqZ}
 use Rattle.laws.specs.Signed.{same-value}
@@ -37,6 +37,9 @@ eq-bits x y f g = go (eqb (ofZ w32 x) (ofZ w32 y)) refl
     go : (t : Bool) → eqb (ofZ w32 x) (ofZ w32 y) ≡ t → t ≡ eqZ x y
     go true h = sym (is-eqZ x y (same-value f g (eqb-true (ofZ w32 x) (ofZ w32 y) h)))
     go false h = sym (not-eqZ x y (λ e. eqb-false (ofZ w32 x) (ofZ w32 y) h (ap (ofZ w32) e)))
+
+pub beq-differ : (a b : Bool) → Bool·beq a b ≡ false → a ≡ b → ⊥
+beq-differ a b h e = never (sym h ∙ (rw e (beq-same b)))
 
 op-back : (o : CmpOp) → op-at (op-word o) ≡ o
 op-back Eq = refl
