@@ -41,6 +41,14 @@ eq-bits x y f g = go (eqb (ofZ w32 x) (ofZ w32 y)) refl
 pub beq-differ : (a b : Bool) → Bool·beq a b ≡ false → a ≡ b → ⊥
 beq-differ a b h e = never (sym h ∙ (rw e (beq-same b)))
 
+pub not-true : (a : Bool) → not a ≡ true → a ≡ false
+not-true true h = sym h
+not-true false h = refl
+
+pub not-false : (a : Bool) → not a ≡ false → a ≡ true
+not-false true h = refl
+not-false false h = sym h
+
 op-back : (o : CmpOp) → op-at (op-word o) ≡ o
 op-back Eq = refl
 op-back Ne = refl
