@@ -159,7 +159,10 @@ module _ (ws values : List ℤ) (n : ℕ) where
 
             pub stmts-start : (work : List ℤ) → length work ≡ n → Ready-stmts ws values (d .bools) (d .at) (d .stmts) work
             stmts-start work e = record {
-              ds = p .domains; roster = fits; them = p .stmts; reads = stand;
+              ds = p .domains;
+              roster = fits;
+              them = p .stmts;
+              reads = stand;
               room = omega (arith, e, ltb-false n min-work-words (t .enough), ltb-false max-set-words (length ws) (t .short));
             }
 

@@ -279,10 +279,11 @@ module _ (ws : List ℤ) (at n : ℕ) (z : n ≡ 0 → ⊥) where
 
     pub rest-some : Some-members ws at n → Some-members ws x (n - 1 + k) × (at < x) × (at < length ws)
     rest-some s =
-        first-inv (s .bools) (s .ints) (s .them) (s .stand) λ e us q h g.
-        (record { bools = s .bools; ints = s .ints; them = join (inner e) us; stand = pending (s .bools) (s .ints) (s .them) (s .stand) e us q },
-        omega (arith, p (s .bools) (s .ints) e h .0, own-some (s .bools) (s .ints) e (h .vars)),
-        omega (arith, some-inside ws at (first-some s)))
+        first-inv (s .bools) (s .ints) (s .them) (s .stand) λ e us q h g. (
+          record { bools = s .bools; ints = s .ints; them = join (inner e) us; stand = pending (s .bools) (s .ints) (s .them) (s .stand) e us q },
+          omega (arith, p (s .bools) (s .ints) e h .0, own-some (s .bools) (s .ints) e (h .vars)),
+          omega (arith, some-inside ws at (first-some s)),
+        )
 
     pub skip-rest : (r : ℕ) → Skip-post ws x (n - 1 + k) r → Skip-post ws at n r
     unfolding encode-bool

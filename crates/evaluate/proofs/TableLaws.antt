@@ -86,9 +86,10 @@ module _ (ws : List ℤ) (at n : ℕ) (work : List ℤ) (i : ℕ) (z : n ≡ 0 �
 
   pub row-inside : Ready-row ws at n work i → (at < length ws) × (i < length work)
   row-inside r =
-      the-cell (r .cells) (r .values) (r .row) (r .stored) λ c us x ys q y h w g k l.
-      (omega (arith, has-fits ws at (map encode-cell (r .cells)) (r .row .words) (omega (arith, length-map (r .cells) encode-cell, r .row .size)), length-map (r .cells) encode-cell, r .row .size),
-      omega (arith, has-fits work i (r .values) (r .stored .words) (omega (arith, r .stored .size)), r .stored .size))
+      the-cell (r .cells) (r .values) (r .row) (r .stored) λ c us x ys q y h w g k l. (
+        omega (arith, has-fits ws at (map encode-cell (r .cells)) (r .row .words) (omega (arith, length-map (r .cells) encode-cell, r .row .size)), length-map (r .cells) encode-cell, r .row .size),
+        omega (arith, has-fits work i (r .values) (r .stored .words) (omega (arith, r .stored .size)), r .stored .size),
+      )
 
   pub row-rest : Ready-row ws at n work i → Ready-row ws (at + 1) (n - 1) work (i + 1)
   row-rest r = the-cell (r .cells) (r .values) (r .row) (r .stored) λ c us x ys q y h w g k l. record { cells = us; row = k; values = ys; stored = l }

@@ -184,14 +184,7 @@ fn sides_hold(code: usize, a: bool, b: bool) -> bool
 }
 
 // As many members as `n` says: whether one is `stop`, which decides. What lies behind it is passed over.
-fn members_hold(
-    set: &[i32],
-    values: &[i32],
-    nb: usize,
-    at: usize,
-    n: usize,
-    stop: bool,
-) -> Held
+fn members_hold(set: &[i32], values: &[i32], nb: usize, at: usize, n: usize, stop: bool) -> Held
     requires { ⌜ Ready-members (now set) (now values) nb at n ⌝ }
     ensures { λ r. ⌜ Members-post (now (set .entry)) (now (values .entry)) nb at n stop (r .next) (r .held) ⌝ }
 {
@@ -228,10 +221,7 @@ fn bool_holds(set: &[i32], values: &[i32], nb: usize, at: usize) -> Held
     if code == 14 {
         let a = bool_holds(set, values, nb, at + 1);
         let held = !a.held;
-        return Held {
-            next: a.next,
-            held,
-        };
+        return Held { next: a.next, held };
     }
     if code == 18 {
         return comparison_holds(set, values, nb, at);
