@@ -1,2 +1,3 @@
 pub mod Small
 pub mod Returned
+pub mod Rosters
