@@ -26,6 +26,7 @@ mod passes;
 pub mod read;
 pub mod record;
 pub mod refuse;
+pub mod roster;
 mod rust;
 pub mod set;
 pub mod settled;
