@@ -2,12 +2,12 @@
 #include "planner.h"
 #include <stdio.h>
 
-static int32_t out[64], work[16384];
+static int32_t out[64], work[PLANNER_WORK_WORDS];
 
 int main(void) {
     const int32_t set[] = {3, 0, 1, 1, 16, 11, 0, 12, 2, 11, 1, 11, 2};
-    int64_t n = compile_set(set, sizeof set / sizeof set[0], out, 64, work, 16384);
-    if (n == -100) {
+    int64_t n = compile_set(set, sizeof set / sizeof set[0], out, 64, work, PLANNER_WORK_WORDS);
+    if (n == PLANNER_CONTRADICTION) {
         puts("contradiction");
         return 1;
     }

@@ -1,13 +1,67 @@
-/* The normaliser for C: link target/staticlib/libstation.a, which `rt staticlib station` makes. */
+/* The normaliser for C and C++: link target/staticlib/libstation.a, which `rt staticlib station` makes
+   (x86-64 Linux; the archive's only undefined symbols are memcpy, memmove and memset).
+
+   For every entry below, whatever is lent:
+
+   Slices      A slice is a pointer and a length in elements, lent for the time of the call. Any contents and any lengths may
+               be lent, 0 included; NULL only with length 0. The slices of one call do not overlap, and int32_t are aligned.
+   Memory      No heap, no globals, no files: an entry uses the lent slices and the stack, nothing else. So calls on different
+               slices may run at once in any number of threads. Every call ends.
+   Stack       Lend a thread 512 KiB. The most that compile_set was seen to use is 232,312 bytes: stack.c beside this paints a
+               thread's stack, calls with the deepest and widest sets (22,022 of them), and looks how far down the paint is
+               gone. This is measured, not proved.
+   Work slice  PLANNER_WORK_WORDS words or more, else PLANNER_SHORT_WORK. What is in it does not matter; it is zero after
+               every call.
+   Words       of a set and of an answer: docs/FORMAT.md.
+
+   What an entry returns and what it leaves in the slices is proved (crates/station/specs/Returned.antt); tools/station/claims.c
+   tries what is said here by calls from C. */
 #ifndef PLANNER_H
 #define PLANNER_H
 #include <stddef.h>
 #include <stdint.h>
 
-/* Compiles a set's words into out. Any words and any lengths may be lent; the three slices do not overlap.
-   Returns the number of words written to out, a refusal's number negated (-1 to -12), or -100 for a contradiction.
-   out is zero behind the words written, and wholly so after a refusal or a contradiction; work is zero after every call.
-   work has at least 16384 words (else -1); the set is only read. The words are those of docs/FORMAT.md. */
+#ifdef __cplusplus
+extern "C" {
+#endif
+
+enum {
+    PLANNER_WORK_WORDS = 16384,        /* the shortest work slice */
+    PLANNER_SET_WORDS = 4096,          /* the longest set */
+    PLANNER_ANSWER_WORDS = 16777216    /* the longest answer: an output slice needs no more */
+};
+
+/* What an entry returns for a contradiction, and its refusals: the number of document 01's table, negated. */
+enum {
+    PLANNER_CONTRADICTION = -100,      /* no assignment satisfies the set: folding alone shows it */
+    PLANNER_SHORT_WORK = -1,           /* the work slice has fewer than 16384 words */
+    PLANNER_LONG_SET = -2,             /* the set has more than 4096 words */
+    PLANNER_SET_ENDS = -3,             /* the set ends early, or words follow the last statement */
+    PLANNER_OUT_OF_RANGE = -4,         /* a count, value, operator or cell is out of range */
+    PLANNER_UNKNOWN_CODE = -5,         /* an expression, statement or domain code is unknown at its place */
+    PLANNER_UNDECLARED = -6,           /* a variable is not declared */
+    PLANNER_BAD_DOMAIN = -7,           /* a domain is empty or its values do not rise */
+    PLANNER_TOO_DEEP = -8,             /* an expression is deeper than 64 levels */
+    PLANNER_TOO_HEAVY = -9,            /* a weight is over 1073741823 */
+    PLANNER_MANY_VARIABLES = -10,      /* over 64 different integer variables in one comparison, or over 63 in one column */
+    PLANNER_WIDE_COLUMN = -11,         /* a column's span is over 4096 */
+    PLANNER_SHORT_OUTPUT = -12         /* the answer is longer than the output slice, or than 16777216 words */
+};
+
+/* compile_set: a set's words into an answer's.
+
+   Returns the number of words written to out (3 or more), PLANNER_CONTRADICTION, or a refusal, -1 to -12.
+   set      is only read.
+   out      is zero behind the words written, and wholly so after a contradiction or a refusal. What it held does not matter.
+   out_len  The listing program lends 16384 words, enough for most sets; the answer of the worked example (docs/EXAMPLE.md) has
+            261, that of a week of 34 blocks and 6 scorers (tools/rules/week 34 6) 3,109. Short sets can have long answers, so
+            no length is enough for all. On PLANNER_SHORT_OUTPUT nothing is wrong with the set: call again with out twice as
+            long, up to PLANNER_ANSWER_WORDS (64 MiB). If that is refused too, the rules have to be written in a shorter way.
+            An output of 0 words tests a set: whatever is returned but PLANNER_SHORT_OUTPUT, any other output gives too. */
 int64_t compile_set(const int32_t *set, size_t set_len, int32_t *out, size_t out_len, int32_t *work, size_t work_len);
+
+#ifdef __cplusplus
+}
+#endif
 
 #endif

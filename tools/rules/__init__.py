@@ -1,0 +1,1 @@
+"""Rules with names: see README.md beside this file."""

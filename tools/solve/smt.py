@@ -1,0 +1,77 @@
+"""A listing as an SMT-LIB 2 script, and the values that a solver prints back.
+
+The emitted Boolean that the listing calls n is b<n> (from 1), the emitted integer n is x<n> (from 0).
+"""
+
+import re
+
+from .errors import Failed
+from .sets import RANGE
+
+OPERATORS = ["=", "distinct", "<=", "<", ">=", ">"]
+
+
+def number(value):
+    return str(value) if value >= 0 else "(- %d)" % -value
+
+
+def joined(operator, parts, none):
+    """An application that is right for no part and for one part too: SMT-LIB's own want two."""
+    if not parts:
+        return none
+    return parts[0] if len(parts) == 1 else "(%s %s)" % (operator, " ".join(parts))
+
+
+def within(name, domain):
+    if domain[0] == RANGE:
+        return "(<= %s %s %s)" % (number(domain[1]), name, number(domain[2]))
+    return joined("or", ["(= %s %s)" % (name, number(value)) for value in domain[1]], "false")
+
+
+def comparison(operator, constant, terms):
+    total = joined("+", ["(* %s x%d)" % (number(factor), variable) for variable, factor in terms], "0")
+    return "(%s %s %s)" % (OPERATORS[operator], total, number(-constant))
+
+
+def clause(literals, comparisons):
+    parts = ["b%d" % literal if literal > 0 else "(not b%d)" % -literal for literal in literals]
+    return joined("or", parts + [comparison(*found) for found in comparisons], "false")
+
+
+def emitted_domains(listing, problem):
+    """The domain of each emitted integer: of a declared one its declared values, of a new one lowest to highest."""
+    domains = [(RANGE, low, high) for low, high in listing.domains]
+    for mapped, declared in zip(listing.ints, problem.domains):
+        if mapped:
+            domains[mapped - 1] = declared
+    return domains
+
+
+def names(listing):
+    return ["b%d" % (i + 1) for i in range(listing.emitted)] + ["x%d" % i for i in range(len(listing.domains))]
+
+
+def script(listing, problem):
+    lines = ["(set-option :produce-models true)", "(set-logic QF_LIA)"]
+    lines += ["(declare-const b%d Bool)" % (i + 1) for i in range(listing.emitted)]
+    for i, domain in enumerate(emitted_domains(listing, problem)):
+        lines += ["(declare-const x%d Int)" % i, "(assert %s)" % within("x%d" % i, domain)]
+    lines += ["(assert %s)" % clause(*found) for found in listing.clauses]
+    lines.append("(check-sat)")
+    if names(listing):
+        lines.append("(get-value (%s))" % " ".join(names(listing)))
+    return "\n".join(lines) + "\n"
+
+
+PAIR = re.compile(r"\(\s*([bx][0-9]+)\s+(true|false|[0-9]+|\(\s*-\s+[0-9]+\s*\))\s*\)")
+
+
+def values(printed, wanted):
+    """The values by name that a solver prints for get-value; every wanted name must have one of its kind."""
+    found = {}
+    for name, value in PAIR.findall(printed):
+        found[name] = value == "true" if value in ("true", "false") else int(re.sub(r"[()\s]", "", value))
+    for name in wanted:
+        if type(found.get(name)) is not (bool if name[0] == "b" else int):
+            raise Failed("the solver found a roster but printed no value of %s: %s" % (name, printed[:200]))
+    return found

@@ -1,0 +1,114 @@
+/* Tries what planner.h says: every constant by a smallest set, the slices after each call, NULL with length 0, the way out of
+   PLANNER_SHORT_OUTPUT. Prints each claim that does not hold; status 1 if there is one. */
+#include "planner.h"
+#include <stdio.h>
+#include <stdlib.h>
+#include <string.h>
+
+enum { OUT = 64, NOISE = 0x5A5A5A5A };
+
+static int32_t out[OUT], work[PLANNER_WORK_WORDS], longest[PLANNER_SET_WORDS + 1];
+static int failures;
+
+static void claim(int holds, const char *what, long number) {
+    if (holds) return;
+    printf("does not hold: %s (%ld)\n", what, number);
+    failures++;
+}
+
+static size_t zeros(const int32_t *words, size_t from, size_t count) {
+    while (from < count && words[from] == 0) from++;
+    return from == count;
+}
+
+/* A call with noise in both slices. Nothing is left dirty: behind the answer, after a refusal or a contradiction, in work. */
+static int64_t call(const int32_t *set, size_t words, size_t out_len, size_t work_len) {
+    for (size_t i = 0; i < OUT; i++) out[i] = NOISE;
+    for (size_t i = 0; i < PLANNER_WORK_WORDS; i++) work[i] = NOISE;
+    int64_t n = compile_set(set, words, out, out_len, work, work_len);
+    claim(zeros(out, n > 0 ? (size_t)n : 0, out_len), "out is zero behind the answer", (long)n);
+    claim(out_len == OUT || out[out_len] == NOISE, "nothing is written behind out", (long)n);
+    claim(zeros(work, 0, work_len), "work is zero after the call", (long)n);
+    claim(work_len == PLANNER_WORK_WORDS || work[work_len] == NOISE, "nothing is written behind work", (long)n);
+    return n;
+}
+
+#define GIVES(number, ...)                                                                        \
+    do {                                                                                          \
+        const int32_t s[] = {__VA_ARGS__};                                                        \
+        claim(call(s, sizeof s / sizeof *s, OUT, PLANNER_WORK_WORDS) == (number), #number, number); \
+    } while (0)
+
+static void numbers(void) {
+    GIVES(3, 0, 0, 0);
+    GIVES(PLANNER_CONTRADICTION, 0, 0, 1, 1, 10, 0);
+    GIVES(PLANNER_SET_ENDS, 0, 0);
+    GIVES(PLANNER_SET_ENDS, 0, 0, 0, 7);
+    GIVES(PLANNER_OUT_OF_RANGE, 513, 0, 0);
+    GIVES(PLANNER_UNKNOWN_CODE, 0, 0, 1, 9);
+    GIVES(PLANNER_UNDECLARED, 1, 0, 1, 1, 11, 1);
+    GIVES(PLANNER_BAD_DOMAIN, 0, 1, 0, 1, 0, 0);
+    GIVES(PLANNER_TOO_HEAVY, 0, 0, 1, 1, 18, 0, 20, 1073741823, 20, 1);
+    GIVES(PLANNER_WIDE_COLUMN, 0, 1, 0, 0, 4096, 1, 2, 1, 0, 21, 0);
+    const int32_t p6[] = {0, 0, 0};
+    claim(call(p6, 3, OUT, PLANNER_WORK_WORDS - 1) == PLANNER_SHORT_WORK, "PLANNER_SHORT_WORK", 0);
+    claim(call(p6, 3, 2, PLANNER_WORK_WORDS) == PLANNER_SHORT_OUTPUT, "PLANNER_SHORT_OUTPUT", 0);
+    claim(call(p6, 3, 3, PLANNER_WORK_WORDS) == 3, "an output of just the answer's length", 0);
+    claim(call(longest, PLANNER_SET_WORDS + 1, OUT, PLANNER_WORK_WORDS) == PLANNER_LONG_SET, "PLANNER_LONG_SET", 0);
+}
+
+/* Sets that want some writing: 65 levels; 65 variables in one comparison. */
+static void deep_and_many(void) {
+    int32_t set[400] = {1, 0, 1, 1};
+    size_t n = 4;
+    for (int level = 1; level < 65; level++) set[n++] = 14;
+    set[n++] = 11, set[n++] = 0;
+    claim(call(set, n, OUT, PLANNER_WORK_WORDS) == PLANNER_TOO_DEEP, "PLANNER_TOO_DEEP", 0);
+    n = 0;
+    set[n++] = 0, set[n++] = 65;
+    for (int i = 0; i < 65; i++) set[n++] = 0, set[n++] = 0, set[n++] = 1;
+    set[n++] = 1, set[n++] = 1, set[n++] = 18, set[n++] = 0, set[n++] = 22, set[n++] = 65;
+    for (int i = 0; i < 65; i++) set[n++] = 1, set[n++] = 21, set[n++] = i;
+    set[n++] = 20, set[n++] = 0;
+    claim(n <= 400, "the set has room", (long)n);
+    claim(call(set, n, OUT, PLANNER_WORK_WORDS) == PLANNER_MANY_VARIABLES, "PLANNER_MANY_VARIABLES", 0);
+}
+
+static void null_with_length_0(void) {
+    const int32_t p6[] = {0, 0, 0}, false_rule[] = {0, 0, 1, 1, 10, 0};
+    claim(compile_set(NULL, 0, out, OUT, work, PLANNER_WORK_WORDS) == PLANNER_SET_ENDS, "a set that is NULL", 0);
+    claim(compile_set(p6, 3, NULL, 0, work, PLANNER_WORK_WORDS) == PLANNER_SHORT_OUTPUT, "an output that is NULL", 0);
+    claim(compile_set(false_rule, 6, NULL, 0, work, PLANNER_WORK_WORDS) == PLANNER_CONTRADICTION, "a test without output", 0);
+    claim(compile_set(p6, 3, out, OUT, NULL, 0) == PLANNER_SHORT_WORK, "a work slice that is NULL", 0);
+    claim(compile_set(NULL, 0, NULL, 0, NULL, 0) == PLANNER_SHORT_WORK, "all three NULL", 0);
+}
+
+/* n disjunctions of two conjunctions: an answer of some 31 words each, found by doubling the output. */
+static void growing(void) {
+    static int32_t set[PLANNER_SET_WORDS];
+    size_t n = 0, words = 16;
+    int64_t answer;
+    set[n++] = 4, set[n++] = 0, set[n++] = 250;
+    for (int i = 0; i < 250; i++) {
+        const int32_t rule[] = {1, 13, 2, 12, 2, 11, 0, 11, 1, 12, 2, 11, 2, 11, 3};
+        memcpy(set + n, rule, sizeof rule);
+        n += sizeof rule / sizeof *rule;
+    }
+    for (;; words *= 2) {
+        int32_t *grown = calloc(words, sizeof *grown);
+        if (!grown) exit(2);
+        answer = compile_set(set, n, grown, words, work, PLANNER_WORK_WORDS);
+        free(grown);
+        if (answer != PLANNER_SHORT_OUTPUT || words >= PLANNER_ANSWER_WORDS) break;
+    }
+    claim(answer > (int64_t)words / 2 && answer <= (int64_t)words, "doubling the output ends with the answer", (long)answer);
+}
+
+int main(void) {
+    numbers();
+    deep_and_many();
+    null_with_length_0();
+    growing();
+    puts(failures ? "planner.h does not say what the library does" : "planner.h: every claim tried holds");
+    return failures != 0;
+}
