@@ -45,7 +45,9 @@ enum {
     PLANNER_TOO_HEAVY = -9,            /* a weight is over 1073741823 */
     PLANNER_MANY_VARIABLES = -10,      /* over 64 different integer variables in one comparison, or over 63 in one column */
     PLANNER_WIDE_COLUMN = -11,         /* a column's span is over 4096 */
-    PLANNER_SHORT_OUTPUT = -12         /* the answer is longer than the output slice, or than 16777216 words */
+    PLANNER_SHORT_OUTPUT = -12,        /* the answer is longer than the output slice, or than 16777216 words */
+    PLANNER_OTHER_COUNT = -14,         /* check_roster: the number of values is not that of the declared variables */
+    PLANNER_OUTSIDE_DOMAIN = -15       /* check_roster: a value is outside its domain, a Boolean's neither 0 nor 1 */
 };
 
 /* compile_set: a set's words into an answer's.
@@ -59,6 +61,14 @@ enum {
             long, up to PLANNER_ANSWER_WORDS (64 MiB). If that is refused too, the rules have to be written in a shorter way.
             An output of 0 words tests a set: whatever is returned but PLANNER_SHORT_OUTPUT, any other output gives too. */
 int64_t compile_set(const int32_t *set, size_t set_len, int32_t *out, size_t out_len, int32_t *work, size_t work_len);
+
+/* check_roster: a finished roster against a set's words.
+
+   Returns 0 if the values satisfy every statement, the number of the first broken statement (from 1), or a refusal: -1 to -11
+   of the set, then PLANNER_OTHER_COUNT, then PLANNER_OUTSIDE_DOMAIN. Where compile_set compiles the set, 0 is returned exactly
+   for the rosters that pass its answer; where it returns PLANNER_CONTRADICTION, for none.
+   set, values  are only read. One value for every declared variable, the Booleans first, as 0 or 1. */
+int64_t check_roster(const int32_t *set, size_t set_len, const int32_t *values, size_t values_len, int32_t *work, size_t work_len);
 
 #ifdef __cplusplus
 }
