@@ -217,3 +217,45 @@ module _ (lines : List ℕ) (work : List ℤ) (out out' : List ℕ) (r a : ℕ) 
     pub tells-checked : (values : List ℤ) → values-of (after values-key (take (length lines - a) (drop a lines))) ≡ some values → (work' : List ℤ) (c : Checked) → Checks set values work work' c → Puts out 0 (print-checked c) out' r → Tells lines work work' out out' r
     unfolding check-lines print-read
     tells-checked values v work' c h p = record { told = puts-as (check-lines (length work) lines) (rw (sym start, s, rw (part-all a lines) at v, h .answer) refl) p; zeroed = h .zeroed }
+
+-- ---- `check_with_room`
+
+pub clean-of : (work : List ℤ) (n : ℕ) → work ≡ zeros n → work ≡ zeros (length work)
+clean-of work n e = e ∙ ap zeros (sym (ap length e ∙ zeros-length n))
+
+module _ (text : List ℕ) (work work' : List ℤ) (out out' : List ℕ) (r : ℕ) where
+  shown : (bs : List ℕ) → Puts out 0 bs out' r → Prints bs out out' r
+  shown bs p =
+      let t = text-result out bs out' r p in
+      let s : length out' ≡ length out = p .size in
+      let w : r ≤ length out' = omega (arith, t .0, s) in
+      record { count = t .0; bytes = t .1; within = w; part = part-length r out' w }
+
+  tells : (bs : List ℕ) → check-text (length work) text ≡ bs → Puts out 0 bs out' r → work' ≡ zeros (length work) → Told text work work' out out' r
+  tells bs e p z = record { told = shown (check-text (length work) text) (puts-as (check-text (length work) text) (sym e) p); zeroed = z }
+
+  module _ (z : work' ≡ zeros (length work)) (p : Puts out 0 unread-line out' r) where
+    pub told-long : 65536 < length text → Told text work work' out out' r
+    unfolding check-text
+    told-long l = tells unread-line (rw (lt-ltb max-bytes (length text) l) refl) p z
+
+    pub told-empty : length text ≡ 0 → Told text work work' out out' r
+    unfolding check-text
+    told-empty l = tells unread-line (go text l) p z
+      where
+        go : (t : List ℕ) → length t ≡ 0 → check-text (length work) t ≡ unread-line
+        go [] e = refl
+        go (b ∷ bs) e = absurd (omega arith)
+
+    pub told-other : length text ≤ 65536 → (getD text (length text - 1) 0 ≡ line-feed → ⊥) → Told text work work' out out' r
+    unfolding check-text
+    told-other l h = tells unread-line (rw (le-ltb max-bytes (length text) l, ne-eqb (getD text (length text - 1) 0) line-feed h) refl) p z
+
+  pub told-lines : (clean : List ℤ) → length clean ≡ length work → length text ≤ 65536 → getD text (length text - 1) 0 ≡ line-feed → Tells (take (length text - 1) text) clean work' out out' r → Told text work work' out out' r
+  unfolding check-text
+  told-lines clean s l h t =
+      tells (check-lines (length work) (take (length text - 1) text)) (rw (le-ltb max-bytes (length text) l, eq-eqb (getD text (length text - 1) 0) line-feed h) refl)
+      (rw s at (t .told)) (t .zeroed ∙ ap zeros s)
+
+pub lines-room : (text : List ℕ) (words values work : List ℤ) (n : ℕ) → length text ≤ 65536 → (32768 ≤ length words) × (65537 ≤ length values) → work ≡ zeros n → Room (take (length text - 1) text) words values work
+lines-room text words values work n l h z = record { short = omega (arith, l, length-take-le (length text - 1) text (omega arith)); set = h .0; roster = h .1; clean = clean-of work n z }
