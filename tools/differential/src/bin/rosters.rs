@@ -1,16 +1,20 @@
 //! The port's check of rosters against the reference, statement by statement.
 //! `rosters SEED COUNT [FAMILY]`: COUNT sets of each family, each with many rosters: enumerated ones of small sets, random and nearly
 //! satisfying ones, wrong lengths and wrong values; where the compile is not refused, yes against passing its answer.
-//! `rosters speed`: the time of a check by its words. Status 1 on the first difference.
+//! `rosters speed`: the time of a check by its words.
+//! `rosters texts SEED COUNT`: the program target/bin/roster on COUNT texts of each family, a third of them spoilt. Status 1 on the first difference.
 
 use differential::{exit_on_error, roster, run_families};
 use reference::generate::{case, Case, FAMILIES};
+use reference::listing::words;
 use reference::meaning::{passing, statement_holds};
 use reference::roster::{assignment, check, check_set, Checked};
 use reference::set::Set;
 use reference::{call, refuse, Outcome};
 use std::collections::BTreeMap;
 use std::hint::black_box;
+use std::io::Write;
+use std::process::{Command, Stdio};
 use std::time::Instant;
 
 const WORK: usize = 16384;
@@ -280,7 +284,96 @@ fn speed() -> Result<(), String> {
     Ok(())
 }
 
+/// A text of the set's words and the values, its lines divided as their counts say where they can be.
+fn text_of(words: &[i32], values: &[i32]) -> String {
+    let line = |key: &str, words: &[i32]| format!("{key}={}\n", reference::record::commas(words));
+    let mut text = String::new();
+    let take = |from: usize, to: usize| &words[from.min(words.len())..to.min(words.len())];
+    text += &line("bools", take(0, 1));
+    text += &line("ints", take(1, 2));
+    let domains = refuse::accept(words, WORK).map_or(0, |set| {
+        set.domains.iter().map(|domain| match domain {
+            reference::set::Domain::Range(..) => 3,
+            reference::set::Domain::Values(values) => 2 + values.len(),
+        }).sum()
+    });
+    if domains > 0 {
+        text += &line("int", take(2, 2 + domains));
+    }
+    text += &line("statements", take(2 + domains, 3 + domains));
+    if words.len() > 3 + domains {
+        text += &line("statement", &words[3 + domains..]);
+    }
+    text + &line("values", values)
+}
+
+/// The line that the program is to print: the reference's words of the text in front of the last line, and its check.
+fn told(text: &str) -> String {
+    let unread = "roster=unread\n".to_string();
+    let Some(body) = text.strip_suffix('\n').filter(|_| text.len() <= 65536) else {
+        return unread;
+    };
+    let start = body.rfind('\n').map_or(0, |place| place + 1);
+    let (Some(words), Some(list)) = (words(body[..start].as_bytes()), body[start..].strip_prefix("values=")) else {
+        return unread;
+    };
+    let number = |part: &str| part.parse::<i32>().ok().filter(|n| n.to_string() == part);
+    let values: Option<Vec<i32>> = if list.is_empty() { Some(vec![]) } else { list.split(',').map(number).collect() };
+    match values.map(|values| check(&words, &values, WORK)) {
+        None => unread,
+        Some(Checked::Yes) => "roster=yes\n".to_string(),
+        Some(Checked::Broken(k)) => format!("roster=broken,{k}\n"),
+        Some(Checked::Refused(k)) => format!("roster=refused,{k}\n"),
+    }
+}
+
+fn spoilt(text: &str, numbers: &mut Numbers) -> String {
+    let at = numbers.below(text.len() as u64) as usize;
+    let (front, back) = text.split_at(at);
+    match numbers.below(6) {
+        0 => text[..text.len() - 1].to_string(),
+        1 => format!("{front}{}", &back[1..]),
+        2 => format!("{front},{back}"),
+        3 => format!("{front}0{back}"),
+        4 => format!("{front}\n{back}"),
+        _ => format!("{text}{}", ["values=0\n", "\n", "x"][numbers.below(3) as usize]),
+    }
+}
+
+fn texts(seed: u64, count: u64) -> Result<(), String> {
+    let program = concat!(env!("CARGO_MANIFEST_DIR"), "/../../target/bin/roster");
+    let mut answers: BTreeMap<String, u64> = BTreeMap::new();
+    for family in &FAMILIES[..7] {
+        for index in 0..count {
+            let mut numbers = Numbers(seed ^ (index << 20));
+            let words = case(family, seed, index).ok_or("no case")?.set;
+            let values = match refuse::accept(&words, WORK) {
+                Ok(set) => nearly(&set, &mut numbers, 40).pop().unwrap_or_default(),
+                Err(_) => vec![1, 0],
+            };
+            let whole = text_of(&words, &values);
+            let text = if index % 3 == 2 { spoilt(&whole, &mut numbers) } else { whole };
+            let mut child = Command::new(program).stdin(Stdio::piped()).stdout(Stdio::piped()).spawn().map_err(|e| e.to_string())?;
+            child.stdin.take().ok_or("no input")?.write_all(text.as_bytes()).map_err(|e| e.to_string())?;
+            let got = String::from_utf8_lossy(&child.wait_with_output().map_err(|e| e.to_string())?.stdout).to_string();
+            let want = told(&text);
+            if got != want {
+                return Err(format!("{family} seed {seed} index {index}: printed {got:?}, not {want:?}\n{text}"));
+            }
+            *answers.entry(want.split(',').next().unwrap_or("").trim().to_string()).or_insert(0) += 1;
+        }
+    }
+    println!("{answers:?}, no difference");
+    Ok(())
+}
+
 fn main() {
+    let arguments: Vec<String> = std::env::args().collect();
+    if let [_, mode, seed, count] = &arguments[..] {
+        if mode == "texts" {
+            return exit_on_error(texts(seed.parse().unwrap_or(1), count.parse().unwrap_or(100)));
+        }
+    }
     let speeds = std::env::args().nth(1).is_some_and(|word| word == "speed");
     exit_on_error(if speeds { speed() } else { run_families("rosters speed | rosters", &FAMILIES[..7], run) });
 }
