@@ -1,5 +1,6 @@
 #!/usr/bin/env python3
 """Compares the proved programs' listings with tools/reference's, byte for byte, on generated texts, malformed ones included.
+The line `total=` is not the reference's: it is counted anew from the printed clauses (recount.py).
 
     python3 tools/cases/compare.py SEED COUNT
 
@@ -8,6 +9,9 @@ program `cases` in pieces that its buffer holds; a longer one goes to `listing` 
 import re
 import subprocess
 import sys
+from collections import Counter
+
+from recount import recounted
 
 REFERENCE = "tools/reference/target/release/reference"
 MOST = 262144
@@ -33,9 +37,13 @@ def main(seed, count):
     agree = differ = 0
     piece = b""
     kinds = {}
+    counted = Counter()
     source = subprocess.Popen([REFERENCE, "record", seed, "text", count], stdout=subprocess.PIPE)
     for index, line in enumerate(source.stdout):
         given, expected = map(unescape, re.fullmatch(r"text=(.*) listing=(.*)\n", line.decode()).groups())
+        listed, literals, comparisons = recounted(expected)
+        counted.update(literals=literals, comparisons=comparisons, listings=comparisons > 0, others=listed != expected)
+        expected = listed
         kind = expected.split(b"\n")[0].decode()
         kinds[kind] = kinds.get(kind, 0) + 1
         one = case(f"text {index}", given, expected)
@@ -50,6 +58,7 @@ def main(seed, count):
     a, d = replay(piece)
     print(f"{agree + a} texts agree, {differ + d} differ")
     print(", ".join(f"{k} {n}" for k, n in sorted(kinds.items())))
+    print("recounted: {literals} literals, {comparisons} comparisons; {listings} listings have comparisons; the reference's total differs in {others}".format(**counted))
 
 
 main(sys.argv[1], sys.argv[2])

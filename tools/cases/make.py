@@ -4,9 +4,12 @@
 Run at the repository's root, after `cargo build --release --manifest-path tools/reference/Cargo.toml`.
 The named cases are document 01's P1 to P12 and "Also" cases, each refusal that a text can reach, and texts of
 each form that is unread; the others are generated sets of each family, and generated texts, good and damaged.
+Each listing's `total=` is held to a recount of its clauses (document 02, 2.2; recount.py).
 Nothing here is taken from the port."""
 import re
 import subprocess
+
+from recount import recounted
 
 REFERENCE = "tools/reference/target/release/reference"
 MOST = 262000  # what the program's buffer holds, with some to spare
@@ -68,7 +71,7 @@ NAMED = [
     ("P6", NONE, "answer=compiled"),
     ("P7", rules(0, "13,0"), "answer=contradiction\n"),
     ("P8", rules(0, "12,0"), "answer=compiled"),
-    ("P9", column(2, "0,2"), "answer=compiled"),
+    ("P9", column(2, "0,2"), "answer=compiled\nfixed=\nbools=\nints=1\nemitted=0,1\ndomain=0,2,3\nclause=;0:0:0,1;0:-2:0,1\nclauses=1\ntotal=2\n"),
     ("P10", column(3, "0,1,2"), "answer=compiled"),
     ("P11", column(1, "5"), "answer=compiled"),
     ("P12", text(0, 2, ["0,0,1", "0,0,1"], ["2,2,2,21,0,21,1,0,0,1,1"]), "answer=compiled"),
@@ -164,6 +167,7 @@ def unescape(s):
 
 def case(name, given, expected):
     assert len(name) <= 24 and len(given) <= 65537 and len(expected) <= 262144, name
+    assert recounted(expected)[0] == expected, name
     return f"{name:<24} {len(given):06} {len(expected):06}\n".encode() + given + expected
 
 

@@ -110,12 +110,15 @@ def compiled(lines):
     domains = [numbers(line) for line in lines.all_of("domain")]
     clauses = [clause(line) for line in lines.all_of("clause")]
     count = numbers(lines.one("clauses"))
-    lines.one("total")  # the last line: without it the listing is cut off
+    total = numbers(lines.one("total"))  # the last line: without it the listing is cut off
     lines.end()
     if len(emitted) != 2 or len(domains) != emitted[1] or any(len(domain) != 3 for domain in domains):
         raise cut_off("its domains are not those that emitted= counts")
     if count != [len(clauses)]:
         raise cut_off("it has %d clauses, and clauses= says %s" % (len(clauses), count))
+    parts = sum(len(literals) + len(comparisons) for literals, comparisons in clauses)
+    if total != [parts]:
+        raise cut_off("its clauses have %d literals and comparisons, and total= says %s" % (parts, total))
     return Listing("compiled", fixed, bools, ints, emitted[0], [tuple(d[:2]) for d in domains], clauses)
 
 

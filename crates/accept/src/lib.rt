@@ -409,7 +409,7 @@ fn check(set: &[i32], work: &[i32], at: usize, n: usize, ni: usize) -> usize
 }
 
 // Refusals 9, 10 and 11 of a set that was read, or 0. The table of bounds stays in the work slice.
-pub fn check_limits(set: &[i32], work: &mut [i32]) -> usize
+fn check_limits(set: &[i32], work: &mut [i32]) -> usize
     requires { ⌜ Ready-set (now set) (now work) ⌝ }
     ensures { λ r. ⌜ Limits-post (now (set .entry)) (now (work .entry)) (now (work .exit)) r ⌝ }
 {

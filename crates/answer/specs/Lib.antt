@@ -1,5 +1,6 @@
 pub mod Answer
 pub mod Passes
+pub mod Beyond
 pub mod ReadBack
 pub mod Declared
 pub mod Carried

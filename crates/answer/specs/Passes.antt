@@ -1,16 +1,18 @@
--- When an assignment passes an answer, from the answer's words alone.
+-- When an assignment passes an answer, from the answer's words alone: there are values of the emitted variables, within their
+-- records, that carry the assignment and make every clause true. An answer that names a number which it does not emit is passed by none.
 use mathlib.Core.Path.{_≡_}
-use mathlib.Core.Bool.{Bool, true, false, not, _&&_, _||_, Bool·beq, cond}
+use mathlib.Core.Bool.{Bool, true, false, not, _&&_, Bool·beq, cond}
 use mathlib.Core.List.{List, [], _∷_}
 use Prim.Native.Nat.{ℕ, zero, suc}
-use lib.IntN.{ℤ, pos, negsuc, natAbs, _+ℤ_, _*ℤ_}
+use lib.IntN.{ℤ, pos, negsuc, natAbs}
 use lib.Signed.{leZ}
+use lib.Dec.{ltb}
 use lib.ListN.{length, getD, drop}
 use Rattle.laws.specs.Ints.{eqZ}
-use Rattle.laws.specs.Lists.{all, any, below}
+use Rattle.laws.specs.Lists.{all, below}
 use Rattle.syntax.specs.Syntax.{op-at}
-use Rattle.syntax.specs.Satisfies.{Val, IVal, compare}
-use Rattle.sums.specs.LinearSum.{Term, term, LinearSum, linear-sum}
+use Rattle.syntax.specs.Satisfies.{Val, IVal}
+use Rattle.sums.specs.LinearSum.{Term, term, linear-sum}
 use Rattle.clauses.specs.Clause.{BoolLit, lit, LinearLit, linear, Clause, clause, clause-true}
 
 -- ---- the clauses of words. Each function gives what it read and the words after it
@@ -60,8 +62,8 @@ pub record Decoded : Type 0 where
   pub fixed : List ℤ
   pub bool-map : List ℤ
   pub int-map : List ℤ
-  pub emitted-bools : ℤ
-  -- lowest and highest
+  -- how many Booleans are emitted; of each emitted integer the lowest and the highest value
+  pub emitted-bools : ℕ
   pub bounds : List (ℤ × ℤ)
   pub clauses : List Clause
 
@@ -79,7 +81,7 @@ decode b i ws =
     let e = decode-word (n .1) in
     let d = decode-counted decode-bounds (e .1) in
     let c = decode-counted decode-clause (d .1) in
-    record { fixed = f .0; bool-map = m .0; int-map = n .0; emitted-bools = e .0; bounds = d .0; clauses = c .0 }
+    record { fixed = f .0; bool-map = m .0; int-map = n .0; emitted-bools = natAbs (e .0); bounds = d .0; clauses = c .0 }
 
 -- ---- passing
 
@@ -90,35 +92,46 @@ word-of ws v = getD ws v (pos 0)
 abbrev pub fixed-agrees : ℤ → Bool → Bool
 fixed-agrees w x = cond (eqZ w (pos 0)) (not x) (cond (eqZ w (pos 1)) x true)
 
--- an emitted declared variable carries its value
-abbrev pub carries-bool : ℤ → Bool → Val → Bool
-carries-bool (pos zero) x ρ = true
-carries-bool (pos (suc n)) x ρ = Bool·beq (ρ n) x
-carries-bool (negsuc n) x ρ = true
+-- an emitted declared variable carries its value; the first argument: how many numbers are emitted
+abbrev pub carries-bool : ℕ → ℤ → Bool → Val → Bool
+carries-bool bools (pos zero) x ρ = true
+carries-bool bools (pos (suc n)) x ρ = ltb n bools && Bool·beq (ρ n) x
+carries-bool bools (negsuc n) x ρ = true
 
-abbrev pub carries-int : ℤ → ℤ → IVal → Bool
-carries-int (pos zero) x ι = true
-carries-int (pos (suc n)) x ι = eqZ (ι n) x
-carries-int (negsuc n) x ι = true
+abbrev pub carries-int : ℕ → ℤ → ℤ → IVal → Bool
+carries-int ints (pos zero) x ι = true
+carries-int ints (pos (suc n)) x ι = ltb n ints && eqZ (ι n) x
+carries-int ints (negsuc n) x ι = true
 
--- any other emitted integer is anything from lowest to highest
-abbrev pub is-declared : List ℤ → ℕ → Bool
-is-declared int-map j = any (λ w. eqZ w (pos (suc j))) int-map
-
+-- every emitted integer, declared or not, lies between its lowest and highest value
 abbrev pub between : ℤ × ℤ → ℤ → Bool
 between lh x = leZ (lh .0) x && leZ x (lh .1)
 
 abbrev pub bounds-at : Decoded → ℕ → ℤ × ℤ
 bounds-at a j = getD (a .bounds) j (pos 0, pos 0)
 
+-- a clause names emitted numbers only
+abbrev pub lit-emitted : ℕ → BoolLit → Bool
+lit-emitted bools (lit n g) = ltb n bools
+
+abbrev pub term-emitted : ℕ → Term → Bool
+term-emitted ints (term n a) = ltb n ints
+
+abbrev pub linear-emitted : ℕ → LinearLit → Bool
+linear-emitted ints (linear o (linear-sum c ts)) = all (term-emitted ints) ts
+
+abbrev pub clause-emitted : ℕ → ℕ → Clause → Bool
+clause-emitted bools ints (clause ls ks) = all (lit-emitted bools) ls && all (linear-emitted ints) ks
+
 -- δ, ε: the assignment; ρ, ι: the emitted numbers' values
 unfoldable pub passes-decoded : ℕ → ℕ → Decoded → Val → IVal → Val → IVal → Bool
 passes-decoded b i a δ ε ρ ι =
     all (λ v. fixed-agrees (word-of (a .fixed) v) (δ v)) (below b)
-    && (all (λ v. carries-bool (word-of (a .bool-map) v) (δ v) ρ) (below b)
-    && (all (λ v. carries-int (word-of (a .int-map) v) (ε v) ι) (below i)
-    && (all (λ j. is-declared (a .int-map) j || between (bounds-at a j) (ι j)) (below (length (a .bounds)))
-    && all (clause-true ρ ι) (a .clauses))))
+    && (all (λ v. carries-bool (a .emitted-bools) (word-of (a .bool-map) v) (δ v) ρ) (below b)
+    && (all (λ v. carries-int (length (a .bounds)) (word-of (a .int-map) v) (ε v) ι) (below i)
+    && (all (λ j. between (bounds-at a j) (ι j)) (below (length (a .bounds)))
+    && (all (clause-emitted (a .emitted-bools) (length (a .bounds))) (a .clauses)
+    && all (clause-true ρ ι) (a .clauses)))))
 
 unfoldable pub passes-with : ℕ → ℕ → List ℤ → Val → IVal → Val → IVal → Bool
 passes-with b i ws δ ε ρ ι = passes-decoded b i (decode b i ws) δ ε ρ ι

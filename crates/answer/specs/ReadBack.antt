@@ -71,7 +71,7 @@ bounds-back ds r = bounds-times ds r
 
 -- what an answer says, as its words are decoded
 abbrev pub view-of : Answer → Decoded
-view-of a = record { fixed = map fixed-word (a .fixed); bool-map = map map-word (a .bool-map); int-map = map map-word (a .int-map); emitted-bools = pos (a .emitted-bools); bounds = map hull (a .emitted-ints); clauses = a .clauses }
+view-of a = record { fixed = map fixed-word (a .fixed); bool-map = map map-word (a .bool-map); int-map = map map-word (a .int-map); emitted-bools = a .emitted-bools; bounds = map hull (a .emitted-ints); clauses = a .clauses }
 
 abbrev tail-of : Answer → List ℤ
 tail-of a = counted domain-words (a .emitted-ints) ++ counted clause-words (a .clauses)

@@ -1,4 +1,5 @@
--- Cases P1 to P12 of document 01: one table, with the words that the document gives, and one theorem.
+-- Cases P1 to P12 of document 01: one table, with the words that the document gives, and one theorem. Then the same for slices that are
+-- too short, or as long as the answer.
 use mathlib.Core.Path.{_≡_, refl}
 use mathlib.Core.Bool.{true}
 use mathlib.Core.List.{List, [], _∷_, _++_, map}
@@ -6,7 +7,7 @@ use Prim.Native.Nat.{ℕ}
 use lib.IntN.{ℤ, pos, negℤ}
 use lib.ListN.{length}
 use Rattle.laws.specs.Lists.{flat, counted}
-use Rattle.call.specs.Call.{Result, compiled, contradiction}
+use Rattle.call.specs.Call.{Result, compiled, contradiction, refused}
 use Rattle.call.specs.Compute.{Case, case, all-agree}
 
 -- ---- notation: words, negative numbers, a clause of literals alone, of comparisons alone
@@ -77,3 +78,24 @@ P1-to-P12 =
 pub P1-to-P12-hold : all-agree P1-to-P12 ≡ true
 unfolding all-agree
 P1-to-P12-hold = refl
+
+-- ---- document 01's "Also", as far as it is of the slices; the rest stands in the Cases of read, limits, clauses and tables
+
+abbrev P6 : List ℤ
+P6 = words (0 ∷ 0 ∷ 0 ∷ [])
+
+abbrev pub also : List Case
+also =
+    -- P6 with an output of 3 words and of 2
+    case P6 3 16384 (compiled (words (0 ∷ 0 ∷ 0 ∷ [])))
+    ∷ case P6 2 16384 (refused 12)
+    -- with a work slice of 16383 words and of none
+    ∷ case P6 3 16383 (refused 1)
+    ∷ case P6 0 0 (refused 1)
+    -- P7, a contradiction, without an output
+    ∷ case (words (0 ∷ 0 ∷ 1 ∷ 1 ∷ 13 ∷ 0 ∷ [])) 0 16384 contradiction
+    ∷ []
+
+pub also-hold : all-agree also ≡ true
+unfolding all-agree
+also-hold = refl

@@ -6,7 +6,7 @@ use mathlib.Core.List.{List, [], _∷_, _++_}
 use Prim.Native.Nat.{ℕ, _<_}
 use lib.IntN.{ℤ}
 use lib.ListN.{length}
-use Rattle.syntax.specs.Syntax.{Domain, domain-of, in-domain, BoolExpr, Not, Or, Members, none, more, Stmt, Rule, Problem}
+use Rattle.syntax.specs.Syntax.{domain-of, in-domain, BoolExpr, Not, Or, Members, none, more, Stmt, Rule, Problem}
 use Rattle.syntax.specs.Satisfies.{Val, IVal, in-domains, satisfies}
 use Rattle.words.specs.Parse.{Parsed, ok, refuse}
 use Rattle.read.specs.Read.{read-set}

@@ -1,20 +1,16 @@
 -- The consequences of demand 3, from the claim and the meaning of statements alone: joined lists, Not, Or.
-use mathlib.Core.Path.{_≡_, refl, sym, ap, _∙_}
+use mathlib.Core.Path.{_≡_, refl, sym, _∙_}
 use mathlib.Core.Logic.{_↔_, _⊎_, inl, inr}
 use mathlib.Core.Bool.{Bool, true, false, not, _&&_, _||_, false≢true}
 use mathlib.Core.List.{List, [], _∷_, _++_}
-use Prim.Native.Nat.{ℕ, _<_}
+use Prim.Native.Nat.{_<_}
 use native.Mathlib.Omega.{arith}
-use lib.IntN.{ℤ}
 use lib.ListN.{length}
 use Rattle.laws.specs.Bools.{and-l, and-r, and-i, or-l, or-r, or-pick}
-use Rattle.laws.specs.Lists.{all, below, all-below, below-all, all-append}
-use Rattle.syntax.specs.Syntax.{domain-of, in-domain, BoolExpr, Not, Or, Members, none, more, Stmt, Rule, Problem}
+use Rattle.laws.specs.Lists.{all, all-below, below-all, all-append}
+use Rattle.syntax.specs.Syntax.{domain-of, in-domain, BoolExpr, Not, Or, Members, Stmt, Rule, Problem}
 use Rattle.syntax.specs.Satisfies.{Val, IVal, holds, holds-any, stmt-holds, in-domains, satisfies}
-use Rattle.words.specs.Parse.{ok}
-use Rattle.read.specs.Read.{read-set}
-use Rattle.call.specs.Call.{call}
-use Rattle.call.specs.Claim.{within, satisfied, Passed, Exact, SameVariables, Called, PassedBy, CalledEach, no-call, one-more, PassedBySome, Consequences}
+use Rattle.call.specs.Claim.{within, satisfied, Exact, SameVariables, Called, PassedBy, CalledEach, no-call, one-more, PassedBySome, Consequences}
 
 -- an assignment in the domains of p is in those of a set with the same variables
 same-domains : (p q : Problem) (ε : IVal) → SameVariables p q → in-domains p ε ≡ true → in-domains q ε ≡ true

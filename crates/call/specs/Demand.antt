@@ -1,21 +1,20 @@
 -- Demand 3: for every set that is not refused, an assignment within the domains satisfies every statement exactly when it passes the answer.
 use mathlib.Core.Path.{_≡_, refl, sym, ap, _∙_}
 use mathlib.Core.Logic.{_↔_}
-use mathlib.Core.Bool.{Bool, true, false, _&&_, _||_, cond, false≢true}
-use mathlib.Core.Option.{Option, some}
-use mathlib.Core.List.{List, [], _∷_, _++_, map}
-use Prim.Native.Nat.{ℕ, zero, suc, _≤_, _<_}
+use mathlib.Core.Bool.{Bool, true, false, _||_, cond, false≢true}
+use mathlib.Core.List.{List, [], _∷_, map}
+use Prim.Native.Nat.{ℕ, zero, suc, _<_}
 use native.Mathlib.Omega.{arith}
 use lib.IntN.{ℤ}
 use lib.Signed.{ltZ}
 use lib.Dec.{ltb}
-use lib.ListN.{length, length-map, getD}
+use lib.ListN.{length, length-map}
 use Rattle.laws.specs.Bools.{and-i}
-use Rattle.laws.specs.Lists.{all, from, below, length-from}
+use Rattle.laws.specs.Lists.{all, below, length-from}
 use Rattle.syntax.specs.Words.{min-work-words, max-set-words, max-answer-words}
-use Rattle.syntax.specs.Syntax.{Domain, Range, Enumerative, domain-of, IntExpr, Cell, Stmt, Rule, Table, Problem}
+use Rattle.syntax.specs.Syntax.{Domain, Range, Enumerative, domain-of, Stmt, Rule, Table, Problem}
 use Rattle.syntax.specs.Satisfies.{Val, IVal, stmt-holds, in-domains, satisfies}
-use Rattle.syntax.specs.Written.{EveryStmt, EveryStmts, every-stmts-map, Within, in-domains-within}
+use Rattle.syntax.specs.Written.{EveryStmt, EveryStmts, every-stmts-map, in-domains-within}
 use Rattle.words.specs.Parse.{Parsed, ok, refuse}
 use Rattle.words.specs.Exact.{Each}
 use Rattle.read.specs.Read.{read-set}
@@ -23,30 +22,28 @@ use Rattle.read.specs.WellFormed.{RisingFrom, WellDomain, WellFormed}
 use Rattle.read.specs.Exact.{set-sound}
 use Rattle.limits.specs.Limits.{check}
 use Rattle.fold.specs.Fold.{Fixed, constant-folding-stmt as fold-stmt}
-use Rattle.fold.specs.FoldMeaning.{Agrees as AgreesFixed}
 use Rattle.fold.specs.Optimize.{Outcome, inconsistent, settled, optimize}
 use Rattle.fold.specs.Kept.{fold-stmts-every}
 use Rattle.fold.specs.Ends.{optimize-rests}
 use Rattle.fold.specs.Meaning.{optimize-satisfies, optimize-inconsistent}
-use Rattle.sums.specs.Domain.{rising-from, ordered}
-use Rattle.clauses.specs.Clause.{clause-true}
+use Rattle.sums.specs.Domain.{rising-from, ordered, domain-between}
 use Rattle.clauses.specs.Log.{Log}
 use Rattle.clauses.specs.Disjunction.{Out}
-use Rattle.clauses.specs.Valuation.{Fits, fits-agrees, all-true}
+use Rattle.clauses.specs.Valuation.{Fits, fits-agrees}
 use Rattle.clauses.specs.Grow.{Grows}
 use Rattle.clauses.specs.Means.{Means, means-none, means-append}
 use Rattle.clauses.specs.RuleMeaning.{read-rule-means}
 use Rattle.clauses.specs.Exist.{ints-of, bools-of, fitting-exists}
-use Rattle.tables.specs.ColumnMeaning.{Standing}
+use Rattle.tables.specs.ColumnMeaning.{WithinDomain}
 use Rattle.tables.specs.TableMeaning.{table-means}
 use Rattle.answer.specs.Answer.{Answer, layout, answer-of, normalize, normalize-stmt, normalize-stmts}
-use Rattle.answer.specs.Passes.{Decoded, decode, passes-decoded, passes-with, Passes}
-use Rattle.answer.specs.ReadBack.{view-of, answer-back}
+use Rattle.answer.specs.Passes.{Decoded, decode, between, passes-decoded, passes-with, Passes}
+use Rattle.answer.specs.ReadBack.{hull, view-of, answer-back}
 use Rattle.answer.specs.Declared.{stmts-declared}
 use Rattle.answer.specs.Carried.{Carried, carried, carries}
-use Rattle.call.specs.Call.{Result, compiled, contradiction, refused, measured, answered, checked, when-read, call}
+use Rattle.call.specs.Call.{Result, compiled, refused, measured, answered, checked, when-read, call}
 use Rattle.call.specs.Claim.{within, satisfied, Passed, NotRefused, Exact, Consequences}
-use Rattle.call.specs.Ready.{well-declared, Plain, folded-plain}
+use Rattle.call.specs.WellRead.{well-declared, Plain, folded-plain}
 use Rattle.call.specs.Known.{optimize-known}
 use Rattle.call.specs.Consequences.{consequences}
 
@@ -56,12 +53,12 @@ module _ (δ : Val) (ε : IVal) (ρ : Val) (ι : IVal) (ds : List Domain) where
   abbrev pub truth : Stmt → Bool
   truth = stmt-holds δ ε (λ n. false)
 
-  pub stmt-means : (t : Stmt) (s : Log) → Plain t → EveryStmt (λ v. Unit {0}) (Standing ds ε) t → Means δ ε ρ ι s (normalize-stmt ds t s) (truth t)
+  pub stmt-means : (t : Stmt) (s : Log) → Plain t → EveryStmt (λ v. Unit {0}) (WithinDomain ds ε) t → Means δ ε ρ ι s (normalize-stmt ds t s) (truth t)
   unfolding normalize-stmt EveryStmt
   stmt-means (Rule e) s h k = read-rule-means δ ε ρ ι e s (λ n. false) h
   stmt-means (Table es rows) s h k = unfold stmt-holds in table-means δ ε ρ ι ds es rows s h k
 
-  pub stmts-mean : (ts : List Stmt) (s : Log) → Each Plain ts → EveryStmts (λ v. Unit {0}) (Standing ds ε) ts → Means δ ε ρ ι s (normalize-stmts ds ts s) (all truth ts)
+  pub stmts-mean : (ts : List Stmt) (s : Log) → Each Plain ts → EveryStmts (λ v. Unit {0}) (WithinDomain ds ε) ts → Means δ ε ρ ι s (normalize-stmts ds ts s) (all truth ts)
   unfolding normalize-stmts EveryStmts
   stmts-mean [] s h k = means-none δ ε ρ ι s
   stmts-mean (t ∷ ts) s h k =
@@ -87,13 +84,13 @@ domains-ordered (d ∷ ds) h (suc v) k = domains-ordered ds (h .1) v (omega arit
 -- ---- a set that settles: satisfying is passing its answer
 
 module _ (p : Problem) (well : WellFormed p) (f : Fixed) (ss : List Stmt) (end : optimize p ≡ settled f ss) (δ : Val) (ε : IVal) (inside : in-domains p ε ≡ true) where
-  abbrev b : ℕ
+  abbrev pub b : ℕ
   b = p .bools
 
-  abbrev i : ℕ
+  abbrev pub i : ℕ
   i = length (p .domains)
 
-  abbrev out : Out
+  abbrev pub out : Out
   out = normalize-stmts (p .domains) ss []
 
   declared : EveryStmts (λ v. v < b) (λ v. v < i) (p .stmts)
@@ -102,20 +99,23 @@ module _ (p : Problem) (well : WellFormed p) (f : Fixed) (ss : List Stmt) (end :
   folded : ss ≡ map (fold-stmt (p .domains) f) (p .stmts)
   folded = optimize-rests p declared f ss end .origin
 
-  ss-declared : EveryStmts (λ v. v < b) (λ v. v < i) ss
+  pub ss-declared : EveryStmts (λ v. v < b) (λ v. v < i) ss
   ss-declared = rw folded (fold-stmts-every (λ v. v < b) (λ v. v < i) (p .domains) f (p .stmts) declared)
 
-  ss-standing : EveryStmts (λ v. Unit {0}) (Standing (p .domains) ε) ss
-  ss-standing = every-stmts-map (λ v. v < b) (λ v. v < i) (λ v. Unit {0}) (Standing (p .domains) ε) (λ v h. tt) (λ v h. (domains-ordered (p .domains) (well .domains-well) v h, in-domains-within p ε inside v h)) ss ss-declared
+  ss-standing : EveryStmts (λ v. Unit {0}) (WithinDomain (p .domains) ε) ss
+  ss-standing = every-stmts-map (λ v. v < b) (λ v. v < i) (λ v. Unit {0}) (WithinDomain (p .domains) ε) (λ v h. tt) (λ v h. (domains-ordered (p .domains) (well .domains-well) v h, in-domains-within p ε inside v h)) ss ss-declared
 
   ss-plain : Each Plain ss
   ss-plain = rw folded (folded-plain (p .domains) f b i (p .stmts) (well .stmts-well))
 
-  means : (ρ : Val) (ι : IVal) → Means δ ε ρ ι [] out (all (truth δ ε ρ ι (p .domains)) ss)
+  pub means : (ρ : Val) (ι : IVal) → Means δ ε ρ ι [] out (all (truth δ ε ρ ι (p .domains)) ss)
   means ρ ι = stmts-mean δ ε ρ ι (p .domains) ss [] ss-plain ss-standing
 
-  grown : Grows ε [] (out .1)
+  pub grown : Grows ε [] (out .1)
   grown = means (λ n. false) ε .grows
+
+  pub inside-bounds : (v : ℕ) → v < i → between (hull (domain-of (p .domains) v)) (ε v) ≡ true
+  inside-bounds v h = domain-between (domain-of (p .domains) v) (ε v) (domains-ordered (p .domains) (well .domains-well) v h) (in-domains-within p ε inside v h)
 
   -- ---- the answer's words, read back
 
@@ -153,7 +153,7 @@ module _ (p : Problem) (well : WellFormed p) (f : Fixed) (ss : List Stmt) (end :
       let fits : Fits δ ε ρ ι s = fitting-exists δ ε grown in
       let m = optimize-satisfies p declared δ ε inside f ss end .0 h in
       let c : Carried b f out δ ε ρ ι = record { fixed = λ v x k e. m .0 v x e; agrees = fits-agrees δ ε ρ ι s fits; clauses = means ρ ι .complete fits (m .1) } in
-      record { bools = ρ; ints = ι; passing = passes-is ρ ι ∙ carries p f out δ ε ρ ι grown (stmts-declared b i (p .domains) ss ss-declared [] tt) c }
+      record { bools = ρ; ints = ι; passing = passes-is ρ ι ∙ carries p f out δ ε ρ ι grown (stmts-declared b i (p .domains) ss ss-declared [] tt) (means ρ ι .bounded) (means ρ ι .numbered) inside-bounds c }
 
 -- ---- the call
 

@@ -3,6 +3,6 @@ pub mod Claim
 pub mod Compute
 pub mod Cases
 pub mod Consequences
-pub mod Ready
+pub mod WellRead
 pub mod Known
 pub mod Demand

@@ -1,4 +1,4 @@
--- The bound of the emitted numbers that occur, one more than the greatest: "names only numbers below n" is a bound ≤ n.
+-- The bound of the emitted numbers that occur, one more than the greatest: "names only numbers below n" is a bound ≤ n. Booleans and integers apart.
 -- What is bounded by n depends on the values of the numbers below n only.
 use mathlib.Core.Path.{_≡_, refl, ap}
 use mathlib.Core.Bool.{Bool, true, false, not, cond}
@@ -6,13 +6,13 @@ use mathlib.Core.List.{List, [], _∷_, _++_}
 use Prim.Native.Nat.{ℕ, suc, _≤_, _<_, max}
 use native.Mathlib.Omega.{arith}
 use lib.Dec.{eqb, ltb}
-use lib.IntN.{ℤ, pos, _+ℤ_, _*ℤ_}
+use lib.IntN.{ℤ, pos, negsuc, _+ℤ_, _*ℤ_}
 use Rattle.laws.specs.Ints.{is-zero}
 use Rattle.laws.specs.Lists.{any, all, flat}
 use Rattle.syntax.specs.Syntax.{BoolExpr, Const, Var, NVar, And, Or, Not, Xor, Iff, Imp, Cmp, Members, none, more}
 use Rattle.syntax.specs.Satisfies.{Val, IVal, holds, holds-all, holds-any}
-use Rattle.sums.specs.LinearSum.{Term, term, LinearSum, linear-sum, constant, place, insert-coef, add-coef, add-terms, add-sum, mul-terms, mul-sum, sum-terms-value, sum-value}
-use Rattle.clauses.specs.Clause.{BoolLit, lit, Clause, clause, lit-true, clause-true}
+use Rattle.sums.specs.LinearSum.{Term, term, LinearSum, linear-sum, constant, place, insert-coef, add-coef, add-terms, add-sum, mul-terms, mul-sum, sub-sum, sum-terms-value, sum-value}
+use Rattle.clauses.specs.Clause.{BoolLit, lit, LinearLit, linear, Clause, clause, lit-true, clause-true}
 use Rattle.clauses.specs.Disjunction.{add-bool-each}
 
 -- ---- bounds
@@ -58,6 +58,19 @@ terms-bound (term v a ∷ ts) = max (suc v) (terms-bound ts)
 abbrev pub sum-bound : LinearSum → ℕ
 sum-bound (linear-sum c ts) = terms-bound ts
 
+-- of the integers of comparisons, clauses, members' lists
+abbrev pub linears-bound : List LinearLit → ℕ
+linears-bound [] = 0
+linears-bound (linear o l ∷ ks) = max (sum-bound l) (linears-bound ks)
+
+abbrev pub ints-bound : List Clause → ℕ
+ints-bound [] = 0
+ints-bound (clause ls ks ∷ cs) = max (linears-bound ks) (ints-bound cs)
+
+abbrev pub int-lists-bound : List (List Clause) → ℕ
+int-lists-bound [] = 0
+int-lists-bound (cs ∷ css) = max (ints-bound cs) (int-lists-bound css)
+
 -- ---- of lists
 
 pub lits-bound-append : (a b : List BoolLit) → lits-bound (a ++ b) ≡ max (lits-bound a) (lits-bound b)
@@ -75,6 +88,22 @@ clauses-bound-add n g (clause ls ks ∷ cs) = rw (lits-bound-append ls (lit n g 
 pub clauses-bound-flat : (css : List (List Clause)) → clauses-bound (flat css) ≡ lists-bound css
 clauses-bound-flat [] = refl
 clauses-bound-flat (cs ∷ css) = omega (arith, clauses-bound-append cs (flat css), clauses-bound-flat css)
+
+pub linears-bound-append : (a b : List LinearLit) → linears-bound (a ++ b) ≡ max (linears-bound a) (linears-bound b)
+linears-bound-append [] b = omega arith
+linears-bound-append (linear o l ∷ a) b = rw (linears-bound-append a b) (omega arith)
+
+pub ints-bound-append : (a b : List Clause) → ints-bound (a ++ b) ≡ max (ints-bound a) (ints-bound b)
+ints-bound-append [] b = omega arith
+ints-bound-append (clause ls ks ∷ a) b = rw (ints-bound-append a b) (omega arith)
+
+pub ints-bound-add : (l : BoolLit) (cs : List Clause) → ints-bound (add-bool-each l cs) ≡ ints-bound cs
+ints-bound-add l [] = refl
+ints-bound-add l (clause ls ks ∷ cs) = rw (ints-bound-add l cs) refl
+
+pub ints-bound-flat : (css : List (List Clause)) → ints-bound (flat css) ≡ int-lists-bound css
+ints-bound-flat [] = refl
+ints-bound-flat (cs ∷ css) = omega (arith, ints-bound-append cs (flat css), ints-bound-flat css)
 
 exprs-bound-append : (a b : List BoolExpr) → exprs-bound (a ++ b) ≡ max (exprs-bound a) (exprs-bound b)
 exprs-bound-append [] b = omega arith
@@ -124,6 +153,10 @@ mul-sum-bound k (linear-sum c ts) = go (is-zero k)
     go : (z : Bool) → sum-bound (cond z (constant (pos 0)) (linear-sum (c *ℤ k) (mul-terms k ts))) ≤ terms-bound ts
     go true = omega arith
     go false = omega (arith, mul-terms-bound k ts)
+
+pub sub-sum-bound : (a b : LinearSum) → sum-bound (sub-sum a b) ≤ max (sum-bound a) (sum-bound b)
+unfolding sub-sum
+sub-sum-bound a b = omega (arith, add-sum-bound a (mul-sum (negsuc 0) b), mul-sum-bound (negsuc 0) b)
 
 -- ---- values that agree below a bound
 

@@ -5,8 +5,8 @@ use mathlib.Core.Path.{_≡_, refl}
 use mathlib.Core.Bool.{true, false}
 use mathlib.Core.List.{List, [], _∷_}
 use Prim.Native.Nat.{ℕ}
-use lib.IntN.{ℤ, pos, negsuc}
-use Rattle.syntax.specs.Syntax.{CmpOp, Eq, Le, Gt, IntExpr, IConst, IVar, Linear, tnil, tmore, BoolExpr, Const, Var, And, Or, Not, Xor, Iff, Cmp, none, more}
+use lib.IntN.{pos, negsuc}
+use Rattle.syntax.specs.Syntax.{Eq, Le, Gt, IConst, IVar, Linear, tnil, tmore, BoolExpr, Const, Var, And, Or, Not, Xor, Iff, Cmp, none, more}
 use Rattle.sums.specs.LinearSum.{term, linear-sum, insert-coef, add-coef, add-terms, add-sum, mul-terms, mul-sum, sub-sum}
 use Rattle.clauses.specs.Clause.{BoolLit, lit, linear, Clause, clause}
 use Rattle.clauses.specs.Log.{get-bool-var, get-int-var, convert-bool-var, convert-int-var}

@@ -16,7 +16,7 @@ use Rattle.clauses.specs.Clause.{negate-if, linear, clause}
 use Rattle.clauses.specs.Log.{declared, declared-int, Log, next-bool, next-int, get-bool-var, get-int-var, bool-var-at, int-var-at, convert-bool-var, convert-int-var}
 use Rattle.clauses.specs.Disjunction.{Out, Outs, normalize-disjunction}
 use Rattle.clauses.specs.Normalize.{IntOut, normalize-int-var, normalize-term, normalize-int-expr, normalize-terms, Run, Runs, no-run, run-then, two, normalize-conjunction, disjunction-of, cross, const-clauses, lit-clauses, normalize-var, negate-op-if, normalize-comparison, normalize-bool-expr, normalize-members}
-use Rattle.clauses.specs.Bounds.{expr-bound, members-bound, sum-bound, add-sum-bound, mul-sum-bound}
+use Rattle.clauses.specs.Bounds.{expr-bound, members-bound, sum-bound, add-sum-bound, mul-sum-bound, sub-sum-bound}
 use Rattle.clauses.specs.Valuation.{Agrees, fits-agrees, all-true}
 use Rattle.clauses.specs.Grow.{Grows, same, grow, grows-trans, grows-bool, grows-int, get-bool-below, get-int-below, agrees-bool, agrees-int, agrees-back}
 use Rattle.clauses.specs.Means.{Means, MeansEach, MeansInt, means-none, means-false, means-append, means-after, means-flat, each-none, each-more}
@@ -118,7 +118,7 @@ module _ (δ : Val) (ε : IVal) (ρ : Val) (ι : IVal) where
   comparison-means s o g a b x y p q =
       let e : A (b .1) → all-true ρ ι (clause [] (linear (negate-op-if g o) (sub-sum (a .0) (b .0)) ∷ []) ∷ []) ≡ negate-if g (compare o x y) = λ r.
       one-comparison _ ∙ compare-sum ι (negate-op-if g o) (a .0) (b .0) ∙ rw (p .value (agrees-back (q .grows) r), q .value r) (negate-op-means g o x y) in
-      record { grows = grows-trans (p .grows) (q .grows); bounded = omega arith; sound = λ r h. sym (e r) ∙ h; complete = λ f h. e (fits-agrees δ ε ρ ι (b .1) f) ∙ h }
+      record { grows = grows-trans (p .grows) (q .grows); bounded = omega arith; numbered = omega (arith, sub-sum-bound (a .0) (b .0), p .bounded, q .bounded, grows-int (q .grows)); sound = λ r h. sym (e r) ∙ h; complete = λ f h. e (fits-agrees δ ε ρ ι (b .1) f) ∙ h }
 
   -- ---- leaves
 
@@ -130,6 +130,7 @@ module _ (δ : Val) (ε : IVal) (ρ : Val) (ι : IVal) where
   lit-means s t n g x gr hn e = record {
     grows = gr;
     bounded = omega arith;
+    numbered = omega arith;
     sound = λ r h. rw (← (e r)) (rw (one-lit (negate-if g (ρ n))) at h);
     complete = λ f h. rw (one-lit (negate-if g (ρ n)), e (fits-agrees δ ε ρ ι t f)) h;
   }

@@ -35,6 +35,7 @@ module _ (δ : Val) (ε : IVal) (ρ : Val) (ι : IVal) where
       record {
         grows = grows-trans (p .grows) (q .grows);
         bounded = q .bounded;
+        numbered = q .numbered;
         sound = λ a h.
             let k = rw both at (q .sound a h) in
             sym (p .sound (and-l X _ k)) ∙ and-l (holds δ ε ρ (c .rule)) true (and-r X _ k);

@@ -26,7 +26,7 @@ use Rattle.answer.specs.Answer.{domain-words}
 use Rattle.walk.specs.Item.{nat, int-entry}
 use Rattle.walk.specs.Decode.{word, read-part}
 use Rattle.walk.specs.Legal.{LegalInt}
-use Rattle.walk.specs.Meets.{part-short}
+use Rattle.walk.specs.NumberingSteps.{part-short}
 use Rattle.rows.specs.Columns.{domain-in}
 use Rattle.rows.specs.Described.{range-described, list-described}
 use Rattle.statements.specs.Columns.{column-number}

@@ -1,12 +1,11 @@
 -- The equality clause of a column, and of one column after the other: what the calls ask, and what they give. Assumes nothing.
 use mathlib.Core.Path.{_≡_, refl, sym, ap, _∙_, subst}
 use mathlib.Core.Bool.{false}
-use mathlib.Core.List.{List, [], _∷_, _++_, append-nil, map}
+use mathlib.Core.List.{List, [], _∷_, _++_, append-nil}
 use Prim.Native.Nat.{ℕ, _+_, _-_, _≤_, _<_, _^_}
 use native.Mathlib.Omega.{arith}
 use lib.IntN.{ℤ, pos, negsuc}
-use lib.ListN.{length, getD, drop, length-drop}
-use lib.Seq.{take-all}
+use lib.ListN.{length, getD}
 use borrow.Author.Tests.{ltb-false}
 use Rattle.laws.specs.Bools.{or-no-l, or-no-r}
 use Rattle.laws.specs.Lists.{any, different}
@@ -23,15 +22,15 @@ use Rattle.sums.specs.Bounds.{size, Room}
 use Rattle.sums.specs.Struct.{terms, sum-of, Stands}
 use Rattle.sums.specs.declared.LinearSum.{LinearSum as Sum}
 use Rattle.sums.proofs.Laws.{stands-sum}
-use Rattle.nest.specs.Numbers.{count-of, number-at, number-behind}
+use Rattle.nest.specs.Numbers.{number-at}
 use Rattle.nest.specs.Nest.{Ready, Word, Linear as Linears}
 use Rattle.nest.specs.Column.{column-asks}
 use Rattle.clauses.specs.Clause.{linear}
 use Rattle.clauses.specs.Normalize.{negate-op-if}
 use Rattle.answer.specs.Answer.{linear-words}
-use Rattle.walk.specs.Item.{nat, int-entry, int-number}
+use Rattle.walk.specs.Item.{nat, int-number}
 use Rattle.walk.specs.Decode.{word, read-part}
-use Rattle.walk.specs.Meets.{part-short}
+use Rattle.walk.specs.NumberingSteps.{part-short}
 use Rattle.writer.specs.Suffix.{Open}
 use Rattle.writer.specs.Rules.{has-part}
 use Rattle.writer.proofs.Differences.{numbers, number-is}

@@ -14,7 +14,7 @@ use Rattle.words.specs.Exact.{Each}
 use Rattle.walk.specs.Item.{nat, int-entry}
 use Rattle.walk.specs.Decode.{int-end, read-part}
 use Rattle.walk.specs.Legal.{LegalInt}
-use Rattle.walk.specs.Standing.{int-is}
+use Rattle.walk.specs.DecodeExact.{int-is}
 use Rattle.statements.specs.Columns.{column-map, column-number, column-numbers}
 use Rattle.columns.specs.Standing.{Standing}
 use Rattle.columns.specs.Describing.{column-words, Known, AllKnown, SomeDescribable, Described, At, SomeAt, Declared, Describes, Told, SomeTold, Storable, StoredColumn}

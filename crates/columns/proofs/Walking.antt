@@ -9,7 +9,7 @@ use Rattle.laws.specs.Lists.{flat}
 use Rattle.laws.specs.Slices.{Has, has-front, has-back}
 use Rattle.syntax.specs.Syntax.{IntExpr, encode-int}
 use Rattle.walk.specs.Decode.{int-at, read-part}
-use Rattle.walk.specs.Standing.{int-is}
+use Rattle.walk.specs.DecodeExact.{int-is}
 use Rattle.columns.specs.Standing.{Standing}
 
 module _ (w : List ℤ) (p n : ℕ) (e : IntExpr) (es : List IntExpr) (s : Standing w p n (e ∷ es)) where

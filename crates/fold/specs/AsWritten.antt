@@ -4,7 +4,7 @@ use mathlib.Core.Path.{_≡_, refl}
 use mathlib.Core.Bool.{true, false}
 use mathlib.Core.List.{List}
 use lib.IntN.{ℤ}
-use Rattle.syntax.specs.Syntax.{Domain, CmpOp, IntExpr, Linear, Terms, tmore, BoolExpr, And, Or, Cmp, Members}
+use Rattle.syntax.specs.Syntax.{Domain, CmpOp, IntExpr, Linear, Terms, tmore, And, Or, Cmp, Members}
 use Rattle.fold.specs.Fold.{Fixed, constant-folding-int as fold-int, constant-folding-terms as fold-terms, constant-folding-bool as fold}
 use Rattle.fold.specs.Optimize.{updated, constant-prop-bool as prop}
 

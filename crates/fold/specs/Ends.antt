@@ -1,6 +1,6 @@
 -- The passes end: with one pass more than there are open variables the last pass changes nothing, and more passes give the same.
 -- Assumes that the statements write only Booleans below B.
-use mathlib.Core.Path.{_≡_, refl, sym, ap, _∙_}
+use mathlib.Core.Path.{_≡_, refl, sym, _∙_}
 use mathlib.Core.Bool.{Bool, true, false, not, _||_, Bool·beq, cond}
 use mathlib.Core.Option.{Option, none as nothing, some}
 use mathlib.Core.List.{List, [], _∷_, map}
@@ -183,9 +183,6 @@ module _ (B : ℕ) where
 pub record Rests (ds : List Domain) (ss : List Stmt) (f : Fixed) (folded : List Stmt) : Type 0 where
   pub origin : folded ≡ map (fold-stmt ds f) ss
   pub still : prop-stmts folded f ≡ updated false f
-
-pub rests-folded : (ds : List Domain) (ss : List Stmt) (f : Fixed) (folded : List Stmt) → Rests ds ss f folded → map (fold-stmt ds f) folded ≡ folded
-rests-folded ds ss f folded r = ap (map (fold-stmt ds f)) (r .origin) ∙ refold-stmts ds f f (λ v b q. q) ss ∙ sym (r .origin)
 
 abbrev pub Ended : List Domain → List Stmt → Outcome → Type 0
 Ended ds ss inconsistent = Unit {0}

@@ -4,16 +4,13 @@ use mathlib.Core.Path.{_≡_, refl}
 use mathlib.Core.Bool.{Bool, true, false, cond}
 use mathlib.Core.Option.{Option, none as nothing, some}
 use mathlib.Core.List.{List, [], _∷_, map}
-use Prim.Native.Nat.{ℕ, _≤_, _<_}
-use lib.IntN.{ℤ}
-use lib.ListN.{length}
+use Prim.Native.Nat.{ℕ, _≤_}
 use native.Mathlib.Omega.{arith}
-use Rattle.syntax.specs.Syntax.{Domain, as-constant, domain-of, IntExpr, IConst, IVar, Linear, Terms, tnil, tmore, BoolExpr, Const, Var, NVar, And, Or, Not, Xor, Iff, Imp, Cmp, Members, none, more, count-members, Stmt, Rule, Table, Problem}
-use Rattle.syntax.specs.Written.{EveryInt, EveryTerm, EveryColumn, Every, EveryMember, EveryStmt, EveryStmts, AllDeclared, EveryOf, Any}
-use Rattle.fold.specs.Fold.{Fixed, is-const, Op, op-xor, op-iff, op-imp, action, act, fold-binary, has-const, kept, join-and, join-or, fold-and, fold-or, fold-not, fold-var, fold-int-var, constant-folding-int as fold-int, constant-folding-terms as fold-terms, constant-folding-bool as fold, constant-folding-members as fold-members, constant-folding-stmt as fold-stmt}
+use Rattle.syntax.specs.Syntax.{Domain, BoolExpr, Const, Var, NVar, And, Or, Not, Xor, Iff, Imp, Cmp, Members, none, more, count-members, Stmt, Rule, Table, Problem}
+use Rattle.syntax.specs.Written.{AllDeclared}
+use Rattle.fold.specs.Fold.{Fixed, is-const, Op, op-xor, op-iff, op-imp, action, act, fold-binary, has-const, kept, join-and, join-or, fold-and, fold-or, fold-not, fold-var, constant-folding-int as fold-int, constant-folding-bool as fold, constant-folding-members as fold-members, constant-folding-stmt as fold-stmt}
 use Rattle.fold.specs.Optimize.{Status, unsatisfiable, updated, worst, and-then, constant-prop-bool as prop, constant-prop-stmts as prop-stmts, settled, optimize}
 use Rattle.fold.specs.Refold.{const-or, refold-int, refold-columns}
-use Rattle.fold.specs.Kept.{sum-every, binary-every, and-every, or-every, not-every, fold-stmts-every}
 use Rattle.fold.specs.Ends.{Rests, optimize-rests}
 
 module _ (ds : List Domain) where
@@ -178,27 +175,27 @@ module _ (ds : List Domain) where
   SettledStmts (Table es rows ∷ ss) = (map (fold-int ds) es ≡ es) × SettledStmts ss
 
   -- requiring met no contradiction
-  abbrev Fine : Status → Type 0
-  Fine unsatisfiable = ⊥
-  Fine (updated c g) = Unit {0}
+  abbrev Satisfiable : Status → Type 0
+  Satisfiable unsatisfiable = ⊥
+  Satisfiable (updated c g) = Unit {0}
 
-  then-fine : {X : Type 0} (s : Status) (next : Fixed → Status) → Fine (and-then s next) → ((g : Fixed) → Fine s → Fine (next g) → X) → X
+  then-fine : {X : Type 0} (s : Status) (next : Fixed → Status) → Satisfiable (and-then s next) → ((g : Fixed) → Satisfiable s → Satisfiable (next g) → X) → X
   then-fine unsatisfiable next h k = absurd h
   then-fine (updated c g) next h k = k g tt (go (next g) h)
     where
-      go : (t : Status) → Fine (worst c t) → Fine t
+      go : (t : Status) → Satisfiable (worst c t) → Satisfiable t
       go unsatisfiable q = q
       go (updated d g') q = tt
 
-  root-true : (b : Bool) (f : Fixed) → Fine (prop (Const b) true f) → b ≡ true
+  root-true : (b : Bool) (f : Fixed) → Satisfiable (prop (Const b) true f) → b ≡ true
   unfolding prop
   root-true true f h = refl
   root-true false f h = absurd h
 
-  root-settled : (e : BoolExpr) (f : Fixed) → Folded e → Fine (prop e true f) → SettledRoot (is-const e) e
+  root-settled : (e : BoolExpr) (f : Fixed) → Folded e → Satisfiable (prop e true f) → SettledRoot (is-const e) e
   root-settled e f h fine = const-or e (λ b q. let r = root-true b f (rw q at fine) in rw q r) (λ q. let s = solid e h q in rw q s)
 
-  settled-stmts : (ss : List Stmt) (f g : Fixed) → Fine (prop-stmts (map (fold-stmt ds f) ss) g) → SettledStmts (map (fold-stmt ds f) ss)
+  settled-stmts : (ss : List Stmt) (f g : Fixed) → Satisfiable (prop-stmts (map (fold-stmt ds f) ss) g) → SettledStmts (map (fold-stmt ds f) ss)
   unfolding prop-stmts fold-stmt SettledStmts
   settled-stmts [] f g fine = tt
   settled-stmts (Rule e ∷ ss) f g fine = then-fine (prop (fold ds f e) true g) (prop-stmts (map (fold-stmt ds f) ss)) fine (λ g' a b. (root-settled (fold ds f e) g (fold-folded f e) a, settled-stmts ss f g' b))
@@ -209,78 +206,6 @@ module _ (ds : List Domain) where
       let h : prop-stmts (map (fold-stmt ds f) ss) f ≡ updated false f = rw (r .origin) at (r .still) in
       rw (r .origin) (settled-stmts ss f f (rw h tt))
 
--- ---- no fixed variable and no one-value integer is written any more
-
--- not fixed
-abbrev pub Open : Fixed → ℕ → Type 0
-Open f v = f v ≡ nothing
-
-module _ (ds : List Domain) where
-  -- more than one value, or none
-  abbrev pub Several : ℕ → Type 0
-  Several v = as-constant (domain-of ds v) ≡ nothing
-
-  int-var-several : (k : Option ℤ) (v : ℕ) → as-constant (domain-of ds v) ≡ k → EveryInt Several (fold-int-var k v)
-  unfolding EveryInt
-  int-var-several nothing v h = h
-  int-var-several (some c) v h = tt
-
-  mutual
-    unfolding fold-int EveryInt
-
-    pub fold-int-several : (e : IntExpr) → EveryInt Several (fold-int ds e)
-    fold-int-several (IConst c) = tt
-    fold-int-several (IVar v) = int-var-several (as-constant (domain-of ds v)) v refl
-    fold-int-several (Linear ts) = sum-every Several ds (fold-terms ds ts) (fold-terms-several ts)
-
-    fold-terms-several : (ts : Terms) → EveryTerm Several (fold-terms ds ts)
-    fold-terms-several tnil = tt
-    fold-terms-several (tmore k e ts) = (fold-int-several e, fold-terms-several ts)
-
-  fold-columns-several : (es : List IntExpr) → EveryColumn Several (map (fold-int ds) es)
-  unfolding EveryColumn
-  fold-columns-several [] = tt
-  fold-columns-several (e ∷ es) = (fold-int-several e, fold-columns-several es)
-
-  module _ (f : Fixed) where
-    var-open : (k : Option Bool) (v : ℕ) → f v ≡ k → Every (Open f) Several (fold-var k v)
-    unfolding EveryOf
-    var-open nothing v h = h
-    var-open (some b) v h = tt
-
-    mutual
-      unfolding fold EveryOf fold-not
-
-      pub fold-open : (e : BoolExpr) → Every (Open f) Several (fold ds f e)
-      fold-open (Const b) = tt
-      fold-open (Var v) = var-open (f v) v refl
-      fold-open (NVar n) = tt
-      fold-open (And ms) = and-every Any (Open f) Several (fold-members ds f ms) (fold-members-open ms)
-      fold-open (Or ms) = or-every Any (Open f) Several (fold-members ds f ms) (fold-members-open ms)
-      fold-open (Not e) = not-every Any (Open f) Several (is-const (fold ds f e)) (fold ds f e) (fold-open e)
-      fold-open (Xor a b) = binary-every Any (Open f) Several op-xor (fold ds f a) (fold ds f b) (fold-open a) (fold-open b)
-      fold-open (Iff a b) = binary-every Any (Open f) Several op-iff (fold ds f a) (fold ds f b) (fold-open a) (fold-open b)
-      fold-open (Imp a b) = binary-every Any (Open f) Several op-imp (fold ds f a) (fold ds f b) (fold-open a) (fold-open b)
-      fold-open (Cmp o a b) = (fold-int-several a, fold-int-several b)
-
-      fold-members-open : (ms : Members) → EveryMember (Open f) Several (fold-members ds f ms)
-      fold-members-open none = tt
-      fold-members-open (more e ms) = (fold-open e, fold-members-open ms)
-
-    pub fold-stmts-open : (ss : List Stmt) → EveryStmts (Open f) Several (map (fold-stmt ds f) ss)
-    unfolding EveryStmts EveryStmt fold-stmt
-    fold-stmts-open [] = tt
-    fold-stmts-open (Rule e ∷ ss) = (fold-open e, fold-stmts-open ss)
-    fold-stmts-open (Table es rows ∷ ss) = (fold-columns-several es, fold-stmts-open ss)
-
--- ---- the whole
-
 module _ (p : Problem) (declared : AllDeclared p) (f : Fixed) (ss : List Stmt) (end : optimize p ≡ settled f ss) where
   pub optimize-shape : SettledStmts (p .domains) ss
   optimize-shape = settled-shape (p .domains) (p .stmts) f ss (optimize-rests p declared f ss end)
-
-  pub optimize-open : EveryStmts (Open f) (Several (p .domains)) ss
-  optimize-open = rw (optimize-rests p declared f ss end .origin) (fold-stmts-open (p .domains) f (p .stmts))
-
-  pub optimize-declared : EveryStmts (λ v. v < p .bools) (λ v. v < length (p .domains)) ss
-  optimize-declared = rw (optimize-rests p declared f ss end .origin) (fold-stmts-every (λ v. v < p .bools) (λ v. v < length (p .domains)) (p .domains) f (p .stmts) declared)

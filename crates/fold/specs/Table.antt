@@ -1,6 +1,7 @@
--- The numbers of operators, sides and actions in code, and the table of 27 entries: its rule is one computed test against `action`.
-use Prim.Native.Nat.{ℕ, _+_, _*_, _<_}
-use mathlib.Core.Path.{_≡_, refl}
+-- The numbers of operators, sides and actions in code, and the table of actions, listed (27 entries) and packed (three numbers).
+-- The rule of the listed form is one computed test against `action`; another one shows the packed form equal to it.
+use Prim.Native.Nat.{ℕ, _+_, _*_, _<_, _/_, _%_, _^_}
+use mathlib.Core.Path.{_≡_, refl, _∙_}
 use mathlib.Core.Bool.{Bool, true, false, _&&_}
 use mathlib.Core.Option.{Option, none as nothing, some}
 use mathlib.Core.List.{List, [], _∷_}
@@ -57,6 +58,14 @@ actions =
     ∷ 1 ∷ 1 ∷ 1 ∷ 0 ∷ 1 ∷ 4 ∷ 3 ∷ 1 ∷ 6
     ∷ []
 
+-- One number for each operator, to the base 8 632501410, 623410501, 613410111: digit 3 * left + right, counted from the last, is the action.
+abbrev pub packed : List ℕ
+packed = 107643656 ∷ 105779521 ∷ 103682121 ∷ []
+
+-- three bits of the operator's number, from 9 * left + 3 * right on
+abbrev pub unpacked : ℕ → ℕ → ℕ → ℕ
+unpacked o x y = getD packed o 0 / 2 ^ (9 * x + 3 * y) % 8
+
 -- a test at every operator and at every state of a side
 abbrev ∀op : (Op → Bool) → Bool
 ∀op f = f op-xor && (f op-iff && f op-imp)
@@ -74,11 +83,26 @@ at-side f h nothing = and-l _ _ h
 at-side f h (some false) = and-l _ _ (and-r (f nothing) _ h)
 at-side f h (some true) = and-r (f (some false)) _ (and-r (f nothing) _ h)
 
+-- a test at all 27 pairs of an operator and its sides' states
+abbrev ∀pair : (Op → Option Bool → Option Bool → Bool) → Bool
+∀pair f = ∀op (λ o. ∀side (λ x. ∀side (f o x)))
+
+at-pair : (f : Op → Option Bool → Option Bool → Bool) → ∀pair f ≡ true → (o : Op) (x y : Option Bool) → f o x y ≡ true
+at-pair f h o x y = at-side (f o x) (at-side (λ x. ∀side (f o x)) (at-op (λ o. ∀side (λ x. ∀side (f o x))) h o) x) y
+
 abbrev entry-right : Op → Option Bool → Option Bool → Bool
 entry-right o x y = eqb (getD actions (op-num o * 9 + state-num x * 3 + state-num y) 0) (action-num (action o x y))
 
--- the rule of the table, over its 27 entries at once
+-- the rule of the listed form, over its 27 entries at once
 pub table-right : (o : Op) (x y : Option Bool) → getD actions (op-num o * 9 + state-num x * 3 + state-num y) 0 ≡ action-num (action o x y)
-table-right o x y =
-    let all : ∀op (λ o. ∀side (λ x. ∀side (entry-right o x))) ≡ true = refl in
-    eqb-true _ _ (at-side (entry-right o x) (at-side (λ x. ∀side (entry-right o x)) (at-op (λ o. ∀side (λ x. ∀side (entry-right o x))) all o) x) y)
+table-right o x y = eqb-true _ _ (at-pair entry-right refl o x y)
+
+abbrev entry-listed : Op → Option Bool → Option Bool → Bool
+entry-listed o x y = eqb (unpacked (op-num o) (state-num x) (state-num y)) (getD actions (op-num o * 9 + state-num x * 3 + state-num y) 0)
+
+-- the packed and the listed form are equal, over all 27 pairs at once
+pub packed-listed : (o : Op) (x y : Option Bool) → unpacked (op-num o) (state-num x) (state-num y) ≡ getD actions (op-num o * 9 + state-num x * 3 + state-num y) 0
+packed-listed o x y = eqb-true _ _ (at-pair entry-listed refl o x y)
+
+pub packed-right : (o : Op) (x y : Option Bool) → unpacked (op-num o) (state-num x) (state-num y) ≡ action-num (action o x y)
+packed-right o x y = packed-listed o x y ∙ table-right o x y

@@ -13,13 +13,12 @@ use Rattle.laws.specs.Bools.{never, or-no-l, or-no-r}
 use Rattle.laws.specs.Ints.{eqZ}
 use Rattle.laws.specs.Order.{eqZ-is}
 use Rattle.laws.specs.Lists.{any, any-append, different}
-use Rattle.syntax.specs.Words.{max-weight, max-span, max-comparison-vars, max-column-vars}
+use Rattle.syntax.specs.Words.{max-weight, max-comparison-vars, max-column-vars}
 use Rattle.syntax.specs.Syntax.{Domain, Range, Enumerative, as-constant, domain-of, IntExpr, IConst, IVar, Linear, Terms, tnil, tmore, BoolExpr, Const, Var, NVar, And, Or, Not, Xor, Iff, Imp, Cmp, Members, none, more, Stmt, Rule, Table}
-use Rattle.limits.specs.Limits.{any-comparison, any-comparison-members, any-part, domain-weight, weight, terms-weight, heavy, heavy-terms, heavy-comparison, written, written-terms, many-comparison, many-column, span, wide-column}
+use Rattle.limits.specs.Limits.{any-comparison, any-comparison-members, any-part, domain-weight, weight, terms-weight, heavy, heavy-terms, heavy-comparison, written, written-terms, many-comparison, many-column}
 use Rattle.fold.specs.Fold.{Fixed, is-const, has-const, keep-member, kept, join-and, join-or, fold-and, fold-or, not-of, fold-not, fold-var, fold-binary, act, action, Op, op-xor, op-iff, op-imp, Action, be-false, be-true, left, not-left, right, not-right, keep, fold-int-var, fold-sum, constant-folding-int, constant-folding-terms, constant-folding-bool, constant-folding-members, constant-folding-stmt}
 use Rattle.sums.specs.Rising.{Among, among-left, among-right, different-part}
 use Rattle.sums.specs.Bounds.{heavy-weight}
-use Rattle.sums.specs.Domain.{Bounded, breadth, breadth-terms, declared-width, span-is}
 
 -- ---- 9: weights
 
@@ -148,44 +147,6 @@ module _ (ds : List Domain) where
   unfolding many-column
   fold-column-few e h = le-ltb max-column-vars (different (written (constant-folding-int ds e))) (le-trans (different-part (written (constant-folding-int ds e)) (written e) (fold-written e)) (ltb-false max-column-vars (different (written e)) h))
 
-  -- ---- 11: spans
-
-  sum-breadth : (ts : Terms) → breadth (declared-width ds) (fold-sum ts) ≤ breadth-terms (declared-width ds) ts
-  unfolding breadth
-  sum-breadth tnil = zero-le
-  sum-breadth (tmore k e tnil) = go (eqZ k (pos 1)) refl
-    where
-      go : (t : Bool) → eqZ k (pos 1) ≡ t → breadth (declared-width ds) (cond t e (Linear (tmore k e tnil))) ≤ natAbs k * breadth (declared-width ds) e + 0
-      go true q = rw (eqZ-is k (pos 1) q) (omega arith)
-      go false q = omega arith
-  sum-breadth (tmore k e (tmore l f ts)) = omega arith
-
-  var-breadth : (v : ℕ) (o : Option ℤ) → breadth (declared-width ds) (fold-int-var o v) ≤ declared-width ds v
-  unfolding breadth
-  var-breadth v nothing = omega arith
-  var-breadth v (some c) = zero-le
-
-  mutual
-    unfolding constant-folding-int breadth
-
-    fold-breadth : (e : IntExpr) → breadth (declared-width ds) (constant-folding-int ds e) ≤ breadth (declared-width ds) e
-    fold-breadth (IConst c) = omega arith
-    fold-breadth (IVar v) = var-breadth v (as-constant (domain-of ds v))
-    fold-breadth (Linear ts) = omega (arith, sum-breadth (constant-folding-terms ds ts), fold-terms-breadth ts)
-
-    fold-terms-breadth : (ts : Terms) → breadth-terms (declared-width ds) (constant-folding-terms ds ts) ≤ breadth-terms (declared-width ds) ts
-    fold-terms-breadth tnil = omega arith
-    fold-terms-breadth (tmore k e ts) = omega (arith, mul-le-mul-left (natAbs k) (fold-breadth e), fold-terms-breadth ts)
-
-  pub fold-span : (e : IntExpr) → ((v : ℕ) → Among (written e) v → Bounded (domain-of ds v)) → span ds (constant-folding-int ds e) ≤ span ds e
-  fold-span e h = omega (arith, span-is ds e h, span-is ds (constant-folding-int ds e) (λ v m. h v (fold-written e v m)), fold-breadth e)
-
-  pub fold-column-narrow : (e : IntExpr) → ((v : ℕ) → Among (written e) v → Bounded (domain-of ds v)) → wide-column ds e ≡ false → wide-column ds (constant-folding-int ds e) ≡ false
-  unfolding wide-column
-  fold-column-narrow e b h = le-ltb max-span (span ds (constant-folding-int ds e)) (le-trans (fold-span e b) (ltb-false max-span (span ds e) h))
-
--- ---- a test of every comparison that folding of the sides keeps, folding of a rule keeps
-
 module _ (P : IntExpr → IntExpr → Bool) (C : IntExpr → Bool) where
   abbrev No : BoolExpr → Type 0
   No e = any-comparison P C e ≡ false
@@ -294,8 +255,3 @@ fold-stmt-light ds f = fold-stmt-no (heavy-comparison ds) (heavy ds) ds f (fold-
 
 pub fold-stmt-few : (ds : List Domain) (f : Fixed) (s : Stmt) → any-part many-comparison many-column s ≡ false → any-part many-comparison many-column (constant-folding-stmt ds f s) ≡ false
 fold-stmt-few ds f = fold-stmt-no many-comparison many-column ds f (fold-comparison-few ds) (fold-column-few ds)
-
--- refusal 11, where every declared domain is ordered
-pub fold-stmt-narrow : (ds : List Domain) (f : Fixed) (s : Stmt) → ((v : ℕ) → Bounded (domain-of ds v))
-    → any-part (λ a b. false) (wide-column ds) s ≡ false → any-part (λ a b. false) (wide-column ds) (constant-folding-stmt ds f s) ≡ false
-fold-stmt-narrow ds f s h = fold-stmt-no (λ a b. false) (wide-column ds) ds f (λ a b q. refl) (λ e. fold-column-narrow ds e (λ v m. h v)) s

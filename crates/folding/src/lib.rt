@@ -2,16 +2,16 @@
 // The fixed values are the first words of the work slice: 0 false, 1 true, else open. `d` is the place of the set's first domain.
 ghost use mathlib.Core.Path.{_≡_};
 ghost use mathlib.Core.Bool.{Bool, cond, _||_};
-ghost use mathlib.Core.List.{List, [], _∷_};
+ghost use mathlib.Core.List.{[], _∷_};
 ghost use mathlib.Core.Option.{Option};
-ghost use Prim.Native.Nat.{ℕ, _+_, _*_, _-_, _≤_, _<_};
-ghost use lib.IntN.{ℤ, pos};
+ghost use Prim.Native.Nat.{_+_, _*_, _-_, _≤_, _<_};
+ghost use lib.IntN.{pos};
 ghost use lib.Dec.{eqb};
 ghost use lib.ListN.{length, getD, set};
 ghost use lib.Seq.{slice};
 ghost use Rattle.laws.specs.Slices.{Stored};
 ghost use Rattle.fold.specs.Fold.{Op, action as action-of};
-ghost use Rattle.fold.specs.Table.{op-num, action-num, bit, state-num};
+ghost use Rattle.fold.specs.Table.{op-num, action-num, state-num};
 ghost use Rattle.domains.specs.Declared.{Domain-below};
 ghost use Rattle.fold.specs.Steps.{state-of, var-step, not-step, not-state, list-step, list-state, binary-step, binary-state, single-of, Int-var-post, Ready-int, Ready-terms, Int-post, Terms-post, Ready, Ready-members, Fold-post, Members-post};
 
@@ -57,7 +57,7 @@ pub fn state_at(work: &[i32], v: usize) -> usize
 }
 
 // The words from `from` up to `end`, moved down to `to`.
-pub fn shift(work: &mut [i32], from: usize, end: usize, to: usize) -> usize
+fn shift(work: &mut [i32], from: usize, end: usize, to: usize) -> usize
     requires { ⌜ (to ≤ from) × (from ≤ end) × (end ≤ length (now work)) ⌝ }
     ensures { λ r. ⌜ Stored (now (work .entry)) to (slice from end (now (work .entry))) (now (work .exit)) r ⌝ }
 {
@@ -74,41 +74,17 @@ pub fn shift(work: &mut [i32], from: usize, end: usize, to: usize) -> usize
 
 // ---- the table
 
-const ACTIONS: [usize; 27] = [
-    0, // Xor false, false: false
-    1, // Xor false, true: true
-    4, // Xor false, unknown: right
-    1, // Xor true, false: true
-    0, // Xor true, true: false
-    5, // Xor true, unknown: not right
-    2, // Xor unknown, false: left
-    3, // Xor unknown, true: not left
-    6, // Xor unknown, unknown: keep
-    1, // Iff false, false: true
-    0, // Iff false, true: false
-    5, // Iff false, unknown: not right
-    0, // Iff true, false: false
-    1, // Iff true, true: true
-    4, // Iff true, unknown: right
-    3, // Iff unknown, false: not left
-    2, // Iff unknown, true: left
-    6, // Iff unknown, unknown: keep
-    1, // Imp false, false: true
-    1, // Imp false, true: true
-    1, // Imp false, unknown: true
-    0, // Imp true, false: false
-    1, // Imp true, true: true
-    4, // Imp true, unknown: right
-    3, // Imp unknown, false: not left
-    1, // Imp unknown, true: true
-    6, // Imp unknown, unknown: keep
-];
+// One number for each operator (Xor, Iff, Imp), three bits to an action: octal digit 3 * left + right, counted from the last, is the action for these sides.
+// Sides: 0 false, 1 true, 2 unknown. Actions: 0 false, 1 true, 2 left, 3 not left, 4 right, 5 not right, 6 keep.
+const ACTIONS: [u32; 3] = [0o632501410, 0o623410501, 0o613410111];
 
-pub fn action(op: usize, a: usize, b: usize) -> usize
+fn action(op: usize, a: usize, b: usize) -> usize
     requires { ⌜ (op < 3) × (a < 3) × (b < 3) ⌝ }
     ensures { λ r. ⌜ ((o : Op) (x y : Option Bool) → op ≡ op-num o → a ≡ state-num x → b ≡ state-num y → r ≡ action-num (action-of o x y)) ⌝ }
 {
-    ACTIONS[op * 9 + a * 3 + b]
+    let n = ACTIONS[op];
+    let k = 9 * a + 3 * b;
+    ((n >> k) % 8) as usize
 }
 
 // ---- closing: the sides or members stand behind the place of the header
@@ -122,7 +98,7 @@ pub fn put_two(work: &mut [i32], o: usize, u: usize, v: usize) -> usize
     o + 2
 }
 
-pub fn put_var(work: &mut [i32], o: usize, s: usize, v: usize) -> usize
+fn put_var(work: &mut [i32], o: usize, s: usize, v: usize) -> usize
     requires { ⌜ (o + 2 ≤ length (now work)) × (s < 3) × (v < 2147483648) ⌝ }
     ensures { λ r. ⌜ Stored (now (work .entry)) o (var-step s v) (now (work .exit)) r ⌝ }
 {
@@ -132,7 +108,7 @@ pub fn put_var(work: &mut [i32], o: usize, s: usize, v: usize) -> usize
     put_two(work, o, 10, s)
 }
 
-pub fn close_not(work: &mut [i32], o: usize, next: usize, e: usize, s: usize) -> Folded
+fn close_not(work: &mut [i32], o: usize, next: usize, e: usize, s: usize) -> Folded
     requires { ⌜ (o + 2 ≤ e) × (e ≤ length (now work)) × (s < 3) ⌝ }
     ensures { λ r. ⌜ (r .next ≡ next) × (r .state ≡ not-state s) × Stored (now (work .entry)) o (not-step s (slice (o + 1) e (now (work .entry)))) (now (work .exit)) (r .end) ⌝ }
 {
@@ -153,7 +129,7 @@ pub fn close_not(work: &mut [i32], o: usize, next: usize, e: usize, s: usize) ->
 }
 
 // The words of a list whose kept members stand behind its header.
-pub fn put_list(work: &mut [i32], o: usize, e: usize, b: usize, hit: bool, kept: usize) -> usize
+fn put_list(work: &mut [i32], o: usize, e: usize, b: usize, hit: bool, kept: usize) -> usize
     requires { ⌜ (o + 2 ≤ e) × (e ≤ length (now work)) × (b < 2) × (kept < 2147483648) ⌝ }
     ensures { λ r. ⌜ Stored (now (work .entry)) o (list-step b hit kept (slice (o + 2) e (now (work .entry)))) (now (work .exit)) r ⌝ }
 {
@@ -171,7 +147,7 @@ pub fn put_list(work: &mut [i32], o: usize, e: usize, b: usize, hit: bool, kept:
     e
 }
 
-pub fn list_state(b: usize, hit: bool, kept: usize) -> usize
+fn list_state(b: usize, hit: bool, kept: usize) -> usize
     requires { ⌜ b < 2 ⌝ }
     ensures { λ r. ⌜ r ≡ list-state b hit kept ⌝ }
 {
@@ -181,7 +157,7 @@ pub fn list_state(b: usize, hit: bool, kept: usize) -> usize
     if kept == 0 { 1 - b } else { 2 }
 }
 
-pub fn close_list(
+fn close_list(
     work: &mut [i32],
     o: usize,
     next: usize,
@@ -199,7 +175,7 @@ pub fn close_list(
 }
 
 // The words of an action on two sides that stand behind the header.
-pub fn put_binary(work: &mut [i32], o: usize, m: usize, e: usize, op: usize, k: usize) -> usize
+fn put_binary(work: &mut [i32], o: usize, m: usize, e: usize, op: usize, k: usize) -> usize
     requires { ⌜ (o + 2 ≤ m) × (m ≤ e) × (e ≤ length (now work)) × (op < 3) ⌝ }
     ensures { λ r. ⌜ Stored (now (work .entry)) o (binary-step k op (slice (o + 1) m (now (work .entry))) (slice m e (now (work .entry)))) (now (work .exit)) r ⌝ }
 {
@@ -224,13 +200,13 @@ pub fn put_binary(work: &mut [i32], o: usize, m: usize, e: usize, op: usize, k: 
     e
 }
 
-pub fn binary_state(k: usize) -> usize
+fn binary_state(k: usize) -> usize
     ensures { λ r. ⌜ r ≡ binary-state k ⌝ }
 {
     if k < 2 { k } else { 2 }
 }
 
-pub fn close_binary(
+fn close_binary(
     work: &mut [i32],
     o: usize,
     next: usize,
@@ -258,7 +234,7 @@ pub fn copy_word(words: &[i32], at: usize, work: &mut [i32], o: usize)
 // ---- integer expressions
 
 // A sum of one term, with coefficient 1.
-pub fn is_single(words: &[i32], at: usize, n: usize) -> bool
+fn is_single(words: &[i32], at: usize, n: usize) -> bool
     requires { ⌜ (n ≡ 1 → at < length (now words)) ⌝ }
     ensures { λ r. ⌜ r ≡ single-of n (getD (now (words .entry)) at (pos 0)) ⌝ }
 {
@@ -272,7 +248,7 @@ pub fn is_single(words: &[i32], at: usize, n: usize) -> bool
     false
 }
 
-pub fn put_int_var(words: &[i32], d: usize, work: &mut [i32], o: usize, v: usize) -> usize
+fn put_int_var(words: &[i32], d: usize, work: &mut [i32], o: usize, v: usize) -> usize
     requires { ⌜ Domain-below (now words) d v ⌝ }
     requires { ⌜ (o + 2 ≤ length (now work)) × (v < 2147483648) ⌝ }
     ensures { λ r. ⌜ Int-var-post (now (words .entry)) d (now (work .entry)) o v (now (work .exit)) r ⌝ }
@@ -288,7 +264,7 @@ pub fn put_int_var(words: &[i32], d: usize, work: &mut [i32], o: usize, v: usize
 }
 
 // As many terms as `count` says.
-pub fn constant_folding_terms(
+fn constant_folding_terms(
     words: &[i32],
     d: usize,
     at: usize,
@@ -343,20 +319,20 @@ pub fn constant_folding_int(words: &[i32], d: usize, at: usize, work: &mut [i32]
 
 // ---- a member that is no constant is kept
 
-pub fn kept_end(state: usize, o: usize, end: usize) -> usize
+fn kept_end(state: usize, o: usize, end: usize) -> usize
     ensures { λ r. ⌜ r ≡ cond (eqb state 2) end o ⌝ }
 {
     if state == 2 { end } else { o }
 }
 
-pub fn kept_count(state: usize, n: usize) -> usize
+fn kept_count(state: usize, n: usize) -> usize
     requires { ⌜ n < 4611686018427387904 ⌝ }
     ensures { λ r. ⌜ r ≡ cond (eqb state 2) (n + 1) n ⌝ }
 {
     if state == 2 { n + 1 } else { n }
 }
 
-pub fn hits(state: usize, b: usize, hit: bool) -> bool
+fn hits(state: usize, b: usize, hit: bool) -> bool
     ensures { λ r. ⌜ r ≡ (eqb state b || hit) ⌝ }
 {
     if state == b { true } else { hit }
@@ -365,7 +341,7 @@ pub fn hits(state: usize, b: usize, hit: bool) -> bool
 // ---- Boolean expressions
 
 // A constant or a variable, whose code is w.
-pub fn fold_leaf(words: &[i32], d: usize, at: usize, work: &mut [i32], o: usize, w: usize) -> Folded
+fn fold_leaf(words: &[i32], d: usize, at: usize, work: &mut [i32], o: usize, w: usize) -> Folded
     requires { ⌜ Ready (now words) d at (now work) o ⌝ }
     requires { ⌜ (getD (now words) at (pos 0) ≡ pos w) × (w < 12) ⌝ }
     ensures { λ r. ⌜ Fold-post (now (words .entry)) d at (now (work .entry)) o (now (work .exit)) (r .next) (r .end) (r .state) ⌝ }
@@ -389,7 +365,7 @@ pub fn fold_leaf(words: &[i32], d: usize, at: usize, work: &mut [i32], o: usize,
 }
 
 // A comparison is never folded; its sides are.
-pub fn fold_comparison(words: &[i32], d: usize, at: usize, work: &mut [i32], o: usize) -> Folded
+fn fold_comparison(words: &[i32], d: usize, at: usize, work: &mut [i32], o: usize) -> Folded
     requires { ⌜ Ready (now words) d at (now work) o ⌝ }
     requires { ⌜ getD (now words) at (pos 0) ≡ pos 18 ⌝ }
     ensures { λ r. ⌜ Fold-post (now (words .entry)) d at (now (work .entry)) o (now (work .exit)) (r .next) (r .end) (r .state) ⌝ }
@@ -406,7 +382,7 @@ pub fn fold_comparison(words: &[i32], d: usize, at: usize, work: &mut [i32], o: 
 }
 
 // As many members as `count` says, of which those that are no constant are written; b is the state that settles the list.
-pub fn constant_folding_members(
+fn constant_folding_members(
     words: &[i32],
     d: usize,
     at: usize,

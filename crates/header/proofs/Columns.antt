@@ -1,9 +1,9 @@
 -- The domain of a column: what working out its sum and its bounds asks, and what they give.
-use mathlib.Core.Path.{_≡_, refl, sym, ap, _∙_, subst}
-use mathlib.Core.List.{List, [], _∷_}
-use Prim.Native.Nat.{ℕ, zero, suc, _+_, _-_, _*_, _≤_}
+use mathlib.Core.Path.{_≡_, sym, ap, _∙_, subst}
+use mathlib.Core.List.{List}
+use Prim.Native.Nat.{ℕ, _+_, _-_, _*_, _≤_}
 use native.Mathlib.Omega.{arith}
-use lib.IntN.{ℤ, pos, negsuc, negℤ, natAbs, _+ℤ_, _-ℤ_}
+use lib.IntN.{ℤ, pos, negℤ, natAbs, _+ℤ_, _-ℤ_}
 use lib.ListN.{length, getD, take, drop, length-drop}
 use lib.Seq.{take-all, getD-drop}
 use borrow.Author.Tests.{ltb-false}
@@ -21,12 +21,12 @@ use Rattle.sums.specs.Bounds.{domain-bounds-fit}
 use Rattle.sums.specs.Struct.{sum-of}
 use Rattle.sums.specs.declared.LinearSum.{LinearSum as Sum}
 use Rattle.sums.proofs.Laws.{stands-sum}
-use Rattle.nest.specs.Numbers.{count-of, number-at, number-behind}
+use Rattle.nest.specs.Numbers.{number-at, number-behind}
 use Rattle.nest.specs.Nest.{Ready, Linear}
 use Rattle.nest.specs.Ranges.{domain-at, Bounded}
 use Rattle.nest.specs.Column.{Same-bounds, column-bounded, column-domain}
-use Rattle.walk.specs.Item.{nat, int-map, int-entry, int-number}
-use Rattle.statements.specs.ReadyKeeps.{free-from}
+use Rattle.walk.specs.Item.{int-map, int-entry, int-number}
+use Rattle.statements.specs.NumberedKeeps.{free-from}
 use Rattle.header.specs.Emitted.{Column, SomeColumn, ColumnDomain}
 use Rattle.writer.proofs.Differences.{count-nat}
 

@@ -19,8 +19,8 @@ use Rattle.answer.specs.Answer.{domain-words}
 use Rattle.walk.specs.declared.Counters.{Counters}
 use Rattle.writer.specs.Suffix.{Open}
 use Rattle.writer.proofs.Laws.{open-next}
-use Rattle.statements.specs.Ready.{log-of, Ready}
-use Rattle.statements.specs.ReadyKeeps.{free-from, ready-keeps}
+use Rattle.statements.specs.Stages.{log-of, NumberedSet}
+use Rattle.statements.specs.NumberedKeeps.{free-from, ready-keeps}
 use Rattle.header.specs.Emitted.{emitted, Pairs, IsDomain, Emits, SomeEmits, EmittedDomain, Put, SomeNumbered, PutAll}
 use Rattle.header.proofs.Entries.{emits-few, emits-long}
 
@@ -87,8 +87,8 @@ pub record Going (set w₀ : List ℤ) (count : ℕ) (out₀ : List ℤ) (o : �
   pub below : take free-from w ≡ take free-from w₀
   pub size : length w ≡ length w₀
   pub size-out : length out ≡ length out₀
-  pub pairs : (p : Problem) (f : Fixed) (ss : List Stmt) (c : Counters) → set ≡ encode p → Ready p f ss w₀ c → count ≡ c .ints → Pairs (emitted p ss) w n
-  pub wrote : (p : Problem) (f : Fixed) (ss : List Stmt) (c : Counters) → set ≡ encode p → Ready p f ss w₀ c → count ≡ c .ints → Wrote out₀ o (flat (map domain-words (take n (emitted p ss)))) out at
+  pub pairs : (p : Problem) (f : Fixed) (ss : List Stmt) (c : Counters) → set ≡ encode p → NumberedSet p f ss w₀ c → count ≡ c .ints → Pairs (emitted p ss) w n
+  pub wrote : (p : Problem) (f : Fixed) (ss : List Stmt) (c : Counters) → set ≡ encode p → NumberedSet p f ss w₀ c → count ≡ c .ints → Wrote out₀ o (flat (map domain-words (take n (emitted p ss)))) out at
 
 pub going-start : {set w : List ℤ} {count : ℕ} {out : List ℤ} {o : ℕ} → SomeNumbered set w count → Open out o → Going set w count out o w out 0 o
 going-start {set} {w} {count} {out} {o} s h = record {
@@ -104,7 +104,7 @@ going-start {set} {w} {count} {out} {o} s h = record {
 }
 
 module _ {set w₀ : List ℤ} {count : ℕ} {out₀ : List ℤ} {o : ℕ} {w out : List ℤ} {n at : ℕ} (g : Going set w₀ count out₀ o w out n at) where
-  emits : n < count → (p : Problem) (f : Fixed) (ss : List Stmt) (c : Counters) → set ≡ encode p → Ready p f ss w₀ c → count ≡ c .ints → Emits set w n p f ss c
+  emits : n < count → (p : Problem) (f : Fixed) (ss : List Stmt) (c : Counters) → set ≡ encode p → NumberedSet p f ss w₀ c → count ≡ c .ints → Emits set w n p f ss c
   emits l p f ss c e r a = record { words = e; ready = ready-keeps (g .below) (g .size) r; below = omega (arith, a); pairs = g .pairs p f ss c e r a }
 
   pub going-asks : n < count → SomeEmits set w n

@@ -26,8 +26,8 @@ use Rattle.walk.specs.Decode.{read-part}
 use Rattle.walk.specs.declared.Counters.{Counters}
 use Rattle.writer.specs.Rules.{has-part}
 use Rattle.statements.specs.Records.{Entry, of-declared, of-column, ColumnEntry}
-use Rattle.statements.specs.Ready.{log-of}
-use Rattle.statements.specs.ReadyEntry.{settled-emitted, ready-entry}
+use Rattle.statements.specs.Stages.{log-of}
+use Rattle.statements.specs.NumberedEntry.{settled-emitted, ready-entry}
 use Rattle.header.proofs.Columns.{apart-size}
 use Rattle.header.specs.Emitted.{emitted, IsDomain, Column, SomeColumn, ColumnDomain, SomeDeclared, DeclaredDomain, Emits}
 

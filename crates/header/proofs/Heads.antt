@@ -20,8 +20,8 @@ use Rattle.walk.specs.Item.{limit, nat, bool-map, int-map, bool-entry, int-entr
 use Rattle.walk.specs.declared.Counters.{Counters}
 use Rattle.number.proofs.Leaves.{pos-is}
 use Rattle.statements.specs.Whole.{entries}
-use Rattle.statements.specs.Ready.{log-of, Ready, head-words, SomeReady}
-use Rattle.statements.specs.ReadyEntry.{settled-emitted, settled-low}
+use Rattle.statements.specs.Stages.{log-of, NumberedSet, head-words, SomeReady}
+use Rattle.statements.specs.NumberedEntry.{settled-emitted, settled-low}
 use Rattle.header.specs.Emitted.{naturals, maps-words, emitted, SomeNumbered, PutAll}
 use Rattle.header.specs.Headed.{Headed}
 
@@ -44,7 +44,7 @@ fixed-values : (w : List ℤ) (f : Fixed) (i n : ℕ) → ((v : ℕ) → v < i +
 fixed-values w f i zero h = refl
 fixed-values w f i (suc n) h = rw (h i (omega arith), fixed-natural (f i), fixed-values w f (suc i) n (λ v k. h v (omega arith))) refl
 
-module _ (p : Problem) (f : Fixed) (ss : List Stmt) (w : List ℤ) (c : Counters) (r : Ready p f ss w c) where
+module _ (p : Problem) (f : Fixed) (ss : List Stmt) (w : List ℤ) (c : Counters) (r : NumberedSet p f ss w c) where
   abbrev b : ℕ
   b = p .bools
 

@@ -22,8 +22,8 @@ use Rattle.tables.specs.Tables.{emitted-domains}
 use Rattle.answer.specs.Answer.{domain-words}
 use Rattle.walk.specs.Item.{nat, bool-map, int-map, int-number}
 use Rattle.walk.specs.declared.Counters.{Counters}
-use Rattle.statements.specs.Ready.{log-of, Ready}
-use Rattle.statements.specs.ReadyKeeps.{free-from}
+use Rattle.statements.specs.Stages.{log-of, NumberedSet}
+use Rattle.statements.specs.NumberedKeeps.{free-from}
 
 -- n words from a place on, 0 for a negative one
 unfoldable pub naturals : List ℤ → ℕ → ℕ → List ℤ
@@ -87,7 +87,7 @@ DeclaredDomain set v low high size = (ds : List Domain) → Domains set 2 ds →
 -- the number n of some set, the bounds of those before it stored
 pub record Emits (set w : List ℤ) (n : ℕ) (p : Problem) (f : Fixed) (ss : List Stmt) (c : Counters) : Type 0 where
   pub words : set ≡ encode p
-  pub ready : Ready p f ss w c
+  pub ready : NumberedSet p f ss w c
   pub below : n < c .ints
   pub pairs : Pairs (emitted p ss) w n
 
@@ -116,10 +116,10 @@ pub record SomeNumbered (set w : List ℤ) (count : ℕ) : Type 0 where
   pub stmts : List Stmt
   pub counters : Counters
   pub words : set ≡ encode it
-  pub ready : Ready it fixed stmts w counters
+  pub ready : NumberedSet it fixed stmts w counters
   pub all : count ≡ counters .ints
 
 pub record PutAll (set w : List ℤ) (count : ℕ) (out : List ℤ) (o : ℕ) (w' out' : List ℤ) (o' : ℕ) : Type 0 where
-  pub wrote : (p : Problem) (f : Fixed) (ss : List Stmt) (c : Counters) → set ≡ encode p → Ready p f ss w c → count ≡ c .ints → Wrote out o (flat (map domain-words (emitted p ss))) out' o'
+  pub wrote : (p : Problem) (f : Fixed) (ss : List Stmt) (c : Counters) → set ≡ encode p → NumberedSet p f ss w c → count ≡ c .ints → Wrote out o (flat (map domain-words (emitted p ss))) out' o'
   pub below : take free-from w' ≡ take free-from w
   pub size : length w' ≡ length w

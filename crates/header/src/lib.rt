@@ -1,13 +1,12 @@
 // The answer's header: the fixed values, the maps, the counts and the domains of the emitted integers.
 ghost use mathlib.Core.Path.{_≡_};
-ghost use mathlib.Core.List.{[], _∷_};
 ghost use Prim.Native.Nat.{_+_, _≤_, _<_};
 ghost use lib.IntN.{pos};
 ghost use lib.ListN.{length, getD};
 ghost use Rattle.laws.specs.Writes.{cap, Wrote};
 ghost use Rattle.walk.specs.Item.{nat};
 ghost use Rattle.writer.specs.Suffix.{Open};
-ghost use Rattle.statements.specs.Ready.{SomeReady};
+ghost use Rattle.statements.specs.Stages.{SomeReady};
 ghost use Rattle.header.specs.Emitted.{naturals, maps-words, SomeColumn, ColumnDomain, SomeDeclared, DeclaredDomain, SomeEmits, EmittedDomain, Put, SomeNumbered, PutAll};
 ghost use Rattle.header.specs.Headed.{Headed};
 use walk::Counters;

@@ -17,7 +17,7 @@ use mir.Facts.{toZ-ofZ}
 use Rattle.laws.specs.Writes.{sets-append}
 use Rattle.decimal.specs.Bytes.{comma, line-feed}
 use Rattle.decimal.specs.Decimal.{read-number}
-use Rattle.input.specs.ReadText.{onto, split, after, join, single, read-numbers, Reader, count-of, count-line, lines, end}
+use Rattle.input.specs.ReadText.{onto, split, after, join, single, read-numbers, Reader, count-of, count-line, lines}
 use Rattle.decimal.specs.Numbers.{number-of, number-read}
 use Rattle.input.specs.Input.{fill, filled, Found, left-at, left-step, left-line, InWords, Filled, Stepped, Lined}
 use Rattle.decimal.specs.declared.Number.{Number}

@@ -56,15 +56,6 @@ abbrev pub ∀5 : (Bool → Bool → Bool → Bool → Bool → Bool) → Bool
 pub at5 : (f : Bool → Bool → Bool → Bool → Bool → Bool) → ∀5 f ≡ true → (a b c d e : Bool) → f a b c d e ≡ true
 at5 f h a = at4 (f a) (at1 (λ a. ∀4 (f a)) h a)
 
-abbrev pub ∀6 : (Bool → Bool → Bool → Bool → Bool → Bool → Bool) → Bool
-∀6 f = ∀1 (λ a. ∀5 (f a))
-
-pub at6 : (f : Bool → Bool → Bool → Bool → Bool → Bool → Bool) → ∀6 f ≡ true → (a b c d e x : Bool) → f a b c d e x ≡ true
-at6 f h a = at5 (f a) (at1 (λ a. ∀5 (f a)) h a)
-
-pub imp1 : (p q : Bool → Bool) → ∀1 (λ a. not (p a) || q a) ≡ true → (a : Bool) → p a ≡ true → q a ≡ true
-imp1 p q h a = mp (p a) (q a) (at1 (λ a. not (p a) || q a) h a)
-
 pub eq1 : (p q : Bool → Bool) → ∀1 (λ a. Bool·beq (p a) (q a)) ≡ true → (a : Bool) → p a ≡ q a
 eq1 p q h a = beq-eq (p a) (q a) (at1 (λ a. Bool·beq (p a) (q a)) h a)
 
@@ -91,14 +82,6 @@ imp5 p q h a b c d e = mp (p a b c d e) (q a b c d e) (at5 (λ a b c d e. not (p
 
 pub eq5 : (p q : Bool → Bool → Bool → Bool → Bool → Bool) → ∀5 (λ a b c d e. Bool·beq (p a b c d e) (q a b c d e)) ≡ true → (a b c d e : Bool) → p a b c d e ≡ q a b c d e
 eq5 p q h a b c d e = beq-eq (p a b c d e) (q a b c d e) (at5 (λ a b c d e. Bool·beq (p a b c d e) (q a b c d e)) h a b c d e)
-
-pub imp6 : (p q : Bool → Bool → Bool → Bool → Bool → Bool → Bool) → ∀6 (λ a b c d e x. not (p a b c d e x) || q a b c d e x) ≡ true → (a b c d e x : Bool) → p a b c d e x ≡ true → q a b c d e x ≡ true
-imp6 p q h a b c d e x = mp (p a b c d e x) (q a b c d e x) (at6 (λ a b c d e x. not (p a b c d e x) || q a b c d e x) h a b c d e x)
-
-pub eq6 : (p q : Bool → Bool → Bool → Bool → Bool → Bool → Bool) → ∀6 (λ a b c d e x. Bool·beq (p a b c d e x) (q a b c d e x)) ≡ true → (a b c d e x : Bool) → p a b c d e x ≡ q a b c d e x
-eq6 p q h a b c d e x = beq-eq (p a b c d e x) (q a b c d e x) (at6 (λ a b c d e x. Bool·beq (p a b c d e x) (q a b c d e x)) h a b c d e x)
-
--- ---- tautologies that later layers cite
 
 pub or-assoc : (a b c : Bool) → (a || b) || c ≡ a || (b || c)
 or-assoc = eq3 _ _ refl

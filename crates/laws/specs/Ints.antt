@@ -2,7 +2,6 @@
 use mathlib.Core.Path.{_≡_, refl, sym, ap, _∙_}
 use mathlib.Core.Bool.{Bool, true, false}
 use Prim.Native.Nat.{ℕ, zero, suc, _+_, _*_, _<_, _≤_, _^_}
-use native.Mathlib.Nat.{mul-le-mul-right, lt-of-le-of-lt}
 use native.Mathlib.Omega.{arith}
 use lib.Dec.{ltb, eqb}
 use borrow.Author.Tests.{ltb-true, ltb-false, eqb-true, eq-eqb, ne-eqb}
@@ -90,11 +89,6 @@ pub bits-nonzero : (z : ℤ) → (ofZ w32 z ≡ 0 → ⊥) → is-zero z ≡ fal
 bits-nonzero (pos n) h = ne-eqb n 0 h
 bits-nonzero (negsuc n) h = refl
 
-pub sfits-mul : (w : Width) (a b : ℤ) (n : ℕ) → natAbs a ≤ n → n * natAbs b < 2 ^ hbits w → SFits w (a *ℤ b)
-sfits-mul w a b n h k = sfits-natAbs w (a *ℤ b) (rw natAbs-mul (lt-of-le-of-lt (mul-le-mul-right (natAbs b) h) k))
-
--- ---- induction by steps of one, and the product's laws
-
 module _ (P : ℤ → Type 0) (z : P (pos 0)) (up : (m : ℤ) → P m → P (sucℤ m)) (down : (m : ℤ) → P m → P (predℤ m)) where
   ups : (n : ℕ) → P (pos n)
   ups zero = z
@@ -135,25 +129,8 @@ pub *ℤ-assoc : (a b x : ℤ) → (a *ℤ b) *ℤ x ≡ a *ℤ (b *ℤ x)
     (λ m h. ap (λ (y : ℤ). y *ℤ x) (predℤ-*ℤ m b) ∙ *ℤ-dist (m *ℤ b) (negℤ b) x ∙ ap (λ (y : ℤ). y +ℤ negℤ b *ℤ x) h ∙ ap (λ (y : ℤ). m *ℤ (b *ℤ x) +ℤ y) (neg-mul b x) ∙ sym (predℤ-*ℤ m (b *ℤ x)))
     a
 
-pub *ℤ-swap : (a b x : ℤ) → (a *ℤ b) *ℤ x ≡ (a *ℤ x) *ℤ b
-*ℤ-swap a b x = *ℤ-assoc a b x ∙ ap (λ (y : ℤ). a *ℤ y) (*ℤ-comm b x) ∙ sym (*ℤ-assoc a x b)
-
 pub *ℤ-dist-l : (k a b : ℤ) → k *ℤ (a +ℤ b) ≡ k *ℤ a +ℤ k *ℤ b
 *ℤ-dist-l k a b = *ℤ-comm k (a +ℤ b) ∙ *ℤ-dist a b k ∙ rw (*ℤ-comm a k, *ℤ-comm b k) refl
 
 pub *ℤ-minus-one : (x : ℤ) → negsuc zero *ℤ x ≡ negℤ x
 *ℤ-minus-one x = predℤ-*ℤ (pos zero) x ∙ rw (zero-*ℤ x, +ℤ-idl (negℤ x)) refl
-
-pub is-zero-mul : (a b : ℤ) → is-zero a ≡ false → is-zero b ≡ false → is-zero (a *ℤ b) ≡ false
-is-zero-mul a b h k = go (is-zero (a *ℤ b)) refl
-  where
-    size : (z : ℤ) → is-zero z ≡ false → 1 ≤ natAbs z
-    size (pos zero) e = let z : _≡_ {A = ℕ} 0 1 = cc in absurd (omega arith)
-    size (pos (suc n)) e = omega arith
-    size (negsuc n) e = omega arith
-
-    go : (t : Bool) → is-zero (a *ℤ b) ≡ t → is-zero (a *ℤ b) ≡ false
-    go false e = e
-    go true e =
-        let z : natAbs (a *ℤ b) ≡ 0 = ap natAbs (is-zero-true (a *ℤ b) e) in
-        absurd (omega (arith, natAbs-mul a b, size a h, mul-le-mul-right (natAbs b) (size a h), size b k))

@@ -70,10 +70,6 @@ module _ {A : Type 0} where
   any-cong f g [] h = refl
   any-cong f g (x ∷ xs) h = rw (h x, any-cong f g xs h)
 
-  pub all-cong : (f g : A → Bool) (xs : List A) → ((x : A) → f x ≡ g x) → all f xs ≡ all g xs
-  all-cong f g [] h = refl
-  all-cong f g (x ∷ xs) h = rw (h x, all-cong f g xs h)
-
   pub any-split : (f : A → Bool) (k : ℕ) (xs : List A) → any f xs ≡ any f (take k xs) || any f (drop k xs)
   any-split f zero xs = refl
   any-split f (suc k) [] = refl

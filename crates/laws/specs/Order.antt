@@ -1,12 +1,12 @@
 -- The equality and the order of ℤ, as tests. Assumes nothing.
 use mathlib.Core.Path.{_≡_, refl, sym, ap, _∙_}
-use mathlib.Core.Bool.{Bool, true, false, not, _&&_, _||_, false≢true}
-use Prim.Native.Nat.{ℕ, zero, suc, _≤_, _<_}
+use mathlib.Core.Bool.{Bool, true, false, not, _||_}
+use Prim.Native.Nat.{ℕ, zero, suc}
 use native.Mathlib.Omega.{arith}
 use lib.IntN.{ℤ, pos, negsuc, sucℤ, predℤ, negℤ, suc-pred, _+ℤ_, _*ℤ_, +ℤ-idr, +ℤ-comm, +ℤ-sucℤ, +ℤ-predℤ, zero-*ℤ, sucℤ-*ℤ}
 use lib.Signed.{ltZ, leZ}
 use lib.Dec.{eqb, ltb, leb, leb·zero, leb·suc-zero, leb·suc-suc, eqb·zero-suc, eqb·suc-zero, eqb·suc-suc}
-use borrow.Author.Tests.{ltb-true, ltb-false, lt-ltb, le-ltb, leb-true, leb-false, le-leb, lt-leb, eqb-true, eqb-false, eq-eqb}
+use borrow.Author.Tests.{ltb-true, ltb-false, lt-ltb, le-ltb, leb-true, le-leb, lt-leb, eqb-true, eqb-false, eq-eqb}
 use Rattle.laws.specs.Bools.{never}
 use Rattle.laws.specs.Ints.{eqZ, times-low, times-high, steps, neg-mul}
 

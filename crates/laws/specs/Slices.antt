@@ -1,16 +1,16 @@
 -- Words that stand at a place of a list, and words written there. Writing keeps what lies below the place and says nothing of what lies above
 -- the end: a stack's discipline, so that what is cut off needs no cleaning, and one equation of prefixes frames every region below.
-use Prim.Native.Nat.{ℕ, zero, suc, _+_, _-_, _*_, _≤_, _<_}
+use Prim.Native.Nat.{ℕ, suc, _+_, _-_, _≤_, _<_}
 use mathlib.Core.Path.{_≡_, refl, sym, ap, _∙_}
-use mathlib.Core.Bool.{Bool, true, false, cond}
+use mathlib.Core.Bool.{Bool, true, false}
 use mathlib.Core.List.{List, [], _∷_, _++_, append-assoc, append-nil}
 use native.Mathlib.Omega.{arith}
 use native.Mathlib.Numerals.{add-one}
-use lib.Dec.{eqb, ltb}
+use lib.Dec.{ltb}
 use borrow.Author.Tests.{ltb-true, ltb-false}
-use lib.IntN.{ℤ, pos}
+use lib.IntN.{ℤ}
 use lib.ListN.{take-append-drop, length, take, drop, getD, set, length-append, length-take, length-drop, length-set}
-use lib.Seq.{take-suc, take-suc-set, drop-append-le, take-take, take-append-le, take-append-add, take-at, drop-at, drop-drop, take-add, drop-append-seam, take-append-seam, length-take-le, take-all, sets, sets-eq, length-sets, slice, slice-empty, take-set-le, take-set-lt, drop-set-lt, set-split, getD-drop, drop-cons, getD-take}
+use lib.Seq.{take-suc, take-suc-set, drop-append-le, take-take, take-append-le, take-append-add, drop-at, drop-drop, take-add, drop-append-seam, take-append-seam, length-take-le, sets, sets-eq, slice, slice-empty, take-set-le, take-set-lt, drop-set-lt, getD-drop, drop-cons, getD-take}
 
 -- ---- standing
 

@@ -4,10 +4,9 @@ use mathlib.Core.Bool.{Bool, true, false}
 use mathlib.Core.List.{List, [], _∷_, _++_}
 use Prim.Native.Nat.{ℕ, suc, _+_, _≤_, _<_, min}
 use native.Mathlib.Omega.{arith}
-use native.Mathlib.Numerals.{add-one}
 use lib.IntN.{ℤ}
-use lib.ListN.{length, set, take, drop, length-set, length-append}
-use lib.Seq.{sets, length-sets, sets-eq, set-out}
+use lib.ListN.{length, set, length-set, length-append}
+use lib.Seq.{sets, length-sets, set-out}
 use lib.Dec.{leb}
 use borrow.Author.Tests.{leb-true, leb-false}
 
@@ -72,10 +71,3 @@ pub wrote-to : {out out' us vs : List ℤ} {o o' : ℕ} → us ≡ vs → Wrote 
 wrote-to {out} {out'} {us} {vs} {o} {o'} e w = subst (λ (l : List ℤ). Wrote out o l out' o') e w
 
 -- ---- what a position says
-
--- with room, the position is exact, and the words stand between what lay below and above them
-pub wrote-room : {out out' vs : List ℤ} {o o' : ℕ} → length out ≤ cap → Wrote out o vs out' o' → o' ≤ length out → o' < cap
-    → (o' ≡ o + length vs) × (out' ≡ take o out ++ vs ++ drop o' out)
-wrote-room {out} {out'} {vs} {o} {o'} l w h k =
-    let e : o' ≡ o + length vs = omega (arith, w .at) in
-    (e, w .words ∙ sets-eq vs out o (omega arith) ∙ ap (λ n. take o out ++ vs ++ drop n out) (sym e))

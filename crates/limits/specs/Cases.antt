@@ -2,8 +2,8 @@
 use mathlib.Core.Path.{_≡_, refl}
 use mathlib.Core.List.{List, [], _∷_}
 use Prim.Native.Nat.{ℕ, zero, suc}
-use lib.IntN.{ℤ, pos}
-use Rattle.syntax.specs.Syntax.{Domain, Range, Eq, IntExpr, IConst, IVar, Linear, Terms, tnil, tmore, BoolExpr, Cmp, Stmt, Rule, Table, Problem}
+use lib.IntN.{pos}
+use Rattle.syntax.specs.Syntax.{Domain, Range, Eq, IntExpr, IConst, IVar, Linear, Terms, tnil, tmore, Cmp, Stmt, Rule, Table}
 use Rattle.limits.specs.Limits.{any-comparison, any-part, weight, heavy, heavy-comparison, written, many-comparison, many-column, interval, span, wide-column, check}
 
 -- ---- notation

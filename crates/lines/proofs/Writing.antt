@@ -7,7 +7,7 @@ use lib.IntN.{ℤ, pos}
 use lib.ListN.{length, take, drop, getD, length-take, length-drop, drop-of-length-le}
 use Rattle.decimal.specs.Bytes.{semicolon, colon, line-feed, domain-key, clause-key}
 use Rattle.decimal.specs.Puts.{puts, Puts, puts-left, puts-then, puts-as}
-use Rattle.lines.specs.Lines.{Shown, count-word, times, print-domain, print-comparison, literals, after-literals, print-comparisons, print-clause, total}
+use Rattle.lines.specs.Lines.{Shown, count-word, times, print-domain, print-comparison, literals, after-literals, print-comparisons, print-clause, summed, comparisons-in, members}
 use Rattle.lines.specs.Output.{Printed, Stops, part-of, line-of, cons-word}
 
 -- ---- n pieces of one kind: `left` of them are still to come
@@ -109,6 +109,21 @@ comparisons-shown ws from n a out at out' r next m s p =
       high = p .high;
     }
 
+-- as many as were printed; each takes a word
+pub counted-shown : (ws : List ℤ) (from n a i sum : ℕ) → n ≡ count-word (drop from ws) → Stops ws from 1 a → sum ≡ comparisons-in n (drop a ws) → sum + a ≤ i
+    → (sum ≡ comparisons-in (count-word (drop from ws)) (drop 1 (drop from ws))) × (from + sum ≤ i)
+counted-shown ws from n a i sum m s e l =
+    let z : comparisons-in n (drop a ws) ≡ comparisons-in (count-word (drop from ws)) (drop 1 (drop from ws)) = rw (m, s .rest) refl in
+    let h = s .low in
+    (e ∙ z, omega arith)
+
+-- a comparison takes a word
+pub comparison-less : (ws : List ℤ) (i next : ℕ) → i < length ws → next ≤ length ws → drop next ws ≡ print-comparison (drop i ws) .rest → i < next
+unfolding print-comparison
+comparison-less ws i next l h q =
+    let n = count-word (drop 1 (drop 1 (drop i ws))) + count-word (drop 1 (drop 1 (drop i ws))) in
+    omega (arith, ap length q, length-drop next ws, length-drop n (drop 1 (drop 1 (drop 1 (drop i ws)))), length-drop 1 (drop 1 (drop 1 (drop i ws))), length-drop 1 (drop 1 (drop i ws)), length-drop 1 (drop i ws), length-drop i ws)
+
 module _ (ws : List ℤ) (from n a : ℕ) (m : n ≡ count-word (drop from ws)) (s : Stops ws from 1 a) (b : ℕ) (o₁ : List ℕ) (i₁ : ℕ) (o₂ : List ℕ) (i₂ : ℕ) (p : Printed (part-of n (drop a ws)) ws a o₁ i₁ o₂ i₂ b)
     (o₃ : List ℕ) (i₃ c : ℕ) (q : Printed (print-comparisons (drop b ws)) ws b o₂ i₂ o₃ i₃ c) where
   lits : take n (drop a ws) ≡ literals (drop from ws)
@@ -127,48 +142,51 @@ module _ (ws : List ℤ) (from n a : ℕ) (m : n ≡ count-word (drop from ws)) 
     high = q .high;
   }
 
-  pub clause-literals : (b - a ≡ length (literals (drop from ws))) × (from + (b - a) ≤ c)
-  unfolding part-of
-  clause-literals =
+  -- k: how many comparisons were printed
+  pub clause-members : (k : ℕ) → k ≡ comparisons-in (count-word (drop b ws)) (drop 1 (drop b ws)) → b + k ≤ c → (b - a + k ≡ members (drop from ws)) × (from + (b - a + k) ≤ c)
+  unfolding part-of members
+  clause-members k e l =
       let h = s .low in
       let g = s .high in
       let i = p .low in
-      let k = p .high in
-      let j = q .low in
+      let j = p .high in
       let d : length (drop b ws) ≡ length (drop n (drop a ws)) = ap length (p .rest) in
-      (rw (← lits) (omega (arith, length-drop b ws, length-drop n (drop a ws), length-drop a ws, length-take n (drop a ws))), omega arith)
+      let m : b - a ≡ length (literals (drop from ws)) = rw (← lits) (omega (arith, length-drop b ws, length-drop n (drop a ws), length-drop a ws, length-take n (drop a ws))) in
+      let q : k ≡ comparisons-in (count-word (after-literals (drop from ws))) (drop 1 (after-literals (drop from ws))) = rw (← after-lits) e in
+      (omega (arith, m, q), omega arith)
 
--- ---- the number of literals: `left` clauses are still to come
+-- ---- what is counted of n pieces: `left` of them are still to come
 
-total-none : (m : ℕ) → total m [] ≡ 0
-unfolding total
-total-none zero = refl
-total-none (suc m) = refl
+module _ (f : List ℤ → Shown) (g : List ℤ → ℕ) where
+  sum-none : (m : ℕ) → summed f g m [] ≡ 0
+  unfolding summed
+  sum-none zero = refl
+  sum-none (suc m) = refl
 
-total-suc : (ws : List ℤ) (i m next : ℕ) (xs : List ℤ) → xs ≡ getD ws i (pos 0) ∷ drop (i + 1) ws → drop next ws ≡ print-clause xs .rest → total (suc m) xs ≡ length (literals xs) + total m (drop next ws)
-unfolding total
-total-suc ws i m next [] e q = absurd (let z : _≡_ {A = ℕ} 0 1 = cc in omega arith)
-total-suc ws i m next (x ∷ xs) e q = rw q refl
+  sum-suc : (ws : List ℤ) (i m next : ℕ) (xs : List ℤ) → xs ≡ getD ws i (pos 0) ∷ drop (i + 1) ws → drop next ws ≡ f xs .rest → summed f g (suc m) xs ≡ g xs + summed f g m (drop next ws)
+  unfolding summed
+  sum-suc ws i m next [] e q = absurd (let z : _≡_ {A = ℕ} 0 1 = cc in omega arith)
+  sum-suc ws i m next (x ∷ xs) e q = rw q refl
 
-module _ (ws : List ℤ) (from n i left sum : ℕ) (inv : sum + total left (drop i ws) ≡ total n (drop from ws)) where
-  pub total-done : left ≤ 0 → sum ≡ total n (drop from ws)
-  unfolding total
-  total-done h =
-      let z : left ≡ 0 = omega arith in
-      let t : sum + total 0 (drop i ws) ≡ total n (drop from ws) = subst (λ (k : ℕ). sum + total k (drop i ws) ≡ total n (drop from ws)) z inv in
-      omega (arith, t)
+  module _ (ws : List ℤ) (whole i left sum : ℕ) (inv : sum + summed f g left (drop i ws) ≡ whole) where
+    pub sum-done : left ≤ 0 → sum ≡ whole
+    unfolding summed
+    sum-done h =
+        let z : left ≡ 0 = omega arith in
+        let t : sum + summed f g 0 (drop i ws) ≡ whole = subst (λ (k : ℕ). sum + summed f g k (drop i ws) ≡ whole) z inv in
+        omega (arith, t)
 
-  pub total-out : i ≡ length ws → sum ≡ total n (drop from ws)
-  total-out h =
-      let z : drop i ws ≡ [] = drop-of-length-le ws (let l : length ws ≤ i = omega arith in l) in
-      let t : sum + total left [] ≡ total n (drop from ws) = subst (λ (l : List ℤ). sum + total left l ≡ total n (drop from ws)) z inv in
-      omega (arith, t, total-none left)
+    pub sum-out : i ≡ length ws → sum ≡ whole
+    sum-out h =
+        let z : drop i ws ≡ [] = drop-of-length-le ws (let l : length ws ≤ i = omega arith in l) in
+        let t : sum + summed f g left [] ≡ whole = subst (λ (l : List ℤ). sum + summed f g left l ≡ whole) z inv in
+        omega (arith, t, sum-none left)
 
-  pub total-next : (lits next : ℕ) → 0 < left → i < length ws → lits ≡ length (literals (drop i ws)) → drop next ws ≡ print-clause (drop i ws) .rest → sum + lits + total (left - 1) (drop next ws) ≡ total n (drop from ws)
-  total-next lits next h l e q =
-      let z : left ≡ suc (left - 1) = omega arith in
-      let t : total left (drop i ws) ≡ length (literals (drop i ws)) + total (left - 1) (drop next ws) = ap (λ k. total k (drop i ws)) z ∙ total-suc ws i (left - 1) next (drop i ws) (cons-word ws i l) q in
-      omega (arith, t, inv)
+    pub sum-next : (k next : ℕ) → 0 < left → i < length ws → k ≡ g (drop i ws) → drop next ws ≡ f (drop i ws) .rest → sum + k + summed f g (left - 1) (drop next ws) ≡ whole
+    sum-next k next h l e q =
+        let z : left ≡ suc (left - 1) = omega arith in
+        let t : summed f g left (drop i ws) ≡ g (drop i ws) + summed f g (left - 1) (drop next ws) = ap (λ n. summed f g n (drop i ws)) z ∙ sum-suc ws i (left - 1) next (drop i ws) (cons-word ws i l) q in
+        omega (arith, t, inv)
 
 -- ---- a domain
 

@@ -76,8 +76,22 @@ print-clause ws =
     let ks = print-comparisons (after-literals ws) in
     record { text = clause-key ++ (print-numbers (literals ws) ++ (ks .text ++ (line-feed ∷ []))); rest = ks .rest }
 
--- the number of literals in n clauses
-unfoldable pub total : ℕ → List ℤ → ℕ
-total zero ws = 0
-total (suc n) [] = 0
-total (suc n) (w ∷ ws) = length (literals (w ∷ ws)) + total n (print-clause (w ∷ ws) .rest)
+-- ---- what is counted of what is printed
+
+-- the sum of what g counts of each of n pieces that f prints, as long as there are words
+unfoldable pub summed : (List ℤ → Shown) → (List ℤ → ℕ) → ℕ → List ℤ → ℕ
+summed f g zero ws = 0
+summed f g (suc n) [] = 0
+summed f g (suc n) (w ∷ ws) = g (w ∷ ws) + summed f g n (f (w ∷ ws) .rest)
+
+-- how many of n comparisons are printed
+abbrev pub comparisons-in : ℕ → List ℤ → ℕ
+comparisons-in n ws = summed print-comparison (λ k. 1) n ws
+
+-- how many literals and comparisons a clause has
+unfoldable pub members : List ℤ → ℕ
+members ws = length (literals ws) + comparisons-in (count-word (after-literals ws)) (drop 1 (after-literals ws))
+
+-- the number of literals and comparisons in n clauses
+abbrev pub total : ℕ → List ℤ → ℕ
+total n ws = summed print-clause members n ws

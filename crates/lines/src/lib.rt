@@ -8,7 +8,7 @@ ghost use mathlib.Core.Path.{_≡_};
 ghost use Prim.Native.Nat.{_+_, _≤_, _<_};
 ghost use lib.ListN.{length, drop};
 ghost use Rattle.decimal.specs.Puts.{Puts};
-ghost use Rattle.lines.specs.Lines.{count-word, print-numbers, times, print-domain, print-comparison, literals, print-comparisons, print-clause, total};
+ghost use Rattle.lines.specs.Lines.{count-word, print-numbers, times, print-domain, print-comparison, print-comparisons, comparisons-in, members, print-clause, total};
 ghost use Rattle.lines.specs.Output.{Printed, Stops, part-of, line-of};
 
 // Where the next byte goes, and the next word to show.
@@ -17,11 +17,11 @@ pub struct Place {
     pub next: usize,
 }
 
-// The same, with the number of literals shown.
-pub struct Clauses {
+// The same, with the number of literals and comparisons shown.
+pub struct Counted {
     pub at: usize,
     pub next: usize,
-    pub literals: usize,
+    pub members: usize,
 }
 
 // Numbers parted by commas.
@@ -141,29 +141,40 @@ fn put_comparison(out: &mut [u8], at: usize, words: &[i32], from: usize) -> Plac
 }
 
 // The comparisons of a clause, from their count on.
-fn put_comparisons(out: &mut [u8], at: usize, words: &[i32], from: usize) -> Place
+fn put_comparisons(out: &mut [u8], at: usize, words: &[i32], from: usize) -> Counted
     requires { ⌜ from ≤ length (now words) ⌝ }
     ensures { λ r. ⌜ Printed (print-comparisons (drop from (now (words .entry)))) (now (words .entry)) from (now (out .entry)) at (now (out .exit)) (r .at) (r .next) ⌝ }
+    ensures { λ r. ⌜ (r .members ≡ comparisons-in (count-word (drop from (now (words .entry)))) (drop 1 (drop from (now (words .entry))))) × (from + r .members ≤ r .next) ⌝ }
 {
     let mut o = at;
     let mut i = stop(words, from, 1);
     let mut left = count_at(words, from);
+    let mut count = 0;
     while left > 0 {
         if i == words.len() {
-            return Place { at: o, next: i };
+            return Counted {
+                at: o,
+                next: i,
+                members: count,
+            };
         }
         let p = put_comparison(out, o, words, i);
         o = p.at;
         i = p.next;
+        count += 1;
         left -= 1;
     }
-    Place { at: o, next: i }
+    Counted {
+        at: o,
+        next: i,
+        members: count,
+    }
 }
 
-fn put_clause(out: &mut [u8], at: usize, words: &[i32], from: usize) -> Clauses
+fn put_clause(out: &mut [u8], at: usize, words: &[i32], from: usize) -> Counted
     requires { ⌜ from ≤ length (now words) ⌝ }
     ensures { λ r. ⌜ Printed (print-clause (drop from (now (words .entry)))) (now (words .entry)) from (now (out .entry)) at (now (out .exit)) (r .at) (r .next) ⌝ }
-    ensures { λ r. ⌜ (r .literals ≡ length (literals (drop from (now (words .entry))))) × (from + r .literals ≤ r .next) ⌝ }
+    ensures { λ r. ⌜ (r .members ≡ members (drop from (now (words .entry)))) × (from + r .members ≤ r .next) ⌝ }
 {
     let n = count_at(words, from);
     let a = stop(words, from, 1);
@@ -175,18 +186,18 @@ fn put_clause(out: &mut [u8], at: usize, words: &[i32], from: usize) -> Clauses
     let k = q.at;
     let c = q.next;
     let r = put_byte(out, k, b'\n');
-    Clauses {
+    Counted {
         at: r,
         next: c,
-        literals: b - a,
+        members: b - a + q.members,
     }
 }
 
-// n clauses, and how many literals they have.
-pub fn put_clauses(out: &mut [u8], at: usize, words: &[i32], from: usize, n: usize) -> Clauses
+// n clauses, and how many literals and comparisons they have.
+pub fn put_clauses(out: &mut [u8], at: usize, words: &[i32], from: usize, n: usize) -> Counted
     requires { ⌜ from ≤ length (now words) ⌝ }
     ensures { λ r. ⌜ Printed (times print-clause n (drop from (now (words .entry)))) (now (words .entry)) from (now (out .entry)) at (now (out .exit)) (r .at) (r .next) ⌝ }
-    ensures { λ r. ⌜ r .literals ≡ total n (drop from (now (words .entry))) ⌝ }
+    ensures { λ r. ⌜ r .members ≡ total n (drop from (now (words .entry))) ⌝ }
 {
     let mut o = at;
     let mut i = from;
@@ -194,21 +205,21 @@ pub fn put_clauses(out: &mut [u8], at: usize, words: &[i32], from: usize, n: usi
     let mut sum = 0;
     while left > 0 {
         if i == words.len() {
-            return Clauses {
+            return Counted {
                 at: o,
                 next: i,
-                literals: sum,
+                members: sum,
             };
         }
         let p = put_clause(out, o, words, i);
         o = p.at;
         i = p.next;
-        sum += p.literals;
+        sum += p.members;
         left -= 1;
     }
-    Clauses {
+    Counted {
         at: o,
         next: i,
-        literals: sum,
+        members: sum,
     }
 }

@@ -3,21 +3,16 @@ use mathlib.Core.Path.{_≡_, sym, ap, _∙_}
 use mathlib.Core.Bool.{false}
 use mathlib.Core.List.{List}
 use Prim.Native.Nat.{ℕ, _+_, _*_, _<_, _≤_, _^_}
-use native.Mathlib.Nat.{le-trans}
 use native.Mathlib.Omega.{arith}
 use lib.IntN.{ℤ, pos, negsuc, natAbs}
 use lib.ListN.{getD}
-use borrow.Author.Tests.{ltb-false}
-use Rattle.syntax.specs.Words.{max-span}
-use Rattle.syntax.specs.Syntax.{Domain, lower-bound, upper-bound, num-candidates, domain-of, IntExpr}
-use Rattle.limits.specs.Limits.{domain-weight, heavy, written, span, many-column, wide-column}
+use Rattle.syntax.specs.Syntax.{Domain, lower-bound, upper-bound, domain-of, IntExpr}
+use Rattle.limits.specs.Limits.{domain-weight, heavy, written, many-column}
 use Rattle.sums.specs.LinearSum.{Term, LinearSum, linear-sum, singleton, mul-sum, get-domain-linear-sum}
 use Rattle.sums.specs.Rising.{terms-of, Each, Among}
 use Rattle.sums.specs.Linear.{linear-of, linear-of-each}
 use Rattle.sums.specs.Norm.{norm, load}
 use Rattle.sums.specs.Bounds.{size, reach, reach-weight, heavy-weight, linear-of-load, linear-of-size, Room, column-room}
-use Rattle.sums.specs.Domain.{linear-of-candidates}
-use Rattle.sums.specs.Domain.{Bounded as Ordered}
 use Rattle.sums.specs.Struct.{terms, sum-of, Stands}
 use Rattle.sums.specs.declared.LinearSum.{LinearSum as Sum}
 use Rattle.nest.specs.Numbers.{number-at}
@@ -64,10 +59,3 @@ column-asks ds numbers e s n h l m = (
   rw (h .same) (column-room (number-at numbers) e n m),
   omega (arith, stands-load (λ v. 1) s (linear-of (number-at numbers) e) h, linear-of-size ds (number-at numbers) e, heavy-weight ds e l),
 )
-
--- within refusal 11 it has at most 4096 values
-pub column-candidates : (ds : List Domain) (number : ℕ → ℕ) (domain : ℕ → Domain) (e : IntExpr)
-    → ((v : ℕ) → Among (written e) v → Ordered (domain-of ds v) × (domain (number v) ≡ domain-of ds v)) → wide-column ds e ≡ false
-    → natAbs (num-candidates (get-domain-linear-sum domain (linear-of number e))) ≤ max-span
-unfolding wide-column
-column-candidates ds number domain e h w = le-trans (linear-of-candidates ds number domain e h) (ltb-false max-span (span ds e) w)

@@ -6,9 +6,9 @@ use Prim.Native.Nat.{ℕ, _-_, _≤_}
 use native.Mathlib.Omega.{arith}
 use lib.IntN.{ℤ}
 use lib.ListN.{length}
-use Rattle.walk.specs.Item.{limit, bump, State, pass-bools, fresh, tallies, mets, item, items}
+use Rattle.walk.specs.Item.{limit, bump, State, walk-bools, fresh, tallies, mets, item, items}
 use Rattle.walk.specs.Decode.{many, decode, read-part, surveyed, fresh-of, added}
-use Rattle.walk.specs.Meets.{Met, MembersSofar, members-start, members-again, members-done, part-short}
+use Rattle.walk.specs.NumberingSteps.{Met, MembersSofar, members-start, members-again, members-done, part-short}
 use Rattle.walk.specs.declared.Surveyed.{Surveyed}
 use Rattle.walk.specs.declared.Counters.{Counters}
 use Rattle.number.specs.Sized.{Sized, SizedAll, survey-of, SizedSofar, sized-start, sized-more, sized-done}
@@ -53,8 +53,8 @@ inside-short w h = omega (arith, h, part-short w)
 
 -- a disjunction's new numbers, counted in the words as they were before its members were met
 pub passed-by : (w v : List ℤ) (c : Counters) (l : ℕ) (t : Bool) (k : ℕ) (g h : Bool) (at base : ℕ) (s : Surveyed) → c .ints ≤ limit → read-part v ≡ read-part w → SizedAll (read-part w) l t k g h at base s
-    → Met (pass-bools (fresh (tallies (items (many (decode (read-part v) l t) k g h at base .trees))))) v c v (record { bools = bump (c .bools) (fresh-of s); ints = c .ints })
-unfolding pass-bools
+    → Met (walk-bools (fresh (tallies (items (many (decode (read-part v) l t) k g h at base .trees))))) v c v (record { bools = bump (c .bools) (fresh-of s); ints = c .ints })
+unfolding walk-bools
 passed-by w v c l t k g h at base s low e x = record {
   state = ap (λ (y : ℕ). record { work = v; bools = bump (c .bools) y; ints = c .ints }) (ap fresh (x .unit) ∙ ap (λ (ws : List ℤ). fresh (tallies (items (many (decode ws l t) k g h at base .trees)))) (sym e));
   part = refl;

@@ -6,7 +6,7 @@ use lib.IntN.{ℤ}
 use lib.ListN.{length}
 use Rattle.walk.specs.Item.{limit, meet-int, meet-terms}
 use Rattle.walk.specs.Decode.{past, terms, int-at, int-end, read-part}
-use Rattle.walk.specs.Meets.{state-of, Met, met-to, met-after, TermsSofar, terms-start, terms-again, terms-done}
+use Rattle.walk.specs.NumberingSteps.{state-of, Met, met-to, met-after, TermsSofar, terms-start, terms-again, terms-done}
 use Rattle.walk.specs.declared.Counters.{Counters}
 use Rattle.number.proofs.Leaves.{past-is, terms-more, terms-none}
 

@@ -1,13 +1,12 @@
 // Numbers at first meeting and creation: the read-only survey of the folded words, and the numbering pass over them.
 ghost use mathlib.Core.Path.{_≡_};
-ghost use mathlib.Core.Bool.{Bool, true, false, not};
-ghost use mathlib.Core.List.{List};
-ghost use Prim.Native.Nat.{ℕ, _+_, _*_, _-_, _≤_, _<_, min};
-ghost use lib.IntN.{ℤ, pos, negsuc};
-ghost use lib.ListN.{length, getD, set, take};
+ghost use mathlib.Core.Bool.{true, false};
+ghost use Prim.Native.Nat.{_+_, _-_, _≤_, _<_, min};
+ghost use lib.IntN.{pos, negsuc};
+ghost use lib.ListN.{length, getD, set};
 ghost use Rattle.walk.specs.Item.{limit, bump as bump-of, nat, mode-in, fresh-in, lines-in, var-item, meet-bool, meet-int-var, meet-int, mets, item, items};
 ghost use Rattle.walk.specs.Decode.{word as word-in, past, below as below-of, int-end as int-end-of, node-of, constant-node, comparison-node, read-part, surveyed, closed-disj, closed-cross, fresh-of, added, Surveys, SurveysAll, int-at, item-at, items-at, decode, many-ties, tie-at, cross-ties, ties-at};
-ghost use Rattle.walk.specs.Meets.{Met};
+ghost use Rattle.walk.specs.NumberingSteps.{Met};
 ghost use Rattle.walk.specs.MeetTies.{Reaches, ReachesAll, meet-rule};
 ghost use Rattle.walk.specs.MeetColumns.{number-column, meet-column-at, meet-columns-at};
 ghost use Rattle.number.specs.Sized.{Sized, SizedAll};
@@ -41,14 +40,14 @@ pub fn word(work: &[i32], at: usize) -> usize
     0
 }
 
-pub fn within(p: usize) -> usize
+fn within(p: usize) -> usize
     ensures { λ r. ⌜ r ≡ min p 4608 ⌝ }
 {
     if p < 4608 { p } else { 4608 }
 }
 
 // A variable's index; 0 for what is none.
-pub fn below(x: usize, count: usize) -> usize
+fn below(x: usize, count: usize) -> usize
     ensures { λ r. ⌜ r ≡ below-of count x ⌝ }
 {
     if x < count { x } else { 0 }
@@ -104,7 +103,7 @@ pub fn fresh(longs: usize, lits: usize, cmps: usize) -> usize
 }
 
 // The clauses of a disjunction whose longer members have so many.
-pub fn disj_lines(longs: usize, lits: usize, cmps: usize, lines: usize) -> usize
+fn disj_lines(longs: usize, lits: usize, cmps: usize, lines: usize) -> usize
     ensures { λ r. ⌜ r ≡ lines-in (mode-in longs lits cmps) lines ⌝ }
 {
     match mode_of(longs, lits, cmps) {
@@ -452,7 +451,7 @@ fn declare(work: &mut [i32], v: usize, c: Counters) -> Counters
 }
 
 // A declared integer does too, and its record is its index.
-pub fn declare_int(work: &mut [i32], v: usize, c: Counters) -> Counters
+fn declare_int(work: &mut [i32], v: usize, c: Counters) -> Counters
     requires { ⌜ (v < 256) × ((c .bools ≤ limit) × (c .ints ≤ limit)) ⌝ }
     ensures { λ r. ⌜ Met (meet-int-var v) (now (work .entry)) c (now (work .exit)) r ⌝ }
 {
@@ -484,7 +483,7 @@ fn ended(c: Counters, at: usize) -> NumberedInt
 }
 
 // The integers of the expression at a place, in order.
-pub fn number_int(work: &mut [i32], at: usize, left: usize, c: Counters) -> NumberedInt
+fn number_int(work: &mut [i32], at: usize, left: usize, c: Counters) -> NumberedInt
     requires { do ⌜ (4608 ≤ (← ⟦work.len()⟧)) × ((at ≤ 4608) × ((c .bools ≤ limit) × (c .ints ≤ limit))) ⌝ }
     ensures { λ r. ⌜ Met (meet-int (int-at (read-part (now (work .entry))) left at .0)) (now (work .entry)) c (now (work .exit)) (r .counters) × ((r .at ≡ int-end-of (read-part (now (work .entry))) left at) × (r .at ≤ 4608)) ⌝ }
 {
@@ -575,7 +574,7 @@ fn number_cross(a: Surveyed, b: Numbered) -> Numbered
 }
 
 // So many members, the first negated if g, the others if h.
-pub fn numbers(
+fn numbers(
     work: &mut [i32],
     at: usize,
     left: usize,
@@ -616,7 +615,7 @@ pub fn numbers(
 }
 
 // The expression at a place, negated if g; t: an Xor or Iff stands above.
-pub fn number(
+fn number(
     work: &mut [i32],
     at: usize,
     left: usize,
@@ -697,7 +696,7 @@ fn no_ties(c: Counters, at: usize, base: usize) -> Tied
 }
 
 // Of so many members.
-pub fn number_each_ties(
+fn number_each_ties(
     work: &mut [i32],
     at: usize,
     left: usize,
@@ -728,7 +727,7 @@ pub fn number_each_ties(
 }
 
 // Of a split Xor or Iff: of each side, its extras and its tie.
-pub fn number_sides(work: &mut [i32], at: usize, left: usize, base: usize, c: Counters) -> Tied
+fn number_sides(work: &mut [i32], at: usize, left: usize, base: usize, c: Counters) -> Tied
     requires { do ⌜ (4608 ≤ (← ⟦work.len()⟧)) × ((at ≤ 4608) × ((base ≤ limit) × ((c .bools ≤ limit) × (c .ints ≤ limit)))) ⌝ }
     ensures { λ r. ⌜ Met (mets (items (cross-ties (decode (read-part (now (work .entry))) left) (ties-at (read-part (now (work .entry))) left) true at base))) (now (work .entry)) c (now (work .exit)) (r .counters) × ReachesAll (read-part (now (work .entry))) left true 2 at (bump-of base 2) (r .at) (r .base) ⌝ }
 {
@@ -747,14 +746,7 @@ pub fn number_sides(work: &mut [i32], at: usize, left: usize, base: usize, c: Co
 }
 
 // Of the expression at a place.
-pub fn number_ties(
-    work: &mut [i32],
-    at: usize,
-    left: usize,
-    t: bool,
-    base: usize,
-    c: Counters,
-) -> Tied
+fn number_ties(work: &mut [i32], at: usize, left: usize, t: bool, base: usize, c: Counters) -> Tied
     requires { do ⌜ (4608 ≤ (← ⟦work.len()⟧)) × ((at ≤ 4608) × ((base ≤ limit) × ((c .bools ≤ limit) × (c .ints ≤ limit)))) ⌝ }
     ensures { λ r. ⌜ Met (mets (items (ties-at (read-part (now (work .entry))) left t at base))) (now (work .entry)) c (now (work .exit)) (r .counters) × Reaches (read-part (now (work .entry))) left t at base (r .at) (r .base) ⌝ }
 {
@@ -826,7 +818,7 @@ fn number_new(work: &mut [i32], p: usize, c: Counters) -> Counters
 }
 
 // The column at a place: its integers, then its own number unless it is a declared variable.
-pub fn number_column(work: &mut [i32], at: usize, c: Counters) -> NumberedInt
+fn number_column(work: &mut [i32], at: usize, c: Counters) -> NumberedInt
     requires { do ⌜ (4608 ≤ (← ⟦work.len()⟧)) × ((at ≤ 4608) × ((c .bools ≤ limit) × (c .ints ≤ limit))) ⌝ }
     ensures { λ r. ⌜ Met (meet-column-at (read-part (now (work .entry))) at) (now (work .entry)) c (now (work .exit)) (r .counters) × ((r .at ≡ int-end-of (read-part (now (work .entry))) 64 at) × (r .at ≤ 4608)) ⌝ }
 {

@@ -19,15 +19,15 @@ use Rattle.walk.specs.Resolve.{rule-trees, rule-runs, split-sided}
 use Rattle.walk.specs.Item.{limit, State}
 use Rattle.walk.specs.Decode.{read-part}
 use Rattle.walk.specs.Grow.{Grows}
-use Rattle.walk.specs.Meets.{state-of, Met, part-short}
+use Rattle.walk.specs.NumberingSteps.{state-of, Met, part-short}
 use Rattle.walk.specs.Num.{max-emitted, Numbered}
-use Rattle.walk.specs.Two.{Low, low-back, runs-grow}
+use Rattle.walk.specs.TwoWalks.{Low, low-back, runs-grow}
 use Rattle.walk.specs.declared.Counters.{Counters}
 use Rattle.statements.specs.Columns.{ColumnRecord}
-use Rattle.statements.specs.Statements.{meet-stmt, meet-stmts, LegalStmts, AllInPlace, StmtPasses, stmt-passes, stmts-grow, StmtsPasses}
+use Rattle.statements.specs.Statements.{meet-stmt, meet-stmts, LegalStmts, AllInPlace, StmtWalks, stmt-walks, stmts-grow, StmtsWalks}
 use Rattle.statements.specs.Settled.{settled-legal}
 use Rattle.statements.specs.Whole.{start, start-numbered, roomy, low, passes}
-use Rattle.statements.specs.Ready.{stmts-words, log-of, StmtFacts, settled-facts, settled-short, Folded, Ready, SomeFolded}
+use Rattle.statements.specs.Stages.{stmts-words, log-of, StmtFacts, settled-facts, settled-short, Folded, NumberedSet, SomeFolded}
 use Rattle.numbered.specs.Stands.{Numerable, Stands, SomeStmt, StmtEnds, StmtMet}
 use Rattle.numbered.specs.Numbered.{NumberedAll}
 use Rattle.numbered.proofs.Single.{some-word}
@@ -113,7 +113,7 @@ module _ (p : Problem) (f : Fixed) (ss : List Stmt) (w : List ℤ) (h : Folded p
   log-roomy : next-int (log-of p ss) < max-emitted
   log-roomy = roomy p (h .set .well) f ss (h .set .ends) (h .set .unrefused) F (h .stands) short few w (h .empty)
 
-  all-passes : StmtsPasses F ds 512 ss (start w) []
+  all-passes : StmtsWalks F ds 512 ss (start w) []
   all-passes = passes p (h .set .well) f ss (h .set .ends) (h .set .unrefused) F (h .stands) short few w (h .empty)
 
   module _ (end : ℕ) (w' : List ℤ) (c : Counters) (q : ℕ) where
@@ -144,10 +144,10 @@ module _ (p : Problem) (f : Fixed) (ss : List Stmt) (w : List ℤ) (h : Folded p
       stmt-stands : read-part w' ≡ F → Stands w' q (c .bools) t
       stmt-stands part = record { words = rw part (has-front F q (encode-stmt t) (stmts-words ts) (x .stands)); numerable = numerable }
 
-      passed : StmtPasses F ds q t (state-of w' c) (x .log)
+      passed : StmtWalks F ds q t (state-of w' c) (x .log)
       passed =
           let d = has-front F q (encode-stmt t) (stmts-words ts) (x .stands) in
-          stmt-passes F ds q t (state-of w' c) (x .log) (x .from, omega (arith, has-fits F q (encode-stmt t) d (some-word t), part-short w)) d (x .legal .0) (x .numbered) low-after room
+          stmt-walks F ds q t (state-of w' c) (x .log) (x .from, omega (arith, has-fits F q (encode-stmt t) d (some-word t), part-short w)) d (x .legal .0) (x .numbered) low-after room
 
       left-next : (w'' : List ℤ) (c' : Counters) (q' : ℕ) → q' ≡ q + length (encode-stmt t) → Met (meet-stmt q t) w' c w'' c' → Left p ss w end w'' c' q' ts
       unfolding meet-stmts
@@ -174,7 +174,7 @@ module _ (p : Problem) (f : Fixed) (ss : List Stmt) (w : List ℤ) (h : Folded p
         record { rest = ts; left = left-next t ts x w'' c' q' (e t (stands-less w' q (c .bools) t d)) (m .met t d) }
 
     -- no statement is left
-    ready : (rest : List Stmt) → Left p ss w end w' c q rest → read-part w' ≡ F → end ≤ q → Ready p f ss w' c
+    ready : (rest : List Stmt) → Left p ss w end w' c q rest → read-part w' ≡ F → end ≤ q → NumberedSet p f ss w' c
     unfolding meet-stmts
     ready [] x part l =
         let e : state-of w' c ≡ meet-stmts 512 ss (start w) = x .state in

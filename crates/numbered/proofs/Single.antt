@@ -10,10 +10,10 @@ use Rattle.laws.specs.Slices.{Has, has-fits, has-word, has-rest}
 use Rattle.syntax.specs.Syntax.{IntExpr, BoolExpr, encode-bool, Cell, Stmt, Rule, Table, encode-stmt}
 use Rattle.walk.specs.Tree.{splits}
 use Rattle.walk.specs.Resolve.{rule-trees}
-use Rattle.walk.specs.Item.{nat, State, pass-bools, mets, items}
+use Rattle.walk.specs.Item.{nat, State, walk-bools, mets, items}
 use Rattle.walk.specs.Decode.{word, read-part, Surveys}
-use Rattle.walk.specs.Standing.{rule-stands}
-use Rattle.walk.specs.Meets.{state-of, Met, met-to, part-short}
+use Rattle.walk.specs.DecodeExact.{rule-stands}
+use Rattle.walk.specs.NumberingSteps.{state-of, Met, met-to, part-short}
 use Rattle.walk.specs.MeetTies.{meet-rule, meet-rule-is}
 use Rattle.walk.specs.declared.Counters.{Counters}
 use Rattle.walk.specs.declared.Surveyed.{Surveyed}
@@ -60,7 +60,7 @@ module _ (w : List ℤ) (at b : ℕ) where
 
 -- ---- the numbering
 
-stmt-rule : (at : ℕ) (e : BoolExpr) (s : State) → mets (items (rule-trees e (at + 1) (s .bools))) (pass-bools (splits e false) s) ≡ meet-stmt at (Rule e) s
+stmt-rule : (at : ℕ) (e : BoolExpr) (s : State) → mets (items (rule-trees e (at + 1) (s .bools))) (walk-bools (splits e false) s) ≡ meet-stmt at (Rule e) s
 unfolding meet-stmt
 stmt-rule at e s = refl
 

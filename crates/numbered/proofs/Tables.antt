@@ -11,9 +11,9 @@ use Rattle.laws.specs.Slices.{Has, has-fits, has-front, has-back, has-word, has
 use Rattle.syntax.specs.Syntax.{IntExpr, encode-int, Cell, Table, encode-stmt}
 use Rattle.words.specs.Exact.{Each}
 use Rattle.read.specs.WellFormed.{WellRow}
-use Rattle.walk.specs.Item.{bump, nat, pass-bools}
+use Rattle.walk.specs.Item.{bump, nat, walk-bools}
 use Rattle.walk.specs.Decode.{word, int-end, read-part}
-use Rattle.walk.specs.Meets.{state-of, Met, part-short}
+use Rattle.walk.specs.NumberingSteps.{state-of, Met, part-short}
 use Rattle.walk.specs.MeetColumns.{meet-columns-at}
 use Rattle.walk.specs.declared.Counters.{Counters}
 use Rattle.rows.specs.Stands.{cells-words, length-cells}
@@ -21,7 +21,7 @@ use Rattle.writer.specs.Rules.{has-part}
 use Rattle.statements.specs.NumberColumns.{columns-end, columns-are, columns-stop}
 use Rattle.statements.specs.Table.{table-fresh, meet-table}
 use Rattle.statements.specs.Columns.{meet-columns}
-use Rattle.call.specs.Ready.{rows-wide}
+use Rattle.call.specs.WellRead.{rows-wide}
 use Rattle.numbered.specs.Fresh.{RowsStand, Freshens}
 use Rattle.numbered.specs.Stands.{Stands, SomeTable}
 
@@ -94,13 +94,13 @@ module _ (w : List ℤ) (at b : ℕ) (es : List IntExpr) (rows : List (List Cell
     }
 
     pub table-met : (c d : Counters) (f m : ℕ) → Met (meet-columns-at (read-part w) n (at + 3)) w c w' d → Freshens w' p n k f → m ≡ bump (d .bools) f → Met (meet-table (at + 3) es rows) w c w' (record { bools = m; ints = d .ints })
-    unfolding meet-table pass-bools
+    unfolding meet-table walk-bools
     table-met c d f m x y e =
         let i : f ≡ table-fresh (length es) rows = y rows table-rows ∙ ap (λ (j : ℕ). table-fresh j rows) (hn ∙ table-words .columns) in
         let q : meet-columns-at (read-part w) n (at + 3) (state-of w c) ≡ meet-columns (at + 3) es (state-of w c) =
         ap (λ (j : ℕ). meet-columns-at (read-part w) j (at + 3) (state-of w c)) (hn ∙ table-words .columns) ∙ columns-are (read-part w) es (at + 3) (state-of w c) (h .numerable .0) (table-words .stands) in
         record {
-          state = rw (e, i) (ap (pass-bools (table-fresh (length es) rows)) (x .state ∙ q));
+          state = rw (e, i) (ap (walk-bools (table-fresh (length es) rows)) (x .state ∙ q));
           part = x .part;
           size = x .size;
           low = omega arith;

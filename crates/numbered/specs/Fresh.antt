@@ -8,7 +8,7 @@ use lib.IntN.{ℤ, natAbs}
 use lib.Dec.{leb}
 use lib.ListN.{length, take, drop, length-map}
 use lib.Seq.{drop-drop}
-use borrow.Author.Tests.{eq-eqb, le-leb}
+use borrow.Author.Tests.{le-leb}
 use Rattle.laws.specs.Bools.{and-i}
 use Rattle.laws.specs.Ints.{eqZ}
 use Rattle.laws.specs.Lists.{any, all, keep-if, filter}
@@ -18,13 +18,12 @@ use Rattle.syntax.specs.Syntax.{Cell, star, value, encode-cell}
 use Rattle.words.specs.Exact.{Each}
 use Rattle.read.specs.WellFormed.{WellCell, WellRow}
 use Rattle.tables.specs.Tables.{Row, is-star}
-use Rattle.tables.specs.Agree.{wide}
 use Rattle.rows.specs.Rows.{rows-of, row-at}
 use Rattle.rows.specs.Stars.{values-in, is-free, is-single, is-longer, count-rows}
 use Rattle.rows.specs.Stands.{small, cells-words, length-cells, stars-stand, values-stand}
 use Rattle.walk.specs.Item.{mode-in, fresh-in}
 use Rattle.statements.specs.Table.{values, is-long, is-one, long-rows, single-rows, star-fresh, free-rows, starred, table-fresh}
-use Rattle.call.specs.Ready.{rows-wide}
+use Rattle.call.specs.WellRead.{rows-wide}
 
 -- k rows of n cells stand at a place of the work slice
 pub record RowsStand (w : List ℤ) (at n k : ℕ) (rows : List (List Cell)) : Type 0 where

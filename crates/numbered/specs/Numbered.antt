@@ -7,9 +7,9 @@ use lib.ListN.{length}
 use Rattle.syntax.specs.Syntax.{Stmt, Problem}
 use Rattle.fold.specs.Fold.{Fixed}
 use Rattle.walk.specs.declared.Counters.{Counters}
-use Rattle.statements.specs.Ready.{stmts-words, Folded, Ready}
+use Rattle.statements.specs.Stages.{stmts-words, Folded, NumberedSet}
 
 -- end: where the folded statements end
 pub record NumberedAll (w : List ℤ) (end : ℕ) (w' : List ℤ) (c : Counters) : Type 0 where
-  pub ready : (p : Problem) (f : Fixed) (ss : List Stmt) → Folded p f ss w → end ≡ 512 + length (stmts-words ss) → Ready p f ss w' c
+  pub ready : (p : Problem) (f : Fixed) (ss : List Stmt) → Folded p f ss w → end ≡ 512 + length (stmts-words ss) → NumberedSet p f ss w' c
   pub size : length w' ≡ length w

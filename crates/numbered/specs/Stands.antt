@@ -14,7 +14,7 @@ use Rattle.walk.specs.Item.{limit}
 use Rattle.walk.specs.Legal.{LegalInt}
 use Rattle.walk.specs.Rule.{LegalRule}
 use Rattle.walk.specs.Decode.{read-part}
-use Rattle.walk.specs.Meets.{Met}
+use Rattle.walk.specs.NumberingSteps.{Met}
 use Rattle.walk.specs.declared.Counters.{Counters}
 use Rattle.statements.specs.Table.{meet-table}
 use Rattle.statements.specs.Statements.{meet-stmt}

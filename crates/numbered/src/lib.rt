@@ -5,7 +5,7 @@ ghost use lib.ListN.{length};
 ghost use Rattle.walk.specs.Item.{limit};
 ghost use Rattle.walk.specs.Decode.{read-part};
 ghost use Rattle.statements.specs.NumberColumns.{columns-end};
-ghost use Rattle.statements.specs.Ready.{SomeFolded};
+ghost use Rattle.statements.specs.Stages.{SomeFolded};
 ghost use Rattle.numbered.specs.Fresh.{Freshens};
 ghost use Rattle.numbered.specs.Stands.{SomeStmt, SomeTable, StmtEnds, StmtMet, TableMet};
 ghost use Rattle.numbered.specs.Numbered.{NumberedAll};
@@ -69,7 +69,7 @@ fn number_statement(work: &mut [i32], at: usize, c: Counters) -> Counters
 }
 
 // Where the statement at a place ends.
-pub fn statement_end(work: &[i32], at: usize) -> usize
+fn statement_end(work: &[i32], at: usize) -> usize
     requires { ⌜ SomeStmt (now work) at 0 × (4608 ≤ length (now work)) ⌝ }
     ensures { λ r. ⌜ StmtEnds (now (work .entry)) at r ⌝ }
 {

@@ -1,10 +1,8 @@
 // Folding statements and requiring (constant_prop_bool): the folded statements stand in the work slice above the fixed values.
 // `want` is 0, 1, or 2 for nothing; a status is 0 (nothing changed), 1 (a variable was fixed) or 2 (unsatisfiable).
 ghost use mathlib.Core.Path.{_≡_};
-ghost use mathlib.Core.Bool.{Bool};
-ghost use mathlib.Core.List.{List};
-ghost use Prim.Native.Nat.{ℕ, _+_, _*_, _-_, _≤_, _<_};
-ghost use lib.IntN.{ℤ, pos};
+ghost use Prim.Native.Nat.{_+_, _*_, _-_, _≤_, _<_};
+ghost use lib.IntN.{pos};
 ghost use lib.ListN.{length, take, drop, getD};
 ghost use Rattle.laws.specs.Slices.{Stored};
 ghost use Rattle.fold.specs.Table.{state-num};
@@ -26,7 +24,7 @@ pub struct Required {
 // ---- passing over integer expressions
 
 // The count of terms of the sum at `at`; 0 for a constant and a variable.
-pub fn sum_count(words: &[i32], at: usize) -> usize
+fn sum_count(words: &[i32], at: usize) -> usize
     requires { ⌜ Some-int (now words) at ⌝ }
     ensures { λ r. ⌜ Count-post (now (words .entry)) at r ⌝ }
 {
@@ -38,7 +36,7 @@ pub fn sum_count(words: &[i32], at: usize) -> usize
 }
 
 // The end of as many terms as `count` says, those of inner sums among them.
-pub fn skip_terms(words: &[i32], at: usize, count: usize) -> usize
+fn skip_terms(words: &[i32], at: usize, count: usize) -> usize
     requires { ⌜ Some-terms (now words) at count ⌝ }
     ensures { λ r. ⌜ Skip-terms-post (now (words .entry)) at count r ⌝ }
 {
@@ -62,13 +60,13 @@ pub fn skip_int(words: &[i32], at: usize) -> usize
 
 // ---- the wants of parts
 
-pub fn worst(a: usize, b: usize) -> usize
+fn worst(a: usize, b: usize) -> usize
     ensures { λ r. ⌜ r ≡ worst-num a b ⌝ }
 {
     if a < b { b } else { a }
 }
 
-pub fn clash(v: usize, want: usize) -> usize
+fn clash(v: usize, want: usize) -> usize
     ensures { λ r. ⌜ r ≡ clash-num v want ⌝ }
 {
     if want == 2 {
@@ -77,20 +75,20 @@ pub fn clash(v: usize, want: usize) -> usize
     if v == want { 0 } else { 2 }
 }
 
-pub fn flip(want: usize) -> usize
+fn flip(want: usize) -> usize
     requires { ⌜ want < 3 ⌝ }
     ensures { λ r. ⌜ r ≡ flip-num want ⌝ }
 {
     if want == 2 { 2 } else { 1 - want }
 }
 
-pub fn pass(b: usize, want: usize) -> usize
+fn pass(b: usize, want: usize) -> usize
     ensures { λ r. ⌜ r ≡ pass-num b want ⌝ }
 {
     if want == b { 2 } else { want }
 }
 
-pub fn left_want(w: usize, want: usize) -> usize
+fn left_want(w: usize, want: usize) -> usize
     ensures { λ r. ⌜ r ≡ left-num w want ⌝ }
 {
     if w == 17 {
@@ -100,7 +98,7 @@ pub fn left_want(w: usize, want: usize) -> usize
     }
 }
 
-pub fn right_want(w: usize, want: usize) -> usize
+fn right_want(w: usize, want: usize) -> usize
     ensures { λ r. ⌜ r ≡ right-num w want ⌝ }
 {
     if w == 17 {
@@ -112,7 +110,7 @@ pub fn right_want(w: usize, want: usize) -> usize
 
 // ---- requiring
 
-pub fn set_infeasible(work: &mut [i32], v: usize, want: usize) -> usize
+fn set_infeasible(work: &mut [i32], v: usize, want: usize) -> usize
     requires { ⌜ (v < length (now work)) × (want < 3) ⌝ }
     ensures { λ r. ⌜ (r ≡ set-status (state-num (state-of (getD (now (work .entry)) v (pos 0)))) want) × (now (work .exit) ≡ set-words (state-num (state-of (getD (now (work .entry)) v (pos 0)))) v want (now (work .entry))) ⌝ }
 {
@@ -131,7 +129,7 @@ pub fn set_infeasible(work: &mut [i32], v: usize, want: usize) -> usize
 }
 
 // A constant or a variable, whose code is w.
-pub fn prop_leaf(work: &mut [i32], at: usize, w: usize, want: usize) -> Required
+fn prop_leaf(work: &mut [i32], at: usize, w: usize, want: usize) -> Required
     requires { ⌜ Stands (now work) at ⌝ }
     requires { ⌜ (getD (now work) at (pos 0) ≡ pos w) × (w < 12) × (want < 3) ⌝ }
     ensures { λ r. ⌜ Prop-post (now (work .entry)) at want (now (work .exit)) (r .next) (r .status) ⌝ }
@@ -151,7 +149,7 @@ pub fn prop_leaf(work: &mut [i32], at: usize, w: usize, want: usize) -> Required
     }
 }
 
-pub fn skip_comparison(words: &[i32], at: usize) -> usize
+fn skip_comparison(words: &[i32], at: usize) -> usize
     requires { ⌜ Stands (now words) at ⌝ }
     requires { ⌜ getD (now words) at (pos 0) ≡ pos 18 ⌝ }
     ensures { λ r. ⌜ Comparison-post (now (words .entry)) at r ⌝ }
@@ -161,7 +159,7 @@ pub fn skip_comparison(words: &[i32], at: usize) -> usize
 }
 
 // As many members as `count` says.
-pub fn constant_prop_members(work: &mut [i32], at: usize, count: usize, want: usize) -> Required
+fn constant_prop_members(work: &mut [i32], at: usize, count: usize, want: usize) -> Required
     requires { ⌜ Stand-members (now work) at count ⌝ }
     requires { ⌜ want < 3 ⌝ }
     ensures { λ r. ⌜ Members-post (now (work .entry)) at count want (now (work .exit)) (r .next) (r .status) ⌝ }
@@ -178,7 +176,7 @@ pub fn constant_prop_members(work: &mut [i32], at: usize, count: usize, want: us
     Required { next, status }
 }
 
-pub fn constant_prop_bool(work: &mut [i32], at: usize, want: usize) -> Required
+fn constant_prop_bool(work: &mut [i32], at: usize, want: usize) -> Required
     requires { ⌜ Stands (now work) at ⌝ }
     requires { ⌜ want < 3 ⌝ }
     ensures { λ r. ⌜ Prop-post (now (work .entry)) at want (now (work .exit)) (r .next) (r .status) ⌝ }
@@ -226,14 +224,7 @@ pub fn copy_words(words: &[i32], at: usize, n: usize, work: &mut [i32], o: usize
     o + n
 }
 
-pub fn fold_columns(
-    words: &[i32],
-    d: usize,
-    at: usize,
-    n: usize,
-    work: &mut [i32],
-    o: usize,
-) -> Span
+fn fold_columns(words: &[i32], d: usize, at: usize, n: usize, work: &mut [i32], o: usize) -> Span
     requires { ⌜ Ready-columns (now words) d at n (now work) o ⌝ }
     ensures { λ r. ⌜ Columns-post (now (words .entry)) d at n (now (work .entry)) o (now (work .exit)) (r .next) (r .end) ⌝ }
 {
@@ -250,7 +241,7 @@ pub fn fold_columns(
 }
 
 // A table: its header and rows as they are, its columns folded.
-pub fn fold_table(words: &[i32], d: usize, at: usize, work: &mut [i32], o: usize) -> Span
+fn fold_table(words: &[i32], d: usize, at: usize, work: &mut [i32], o: usize) -> Span
     requires { ⌜ Ready-stmt (now words) d at (now work) o ⌝ }
     requires { ⌜ (getD (now words) at (pos 0) ≡ pos 1 → ⊥) ⌝ }
     ensures { λ r. ⌜ Stmt-post (now (words .entry)) d at (now (work .entry)) o (now (work .exit)) (r .next) (r .end) ⌝ }
@@ -310,7 +301,7 @@ pub fn fold_stmts(
 
 // ---- requiring each rule
 
-pub fn skip_columns(words: &[i32], at: usize, n: usize) -> usize
+fn skip_columns(words: &[i32], at: usize, n: usize) -> usize
     requires { ⌜ Some-columns (now words) at n ⌝ }
     ensures { λ r. ⌜ Skip-columns-post (now (words .entry)) at n r ⌝ }
 {
@@ -323,7 +314,7 @@ pub fn skip_columns(words: &[i32], at: usize, n: usize) -> usize
     next
 }
 
-pub fn skip_table(words: &[i32], at: usize) -> usize
+fn skip_table(words: &[i32], at: usize) -> usize
     requires { ⌜ Stands-stmt (now words) at ⌝ }
     requires { ⌜ (getD (now words) at (pos 0) ≡ pos 1 → ⊥) ⌝ }
     ensures { λ r. ⌜ Skip-table-post (now (words .entry)) at r ⌝ }

@@ -16,7 +16,7 @@ use Rattle.fold.specs.Fold.{Fixed}
 use Rattle.fold.specs.Optimize.{Outcome, inconsistent, settled, optimize}
 use Rattle.answer.specs.Answer.{layout, normalize}
 use Rattle.call.specs.Call.{contradiction, refused, measured, answered, checked, when-read, call, output-after, zeros}
-use Rattle.statements.specs.Ready.{stmts-words}
+use Rattle.statements.specs.Stages.{stmts-words}
 use Rattle.settle.specs.declared.Places.{Places}
 use Rattle.settle.specs.declared.Settling.{Settling}
 use Rattle.settle.specs.declared.Settling.the-variants.{Refused, Contradiction, Folded}

@@ -1,12 +1,12 @@
 -- The words in front of the clauses: how many there are, where the emitted domains stand, and that the integers are few.
 use mathlib.Core.Path.{_≡_, refl, sym, ap, _∙_}
 use mathlib.Core.List.{List, [], _∷_, _++_, map, append-assoc}
-use Prim.Native.Nat.{ℕ, zero, suc, _+_, _*_, _≤_}
+use Prim.Native.Nat.{_+_, _*_, _≤_}
 use native.Mathlib.Omega.{arith}
 use lib.IntN.{ℤ, pos}
 use lib.ListN.{length, length-append, length-map}
 use lib.Seq.{sets}
-use Rattle.laws.specs.Lists.{flat, from, below, length-from}
+use Rattle.laws.specs.Lists.{flat, below, length-from}
 use Rattle.laws.specs.Slices.{Has, has-back, has-sets}
 use Rattle.syntax.specs.Syntax.{Domain, Stmt, Problem}
 use Rattle.fold.specs.Fold.{Fixed}
@@ -14,7 +14,7 @@ use Rattle.clauses.specs.Log.{next-bool, next-int, get-bool-var, get-int-var}
 use Rattle.tables.specs.Tables.{emitted-domains}
 use Rattle.tables.specs.Emitted.{length-emitted}
 use Rattle.answer.specs.Answer.{fixed-word, map-word, domain-words}
-use Rattle.statements.specs.Ready.{log-of, head-words}
+use Rattle.statements.specs.Stages.{log-of, head-words}
 
 triples-length : (ds : List Domain) → length (flat (map domain-words ds)) ≡ 3 * length ds
 triples-length [] = refl

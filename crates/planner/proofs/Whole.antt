@@ -2,7 +2,7 @@
 use mathlib.Core.Path.{_≡_, refl, sym, ap, _∙_, subst}
 use mathlib.Core.Bool.{Bool, true, false, _||_, cond}
 use mathlib.Core.List.{List, _∷_, _++_}
-use Prim.Native.Nat.{ℕ, _+_, _-_, _*_, _≤_, _<_, min}
+use Prim.Native.Nat.{ℕ, _+_, _*_, _≤_, _<_, min}
 use native.Mathlib.Omega.{arith}
 use lib.IntN.{ℤ, pos}
 use lib.ListN.{length, take, drop, set, length-append}
@@ -18,9 +18,9 @@ use Rattle.answer.specs.Answer.{layout, normalize}
 use Rattle.call.specs.Call.{Result, compiled, refused, measured, output-after, zeros}
 use Rattle.walk.specs.declared.Counters.{Counters}
 use Rattle.rows.specs.Emit.{Clauses, clauses-words}
-use Rattle.statements.specs.Ready.{clauses-of, log-of, head-words, layout-head, Ready}
-use Rattle.statements.specs.ReadyEntry.{settled-emitted}
-use Rattle.statements.specs.ReadyKeeps.{ready-keeps}
+use Rattle.statements.specs.Stages.{clauses-of, log-of, head-words, layout-head, NumberedSet}
+use Rattle.statements.specs.NumberedEntry.{settled-emitted}
+use Rattle.statements.specs.NumberedKeeps.{ready-keeps}
 use Rattle.rows.specs.declared.Written.{Written}
 use Rattle.numbered.specs.Numbered.{NumberedAll}
 use Rattle.header.specs.Headed.{Headed}
@@ -46,7 +46,7 @@ module _ (p : Problem) (f : Fixed) (ss : List Stmt) where
   layout-length = ap length layout-is ∙ omega (arith, length-append head (pos (length (clauses-of p ss)) ∷ tail))
 
   -- the words in front of the count alone do not fit
-  pub layout-long : (w : List ℤ) (c : Counters) (b i : ℕ) → b ≡ p .bools → i ≡ length (p .domains) → Ready p f ss w c → 2 * b + i + 2 + 3 * c .ints < length (layout (normalize p f ss))
+  pub layout-long : (w : List ℤ) (c : Counters) (b i : ℕ) → b ≡ p .bools → i ≡ length (p .domains) → NumberedSet p f ss w c → 2 * b + i + 2 + 3 * c .ints < length (layout (normalize p f ss))
   layout-long w c b i eb ei r =
       let n : c .ints ≡ next-int (log-of p ss) = r .numbered .ints in
       omega (arith, layout-length, head-length p f ss)
@@ -67,7 +67,7 @@ module _ {p : Problem} {f : Fixed} {ss : List Stmt} {c : Counters} {set' w : Lis
     pub at-low : at < length out
     at-low = omega (arith, head-at, head-fits)
 
-    pub writable : (w' : List ℤ) → Ready p f ss w' c → Writable p f ss c set' w' end (2 * b + i + 2) mid (at + 1)
+    pub writable : (w' : List ℤ) → NumberedSet p f ss w' c → Writable p f ss c set' w' end (2 * b + i + 2) mid (at + 1)
     writable w' r = record {
       words = h .words;
       ready = r;
@@ -174,7 +174,7 @@ gives-words out ws part room words z er ew h e =
 -- ---- the steps of `emit`
 
 module _ (set' w : List ℤ) (b i end : ℕ) (out w' : List ℤ) (c : Counters) (n : NumberedAll w end w' c) where
-  numbered : (p : Problem) (f : Fixed) (ss : List Stmt) → Emits p f ss set' w b i end out → Ready p f ss w' c
+  numbered : (p : Problem) (f : Fixed) (ss : List Stmt) → Emits p f ss set' w b i end out → NumberedSet p f ss w' c
   numbered p f ss h = n .ready p f ss (h .folded) (h .ends)
 
   pub ints-small : SomeEmits set' w b i end out → c .ints ≤ 2048

@@ -12,7 +12,7 @@ use Rattle.fold.specs.Fold.{Fixed}
 use Rattle.answer.specs.Answer.{layout, normalize}
 use Rattle.call.specs.Call.{Result, measured, output-after, zeros}
 use Rattle.walk.specs.declared.Counters.{Counters}
-use Rattle.statements.specs.Ready.{stmts-words, Folded, Ready}
+use Rattle.statements.specs.Stages.{stmts-words, Folded, NumberedSet}
 use Rattle.planner.specs.declared.Answer.{Answer}
 use Rattle.planner.specs.Contract.{answer-of}
 
@@ -27,7 +27,7 @@ pub record Writes (p : Problem) (f : Fixed) (ss : List Stmt) (c : Counters) (set
   pub words : set ≡ encode p
   pub bools : b ≡ p .bools
   pub ints : i ≡ length (p .domains)
-  pub ready : Ready p f ss w c
+  pub ready : NumberedSet p f ss w c
   pub ends : end ≡ 512 + length (stmts-words ss)
   pub fits : 2 * b + i + 2 + 3 * c .ints < length out
   pub part : length out ≤ max-answer-words

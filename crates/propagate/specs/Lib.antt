@@ -1,4 +1,4 @@
 pub mod Passes
 pub mod WellDeclared
 pub mod Optimized
-pub mod Hurry
+pub mod Worklist

@@ -6,7 +6,7 @@ ghost use lib.IntN.{pos};
 ghost use lib.ListN.{length, getD};
 ghost use Rattle.syntax.specs.Words.{max-bools};
 ghost use Rattle.propagate.specs.Optimized.{Some-domains, Domains-end-post, Opened, Ready-passes, Passes-post, Accepted, Optimize-post};
-ghost use Rattle.propagate.specs.Hurry.{Only, Ready-step, Step-post, Next-post, Ready-hurry, Moves, Hurry-post, After-post, Places};
+ghost use Rattle.propagate.specs.Worklist.{Only, Ready-step, Step-post, Next-post, Ready-worklist, Moves, Worklist-post, After-post, Places};
 
 pub struct Optimized {
     pub status: usize,
@@ -20,7 +20,7 @@ pub struct Stepped {
     pub status: usize,
 }
 
-// How many statements were set aside to be looked at again, those that were since included.
+// How many statements were put into the queue, those taken from it included.
 pub struct Moved {
     pub count: usize,
     pub status: usize,
@@ -59,13 +59,13 @@ fn store(a: &mut [i32], i: usize, n: usize)
     folding::put(a, i, n);
 }
 
-// ---- the notes
+// ---- the watches and the queue
 // What they hold needs no proof, as any order of steps is right: at v, the place of the last occurrence of the variable v (0: none, or v is fixed);
 // at 512 + p, for an occurrence at p, the occurrence before it, and at 513 + p its statement's index; at 4610 + i, whether the statement of
-// index i is waiting; at 6000 + k, the k-th statement to look at again.
+// index i is in the queue; at 6000 + k, the k-th statement of the queue.
 
 // The occurrence of a variable at p, if there is one, in the statement of index i: the first one in the statement counts.
-fn watch_at(words: &[i32], p: usize, i: usize, notes: &mut [i32]) {
+fn watch_at(words: &[i32], p: usize, i: usize, watches: &mut [i32]) {
     let code = entry(words, p);
     if code != 11 {
         return;
@@ -77,67 +77,67 @@ fn watch_at(words: &[i32], p: usize, i: usize, notes: &mut [i32]) {
     if v >= 512 {
         return;
     }
-    let before = entry(notes, v);
-    let same = entry(notes, 513 + before);
+    let before = entry(watches, v);
+    let same = entry(watches, 513 + before);
     if before != 0 && same == i {
         return;
     }
-    store(notes, 512 + p, before);
-    store(notes, 513 + p, i);
-    store(notes, v, p);
+    store(watches, 512 + p, before);
+    store(watches, 513 + p, i);
+    store(watches, v, p);
 }
 
-fn watch(words: &[i32], from: usize, to: usize, i: usize, notes: &mut [i32]) {
+fn watch(words: &[i32], from: usize, to: usize, i: usize, watches: &mut [i32]) {
     let mut p = from;
     while p < to {
-        watch_at(words, p, i, notes);
+        watch_at(words, p, i, watches);
         p += 1;
     }
 }
 
 // The next occurrence of a chain; 0: none.
-fn earlier(notes: &[i32], p: usize) -> usize
+fn earlier(watches: &[i32], p: usize) -> usize
     requires { ⌜ (p ≡ 0 → ⊥) × (p < 8192) ⌝ }
     ensures { λ r. ⌜ r < p ⌝ }
 {
-    let q = entry(notes, 512 + p);
+    let q = entry(watches, 512 + p);
     if q < p { q } else { 0 }
 }
 
-// The statement of index i is set aside, unless it is waiting.
-fn mark(notes: &mut [i32], i: usize, count: usize) -> usize
+// The statement of index i is put into the queue, unless it waits there.
+fn enqueue(watches: &mut [i32], i: usize, count: usize) -> usize
     requires { ⌜ (count ≤ 2048) × (i < 8192) ⌝ }
     ensures { λ r. ⌜ r ≤ 2048 ⌝ }
 {
     if count >= 2048 {
         return count;
     }
-    let waits = entry(notes, 4610 + i);
+    let waits = entry(watches, 4610 + i);
     if waits != 0 {
         return count;
     }
-    store(notes, 4610 + i, 1);
-    store(notes, 6000 + count, i);
+    store(watches, 4610 + i, 1);
+    store(watches, 6000 + count, i);
     count + 1
 }
 
 // The statements of a chain, from the occurrence at `first` on.
-fn mark_chain(notes: &mut [i32], first: usize, marked: usize) -> usize
-    requires { ⌜ (marked ≤ 2048) × (first < 8192) ⌝ }
+fn enqueue_chain(watches: &mut [i32], first: usize, queued: usize) -> usize
+    requires { ⌜ (queued ≤ 2048) × (first < 8192) ⌝ }
     ensures { λ r. ⌜ r ≤ 2048 ⌝ }
 {
-    let mut count = marked;
+    let mut count = queued;
     let mut p = first;
     while p != 0 {
-        let i = entry(notes, 513 + p);
-        count = mark(notes, i, count);
-        p = earlier(notes, p);
+        let i = entry(watches, 513 + p);
+        count = enqueue(watches, i, count);
+        p = earlier(watches, p);
     }
     count
 }
 
 // If the variable v is fixed, its statements are to be looked at again.
-fn push(work: &[i32], v: usize, notes: &mut [i32], count: usize) -> usize
+fn push(work: &[i32], v: usize, watches: &mut [i32], count: usize) -> usize
     requires { ⌜ count ≤ 2048 ⌝ }
     ensures { λ r. ⌜ r ≤ 2048 ⌝ }
 {
@@ -148,12 +148,12 @@ fn push(work: &[i32], v: usize, notes: &mut [i32], count: usize) -> usize
     if value == 2 {
         return count;
     }
-    let first = entry(notes, v);
-    store(notes, v, 0);
-    mark_chain(notes, first, count)
+    let first = entry(watches, v);
+    store(watches, v, 0);
+    enqueue_chain(watches, first, count)
 }
 
-fn push_at(work: &[i32], p: usize, notes: &mut [i32], count: usize) -> usize
+fn push_at(work: &[i32], p: usize, watches: &mut [i32], count: usize) -> usize
     requires { ⌜ count ≤ 2048 ⌝ }
     requires { ⌜ p < length (now work) ⌝ }
     ensures { λ r. ⌜ r ≤ 2048 ⌝ }
@@ -161,21 +161,21 @@ fn push_at(work: &[i32], p: usize, notes: &mut [i32], count: usize) -> usize
     let code = entry(work, p);
     if code == 11 {
         let v = entry(work, p + 1);
-        return push(work, v, notes, count);
+        return push(work, v, watches, count);
     }
     count
 }
 
 // The variables of the folded statement, those that are fixed now.
-fn push_fixed(work: &[i32], end: usize, notes: &mut [i32], marked: usize) -> usize
-    requires { ⌜ marked ≤ 2048 ⌝ }
+fn push_fixed(work: &[i32], end: usize, watches: &mut [i32], queued: usize) -> usize
+    requires { ⌜ queued ≤ 2048 ⌝ }
     requires { ⌜ end ≤ length (now work) ⌝ }
     ensures { λ r. ⌜ r ≤ 2048 ⌝ }
 {
-    let mut count = marked;
+    let mut count = queued;
     let mut p = 512;
     while p < end {
-        count = push_at(work, p, notes, count);
+        count = push_at(work, p, watches, count);
         p += 1;
     }
     count
@@ -203,8 +203,8 @@ fn lasting(work: &[i32], end: usize) -> bool {
     kind == 1 && end > 516
 }
 
-// The statement of index i, which stands from `at` to `next`, is noted if it may fix something later.
-fn note(
+// The statement of index i, which stands from `at` to `next`, is watched if it may fix something later.
+fn watch_statement(
     words: &[i32],
     at: usize,
     next: usize,
@@ -212,19 +212,19 @@ fn note(
     work: &[i32],
     end: usize,
     places: &mut [i32],
-    notes: &mut [i32],
+    watches: &mut [i32],
 )
     ensures { λ _. ⌜ Only at (now (places .entry)) (now (places .exit)) ⌝ }
 {
     let keep = lasting(work, end);
     if keep {
         store(places, i, at);
-        watch(words, at, next, i, notes);
+        watch(words, at, next, i, watches);
     }
 }
 
 // After a step of this status.
-fn push_after(work: &[i32], end: usize, status: usize, notes: &mut [i32], count: usize) -> usize
+fn push_after(work: &[i32], end: usize, status: usize, watches: &mut [i32], count: usize) -> usize
     requires { ⌜ count ≤ 2048 ⌝ }
     requires { ⌜ end ≤ length (now work) ⌝ }
     ensures { λ r. ⌜ r ≤ 2048 ⌝ }
@@ -232,7 +232,7 @@ fn push_after(work: &[i32], end: usize, status: usize, notes: &mut [i32], count:
     if status != 1 {
         return count;
     }
-    push_fixed(work, end, notes, count)
+    push_fixed(work, end, watches, count)
 }
 
 // Every statement once, in order.
@@ -242,11 +242,11 @@ fn sweep(
     statements: usize,
     work: &mut [i32],
     places: &mut [i32],
-    notes: &mut [i32],
+    watches: &mut [i32],
 ) -> Moved
     requires { ⌜ Ready-passes (now words) at statements (now work) ⌝ }
     requires { ⌜ Places (now words) at statements (now places) ⌝ }
-    ensures { λ r. ⌜ Hurry-post (now (words .entry)) at statements (now (work .entry)) (now (work .exit)) (r .status) × Places (now (words .entry)) at statements (now (places .exit)) × (r .count ≤ 2048) ⌝ }
+    ensures { λ r. ⌜ Worklist-post (now (words .entry)) at statements (now (work .entry)) (now (work .exit)) (r .status) × Places (now (words .entry)) at statements (now (places .exit)) × (r .count ≤ 2048) ⌝ }
 {
     let mut next = at;
     let mut i = 0;
@@ -257,8 +257,8 @@ fn sweep(
         if status == 2 {
             return Moved { count: 0, status };
         }
-        note(words, next, a.next, i, work, a.end, places, notes);
-        count = push_after(work, a.end, status, notes, count);
+        watch_statement(words, next, a.next, i, work, a.end, places, watches);
+        count = push_after(work, a.end, status, watches, count);
         next = a.next;
         i += 1;
     }
@@ -266,7 +266,7 @@ fn sweep(
 }
 
 // A statement that fixes nothing any more is forgotten.
-fn retire(work: &[i32], end: usize, places: &mut [i32], i: usize)
+fn forget_done(work: &[i32], end: usize, places: &mut [i32], i: usize)
     ensures { λ _. ⌜ Only 0 (now (places .entry)) (now (places .exit)) ⌝ }
 {
     let keep = lasting(work, end);
@@ -281,10 +281,10 @@ fn again(
     i: usize,
     work: &mut [i32],
     places: &mut [i32],
-    notes: &mut [i32],
+    watches: &mut [i32],
     count: usize,
 ) -> Moved
-    requires { ⌜ Ready-hurry (now words) (now work) (now places) ⌝ }
+    requires { ⌜ Ready-worklist (now words) (now work) (now places) ⌝ }
     requires { ⌜ count ≤ 2048 ⌝ }
     ensures { λ r. ⌜ Moves (now (words .entry)) (now (work .entry)) (now (places .entry)) (now (work .exit)) (now (places .exit)) (r .status) × (r .count ≤ 2048) ⌝ }
 {
@@ -293,32 +293,32 @@ fn again(
         return Moved { count, status: 0 };
     }
     let a = step(words, at, work);
-    retire(work, a.end, places, i);
-    let more = push_after(work, a.end, a.status, notes, count);
+    forget_done(work, a.end, places, i);
+    let more = push_after(work, a.end, a.status, watches, count);
     Moved {
         count: more,
         status: a.status,
     }
 }
 
-// Every statement that was set aside, those that come up on the way too.
-fn drain(
+// Every statement of the queue, those that come up on the way too.
+fn run_queue(
     words: &[i32],
     work: &mut [i32],
     places: &mut [i32],
-    notes: &mut [i32],
-    marked: usize,
+    watches: &mut [i32],
+    queued: usize,
 ) -> usize
-    requires { ⌜ Ready-hurry (now words) (now work) (now places) ⌝ }
-    requires { ⌜ marked ≤ 2048 ⌝ }
+    requires { ⌜ Ready-worklist (now words) (now work) (now places) ⌝ }
+    requires { ⌜ queued ≤ 2048 ⌝ }
     ensures { λ r. ⌜ Moves (now (words .entry)) (now (work .entry)) (now (places .entry)) (now (work .exit)) (now (places .exit)) r ⌝ }
 {
     let mut k = 0;
-    let mut count = marked;
+    let mut count = queued;
     while k < count {
-        let i = entry(notes, 6000 + k);
-        store(notes, 4610 + i, 0);
-        let a = again(words, i, work, places, notes, count);
+        let i = entry(watches, 6000 + k);
+        store(watches, 4610 + i, 0);
+        let a = again(words, i, work, places, watches, count);
         let status = a.status;
         if status == 2 {
             return 2;
@@ -330,18 +330,18 @@ fn drain(
 }
 
 // Statements one by one, each again once one of its variables was fixed. 1: go on; 2: unsatisfiable.
-fn hurry(words: &[i32], at: usize, statements: usize, work: &mut [i32]) -> usize
+fn run_worklist(words: &[i32], at: usize, statements: usize, work: &mut [i32]) -> usize
     requires { ⌜ Ready-passes (now words) at statements (now work) ⌝ }
-    ensures { λ r. ⌜ Hurry-post (now (words .entry)) at statements (now (work .entry)) (now (work .exit)) r ⌝ }
+    ensures { λ r. ⌜ Worklist-post (now (words .entry)) at statements (now (work .entry)) (now (work .exit)) r ⌝ }
 {
     let mut places = [0i32; 1366];
-    let mut notes = [0i32; 8048];
-    let a = sweep(words, at, statements, work, &mut places, &mut notes);
+    let mut watches = [0i32; 8048];
+    let a = sweep(words, at, statements, work, &mut places, &mut watches);
     let status = a.status;
     if status == 2 {
         return 2;
     }
-    drain(words, work, &mut places, &mut notes, a.count)
+    run_queue(words, work, &mut places, &mut watches, a.count)
 }
 
 // ---- the passes
@@ -388,7 +388,7 @@ fn after_pass(
     if status != 1 || left != 0 {
         return Optimized { status, end };
     }
-    let s = hurry(words, at, count, work);
+    let s = run_worklist(words, at, count, work);
     if s == 2 {
         return Optimized {
             status: 2,

@@ -3,7 +3,7 @@ use mathlib.Core.Path.{_≡_, refl, sym, ap, _∙_}
 use mathlib.Core.Bool.{true}
 use mathlib.Core.List.{List, [], _∷_, _++_, map, append-assoc, append-nil}
 use mathlib.Core.Option.{Option, some}
-use Prim.Native.Nat.{ℕ, _+_}
+use Prim.Native.Nat.{ℕ}
 use native.Mathlib.Omega.{arith}
 use lib.IntN.{ℤ, pos}
 use lib.ListN.{length, length-map}
@@ -19,7 +19,7 @@ use Rattle.lines.specs.Lines.{print-numbers, print-line}
 use Rattle.readback.specs.ReadListing.{read-comparisons, read-clause, Tail, read-last, read-tail, read-clauses, one-line}
 use Rattle.readback.specs.Numbers.{natural-back}
 use Rattle.readback.specs.Split.{avoids, split-at, split-end, avoids-append, after-key, natural-avoids, numbers-avoid, part-back, one-back, body-avoids, comparison-back}
-use Rattle.readback.specs.Shown.{terms-words, terms-length, linear-body, linear-text, lits-words, lits-length, clause-line, clause-text, literals-in}
+use Rattle.readback.specs.Shown.{terms-words, terms-length, linear-body, linear-text, lits-words, lits-length, clause-line, clause-text, clause-comparisons, members-in}
 
 -- ---- a clause
 
@@ -64,7 +64,7 @@ one-back-line key next h zs rest = rw (line-split key h zs rest, after-key key (
 
 -- ---- the last two lines
 
--- the number of clauses and of their literals
+-- the number of clauses, and of their literals and comparisons
 abbrev pub last-text : ℕ → ℕ → List ℕ
 last-text k t = print-line clauses-key (pos k ∷ []) ++ (total-key ++ (print-natural t ++ (line-feed ∷ [])))
 
@@ -75,18 +75,18 @@ last-split k t =
     ∙ ap (λ l. (clauses-key ++ print-numbers (pos k ∷ [])) ∷ l)
     (ap (split line-feed) (sym (append-assoc total-key (print-natural t) (line-feed ∷ []))) ∙ split-at line-feed (total-key ++ print-natural t) [] (avoids-append line-feed total-key (print-natural t) refl (natural-avoids line-feed (λ b l u e. omega arith) t)))
 
-last-back : (k t : ℕ) → read-tail (split line-feed (last-text k t)) ≡ some (record { words = []; literals = 0; count = pos k; total = t })
+last-back : (k t : ℕ) → read-tail (split line-feed (last-text k t)) ≡ some (record { words = []; members = 0; count = pos k; total = t })
 unfolding read-tail read-last after
 last-back k t = rw (last-split k t, one-back (pos k), natural-back t) refl
 
 -- ---- the clauses
 
 abbrev tail-of : List Clause → ℕ → ℕ → Option Tail
-tail-of cs k t = some (record { words = flat (map clause-words cs); literals = literals-in cs; count = pos k; total = t })
+tail-of cs k t = some (record { words = flat (map clause-words cs); members = members-in cs; count = pos k; total = t })
 
 clause-read : (ls : List BoolLit) (ks : List LinearLit) (cs : List Clause) (k t : ℕ) (ps : List (List ℕ)) → read-tail ps ≡ tail-of cs k t → read-tail (clause-line (clause ls ks) ∷ ps) ≡ tail-of (clause ls ks ∷ cs) k t
 unfolding read-tail
-clause-read ls ks cs k t ps h = rw (after-key clause-key (print-numbers (lits-words ls) ++ flat (map linear-text ks)), clause-back ls ks, h) refl
+clause-read ls ks cs k t ps h = rw (after-key clause-key (print-numbers (lits-words ls) ++ flat (map linear-text ks)), clause-back ls ks, h, clause-comparisons ls ks) refl
 
 pub clauses-split : (c : Clause) (cs : List Clause) (k t : ℕ) → split line-feed (flat (map clause-text (c ∷ cs)) ++ last-text k t) ≡ clause-line c ∷ split line-feed (flat (map clause-text cs) ++ last-text k t)
 clauses-split c cs k t =
@@ -98,6 +98,6 @@ clauses-tail : (cs : List Clause) (k t : ℕ) → read-tail (split line-feed (fl
 clauses-tail [] k t = last-back k t
 clauses-tail (clause ls ks ∷ cs) k t = ap read-tail (clauses-split (clause ls ks) cs k t) ∙ clause-read ls ks cs k t (split line-feed (flat (map clause-text cs) ++ last-text k t)) (clauses-tail cs k t)
 
-pub clauses-back : (cs : List Clause) (k : ℕ) → read-clauses (split line-feed (flat (map clause-text cs) ++ last-text k (literals-in cs))) ≡ some (pos k ∷ flat (map clause-words cs))
+pub clauses-back : (cs : List Clause) (k : ℕ) → read-clauses (split line-feed (flat (map clause-text cs) ++ last-text k (members-in cs))) ≡ some (pos k ∷ flat (map clause-words cs))
 unfolding read-clauses
-clauses-back cs k = rw (clauses-tail cs k (literals-in cs), eq-eqb (literals-in cs) (literals-in cs) refl) refl
+clauses-back cs k = rw (clauses-tail cs k (members-in cs), eq-eqb (members-in cs) (members-in cs) refl) refl

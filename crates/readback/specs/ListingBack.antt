@@ -3,13 +3,13 @@ use mathlib.Core.Path.{_≡_, refl, sym, ap, _∙_}
 use mathlib.Core.Bool.{Bool, true, false, _||_, cond}
 use mathlib.Core.List.{List, [], _∷_, _++_, map, append-assoc, append-nil}
 use mathlib.Core.Option.{Option, none, some}
-use Prim.Native.Nat.{ℕ, zero, suc, _+_}
+use Prim.Native.Nat.{ℕ, zero, suc}
 use native.Mathlib.Omega.{arith}
 use lib.IntN.{ℤ, pos}
 use lib.Dec.{ltb}
 use lib.ListN.{length, take, drop, length-map}
 use lib.Seq.{take-append-seam, drop-append-seam}
-use Rattle.laws.specs.Lists.{flat, counted, from, below, length-from}
+use Rattle.laws.specs.Lists.{flat, counted, below, length-from}
 use Rattle.syntax.specs.Words.{max-set-words, min-work-words, max-answer-words}
 use Rattle.syntax.specs.Syntax.{Domain, Stmt, Problem, encode}
 use Rattle.words.specs.Parse.{Parsed, ok, refuse}
@@ -30,7 +30,7 @@ use Rattle.text.specs.declared.Answer.the-variants as answer
 use Rattle.readback.specs.ReadListing.{read-clauses, one-line, each-line, read-compiled, read-refused, read-listing}
 use Rattle.readback.specs.Numbers.{natural-back}
 use Rattle.readback.specs.Split.{split-at, after-key, natural-avoids, part-back}
-use Rattle.readback.specs.Shown.{times-shown, domain-filled, domain-shown, clause-line, clause-text, clause-filled, clause-shown, literals-in, total-shown}
+use Rattle.readback.specs.Shown.{times-shown, domain-filled, domain-shown, clause-line, clause-text, clause-filled, clause-shown, members-in, total-shown}
 use Rattle.readback.specs.Lines.{line-split, one-back-line, last-text, last-split, clauses-split, clauses-back}
 use Rattle.readback.specs.Listed.{print-result}
 
@@ -83,7 +83,7 @@ module _ (fs ms is : List ℤ) (b i : ℕ) (fs-count : length fs ≡ b) (ms-coun
   whole = fs ++ (ms ++ (is ++ tail))
 
   abbrev pub clauses-text : List ℕ
-  clauses-text = flat (map clause-text cs) ++ last-text (length cs) (literals-in cs)
+  clauses-text = flat (map clause-text cs) ++ last-text (length cs) (members-in cs)
 
   abbrev pub tail-text : List ℕ
   tail-text = print-line emitted-key (pos eb ∷ pos (length ds) ∷ []) ++ (flat (map domain-text ds) ++ clauses-text)
@@ -93,7 +93,7 @@ module _ (fs ms is : List ℤ) (b i : ℕ) (fs-count : length fs ≡ b) (ms-coun
   clauses-printed =
       let ws : List ℤ = flat (map clause-words cs) in
       let e : times print-clause (length cs) ws ≡ record { text = flat (map clause-text cs); rest = [] } = ap (times print-clause (length cs)) (sym (append-nil ws)) ∙ times-shown print-clause clause-words clause-text clause-filled clause-shown cs [] in
-      let f : total (length cs) ws ≡ literals-in cs = ap (total (length cs)) (sym (append-nil ws)) ∙ total-shown cs [] in
+      let f : total (length cs) ws ≡ members-in cs = ap (total (length cs)) (sym (append-nil ws)) ∙ total-shown cs [] in
       rw (e, f) refl
 
   tail-printed : print-emitted tail ≡ tail-text
@@ -116,7 +116,7 @@ module _ (fs ms is : List ℤ) (b i : ℕ) (fs-count : length fs ≡ b) (ms-coun
   tail-back : one-line emitted-key (each-line domain-key read-clauses) (split line-feed tail-text) ≡ some tail
   tail-back =
       one-back-line emitted-key (each-line domain-key read-clauses) refl (pos eb ∷ pos (length ds) ∷ []) (flat (map domain-text ds) ++ clauses-text)
-      ∙ ap (join (some (pos eb ∷ pos (length ds) ∷ []))) (domains-back ds read-clauses clauses-text (not-domain cs (length cs) (literals-in cs) read-clauses) ∙ ap (join (some (flat (map domain-words ds)))) (clauses-back cs (length cs)))
+      ∙ ap (join (some (pos eb ∷ pos (length ds) ∷ []))) (domains-back ds read-clauses clauses-text (not-domain cs (length cs) (members-in cs) read-clauses) ∙ ap (join (some (flat (map domain-words ds)))) (clauses-back cs (length cs)))
 
   words-back : read-compiled (split line-feed (print-line fixed-key fs ++ (print-line bools-key ms ++ (print-line ints-key is ++ tail-text)))) ≡ some whole
   unfolding read-compiled

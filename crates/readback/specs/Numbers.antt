@@ -9,7 +9,6 @@ use native.Mathlib.Nat.{div-add-mod', mod-lt}
 use lib.IntN.{ℤ, pos, negsuc}
 use lib.Dec.{leb}
 use borrow.Author.Tests.{leb-true, leb-false, le-leb, ne-eqb}
-use Rattle.decimal.specs.Bytes.{minus}
 use Rattle.decimal.specs.Decimal.{digit, print-steps, print-natural, print-number, is-digit, read-digits, is-empty, read-natural}
 use Rattle.readback.specs.ReadListing.{plain-of, negated-of, read-integer}
 
@@ -51,13 +50,6 @@ digits-of (suc k) n h = go (leb 10 n) refl (λ l. digits-of k (n / 10) l)
         let v : 10 * 0 + (48 + n - 48) ≡ n = omega arith in
         rw (digit-is n l) (ap some v)
 
-pub natural-digits : (n : ℕ) → read-digits 0 (print-natural n) ≡ some n
-unfolding print-natural
-natural-digits n = digits-of (suc n) n (omega arith)
-
--- ---- the first byte
-
--- from 0 on; past the end 0
 abbrev first : List ℕ → ℕ
 first [] = 0
 first (b ∷ bs) = b

@@ -9,7 +9,7 @@ use lib.ListN.{length}
 use Rattle.decimal.specs.Bytes.{comma, semicolon, colon, minus, line-feed, bools-key, ints-key, fixed-key, emitted-key, domain-key, clause-key, clauses-key, total-key, compiled-line, contradiction-line, refused-start}
 use Rattle.decimal.specs.Decimal.{is-empty, read-natural}
 use Rattle.input.specs.ReadText.{split, after, join, single, Reader}
-use Rattle.lines.specs.Lines.{count-word}
+use Rattle.lines.specs.Lines.{count-word, after-literals}
 use Rattle.call.specs.Call.{Result, compiled, contradiction, refused}
 
 -- ---- numbers
@@ -71,17 +71,17 @@ read-clause (p ∷ ps) = join (sized (read-part p)) (headed (length ps) (read-co
 
 -- ---- the clauses and the last two lines
 
--- the clauses' words, how many literals they have; the numbers of the lines `clauses=` and `total=`
+-- the clauses' words, how many literals and comparisons they have; the numbers of the lines `clauses=` and `total=`
 pub record Tail : Type 0 where
   pub words : List ℤ
-  pub literals : ℕ
+  pub members : ℕ
   pub count : ℤ
   pub total : ℕ
 
 abbrev pub last-two : Option ℤ → Option ℕ → Option Tail
 last-two none t = none
 last-two (some k) none = none
-last-two (some k) (some t) = some (record { words = []; literals = 0; count = k; total = t })
+last-two (some k) (some t) = some (record { words = []; members = 0; count = k; total = t })
 
 abbrev pub integer-behind : Option (List ℕ) → Option ℤ
 integer-behind none = none
@@ -103,7 +103,7 @@ read-last (p ∷ q ∷ (b ∷ bs) ∷ rs) = none
 abbrev pub and-clause : Option (List ℤ) → Option Tail → Option Tail
 and-clause none t = none
 and-clause (some c) none = none
-and-clause (some c) (some t) = some (record { words = c ++ t .words; literals = count-word c + t .literals; count = t .count; total = t .total })
+and-clause (some c) (some t) = some (record { words = c ++ t .words; members = count-word c + count-word (after-literals c) + t .members; count = t .count; total = t .total })
 
 abbrev pub clause-or : Option (List ℕ) → Option Tail → Option Tail → Option Tail
 clause-or none more other = other
@@ -116,7 +116,7 @@ read-tail (p ∷ ps) = clause-or (after clause-key p) (read-tail ps) (read-last 
 -- the total is that of the clauses
 abbrev pub tail-words : Option Tail → Option (List ℤ)
 tail-words none = none
-tail-words (some t) = cond (eqb (t .total) (t .literals)) (some (t .count ∷ t .words)) none
+tail-words (some t) = cond (eqb (t .total) (t .members)) (some (t .count ∷ t .words)) none
 
 unfoldable pub read-clauses : Reader
 read-clauses ps = tail-words (read-tail ps)

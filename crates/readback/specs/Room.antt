@@ -26,7 +26,7 @@ use Rattle.decimal.specs.Bytes.{colon, line-feed, bools-key, ints-key, fixed-ke
 use Rattle.decimal.specs.Decimal.{digit, print-steps, print-natural, print-number}
 use Rattle.lines.specs.Lines.{count-word, print-more, print-numbers, print-line}
 use Rattle.text.specs.Listing.{print-compiled, print-answer}
-use Rattle.readback.specs.Shown.{terms-words, linear-text, lits-words, lits-length, clause-text, literals-in}
+use Rattle.readback.specs.Shown.{terms-words, linear-text, lits-words, lits-length, clause-text, members-in}
 use Rattle.readback.specs.Lines.{last-text}
 use Rattle.readback.specs.Listed.{print-result}
 use Rattle.readback.specs.ListingBack.{domain-text, tail-text, clauses-text, compiled-printed, whole, bools-word, ints-word}
@@ -130,11 +130,15 @@ clause-short (clause ls ks) =
 
 -- ---- the answer
 
--- every literal is a word
-literals-few : (cs : List Clause) → literals-in cs ≤ length (flat (map clause-words cs))
-literals-few [] = omega arith
-literals-few (clause ls ks ∷ cs) =
-    omega (arith, literals-few cs, lits-length ls, length-append (counted lit-words ls) (counted linear-words ks), length-append (clause-words (clause ls ks)) (flat (map clause-words cs)))
+-- every literal and every comparison has a word
+linears-few : (ks : List LinearLit) → length ks ≤ length (flat (map linear-words ks))
+linears-few [] = omega arith
+linears-few (linear o (linear-sum c ts) ∷ ks) = omega (arith, linears-few ks, length-append (linear-words (linear o (linear-sum c ts))) (flat (map linear-words ks)))
+
+members-few : (cs : List Clause) → members-in cs ≤ length (flat (map clause-words cs))
+members-few [] = omega arith
+members-few (clause ls ks ∷ cs) =
+    omega (arith, members-few cs, linears-few ks, lits-length ls, length-append (counted lit-words ls) (counted linear-words ks), length-append (clause-words (clause ls ks)) (flat (map clause-words cs)))
 
 last-short : (k t : ℕ) → t ≤ 2147483648 → length (last-text k t) ≤ bytes (pos k ∷ []) + 26
 last-short k t h =
@@ -153,8 +157,8 @@ module _ (fs ms is : List ℤ) (b i : ℕ) (fs-count : length fs ≡ b) (ms-coun
   clauses-short : length (flat (map clause-words cs)) ≤ 2147483648 → length clauses-printed ≤ bytes (counted clause-words cs) + 3 * length (counted clause-words cs) + 26
   unfolding bytes
   clauses-short h =
-      let t : literals-in cs ≤ 2147483648 = omega (arith, literals-few cs, h) in
-      omega (arith, length-append (flat (map clause-text cs)) (last-text (length cs) (literals-in cs)), all-short clause-text clause-words clause-short cs, last-short (length cs) (literals-in cs) t)
+      let t : members-in cs ≤ 2147483648 = omega (arith, members-few cs, h) in
+      omega (arith, length-append (flat (map clause-text cs)) (last-text (length cs) (members-in cs)), all-short clause-text clause-words clause-short cs, last-short (length cs) (members-in cs) t)
 
   tail-short : length (flat (map clause-words cs)) ≤ 2147483648 → length printed ≤ bytes (pos eb ∷ (counted domain-words ds ++ counted clause-words cs)) + 3 * length (counted domain-words ds ++ counted clause-words cs) + 35
   unfolding bytes

@@ -1,6 +1,6 @@
 -- What the listing prints of an answer's domains, comparisons and clauses, from the words that they are laid out as. Assumes nothing.
 use mathlib.Core.Path.{_≡_, refl, sym, ap, _∙_}
-use mathlib.Core.List.{List, [], _∷_, _++_, map, append-assoc}
+use mathlib.Core.List.{List, [], _∷_, _++_, map, append-assoc, append-nil}
 use Prim.Native.Nat.{ℕ, suc, _+_, _<_}
 use native.Mathlib.Omega.{arith}
 use lib.IntN.{ℤ, pos}
@@ -13,7 +13,7 @@ use Rattle.sums.specs.LinearSum.{Term, term, linear-sum}
 use Rattle.clauses.specs.Clause.{BoolLit, lit, LinearLit, linear, Clause, clause}
 use Rattle.answer.specs.Answer.{domain-words, lit-words, term-words, linear-words, clause-words}
 use Rattle.decimal.specs.Bytes.{semicolon, line-feed, domain-key, clause-key}
-use Rattle.lines.specs.Lines.{Shown, print-numbers, print-line, times, print-domain, print-comparison, literals, after-literals, print-comparisons, print-clause, total}
+use Rattle.lines.specs.Lines.{Shown, count-word, print-numbers, print-line, times, print-domain, print-comparison, literals, after-literals, print-comparisons, print-clause, summed, members, total}
 use Rattle.readback.specs.Split.{body}
 
 -- ---- several of a kind
@@ -100,6 +100,10 @@ module _ (ls : List BoolLit) (ks : List LinearLit) (r : List ℤ) where
   clause-rest : after-literals whole ≡ pos (length ks) ∷ (flat (map linear-words ks) ++ r)
   clause-rest = rw (laid, ← lits-length ls) (drop-append-seam (lits-words ls) (pos (length ks) ∷ (flat (map linear-words ks) ++ r)))
 
+-- how many comparisons: the word behind the literals
+pub clause-comparisons : (ls : List BoolLit) (ks : List LinearLit) → count-word (after-literals (clause-words (clause ls ks))) ≡ length ks
+clause-comparisons ls ks = ap (λ (l : List ℤ). count-word (after-literals l)) (sym (append-nil (clause-words (clause ls ks)))) ∙ ap count-word (clause-rest ls ks [])
+
 pub clause-shown : (c : Clause) (r : List ℤ) → print-clause (clause-words c ++ r) ≡ record { text = clause-text c; rest = r }
 unfolding print-clause print-comparisons
 clause-shown (clause ls ks) r =
@@ -108,22 +112,35 @@ clause-shown (clause ls ks) r =
     let e : clause-key ++ (lits ++ (comps ++ (line-feed ∷ []))) ≡ (clause-key ++ (lits ++ comps)) ++ (line-feed ∷ []) = sym (append-assoc clause-key (lits ++ comps) (line-feed ∷ []) ∙ ap (λ l. clause-key ++ l) (append-assoc lits comps (line-feed ∷ []))) in
     rw (clause-literals ls ks r, clause-rest ls ks r, times-shown print-comparison linear-words linear-text linear-filled linear-shown ks r) (ap (λ (l : List ℕ). record { text = l; rest = r }) e)
 
--- ---- the number of literals
+-- ---- the number of literals and comparisons
 
-abbrev pub literals-in : List Clause → ℕ
-literals-in [] = 0
-literals-in (clause ls ks ∷ cs) = length ls + literals-in cs
+abbrev pub members-in : List Clause → ℕ
+members-in [] = 0
+members-in (clause ls ks ∷ cs) = length ls + length ks + members-in cs
 
-total-suc : (n : ℕ) (ws : List ℤ) → 0 < length ws → total (suc n) ws ≡ length (literals ws) + total n (print-clause ws .rest)
-unfolding total
-total-suc n [] h = absurd (omega arith)
-total-suc n (w ∷ ws) h = refl
+sum-suc : (f : List ℤ → Shown) (g : List ℤ → ℕ) (n : ℕ) (ws : List ℤ) → 0 < length ws → summed f g (suc n) ws ≡ g ws + summed f g n (f ws .rest)
+unfolding summed
+sum-suc f g n [] h = absurd (omega arith)
+sum-suc f g n (w ∷ ws) h = refl
 
-pub total-shown : (cs : List Clause) (r : List ℤ) → total (length cs) (flat (map clause-words cs) ++ r) ≡ literals-in cs
-unfolding total
+comparisons-shown : (ks : List LinearLit) (r : List ℤ) → summed print-comparison (λ k. 1) (length ks) (flat (map linear-words ks) ++ r) ≡ length ks
+unfolding summed
+comparisons-shown [] r = refl
+comparisons-shown (k ∷ ks) r =
+    let c : List ℤ = linear-words k in
+    let more : List ℤ = flat (map linear-words ks) ++ r in
+    rw (append-assoc c (flat (map linear-words ks)) r)
+    (sum-suc print-comparison (λ k. 1) (length ks) (c ++ more) (omega (arith, linear-filled k, length-append c more)) ∙ rw (linear-shown k more) (omega (arith, comparisons-shown ks r)))
+
+members-shown : (ls : List BoolLit) (ks : List LinearLit) (r : List ℤ) → members (clause-words (clause ls ks) ++ r) ≡ length ls + length ks
+unfolding members
+members-shown ls ks r = rw (clause-literals ls ks r, clause-rest ls ks r, lits-length ls, comparisons-shown ks r) refl
+
+pub total-shown : (cs : List Clause) (r : List ℤ) → total (length cs) (flat (map clause-words cs) ++ r) ≡ members-in cs
+unfolding summed
 total-shown [] r = refl
 total-shown (clause ls ks ∷ cs) r =
     let c : List ℤ = clause-words (clause ls ks) in
     let more : List ℤ = flat (map clause-words cs) ++ r in
     rw (append-assoc c (flat (map clause-words cs)) r)
-    (total-suc (length cs) (c ++ more) (omega (arith, clause-filled (clause ls ks), length-append c more)) ∙ rw (clause-literals ls ks more, lits-length ls, clause-shown (clause ls ks) more, total-shown cs r) refl)
+    (sum-suc print-clause members (length cs) (c ++ more) (omega (arith, clause-filled (clause ls ks), length-append c more)) ∙ rw (members-shown ls ks more, clause-shown (clause ls ks) more, total-shown cs r) refl)

@@ -1,14 +1,14 @@
 -- A parser hands back an end of the words that it was given. Assumes nothing.
 use mathlib.Core.Path.{_≡_, sym, ap, _∙_}
 use mathlib.Core.Bool.{Bool, true, false, cond}
-use mathlib.Core.List.{List, [], _∷_, _++_}
+use mathlib.Core.List.{List, [], _++_}
 use Prim.Native.Nat.{ℕ, _+_, _-_, _≤_}
 use native.Mathlib.Omega.{arith}
 use lib.IntN.{ℤ}
 use lib.ListN.{length, drop, length-append}
 use lib.Seq.{drop-drop, drop-at}
-use Rattle.words.specs.Parse.{ok, refuse, Parser, bind, word}
-use Rattle.words.specs.Exact.{Exact, refuse-ok, bind-ok, word-ok}
+use Rattle.words.specs.Parse.{ok, refuse, Parser, bind}
+use Rattle.words.specs.Exact.{Exact, refuse-ok, bind-ok}
 
 pub record Tail (xs r : List ℤ) : Type 0 where
   pub short : length r ≤ length xs
@@ -38,9 +38,6 @@ tail-trans xs s r h k = record {
 
 pub exact-shortens : {A : Type 0} {words : A → List ℤ} {Fits : A → Type 0} {p : Parser A} → Exact words Fits p → Shortens p
 exact-shortens {words = words} x xs a r h = tail-of xs (words a) r (x .sound xs a r h .0)
-
-pub word-shortens : Shortens word
-word-shortens xs w r h = tail-of xs (w ∷ []) r (word-ok xs w r h)
 
 pub ok-shortens : {A : Type 0} (a : A) → Shortens (λ xs. ok a xs)
 ok-shortens a xs b r h = tail-of xs [] r (cc)

@@ -1,8 +1,8 @@
 -- The refusal of a set as a number, 0 where 1 to 11 let it through; and a slice of zeros.
-use mathlib.Core.List.{List, _++_}
+use mathlib.Core.List.{List}
 use Prim.Native.Nat.{ℕ}
 use lib.IntN.{ℤ, pos}
-use lib.ListN.{length, replicate, drop}
+use lib.ListN.{replicate}
 use Rattle.reader.specs.declared.Set.{Set}
 use Rattle.reader.specs.declared.Set.the-variants.{Ok, Refused}
 

@@ -14,7 +14,7 @@ use Rattle.fold.specs.Fold.{Fixed}
 use Rattle.fold.specs.Optimize.{settled, optimize}
 use Rattle.answer.specs.Answer.{fixed-word}
 use Rattle.call.specs.Call.{zeros}
-use Rattle.statements.specs.Ready.{stmts-words}
+use Rattle.statements.specs.Stages.{stmts-words}
 use Rattle.settle.specs.Settle.{settling}
 use Rattle.settle.specs.declared.Settling.{Settling}
 use Rattle.settle.specs.declared.Settling.the-variants.{Refused, Contradiction, Folded}

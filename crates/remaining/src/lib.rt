@@ -1,6 +1,5 @@
 // For comparison with the Rust: the fixed values and the remaining statements of a set, behind folding and propagation.
 use settle::Settling;
-ghost use mathlib.Core.Path.{_≡_};
 ghost use Prim.Native.Nat.{_≤_};
 ghost use lib.ListN.{length};
 ghost use Rattle.remaining.specs.Remaining.{Remains, Copied};

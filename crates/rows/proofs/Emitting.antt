@@ -1,34 +1,32 @@
 -- What the steps of writing comparisons and clauses say of the words written. Assumes nothing.
-use mathlib.Core.Path.{_≡_, refl, sym, ap, _∙_, subst}
-use mathlib.Core.Bool.{Bool, true, false, not, _&&_, _||_, cond}
-use mathlib.Core.List.{List, [], _∷_, _++_, append-assoc, append-nil, map}
-use Prim.Native.Nat.{ℕ, zero, suc, _+_, _-_, _*_, _<_, _≤_}
+use mathlib.Core.Path.{_≡_, refl, sym, ap, _∙_}
+use mathlib.Core.Bool.{true}
+use mathlib.Core.List.{List, [], _∷_, _++_, map}
+use Prim.Native.Nat.{ℕ, zero, suc, _+_, _*_, _<_, _≤_}
 use native.Mathlib.Omega.{arith}
 use native.Mathlib.Numerals.{add-one}
-use lib.IntN.{ℤ, pos, negsuc, negℤ, natAbs, _+ℤ_, _-ℤ_, +ℤ-idl}
-use lib.Signed.{ltZ, leZ, nonNeg}
-use lib.Dec.{T}
+use lib.IntN.{ℤ, pos, negsuc, negℤ, natAbs, _-ℤ_, +ℤ-idl}
+use lib.Signed.{ltZ}
 use lib.ListN.{length, getD, set, take, drop, length-append}
 use lib.Seq.{getD-drop, getD-take}
-use borrow.Author.Tests.{ltb-true, le-leb}
-use mir.Syntax.{w32, w64}
-use mir.Val.{Fits, SFits, ofZ, toZ}
-use mir.Facts.{toZ-ofZ, fits-natAbs}
-use Rattle.laws.specs.Lists.{all, keep-if, filter, flat, flat-append}
+use borrow.Author.Tests.{ltb-true}
+use mir.Syntax.{w32}
+use mir.Val.{SFits, ofZ, toZ}
+use mir.Facts.{toZ-ofZ}
+use Rattle.laws.specs.Lists.{filter, flat, flat-append}
 use Rattle.laws.specs.Writes.{cap, Wrote, wrote-none, wrote-length, wrote-low, wrote-then, wrote-to}
-use Rattle.syntax.specs.Words.{max-value, star-word}
+use Rattle.syntax.specs.Words.{star-word}
 use Rattle.syntax.specs.Syntax.{Domain, enumerate, domain-of}
-use Rattle.clauses.specs.Clause.{LinearLit, Clause, clause}
+use Rattle.clauses.specs.Clause.{LinearLit, clause}
 use Rattle.answer.specs.Answer.{linear-words, clause-words}
-use Rattle.tables.specs.Tables.{Row, cell-at, linear-eq, linear-ne, takes, variable, differs, column-clause, column-clauses}
-use Rattle.tables.specs.Values.{after, whole-yes, whole-no}
-use Rattle.rows.specs.declared.Best.{Best}
+use Rattle.tables.specs.Tables.{Row, cell-at, linear-eq, linear-ne, takes, variable, differs, column-clause}
+use Rattle.tables.specs.Values.{after}
 use Rattle.rows.specs.declared.Best.the-variants.{Nothing, Value}
 use Rattle.rows.specs.Rows.{rows-of}
 use Rattle.rows.specs.Columns.{word, vars-of}
 use Rattle.rows.specs.Next.{next-of, Holds}
-use Rattle.rows.specs.Emit.{comparison, linears-words, clauses-words, Room, Clauses, Starless, group-of}
-use Rattle.rows.proofs.Next.{all-at, all-left, left-none, left-next}
+use Rattle.rows.specs.Emit.{comparison, linears-words, Room, Starless, group-of}
+use Rattle.rows.proofs.Next.{all-left, left-none, left-next}
 
 -- ---- one comparison
 

@@ -1,20 +1,20 @@
 -- Clauses written one after the other by loops that stop where the answer is too long. Assumes nothing.
 use mathlib.Core.Path.{_≡_, refl, sym, ap, _∙_, subst}
 use mathlib.Core.Bool.{Bool, true, false, not}
-use mathlib.Core.List.{List, [], _∷_, _++_, append-assoc, append-nil, map}
-use Prim.Native.Nat.{ℕ, zero, suc, _+_, _-_, _*_, _<_, _≤_}
+use mathlib.Core.List.{List, [], _∷_, _++_, append-nil, map}
+use Prim.Native.Nat.{ℕ, suc, _+_, _-_, _<_, _≤_}
 use native.Mathlib.Omega.{arith}
 use native.Mathlib.Numerals.{add-one}
-use lib.IntN.{ℤ, pos}
+use lib.IntN.{ℤ}
 use lib.ListN.{length, length-append}
 use Rattle.laws.specs.Lists.{all, keep-if, filter, flat, flat-append}
-use Rattle.laws.specs.Writes.{cap, Wrote, wrote-none, wrote-length, wrote-low, wrote-then, wrote-to, sets-out}
+use Rattle.laws.specs.Writes.{cap, Wrote, wrote-none, wrote-then, wrote-to, sets-out}
 use Rattle.syntax.specs.Syntax.{Domain, enumerate, domain-of}
-use Rattle.clauses.specs.Clause.{Clause, clause}
+use Rattle.clauses.specs.Clause.{Clause}
 use Rattle.answer.specs.Answer.{clause-words}
 use Rattle.tables.specs.Tables.{Row, takes, column-clause, column-clauses}
 use Rattle.tables.specs.Values.{whole-yes, whole-no}
-use Rattle.rows.specs.Emit.{clauses-words, Room, Clauses, Emits, Behind}
+use Rattle.rows.specs.Emit.{clauses-words, Clauses, Emits, Behind}
 
 map-append : (as₁ bs : List Clause) → map clause-words (as₁ ++ bs) ≡ map clause-words as₁ ++ map clause-words bs
 map-append [] bs = refl

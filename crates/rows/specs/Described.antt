@@ -1,14 +1,14 @@
 -- The words that describe a domain to the rows' code: for a range its number of values and its lowest one, for a list its length, negated, and its place.
 use mathlib.Core.Path.{_≡_, refl, sym, ap, _∙_}
 use mathlib.Core.Bool.{true}
-use mathlib.Core.List.{List, [], _∷_}
-use Prim.Native.Nat.{ℕ, suc, _<_}
-use lib.IntN.{ℤ, pos, negsuc, negℤ, natAbs, sucℤ, _+ℤ_, _-ℤ_, +ℤ-assoc, +ℤ-comm, +ℤ-invr, +ℤ-idr, +ℤ-one, -ℤ-+ℤ-cancel}
-use lib.Signed.{leZ, nonNeg, pos-natAbs}
+use mathlib.Core.List.{List, _∷_}
+use Prim.Native.Nat.{ℕ}
+use lib.IntN.{ℤ, pos, negsuc, negℤ, _+ℤ_, _-ℤ_, +ℤ-assoc, +ℤ-comm, +ℤ-invr, +ℤ-idr, -ℤ-+ℤ-cancel}
+use lib.Signed.{leZ, nonNeg}
 use lib.Dec.{T}
-use lib.ListN.{length, take, drop}
+use lib.ListN.{length}
 use Rattle.laws.specs.Slices.{Has}
-use Rattle.syntax.specs.Syntax.{Domain, Range, Enumerative, num-candidates}
+use Rattle.syntax.specs.Syntax.{Range, Enumerative, num-candidates}
 use Rattle.tables.specs.Domains.{sub-nonNeg}
 use Rattle.rows.specs.Columns.{domain-in}
 

@@ -1,14 +1,14 @@
 -- A table's cells as words: what stands as the words of cells is the rows of their values, has no star's word but the stars, and is starless without stars.
 -- Cells are taken to hold values, as reading has it.
 use mathlib.Core.Path.{_≡_, refl, sym, ap, _∙_}
-use mathlib.Core.Bool.{Bool, true, false, not, _&&_, _||_}
-use mathlib.Core.List.{List, [], _∷_, _++_, map}
-use Prim.Native.Nat.{ℕ, zero, suc, _+_, _*_, _≤_, _<_}
+use mathlib.Core.Bool.{Bool, true, false, not}
+use mathlib.Core.List.{List, [], _∷_, map}
+use Prim.Native.Nat.{ℕ, suc, _+_, _*_}
 use native.Mathlib.Omega.{arith}
 use native.Mathlib.Nat.{suc-mul, zero-mul}
 use lib.IntN.{ℤ, pos, negsuc, natAbs}
 use lib.Signed.{ltZ}
-use lib.Dec.{eqb, ltb, leb}
+use lib.Dec.{leb}
 use lib.ListN.{length, take, drop, length-append, length-map}
 use lib.Seq.{drop-drop}
 use borrow.Author.Tests.{leb-true, lt-ltb, ne-eqb}
@@ -19,7 +19,7 @@ use Rattle.laws.specs.Lists.{any, all, keep-if, filter, flat, any-append, all-a
 use Rattle.laws.specs.Slices.{Has, has-front, has-back}
 use Rattle.syntax.specs.Words.{max-value, star-word}
 use Rattle.syntax.specs.Syntax.{Cell, star, value, encode-cell}
-use Rattle.tables.specs.Tables.{Row, is-star, cell-value}
+use Rattle.tables.specs.Tables.{is-star, cell-value}
 use Rattle.tables.specs.Agree.{wide, wide-is}
 use Rattle.rows.specs.Rows.{rows-of}
 use Rattle.rows.specs.Emit.{Starless}

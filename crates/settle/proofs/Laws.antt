@@ -2,7 +2,7 @@
 use mathlib.Core.Path.{_≡_, refl, sym, ap, _∙_, subst}
 use mathlib.Core.Bool.{Bool, true, false}
 use mathlib.Core.Option.{Option, none as nothing, some}
-use mathlib.Core.List.{List, [], _∷_, _++_}
+use mathlib.Core.List.{List, [], _++_}
 use Prim.Native.Nat.{ℕ, zero, suc, _+_, _≤_, _<_}
 use native.Mathlib.Omega.{arith}
 use lib.IntN.{ℤ, pos}
@@ -28,7 +28,7 @@ use Rattle.call.specs.Call.{zeros}
 use Rattle.walk.specs.Item.{nat, bool-entry, int-entry}
 use Rattle.walk.specs.Decode.{read-part}
 use Rattle.statements.specs.Whole.{Empty}
-use Rattle.statements.specs.Ready.{stmts-words, Folded}
+use Rattle.statements.specs.Stages.{stmts-words, Folded}
 use Rattle.settle.specs.declared.Settling.{Settling}
 use Rattle.settle.specs.declared.Settling.the-variants as settling
 use Rattle.settle.specs.Settle.{settling-of, settling-checked, settling-read, settling as settling-words, maps-empty, Left, Settle-post, Taken-in, Some-taken, Left-of, Folds, Fold-post}

@@ -17,7 +17,7 @@ use Rattle.fold.specs.Fold.{Fixed}
 use Rattle.fold.specs.Optimize.{Outcome, inconsistent, settled, optimize}
 use Rattle.call.specs.Call.{zeros}
 use Rattle.statements.specs.Whole.{Empty}
-use Rattle.statements.specs.Ready as ready
+use Rattle.statements.specs.Stages as ready
 use Rattle.settle.specs.declared.Settling.{Settling}
 use Rattle.settle.specs.declared.Settling.the-variants.{Refused, Contradiction, Folded}
 

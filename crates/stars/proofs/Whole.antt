@@ -1,14 +1,14 @@
 -- A starred table's clauses from the lines written: the longer rows', then the pool's. Assumes nothing.
 use mathlib.Core.Path.{_≡_, refl, ap, _∙_, subst}
-use mathlib.Core.Bool.{Bool, true, false}
-use mathlib.Core.List.{List, [], _∷_, _++_, map}
-use Prim.Native.Nat.{ℕ, zero, suc, _*_, _≤_}
+use mathlib.Core.Bool.{Bool, true}
+use mathlib.Core.List.{List, _++_, map}
+use Prim.Native.Nat.{ℕ, _*_, _≤_}
 use native.Mathlib.Omega.{arith}
 use lib.IntN.{ℤ, pos}
 use lib.Signed.{leZ}
 use lib.ListN.{length, drop}
 use lib.Seq.{getD-drop}
-use Rattle.laws.specs.Lists.{keep-if, filter, length-filter}
+use Rattle.laws.specs.Lists.{length-filter}
 use Rattle.laws.specs.Writes.{cap, wrote-low}
 use Rattle.syntax.specs.Syntax.{encode-cell}
 use Rattle.tables.specs.Tables.{Row}

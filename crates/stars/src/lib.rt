@@ -1,9 +1,7 @@
 // The clauses of a starred table: the Or over its rows of the And of their equalities, written straight from the rows' words.
-ghost use mathlib.Core.Path.{_≡_};
-ghost use mathlib.Core.List.{List, [], _∷_};
-ghost use Prim.Native.Nat.{ℕ, _+_, _*_, _≤_, _<_};
-ghost use lib.IntN.{ℤ, pos};
-ghost use lib.ListN.{length, drop};
+ghost use mathlib.Core.List.{[], _∷_};
+ghost use Prim.Native.Nat.{_+_, _≤_, _<_};
+ghost use lib.ListN.{drop};
 ghost use Rattle.laws.specs.Writes.{Wrote};
 ghost use Rattle.syntax.specs.Words.{max-count};
 ghost use Rattle.walk.specs.Item.{limit, extra};

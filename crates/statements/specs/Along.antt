@@ -15,19 +15,19 @@ use Rattle.clauses.specs.Clause.{Clause}
 use Rattle.clauses.specs.Log.{Log, next-int}
 use Rattle.clauses.specs.Disjunction.{Out}
 use Rattle.tables.specs.Tables.{emitted-domains}
-use Rattle.tables.specs.ColumnMeaning.{Standing}
+use Rattle.tables.specs.ColumnMeaning.{WithinDomain}
 use Rattle.answer.specs.Answer.{normalize-stmt, normalize-stmts}
-use Rattle.call.specs.Ready.{Plain}
+use Rattle.call.specs.WellRead.{Plain}
 use Rattle.walk.specs.Item.{bool-map, bool-entry, int-entry, nat, State}
 use Rattle.walk.specs.Grow.{Grows}
 use Rattle.walk.specs.Num.{max-emitted, Numbered}
-use Rattle.walk.specs.Two.{low-back}
+use Rattle.walk.specs.TwoWalks.{low-back}
 use Rattle.statements.specs.Columns.{ColumnRecord}
-use Rattle.statements.specs.Statements.{LegalStmt, LegalStmts, Stable, InPlace, AllInPlace, meet-stmt, stmts-grow, stable-back, stmt-passes}
+use Rattle.statements.specs.Statements.{LegalStmt, LegalStmts, Stable, InPlace, AllInPlace, meet-stmt, stmts-grow, stable-back, stmt-walks}
 use Rattle.statements.specs.Settled.{settled-legal, settled-plain}
 use Rattle.statements.specs.Whole.{Empty, start, start-numbered, lowest, log-standing}
-use Rattle.statements.specs.ReadyEntry.{settled-emitted, settled-low}
-use Rattle.statements.specs.Ready.{stmts-words, Settled, clauses-of, log-of, StmtFacts, settled-facts, settled-short}
+use Rattle.statements.specs.NumberedEntry.{settled-emitted, settled-low}
+use Rattle.statements.specs.Stages.{stmts-words, Settled, clauses-of, log-of, StmtFacts, settled-facts, settled-short}
 
 -- ---- a work slice of zeros, from which the numbering of a set may start
 
@@ -48,7 +48,7 @@ pub record StmtAt (ds : List Domain) (F w : List ℤ) (L : Log) (q : ℕ) (t : S
   pub facts : StmtFacts ds t
   pub legal : LegalStmt ds t
   pub plain : Plain t
-  pub standing : EveryStmt (λ v. Unit {0}) (Standing ds (lowest ds)) t
+  pub standing : EveryStmt (λ v. Unit {0}) (WithinDomain ds (lowest ds)) t
   pub stands : Has F q (encode-stmt t)
   pub behind : 512 ≤ q
   pub inside : q + length (encode-stmt t) ≤ bool-map
@@ -68,7 +68,7 @@ pub record Rest (p : Problem) (ss : List Stmt) (F w : List ℤ) (q : ℕ) (rest 
   pub facts : Each (StmtFacts (p .domains)) rest
   pub legal : LegalStmts F (p .domains) rest
   pub plain : Each Plain rest
-  pub standing : EveryStmts (λ v. Unit {0}) (Standing (p .domains) (lowest (p .domains))) rest
+  pub standing : EveryStmts (λ v. Unit {0}) (WithinDomain (p .domains) (lowest (p .domains))) rest
   pub numbered : Numbered (ColumnRecord F (p .domains)) st s
   pub placed : AllInPlace F (p .domains) w q rest s
 
@@ -144,6 +144,6 @@ module _ {p : Problem} {f : Fixed} {ss : List Stmt} (set : Settled p f ss) where
           legal = r .legal .1;
           plain = r .plain .1;
           standing = r .standing .1;
-          numbered = stmt-passes F ds q t st s (r .behind, room) has (r .legal .0) (r .numbered) (low-back grows (settled-low set)) fewer .numbered;
+          numbered = stmt-walks F ds q t st s (r .behind, room) has (r .legal .0) (r .numbered) (low-back grows (settled-low set)) fewer .numbered;
           placed = r .placed .1;
         }

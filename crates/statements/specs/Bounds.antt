@@ -1,15 +1,15 @@
 -- How many Boolean numbers the statements take: at most thirteen for each of their words.
-use mathlib.Core.Path.{_≡_, refl, sym, ap, _∙_}
+use mathlib.Core.Path.{_≡_, refl, ap}
 use mathlib.Core.Bool.{Bool, true, false, not, cond}
 use mathlib.Core.Option.{Option, none as nothing, some}
 use mathlib.Core.List.{List, [], _∷_, _++_, map}
-use Prim.Native.Nat.{ℕ, zero, suc, _+_, _-_, _*_, _≤_, _<_}
+use Prim.Native.Nat.{ℕ, zero, suc, _+_, _-_, _*_, _≤_}
 use native.Mathlib.Omega.{arith}
 use lib.IntN.{ℤ}
 use lib.ListN.{length, length-append, length-map}
 use Rattle.laws.specs.Lists.{any, flat}
-use Rattle.syntax.specs.Syntax.{Domain, domain-of, IntExpr, encode-int, BoolExpr, Const, Var, NVar, And, Or, Not, Xor, Iff, Imp, Cmp, Members, none, more, encode-bool, encode-members, Cell, star, value, encode-cell, Stmt, Rule, Table, encode-stmt}
-use Rattle.clauses.specs.Clause.{Clause, clause, negate-if}
+use Rattle.syntax.specs.Syntax.{Domain, domain-of, encode-int, BoolExpr, Const, Var, NVar, And, Or, Not, Xor, Iff, Imp, Cmp, Members, none, more, encode-bool, encode-members, Cell, Stmt, Rule, Table, encode-stmt}
+use Rattle.clauses.specs.Clause.{Clause, clause}
 use Rattle.clauses.specs.Log.{Log, next-bool, get-bool-var, bool-var-at, convert-bool-var}
 use Rattle.clauses.specs.Disjunction.{Sorted, satisfied, pool, pooled, with-longer, sorted, finish-sorted, normalize-disjunction}
 use Rattle.clauses.specs.Normalize.{no-run, run-then, normalize-conjunction, disjunction-of, cross as cross-run, normalize-var, normalize-comparison, normalize-int-expr, lit-clauses, normalize-bool-expr}
@@ -122,11 +122,6 @@ unfolding weight
 join-low false ts = omega arith
 join-low true ts = omega arith
 
--- a conjunction in one polarity is a disjunction in the other
-joins-low : (d : Bool) (ts us : Trees) → weight (joined d ts) + weight (joined (not d) us) ≤ weights ts + weights us + (size ts + size us)
-joins-low d ts us = omega (arith, join-low d ts, join-low (not d) us)
-
--- of a side, in both polarities with its extras
 abbrev BothLow : BoolExpr → ℕ → ℕ → Type 0
 BothLow e at n = weight (resolve e true at n false) + weight (resolve e true at n true) + weights (ties e true at n) + 24 ≤ 13 * length (encode-bool e)
 

@@ -1,9 +1,9 @@
 -- The columns of a table in the two passes: a column that is no declared variable gets a number, kept at its place, and a record of its place.
 -- F: the folded words in the work slice, in which the columns stand.
 use mathlib.Core.Path.{_≡_, refl, sym, ap, _∙_, subst}
-use mathlib.Core.Bool.{Bool, true, false, cond}
+use mathlib.Core.Bool.{false}
 use mathlib.Core.List.{List, [], _∷_, _++_, map}
-use Prim.Native.Nat.{ℕ, zero, suc, _+_, _-_, _≤_, _<_}
+use Prim.Native.Nat.{ℕ, suc, _+_, _-_, _≤_, _<_}
 use native.Mathlib.Omega.{arith}
 use lib.IntN.{ℤ, pos, negsuc}
 use lib.ListN.{length, getD, set, length-set, length-append}
@@ -11,25 +11,23 @@ use lib.Seq.{getD-set-same, getD-set-other}
 use Rattle.laws.specs.Bools.{or-no-l, or-no-r}
 use Rattle.laws.specs.Lists.{any, flat}
 use Rattle.laws.specs.Slices.{Has, has-front, has-back}
-use Rattle.syntax.specs.Syntax.{Domain, domain-of, CmpOp, Eq, IntExpr, IConst, IVar, Linear, encode-int}
+use Rattle.syntax.specs.Syntax.{Domain, domain-of, Eq, IntExpr, IConst, IVar, Linear, encode-int}
 use Rattle.syntax.specs.Written.{EveryInt, EveryColumn}
 use Rattle.syntax.specs.Lengths.{int-long}
 use Rattle.limits.specs.Limits.{heavy, many-column}
 use Rattle.sums.specs.LinearSum.{LinearSum, singleton, sub-sum, get-domain-linear-sum}
 use Rattle.sums.specs.Linear.{linear-of}
 use Rattle.clauses.specs.Clause.{Clause, clause, linear}
-use Rattle.clauses.specs.Log.{Log, column, next-bool, next-int, get-bool-var, get-int-var, convert-int-var}
-use Rattle.clauses.specs.Normalize.{IntOut, normalize-int-expr, normalize-int-var}
-use Rattle.tables.specs.Tables.{Columns, emitted-domains, new-column, old-column, equivalent-int-var, equivalent-int-vars}
-use Rattle.answer.specs.Answer.{clause-words, linear-words}
-use Rattle.walk.specs.Item.{limit, bump, nat, bool-map, int-map, emitted-ints, bool-entry, int-entry, int-number, State, meet-int-var, meet-int}
+use Rattle.clauses.specs.Log.{Log, column, next-int, get-bool-var, get-int-var, convert-int-var}
+use Rattle.clauses.specs.Normalize.{normalize-int-expr, normalize-int-var}
+use Rattle.tables.specs.Tables.{emitted-domains, new-column, old-column, equivalent-int-var, equivalent-int-vars}
+use Rattle.walk.specs.Item.{bump, nat, bool-map, emitted-ints, int-number, State, meet-int-var, meet-int}
 use Rattle.walk.specs.Grow.{Grows, same, then, Fit, back}
-use Rattle.walk.specs.Ints.{int-grows, int-bools, var-found, int-linear}
-use Rattle.walk.specs.Num.{max-emitted, code, Recorded, Numbered, recorded-set, bool-other, int-other, int-num, expr-num}
-use Rattle.walk.specs.Two.{Low}
+use Rattle.walk.specs.Ints.{int-grows, var-found, int-linear}
+use Rattle.walk.specs.Num.{max-emitted, Recorded, Numbered, recorded-set, bool-other, int-other, int-num, expr-num}
 pub use Rattle.walk.specs.MeetColumns.{column-map, number-column}
 pub use Rattle.syntax.specs.Lengths.{int-long as int-words}
-use Rattle.statements.specs.Kept.{Kept, kept-same, kept-then, int-var-kept, expr-kept}
+use Rattle.statements.specs.Kept.{Kept, int-var-kept, expr-kept}
 
 -- what is known of the record of a column: its place in F, its expression (within refusals 9 and 10), its sum and domain
 pub record ColumnRecord (F : List ℤ) (ds : List Domain) (s : Log) (word : ℤ) (l : LinearSum) (d : Domain) : Type 0 where

@@ -1,8 +1,8 @@
 -- Numbering a rule writes the maps and the records of the emitted integers, and nothing else of the work slice.
-use mathlib.Core.Path.{_≡_, refl, sym, ap, _∙_}
+use mathlib.Core.Path.{_≡_, refl, _∙_}
 use mathlib.Core.Bool.{Bool, true, false, cond}
 use mathlib.Core.List.{List, [], _∷_}
-use Prim.Native.Nat.{ℕ, zero, suc, _+_, _≤_, _<_}
+use Prim.Native.Nat.{ℕ, _+_, _≤_, _<_}
 use native.Mathlib.Omega.{arith}
 use lib.IntN.{ℤ, pos}
 use lib.ListN.{length, getD, set, length-set}
@@ -10,17 +10,16 @@ use lib.Seq.{getD-set-other}
 use Rattle.syntax.specs.Syntax.{Domain, IntExpr, IConst, IVar, Linear, Terms, tnil, tmore}
 use Rattle.syntax.specs.Written.{EveryInt, EveryTerm}
 use Rattle.sums.specs.LinearSum.{LinearSum, constant, add-sum, mul-sum}
-use Rattle.clauses.specs.Log.{Log, next-bool, next-int, get-int-var, int-var-at, convert-int-var}
-use Rattle.clauses.specs.Clause.{lit}
+use Rattle.clauses.specs.Log.{Log, next-int, convert-int-var}
 use Rattle.clauses.specs.Disjunction.{normalize-disjunction}
 use Rattle.clauses.specs.Normalize.{no-run, run-then, normalize-conjunction, disjunction-of, cross as cross-run, lit-clauses, normalize-var, normalize-comparison, normalize-int-var, normalize-term, normalize-int-expr, normalize-terms}
 use Rattle.walk.specs.Tree.{Tree, var, num, cmp, conj, disj, cross, tied, Trees, nil, cons, num-run, run, runs}
-use Rattle.walk.specs.Item.{bump, is-none, bool-map, int-map, emitted-ints, bool-entry, int-entry, State, new-bool, meet-bool, new-int, meet-int-var, meet-int, meet-terms, pass-bools, mets, var-item, num-item, cmp-item, conj-item, disj-item, cross-item, tied-item, item, items}
+use Rattle.walk.specs.Item.{is-none, bool-map, int-map, emitted-ints, bool-entry, int-entry, State, new-bool, meet-bool, new-int, meet-int-var, meet-int, meet-terms, walk-bools, mets, var-item, num-item, cmp-item, conj-item, disj-item, cross-item, tied-item, item, items}
 use Rattle.walk.specs.Ints.{int-grows, terms-grow}
 use Rattle.walk.specs.Grow.{then}
-use Rattle.walk.specs.Good.{Proper, Propers, disj-grows}
-use Rattle.walk.specs.Num.{max-emitted, Numbered, int-num, expr-num}
-use Rattle.walk.specs.Two.{Low, low-back, run-grow, runs-grow, num-good, nums-good}
+use Rattle.walk.specs.Implements.{Proper, Propers, disj-grows}
+use Rattle.walk.specs.Num.{max-emitted, Numbered, expr-num}
+use Rattle.walk.specs.TwoWalks.{Low, low-back, run-grow, runs-grow, num-good, nums-good}
 
 -- what lies below the maps and behind the records stays
 pub record Kept (w w' : List ℤ) : Type 0 where
@@ -84,7 +83,7 @@ module _ (Column : Log → ℤ → LinearSum → Domain → Type 0) where
   Roomy s = next-int s < max-emitted
 
   mutual
-    unfolding item run Proper mets pass-bools var-item num-item cmp-item conj-item disj-item cross-item tied-item normalize-var normalize-comparison normalize-conjunction disjunction-of cross-run no-run run-then num-run
+    unfolding item run Proper mets walk-bools var-item num-item cmp-item conj-item disj-item cross-item tied-item normalize-var normalize-comparison normalize-conjunction disjunction-of cross-run no-run run-then num-run
 
     tree-kept : (t : Tree) → Proper t → (s : Log) (st : State) → Numbered Column st s → Low (run t s .1) → Roomy (run t s .1) → Kept (st .work) (item t .met st .work)
     tree-kept (var v g) p s st h l r = bool-kept v st p

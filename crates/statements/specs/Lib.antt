@@ -8,10 +8,10 @@ pub mod Emitted
 pub mod Settled
 pub mod Whole
 pub mod Records
-pub mod Ready
+pub mod Stages
 pub mod NumberColumns
 pub mod Along
 pub mod Saved
-pub mod ReadyEntry
-pub mod ReadyKeeps
+pub mod NumberedEntry
+pub mod NumberedKeeps
 pub mod ColumnRanges

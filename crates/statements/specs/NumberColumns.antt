@@ -1,7 +1,7 @@
 -- Columns read from words: where they stand, numbering so many of them from a place on is numbering their list, and they end behind its words.
 use mathlib.Core.Path.{_≡_, refl, ap, _∙_}
 use mathlib.Core.List.{List, [], _∷_, map}
-use Prim.Native.Nat.{ℕ, zero, suc, _+_, _-_}
+use Prim.Native.Nat.{ℕ, zero, suc, _+_}
 use native.Mathlib.Omega.{arith}
 use lib.IntN.{ℤ, pos}
 use lib.ListN.{length, length-append}
@@ -12,7 +12,7 @@ use Rattle.words.specs.Exact.{Each}
 use Rattle.walk.specs.Item.{nat, State, meet-int}
 use Rattle.walk.specs.Legal.{LegalInt}
 use Rattle.walk.specs.Decode.{word, int-end}
-use Rattle.walk.specs.Standing.{int-is}
+use Rattle.walk.specs.DecodeExact.{int-is}
 use Rattle.walk.specs.MeetColumns.{meet-column-at, meet-columns-at}
 use Rattle.statements.specs.Columns.{meet-column, meet-columns}
 

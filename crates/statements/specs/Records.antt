@@ -2,18 +2,17 @@
 use mathlib.Core.Path.{_≡_, refl, sym, ap, _∙_, subst}
 use mathlib.Core.Bool.{Bool, true, false, _||_}
 use mathlib.Core.Option.{some}
-use mathlib.Core.List.{List, [], _∷_, _++_, map}
-use Prim.Native.Nat.{ℕ, zero, suc, _+_, _≤_, _<_, max}
+use mathlib.Core.List.{List, [], _∷_, _++_}
+use Prim.Native.Nat.{ℕ, _+_, _≤_, _<_}
 use native.Mathlib.Omega.{arith}
-use lib.IntN.{ℤ, pos, negsuc, _+ℤ_}
+use lib.IntN.{ℤ, pos, negsuc}
 use lib.Dec.{eqb, ltb}
-use borrow.Author.Tests.{eqb-true, ltb-true, ltb-false}
-use lib.ListN.{length, getD}
+use borrow.Author.Tests.{eqb-true}
+use lib.ListN.{getD}
 use Rattle.laws.specs.Bools.{never}
 use Rattle.laws.specs.Lists.{any, any-append, least}
 use Rattle.laws.specs.Slices.{Has}
-use Rattle.laws.specs.Ints.{times-low, times-high}
-use Rattle.syntax.specs.Syntax.{Domain, Range, lower-bound, upper-bound, domain-of, IntExpr, IConst, IVar, Linear, Terms, tnil, tmore, encode-int}
+use Rattle.syntax.specs.Syntax.{Domain, domain-of, IntExpr, IConst, IVar, Linear, Terms, tnil, tmore, encode-int}
 use Rattle.syntax.specs.Satisfies.{IVal}
 use Rattle.limits.specs.Limits.{heavy, many-column, written, written-terms}
 use Rattle.sums.specs.LinearSum.{Term, term, LinearSum, linear-sum, constant, add-sum, mul-sum, lowest, highest, get-domain-linear-sum}

@@ -16,7 +16,7 @@ use Rattle.tables.specs.Tables.{equivalent-int-var}
 use Rattle.walk.specs.Item.{nat, bool-map, int-map, bool-entry, int-entry}
 use Rattle.walk.specs.Grow.{Fit}
 use Rattle.walk.specs.Decode.{read-part}
-use Rattle.walk.specs.Meets.{part-short}
+use Rattle.walk.specs.NumberingSteps.{part-short}
 use Rattle.statements.specs.Columns.{column-map, PlacedOne, Placed, int-words}
 use Rattle.statements.specs.Statements.{InPlace, table-length}
 

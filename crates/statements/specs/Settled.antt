@@ -1,31 +1,31 @@
 -- What the passes leave of an accepted set is legal for the walk: folded rules within 64 levels, columns of declared variables, few rows.
-use mathlib.Core.Path.{_≡_, refl, sym, ap, _∙_}
+use mathlib.Core.Path.{_≡_, refl}
 use mathlib.Core.Bool.{Bool, true, false, cond, false≢true}
 use mathlib.Core.Option.{Option, none as nothing, some}
-use mathlib.Core.List.{List, [], _∷_, _++_, map}
-use Prim.Native.Nat.{ℕ, zero, suc, _+_, _-_, _*_, _≤_, _<_, max}
+use mathlib.Core.List.{List, [], _∷_, map}
+use Prim.Native.Nat.{ℕ, _-_, _≤_, _<_}
 use native.Mathlib.Omega.{arith}
 use lib.IntN.{ℤ}
 use lib.ListN.{length}
 use Rattle.laws.specs.Bools.{or-no-l, or-no-r}
-use Rattle.laws.specs.Lists.{any, flat}
-use Rattle.syntax.specs.Syntax.{Domain, IntExpr, IConst, IVar, Linear, Terms, tnil, tmore, BoolExpr, Const, Var, NVar, And, Or, Not, Xor, Iff, Imp, Cmp, Members, none, more, count-members, Stmt, Rule, Table, encode-stmt, Problem}
+use Rattle.laws.specs.Lists.{any}
+use Rattle.syntax.specs.Syntax.{Domain, IntExpr, IConst, IVar, Linear, Terms, tnil, tmore, BoolExpr, Const, Var, NVar, And, Or, Not, Xor, Iff, Imp, Cmp, Members, none, more, Stmt, Rule, Table, Problem}
 use Rattle.syntax.specs.Depth.{depth-int, depth-terms, depth, depth-members}
-use Rattle.syntax.specs.Written.{EveryInt, EveryTerm, EveryColumn, Every, EveryMember, EveryStmt, EveryStmts, every-stmts-map, EveryOf}
+use Rattle.syntax.specs.Written.{EveryInt, EveryTerm, Every, EveryMember, EveryStmt, EveryStmts, every-stmts-map, EveryOf}
 use Rattle.words.specs.Exact.{Each}
 use Rattle.read.specs.WellFormed.{WellInt, WellTerms, WellBool, WellMembers, WellStmt, WellFormed}
 use Rattle.limits.specs.Limits.{any-part, heavy, heavy-comparison, many-comparison, many-column, check}
-use Rattle.fold.specs.Fold.{Fixed, is-const, constant-folding-bool as fold, constant-folding-stmt as fold-stmt}
+use Rattle.fold.specs.Fold.{Fixed, is-const, constant-folding-stmt as fold-stmt}
 use Rattle.fold.specs.Optimize.{settled, optimize}
 use Rattle.fold.specs.Ends.{optimize-rests}
 use Rattle.fold.specs.Shape.{Solid, SolidMembers, SettledStmts, settled-shape}
 use Rattle.fold.specs.Kept.{fold-depth, fold-stmts-every}
 use Rattle.folded.specs.Folded.{fold-stmt-light, fold-stmt-few}
 use Rattle.clauses.specs.Bounds.{expr-bound, members-bound}
-use Rattle.call.specs.Ready.{well-declared, Plain, folded-plain}
+use Rattle.call.specs.WellRead.{well-declared, Plain, folded-plain}
 use Rattle.walk.specs.Legal.{LegalInt, LegalTerms, Legal, LegalMembers}
 use Rattle.walk.specs.Rule.{LegalRule, true-rule, legal-rule}
-use Rattle.statements.specs.Statements.{LegalStmt, LegalStmts}
+use Rattle.statements.specs.Statements.{LegalStmts}
 use Rattle.statements.specs.Bounds.{FewRows}
 
 -- ---- levels of what was read

@@ -2,23 +2,23 @@
 use mathlib.Core.Path.{_≡_, refl, sym, ap, _∙_, subst}
 use mathlib.Core.Bool.{Bool, true, false, _||_, cond, false≢true}
 use mathlib.Core.List.{List, [], _∷_, _++_, map, append-nil}
-use Prim.Native.Nat.{ℕ, zero, suc, _+_, _≤_, _<_}
+use Prim.Native.Nat.{ℕ, _+_, _≤_}
 use native.Mathlib.Omega.{arith}
-use lib.IntN.{ℤ, pos}
+use lib.IntN.{ℤ}
 use lib.ListN.{length}
 use Rattle.laws.specs.Lists.{any, flat}
 use Rattle.laws.specs.Bools.{or-no-l, or-no-r, or-pick}
 use Rattle.syntax.specs.Syntax.{Cell, star, value}
 use Rattle.clauses.specs.Clause.{Clause, clause}
 use Rattle.clauses.specs.Log.{Log, next-bool}
-use Rattle.clauses.specs.Disjunction.{Out, Outs, satisfied, sorted, pooled, with-longer, finish-sorted, normalize-disjunction}
+use Rattle.clauses.specs.Disjunction.{Out, Outs, satisfied, sorted, finish-sorted, normalize-disjunction}
 use Rattle.clauses.specs.Normalize.{Run, Runs, no-run, run-then, normalize-conjunction, disjunction-of}
-use Rattle.tables.specs.Tables.{linear-eq, is-star, star-row, star-table}
-use Rattle.answer.specs.Answer.{clause-words, linear-words}
+use Rattle.tables.specs.Tables.{linear-eq, star-row, star-table}
+use Rattle.answer.specs.Answer.{linear-words}
 use Rattle.walk.specs.Item.{tally, fresh, tallies, clause-text, Item, conj-item, disj-item}
 use Rattle.walk.specs.Grow.{Grows, same, Fit, back}
 use Rattle.walk.specs.Texts.{layout}
-use Rattle.walk.specs.Good.{Shape, single, GoodAt, Good, Goods, none, more, goods-sorts, disj-grows, disj-at, conj-good, disj-good}
+use Rattle.walk.specs.Implements.{single, ImplementsAt, Implements, Goods, none, more, goods-sorts, disj-grows, disj-at, conj-good, disj-good}
 
 -- ---- one cell: the variable has the value
 
@@ -78,7 +78,7 @@ runs-are (v ∷ vs) (star ∷ cs) s = runs-are vs cs s
 runs-are (v ∷ vs) (value x ∷ cs) s = let e = runs-are vs cs s in ap (λ (o : Out). (eq-clause v x ∷ o .0, o .1)) e
 
 module _ (w : List ℤ) where
-  eq-good : (v : ℕ) (x : ℤ) → Good w (eq-item v x) (eq-run v x)
+  eq-good : (v : ℕ) (x : ℤ) → Implements w (eq-item v x) (eq-run v x)
   unfolding eq-item layout
   eq-good v x = record {
     grows = λ s. same;
@@ -96,13 +96,13 @@ module _ (w : List ℤ) where
   cells-good (v ∷ vs) (star ∷ cs) = cells-good vs cs
   cells-good (v ∷ vs) (value x ∷ cs) = more (eq-good v x) (cells-good vs cs)
 
-  good-same : (i : Item) (r q : Run) → ((s : Log) → r s ≡ q s) → Good w i r → Good w i q
+  good-same : (i : Item) (r q : Run) → ((s : Log) → r s ≡ q s) → Implements w i r → Implements w i q
   good-same i r q e g = record {
     grows = λ s. subst (λ (o : Out). Grows s (o .1)) (e s) (g .grows s);
-    at = λ s f. subst (λ (o : Out). GoodAt w i s o) (e s) (g .at s (subst (λ (o : Out). Fit w (o .1)) (sym (e s)) f));
+    at = λ s f. subst (λ (o : Out). ImplementsAt w i s o) (e s) (g .at s (subst (λ (o : Out). Fit w (o .1)) (sym (e s)) f));
   }
 
-  joined-good : (is : List Item) (rs : Runs) → Goods w is rs → 1 ≤ length is → Good w (joined is) (λ s. (flat (rs s .0), rs s .1))
+  joined-good : (is : List Item) (rs : Runs) → Goods w is rs → 1 ≤ length is → Implements w (joined is) (λ s. (flat (rs s .0), rs s .1))
   unfolding normalize-conjunction run-then no-run
   joined-good [] rs none h = absurd (omega arith)
   joined-good (i ∷ []) rs (more {r = r} g none) h = good-same i r (λ s. (r s .0 ++ [], r s .1)) (λ s. ap (λ (l : List Clause). (l, r s .1)) (sym (append-nil (r s .0)))) g
@@ -115,7 +115,7 @@ module _ (w : List ℤ) where
   some-items (v ∷ vs) (star ∷ cs) h = some-items vs cs h
   some-items (v ∷ vs) (value x ∷ cs) h = omega arith
 
-  row-good : (vs : List ℕ) (cs : List Cell) → no-equality vs cs ≡ false → Good w (row-item vs cs) (row-run vs cs)
+  row-good : (vs : List ℕ) (cs : List Cell) → no-equality vs cs ≡ false → Implements w (row-item vs cs) (row-run vs cs)
   unfolding row-item
   row-good vs cs h = good-same (joined (row-items vs cs)) _ (row-run vs cs) (runs-are vs cs) (joined-good (row-items vs cs) (row-runs vs cs) (cells-good vs cs) (some-items vs cs h))
 
@@ -143,7 +143,7 @@ module _ (w : List ℤ) where
   rows-good vs [] h = none
   rows-good vs (cs ∷ rows) h = more (row-good w vs cs (or-no-l (no-equality vs cs) _ h)) (rows-good vs rows (or-no-r (no-equality vs cs) _ h))
 
-  pub star-good : (vs : List ℕ) (rows : List (List Cell)) → any-free vs rows ≡ false → Good w (star-item vs rows) (star-table vs rows)
+  pub star-good : (vs : List ℕ) (rows : List (List Cell)) → any-free vs rows ≡ false → Implements w (star-item vs rows) (star-table vs rows)
   unfolding star-item star-table disjunction-of
   star-good vs rows h = good-same w (disj-item (map (row-item vs) rows)) (disjunction-of (table-runs vs rows)) (star-table vs rows) (λ s. ap (λ (o : Outs). normalize-disjunction (o .0) (o .1)) (table-runs-are vs rows s)) (disj-good w (map (row-item vs) rows) (table-runs vs rows) (rows-good vs rows h))
 

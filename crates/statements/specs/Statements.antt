@@ -2,47 +2,46 @@
 -- F: the folded words in the work slice, in which the statements stand from a place on.
 use mathlib.Core.Path.{_≡_, refl, sym, ap, _∙_, subst}
 use mathlib.Core.Bool.{Bool, true, false, cond}
-use mathlib.Core.List.{List, [], _∷_, _++_, map, append-assoc}
-use Prim.Native.Nat.{ℕ, zero, suc, _+_, _-_, _≤_, _<_, min}
+use mathlib.Core.List.{List, [], _∷_, _++_, map}
+use Prim.Native.Nat.{ℕ, _+_, _≤_, _<_}
 use native.Mathlib.Omega.{arith}
-use lib.IntN.{ℤ, pos, negsuc}
-use lib.ListN.{length, getD, length-append}
+use lib.IntN.{ℤ, pos}
+use lib.ListN.{length, length-append}
 use Rattle.laws.specs.Lists.{any, flat}
-use Rattle.laws.specs.Slices.{Has, has-front, has-back, has-rest}
-use Rattle.syntax.specs.Syntax.{Domain, domain-of, IntExpr, encode-int, BoolExpr, encode-bool, Cell, encode-cell, Stmt, Rule, Table, encode-stmt}
-use Rattle.syntax.specs.Satisfies.{Val, IVal}
+use Rattle.laws.specs.Slices.{Has, has-front, has-back}
+use Rattle.syntax.specs.Syntax.{Domain, domain-of, IntExpr, encode-int, BoolExpr, Cell, encode-cell, Stmt, Rule, Table, encode-stmt}
+use Rattle.syntax.specs.Satisfies.{IVal}
 use Rattle.syntax.specs.Written.{EveryColumn, EveryStmts}
 use Rattle.limits.specs.Limits.{heavy, many-column}
 use Rattle.words.specs.Exact.{Each}
 use Rattle.sums.specs.LinearSum.{LinearSum}
-use Rattle.clauses.specs.Clause.{Clause}
-use Rattle.clauses.specs.Log.{Log, aux, next-bool, next-int}
+use Rattle.clauses.specs.Log.{Log, next-bool, next-int}
 use Rattle.clauses.specs.Disjunction.{Out}
 use Rattle.clauses.specs.Normalize.{normalize-conjunction}
 use Rattle.clauses.specs.Split.{normalize-and-register-expr, tseitin-transformation-bool as split}
 use Rattle.clauses.specs.Grow.{Grows as GrowsFrom, grows-int}
 use Rattle.tables.specs.Tables.{newest, emitted-domains, equivalent-int-vars, star-row, star-table, plain-table, normalize-extension-supports, normalize-table}
 use Rattle.tables.specs.Emitted.{domain-stays}
-use Rattle.tables.specs.ColumnMeaning.{Standing}
+use Rattle.tables.specs.ColumnMeaning.{WithinDomain}
 use Rattle.answer.specs.Answer.{clause-words, normalize-stmt, normalize-stmts}
-use Rattle.call.specs.Ready.{Plain}
+use Rattle.call.specs.WellRead.{Plain}
 use Rattle.call.specs.Demand.{stmts-mean}
 use Rattle.walk.specs.Tree.{Trees, splits, ties, resolve, runs}
 use Rattle.walk.specs.Resolve.{rule-trees, rule-runs, split-sided}
-use Rattle.walk.specs.Item.{limit, bump, bool-map, State, pass-bools, mets, texts, counts, item, items, conj-item}
+use Rattle.walk.specs.Item.{limit, bump, bool-map, State, walk-bools, mets, texts, counts, item, items, conj-item}
 use Rattle.walk.specs.Grow.{Grows, same, then, Fit, back}
 use Rattle.walk.specs.Texts.{Auxed, here, above, disjunction-auxed}
 use Rattle.walk.specs.Num.{max-emitted, Numbered}
-use Rattle.walk.specs.Two.{Low, low-back, runs-grow}
-use Rattle.walk.specs.Rule.{LegalRule, true-rule, legal-rule, rule-propers, split-num, Passes, rule-passes}
+use Rattle.walk.specs.TwoWalks.{Low, low-back, runs-grow}
+use Rattle.walk.specs.Rule.{LegalRule, true-rule, legal-rule, rule-propers, split-num, rule-walks}
 use Rattle.statements.specs.Kept.{Kept, kept-same, trees-kept}
 use Rattle.statements.specs.Columns.{ColumnRecord, Grown, grown-same, kept-grown, grown-then, grown-less, Placed, placed-keeps}
-use Rattle.statements.specs.Table.{starred, table-fresh, meet-table, table-text, TablePasses, table-passes, table-grows, words-append, columns-bools}
+use Rattle.statements.specs.Table.{starred, table-fresh, meet-table, table-text, table-walks, table-grows, words-append}
 
 -- ---- one statement at a place: its numbering, its words, the counter behind it
 
 unfoldable pub meet-stmt : ℕ → Stmt → State → State
-meet-stmt at (Rule e) st = mets (items (rule-trees e (at + 1) (st .bools))) (pass-bools (splits e false) st)
+meet-stmt at (Rule e) st = mets (items (rule-trees e (at + 1) (st .bools))) (walk-bools (splits e false) st)
 meet-stmt at (Table es rows) st = meet-table (at + 3) es rows st
 
 unfoldable pub stmt-text : List ℤ → (ℕ → Domain) → ℕ → Stmt → ℕ → List ℤ
@@ -102,7 +101,7 @@ module _ (F : List ℤ) (ds : List Domain) where
   InPlace w at (Rule e) s = Unit {0}
   InPlace w at (Table es rows) s = Placed F ds w (at + 3) es s
 
-  pub record StmtPasses (at : ℕ) (t : Stmt) (st : State) (s : Log) : Type 0 where
+  pub record StmtWalks (at : ℕ) (t : Stmt) (st : State) (s : Log) : Type 0 where
     pub numbered : Numbered CR (meet-stmt at t st) (normalize-stmt ds t s .1)
     pub placed : InPlace (meet-stmt at t st .work) at t s
     pub grown : Grown at (st .work) (meet-stmt at t st .work)
@@ -122,8 +121,8 @@ module _ (F : List ℤ) (ds : List Domain) where
       rw (rule-runs e 0 s) (then g (runs-grow ts z))
 
   rule-kept : (e : BoolExpr) (at : ℕ) (s : Log) (st : State) → LegalRule e 64 → Numbered CR st s → Low (normalize-and-register-expr e s .1) → next-int (normalize-and-register-expr e s .1) < max-emitted
-      → Kept (st .work) (mets (items (rule-trees e at (st .bools))) (pass-bools (splits e false) st) .work)
-  unfolding mets item items conj-item pass-bools ties resolve normalize-conjunction
+      → Kept (st .work) (mets (items (rule-trees e at (st .bools))) (walk-bools (splits e false) st) .work)
+  unfolding mets item items conj-item walk-bools ties resolve normalize-conjunction
   rule-kept e at s st (true-rule x) h l r = kept-same (st .work)
   rule-kept e at s st (legal-rule x) h l r =
       let ts : Trees = rule-trees e at (next-bool s) in
@@ -133,12 +132,12 @@ module _ (F : List ℤ) (ds : List Domain) where
       let m : next-int (runs ts z .1) < max-emitted = rw i at r in
       let j : next-bool z ≤ limit = omega (arith, runs-grow ts z .bools, k .bools) in
       let n : next-bool s + splits e false ≤ limit = omega (arith, split-sided e false s .bools) in
-      subst (λ (n : ℕ). Kept (st .work) (mets (items (rule-trees e at n)) (pass-bools (splits e false) st) .work)) (sym (h .bools)) (trees-kept CR ts (rule-propers e 64 at (next-bool s) x n) z (pass-bools (splits e false) st) (split-num CR e false st s h j) k m)
+      subst (λ (n : ℕ). Kept (st .work) (mets (items (rule-trees e at n)) (walk-bools (splits e false) st) .work)) (sym (h .bools)) (trees-kept CR ts (rule-propers e 64 at (next-bool s) x n) z (walk-bools (splits e false) st) (split-num CR e false st s h j) k m)
 
-  rule-stmt : (at : ℕ) (e : BoolExpr) (st : State) (s : Log) → LegalRule e 64 → Numbered CR st s → Low (normalize-and-register-expr e s .1) → next-int (normalize-and-register-expr e s .1) < max-emitted → StmtPasses at (Rule e) st s
+  rule-stmt : (at : ℕ) (e : BoolExpr) (st : State) (s : Log) → LegalRule e 64 → Numbered CR st s → Low (normalize-and-register-expr e s .1) → next-int (normalize-and-register-expr e s .1) < max-emitted → StmtWalks at (Rule e) st s
   unfolding meet-stmt stmt-text stmt-count normalize-stmt
   rule-stmt at e st s x h l r =
-      let p = rule-passes CR e 64 (at + 1) s st x h l in
+      let p = rule-walks CR e 64 (at + 1) s st x h l in
       record {
         numbered = p .numbered;
         placed = tt;
@@ -157,10 +156,10 @@ module _ (F : List ℤ) (ds : List Domain) where
   unfolding encode-stmt
   table-length es rows = omega (arith, length-append (flat (map encode-int es)) (flat (map (map encode-cell) rows)))
 
-  table-stmt : (at : ℕ) (es : List IntExpr) (rows : List (List Cell)) (st : State) (s : Log) → Inside at (Table es rows) → Has F at (encode-stmt (Table es rows)) → LegalStmt ds (Table es rows) → Numbered CR st s → Low (normalize-table ds es rows s .1) → next-int (normalize-table ds es rows s .1) < max-emitted → StmtPasses at (Table es rows) st s
+  table-stmt : (at : ℕ) (es : List IntExpr) (rows : List (List Cell)) (st : State) (s : Log) → Inside at (Table es rows) → Has F at (encode-stmt (Table es rows)) → LegalStmt ds (Table es rows) → Numbered CR st s → Low (normalize-table ds es rows s .1) → next-int (normalize-table ds es rows s .1) < max-emitted → StmtWalks at (Table es rows) st s
   unfolding meet-stmt stmt-text stmt-count normalize-stmt
   table-stmt at es rows st s i f v h l r =
-      let t = table-passes F ds (at + 3) es rows st s (omega arith) (omega (arith, table-length es rows)) (table-words at es rows f) (v .0) (v .1) (v .2) h l r in
+      let t = table-walks F ds (at + 3) es rows st s (omega arith) (omega (arith, table-length es rows)) (table-words at es rows f) (v .0) (v .1) (v .2) h l r in
       record {
         numbered = t .numbered;
         placed = t .placed;
@@ -179,9 +178,9 @@ module _ (F : List ℤ) (ds : List Domain) where
   AllInPlace w at [] s = Unit {0}
   AllInPlace w at (t ∷ ts) s = InPlace w at t s × AllInPlace w (at + length (encode-stmt t)) ts (normalize-stmt ds t s .1)
 
-  pub stmt-passes : (at : ℕ) (t : Stmt) (st : State) (s : Log) → Inside at t → Has F at (encode-stmt t) → LegalStmt ds t → Numbered CR st s → Low (normalize-stmt ds t s .1) → next-int (normalize-stmt ds t s .1) < max-emitted → StmtPasses at t st s
-  stmt-passes at (Rule e) st s i f x h l r = rule-stmt at e st s x h (unfold normalize-stmt in l) (unfold normalize-stmt in r)
-  stmt-passes at (Table es rows) st s i f x h l r = table-stmt at es rows st s i f x h (unfold normalize-stmt in l) (unfold normalize-stmt in r)
+  pub stmt-walks : (at : ℕ) (t : Stmt) (st : State) (s : Log) → Inside at t → Has F at (encode-stmt t) → LegalStmt ds t → Numbered CR st s → Low (normalize-stmt ds t s .1) → next-int (normalize-stmt ds t s .1) < max-emitted → StmtWalks at t st s
+  stmt-walks at (Rule e) st s i f x h l r = rule-stmt at e st s x h (unfold normalize-stmt in l) (unfold normalize-stmt in r)
+  stmt-walks at (Table es rows) st s i f x h l r = table-stmt at es rows st s i f x h (unfold normalize-stmt in l) (unfold normalize-stmt in r)
 
   pub stmt-grows : (t : Stmt) (s : Log) → LegalStmt ds t → Grows s (normalize-stmt ds t s .1)
   unfolding normalize-stmt
@@ -198,13 +197,13 @@ module _ (F : List ℤ) (ds : List Domain) where
   in-place-keeps w w' at (Table es rows) s l g h = placed-keeps F ds w w' (at + 3) es s (omega arith) (grown-less F ds _ (at + length (encode-stmt (Table es rows))) (omega (arith, table-length es rows)) g) h
 
   -- what is stable behind the later statements is stable in front of them
-  pub stable-back : (dom : ℕ → Domain) (ε : IVal) (ts : List Stmt) (s : Log) → Each Plain ts → EveryStmts (λ v. Unit {0}) (Standing ds ε) ts → Stable ds dom (normalize-stmts ds ts s .1) → Stable ds dom s
+  pub stable-back : (dom : ℕ → Domain) (ε : IVal) (ts : List Stmt) (s : Log) → Each Plain ts → EveryStmts (λ v. Unit {0}) (WithinDomain ds ε) ts → Stable ds dom (normalize-stmts ds ts s .1) → Stable ds dom s
   stable-back dom ε ts s p q d v h =
       let g : GrowsFrom ε s (normalize-stmts ds ts s .1) = stmts-mean (λ n. false) ε (λ n. false) ε ds ts s p q .grows in
       let l : next-int s ≤ next-int (normalize-stmts ds ts s .1) = grows-int g in
       d v (omega arith) ∙ domain-stays ds g v h
 
-  pub record StmtsPasses (at : ℕ) (ts : List Stmt) (st : State) (s : Log) : Type 0 where
+  pub record StmtsWalks (at : ℕ) (ts : List Stmt) (st : State) (s : Log) : Type 0 where
     pub numbered : Numbered CR (meet-stmts at ts st) (normalize-stmts ds ts s .1)
     pub placed : AllInPlace (meet-stmts at ts st .work) at ts s
     pub grown : Grown at (st .work) (meet-stmts at ts st .work)
@@ -215,17 +214,17 @@ module _ (F : List ℤ) (ds : List Domain) where
   words-of ts = flat (map encode-stmt ts)
 
   module _ (ε : IVal) where
-    pub stmts-passes : (at : ℕ) (ts : List Stmt) (st : State) (s : Log) → 512 ≤ at → at + length (words-of ts) ≤ bool-map → Has F at (words-of ts) → LegalStmts ts → Each Plain ts → EveryStmts (λ v. Unit {0}) (Standing ds ε) ts
-        → Numbered CR st s → Low (normalize-stmts ds ts s .1) → next-int (normalize-stmts ds ts s .1) < max-emitted → StmtsPasses at ts st s
+    pub stmts-walks : (at : ℕ) (ts : List Stmt) (st : State) (s : Log) → 512 ≤ at → at + length (words-of ts) ≤ bool-map → Has F at (words-of ts) → LegalStmts ts → Each Plain ts → EveryStmts (λ v. Unit {0}) (WithinDomain ds ε) ts
+        → Numbered CR st s → Low (normalize-stmts ds ts s .1) → next-int (normalize-stmts ds ts s .1) < max-emitted → StmtsWalks at ts st s
     unfolding meet-stmts stmts-text normalize-stmts AllInPlace EveryStmts
-    stmts-passes at [] st s i k f x p q h l r = record { numbered = h; placed = tt; grown = grown-same at (st .work); text = λ w dom f a d. refl }
-    stmts-passes at (t ∷ ts) st s i k f x p q h l r =
+    stmts-walks at [] st s i k f x p q h l r = record { numbered = h; placed = tt; grown = grown-same at (st .work); text = λ w dom f a d. refl }
+    stmts-walks at (t ∷ ts) st s i k f x p q h l r =
         let a : Out = normalize-stmt ds t s in
         let at' : ℕ = at + length (encode-stmt t) in
         let n : length (words-of (t ∷ ts)) ≡ length (encode-stmt t) + length (words-of ts) = length-append (encode-stmt t) (words-of ts) in
         let g : Grows (a .1) (normalize-stmts ds ts (a .1) .1) = stmts-grow ts (a .1) (x .1) in
-        let y = stmt-passes at t st s (i, omega arith) (has-front F at (encode-stmt t) (words-of ts) f) (x .0) h (low-back g l) (omega (arith, g .ints)) in
-        let z = stmts-passes at' ts (meet-stmt at t st) (a .1) (omega arith) (omega arith) (has-back F at (encode-stmt t) (words-of ts) f) (x .1) (p .1) (q .1) (y .numbered) l r in
+        let y = stmt-walks at t st s (i, omega arith) (has-front F at (encode-stmt t) (words-of ts) f) (x .0) h (low-back g l) (omega (arith, g .ints)) in
+        let z = stmts-walks at' ts (meet-stmt at t st) (a .1) (omega arith) (omega arith) (has-back F at (encode-stmt t) (words-of ts) f) (x .1) (p .1) (q .1) (y .numbered) l r in
         record {
           numbered = z .numbered;
           placed = (in-place-keeps _ _ at t s i (z .grown) (y .placed), z .placed);

@@ -1,34 +1,33 @@
 -- A table statement in the two passes: its columns, then its rows, starred or not.
 use mathlib.Core.Path.{_≡_, refl, sym, ap, _∙_, subst}
-use mathlib.Core.Bool.{Bool, true, false, _||_, cond, false≢true}
-use mathlib.Core.Option.{some}
+use mathlib.Core.Bool.{Bool, true, false, cond, false≢true}
 use mathlib.Core.List.{List, [], _∷_, _++_, map, append-assoc}
-use Prim.Native.Nat.{ℕ, zero, suc, _+_, _-_, _≤_, _<_, min}
+use Prim.Native.Nat.{ℕ, zero, suc, _+_, _≤_, _<_}
 use native.Mathlib.Omega.{arith}
-use lib.IntN.{ℤ, pos, negsuc}
-use lib.ListN.{length, getD, length-append}
+use lib.IntN.{ℤ}
+use lib.ListN.{length, length-append}
 use Rattle.laws.specs.Bools.{or-no-l, or-no-r}
-use Rattle.laws.specs.Lists.{any, flat, flat-append, any-cong}
-use Rattle.laws.specs.Slices.{Has, has-front, has-back, has-rest}
-use Rattle.syntax.specs.Syntax.{Domain, domain-of, IntExpr, IConst, IVar, Linear, encode-int, Cell, star, value, encode-cell}
+use Rattle.laws.specs.Lists.{any, flat, any-cong}
+use Rattle.laws.specs.Slices.{Has}
+use Rattle.syntax.specs.Syntax.{Domain, domain-of, IntExpr, IConst, IVar, Linear, encode-int, Cell, star, value}
 use Rattle.syntax.specs.Written.{EveryColumn}
 use Rattle.limits.specs.Limits.{heavy, many-column}
 use Rattle.sums.specs.LinearSum.{LinearSum}
 use Rattle.clauses.specs.Clause.{Clause}
-use Rattle.clauses.specs.Log.{Log, column, next-bool, next-int, get-int-var, convert-int-var}
-use Rattle.clauses.specs.Disjunction.{Out, normalize-disjunction}
+use Rattle.clauses.specs.Log.{Log, next-bool, next-int, convert-int-var}
+use Rattle.clauses.specs.Disjunction.{Out}
 use Rattle.clauses.specs.Normalize.{normalize-int-expr, normalize-int-var}
 use Rattle.clauses.specs.Grow.{get-int-below as int-below}
 use Rattle.tables.specs.Tables.{Columns, emitted-domains, is-star, new-column, old-column, equivalent-int-var, equivalent-int-vars, star-row, star-table, plain-table, normalize-extension-supports, normalize-table}
 use Rattle.answer.specs.Answer.{clause-words}
-use Rattle.walk.specs.Item.{limit, bump, bool-map, State, pass-bools, Tally, tally, long, mode-in, fresh-in, fresh, tallies, Item, conj-item, disj-item}
+use Rattle.walk.specs.Item.{limit, bump, bool-map, State, walk-bools, Tally, tally, mode-in, fresh-in, fresh, tallies, Item, conj-item}
 use Rattle.walk.specs.Grow.{Grows, same, then, Fit, back}
-use Rattle.walk.specs.Texts.{layout, layout-words, Auxed, Untouched, disjunction-auxed, auxed-untouched}
-use Rattle.walk.specs.Good.{Good, disj-grows}
+use Rattle.walk.specs.Texts.{layout-words, Auxed, Untouched, disjunction-auxed, auxed-untouched}
+use Rattle.walk.specs.Implements.{disj-grows}
 use Rattle.walk.specs.Ints.{var-found, int-bools}
 use Rattle.walk.specs.Num.{max-emitted, Numbered, numbered-fit}
-use Rattle.walk.specs.Two.{Low, pass-num, auxed-recorded}
-use Rattle.statements.specs.Columns.{ColumnRecord, Grown, grown-same, meet-columns, column-numbers, columns-clauses, Placed, MetAll, columns-met, columns-grow, columns-are}
+use Rattle.walk.specs.TwoWalks.{Low, pass-num, auxed-recorded}
+use Rattle.statements.specs.Columns.{ColumnRecord, Grown, meet-columns, column-numbers, columns-clauses, Placed, MetAll, columns-met, columns-grow, columns-are}
 use Rattle.statements.specs.Star.{eq-item, row-items, joined, row-item, no-equality, any-free, star-item, star-good, free-table, star-count}
 
 -- ---- how many new numbers a starred table takes: by the count of equalities of each row
@@ -141,7 +140,7 @@ table-fresh n rows = cond (starred rows) (cond (free-rows n rows) 0 (star-fresh 
 
 -- p: where the columns stand
 unfoldable pub meet-table : ℕ → List IntExpr → List (List Cell) → State → State
-meet-table p es rows st = pass-bools (table-fresh (length es) rows) (meet-columns p es st)
+meet-table p es rows st = walk-bools (table-fresh (length es) rows) (meet-columns p es st)
 
 -- dom: the domain of each emitted number; n: the counter in front of the table
 unfoldable pub rows-text : List ℤ → (ℕ → Domain) → List ℕ → List (List Cell) → ℕ → List ℤ
@@ -170,7 +169,7 @@ module _ (F : List ℤ) (ds : List Domain) where
     abbrev out : Out
     out = normalize-extension-supports ds vs rows z
 
-    star-numbered : (t : Bool) → any-free vs rows ≡ t → next-bool (star-table vs rows z .1) ≤ limit → Numbered CR (pass-bools (cond t 0 (star-fresh (length vs) rows)) st) (star-table vs rows z .1)
+    star-numbered : (t : Bool) → any-free vs rows ≡ t → next-bool (star-table vs rows z .1) ≤ limit → Numbered CR (walk-bools (cond t 0 (star-fresh (length vs) rows)) st) (star-table vs rows z .1)
     star-numbered true e l =
         let i : star-table vs rows z ≡ ([], z) = free-table vs rows z e in
         rw i (pass-num CR st z z 0 h (untouched-same z) (h .records) (omega arith) (subst (λ (o : Out). next-bool (o .1) ≤ limit) i l))
@@ -182,12 +181,12 @@ module _ (F : List ℤ) (ds : List Domain) where
         let f : Fit (st .work) o = after-fit (st .work) z o u (numbered-fit CR st z h (omega (arith, g .bools))) l in
         pass-num CR st z o (star-fresh (length vs) rows) h u (auxed-recorded CR (st .work) a (h .records)) (star-count (st .work) vs rows z e f ∙ ap (λ (k : ℕ). next-bool z + k) (fresh-is vs rows e)) l
 
-    rows-numbered : next-bool (out .1) ≤ limit → Numbered CR (pass-bools (table-fresh (length vs) rows) st) (out .1)
+    rows-numbered : next-bool (out .1) ≤ limit → Numbered CR (walk-bools (table-fresh (length vs) rows) st) (out .1)
     unfolding normalize-extension-supports table-fresh
     rows-numbered l = go (starred rows) refl l
       where
         go : (t : Bool) → starred rows ≡ t → next-bool (cond t (star-table vs rows z) (plain-table vs (map (domain-of (emitted-domains ds z)) vs) rows, z) .1) ≤ limit
-            → Numbered CR (pass-bools (cond t (cond (free-rows (length vs) rows) 0 (star-fresh (length vs) rows)) 0) st) (cond t (star-table vs rows z) (plain-table vs (map (domain-of (emitted-domains ds z)) vs) rows, z) .1)
+            → Numbered CR (walk-bools (cond t (cond (free-rows (length vs) rows) 0 (star-fresh (length vs) rows)) 0) st) (cond t (star-table vs rows z) (plain-table vs (map (domain-of (emitted-domains ds z)) vs) rows, z) .1)
         go true e l = rw (free-is vs rows) (star-numbered (any-free vs rows) refl l)
         go false e l = pass-num CR st z z 0 h (untouched-same z) (h .records) (omega arith) l
 
@@ -287,14 +286,14 @@ module _ (F : List ℤ) (ds : List Domain) where
   words-append [] es = refl
   words-append (c ∷ cs) es = ap (λ (l : List ℤ). clause-words c ++ l) (words-append cs es) ∙ sym (append-assoc (clause-words c) (flat (map clause-words cs)) (flat (map clause-words es)))
 
-  pub table-passes : (p : ℕ) (es : List IntExpr) (rows : List (List Cell)) (st : State) (s : Log) → 512 ≤ p → p + length (flat (map encode-int es)) ≤ bool-map → Has F p (flat (map encode-int es))
+  pub table-walks : (p : ℕ) (es : List IntExpr) (rows : List (List Cell)) (st : State) (s : Log) → 512 ≤ p → p + length (flat (map encode-int es)) ≤ bool-map → Has F p (flat (map encode-int es))
       → EveryColumn (λ v. v < 256) es → any (heavy ds) es ≡ false → any many-column es ≡ false → Numbered CR st s → Low (normalize-table ds es rows s .1) → next-int (normalize-table ds es rows s .1) < max-emitted → TablePasses p es rows st s
-  unfolding normalize-table meet-table table-text pass-bools
-  table-passes p es rows st s l k f v y z h low room =
+  unfolding normalize-table meet-table table-text walk-bools
+  table-walks p es rows st s l k f v y z h low room =
       let c : Columns = equivalent-int-vars ds es s in
       let g : Grows (c .log) (normalize-extension-supports ds (c .vars) rows (c .log) .1) = supports-grow (c .vars) rows (c .log) in
       let m : MetAll F ds p es st s = columns-met F ds p es st s l k f v y z h (omega (arith, g .ints)) in
-      let n : Numbered CR (pass-bools (table-fresh (length (c .vars)) rows) (meet-columns p es st)) (normalize-extension-supports ds (c .vars) rows (c .log) .1) = rows-numbered (c .vars) rows (meet-columns p es st) (c .log) (m .numbered) (low .bools) in
+      let n : Numbered CR (walk-bools (table-fresh (length (c .vars)) rows) (meet-columns p es st)) (normalize-extension-supports ds (c .vars) rows (c .log) .1) = rows-numbered (c .vars) rows (meet-columns p es st) (c .log) (m .numbered) (low .bools) in
       record {
         numbered = rw (columns-count es s) at n;
         placed = m .placed;

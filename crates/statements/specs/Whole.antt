@@ -1,6 +1,6 @@
 -- The answer's words by the two passes: after numbering, the maps and counters of the work slice and the statements' words make up the layout.
-use mathlib.Core.Path.{_≡_, refl, sym, ap, _∙_}
-use mathlib.Core.Bool.{Bool, true, false, _||_, false≢true}
+use mathlib.Core.Path.{_≡_, refl, sym}
+use mathlib.Core.Bool.{true, false, false≢true}
 use mathlib.Core.Option.{Option, none as nothing, some}
 use mathlib.Core.List.{List, [], _∷_, _++_, map}
 use Prim.Native.Nat.{ℕ, zero, suc, _+_, _*_, _≤_, _<_}
@@ -15,25 +15,24 @@ use Rattle.laws.specs.Slices.{Has}
 use Rattle.syntax.specs.Syntax.{Domain, Range, Enumerative, lower-bound, in-domain, domain-of, Stmt, encode-stmt, Problem}
 use Rattle.syntax.specs.Satisfies.{IVal}
 use Rattle.syntax.specs.Written.{EveryStmts, every-stmts-map}
-use Rattle.words.specs.Exact.{Each}
-use Rattle.read.specs.WellFormed.{WellDomain, WellFormed}
+use Rattle.read.specs.WellFormed.{WellFormed}
 use Rattle.limits.specs.Limits.{check}
 use Rattle.fold.specs.Fold.{Fixed}
 use Rattle.fold.specs.Optimize.{settled, optimize}
 use Rattle.sums.specs.Domain.{ordered}
-use Rattle.clauses.specs.Log.{Log, next-bool, next-int, get-bool-var, get-int-var}
+use Rattle.clauses.specs.Log.{Log, next-int, get-bool-var, get-int-var}
 use Rattle.clauses.specs.Disjunction.{Out}
 use Rattle.clauses.specs.Grow.{Grows as GrowsFrom}
 use Rattle.tables.specs.Tables.{emitted-domains}
-use Rattle.tables.specs.ColumnMeaning.{Standing}
-use Rattle.answer.specs.Answer.{Answer, fixed-word, map-word, domain-words, clause-words, layout, answer-of, normalize, normalize-stmts}
+use Rattle.tables.specs.ColumnMeaning.{WithinDomain}
+use Rattle.answer.specs.Answer.{fixed-word, map-word, domain-words, clause-words, layout, answer-of, normalize, normalize-stmts}
 use Rattle.answer.specs.Declared.{Declared, stmts-declared}
 use Rattle.call.specs.Demand.{stmts-mean, domains-ordered}
-use Rattle.walk.specs.Item.{limit, bool-map, bool-entry, int-entry, State}
+use Rattle.walk.specs.Item.{bool-entry, int-entry, State}
 use Rattle.walk.specs.Num.{max-emitted, code, Recorded, Numbered, numbered-fit}
-use Rattle.walk.specs.Two.{Low}
+use Rattle.walk.specs.TwoWalks.{Low}
 use Rattle.statements.specs.Columns.{ColumnRecord}
-use Rattle.statements.specs.Statements.{Stable, meet-stmts, stmts-text, LegalStmts, AllInPlace, StmtsPasses, stmts-passes}
+use Rattle.statements.specs.Statements.{Stable, meet-stmts, stmts-text, StmtsWalks, stmts-walks}
 use Rattle.statements.specs.Bounds.{stmts-low}
 use Rattle.statements.specs.Emitted.{emitted-few}
 use Rattle.statements.specs.Settled.{settled-declared, settled-plain, settled-few, settled-legal}
@@ -90,9 +89,9 @@ module _ (p : Problem) (well : WellFormed p) (f : Fixed) (ss : List Stmt) (end :
   abbrev log : Log
   log = normalize-stmts ds ss [] .1
 
-  pub log-standing : EveryStmts (λ v. Unit {0}) (Standing ds (lowest ds)) ss
+  pub log-standing : EveryStmts (λ v. Unit {0}) (WithinDomain ds (lowest ds)) ss
   log-standing =
-      every-stmts-map (λ v. v < p .bools) (λ v. v < length ds) (λ v. Unit {0}) (Standing ds (lowest ds)) (λ v h. tt)
+      every-stmts-map (λ v. v < p .bools) (λ v. v < length ds) (λ v. Unit {0}) (WithinDomain ds (lowest ds)) (λ v h. tt)
       (λ v h. let o = domains-ordered ds (well .domains-well) v h in (o, lowest-in (domain-of ds v) o)) ss (settled-declared p well f ss end)
 
   pub grown : GrowsFrom (lowest ds) [] log
@@ -119,7 +118,7 @@ module _ (p : Problem) (well : WellFormed p) (f : Fixed) (ss : List Stmt) (end :
   abbrev st : State
   st = meet-stmts 512 ss (start w)
 
-  pub standing : EveryStmts (λ v. Unit {0}) (Standing (p .domains) (lowest (p .domains))) ss
+  pub standing : EveryStmts (λ v. Unit {0}) (WithinDomain (p .domains) (lowest (p .domains))) ss
   standing = log-standing p well f ss end
 
   pub roomy : next-int (out .1) < max-emitted
@@ -128,8 +127,8 @@ module _ (p : Problem) (well : WellFormed p) (f : Fixed) (ss : List Stmt) (end :
   pub low : Low (out .1)
   low = log-low p well f ss end unrefused short few
 
-  pub passes : StmtsPasses F (p .domains) 512 ss (start w) []
-  passes = stmts-passes F (p .domains) (lowest (p .domains)) 512 ss (start w) [] (omega arith) (omega arith) stands (settled-legal p well f ss end unrefused F) (settled-plain p well f ss end) standing (start-numbered F (p .domains) w empty) low roomy
+  pub passes : StmtsWalks F (p .domains) 512 ss (start w) []
+  passes = stmts-walks F (p .domains) (lowest (p .domains)) 512 ss (start w) [] (omega arith) (omega arith) stands (settled-legal p well f ss end unrefused F) (settled-plain p well f ss end) standing (start-numbered F (p .domains) w empty) low roomy
 
   -- the answer's words: the fixed values, the entries of the maps, the counters and domains, the count and the words of the clauses
   pub answer-words : (dom : ℕ → Domain) → Stable (p .domains) dom (out .1)

@@ -1,16 +1,14 @@
 -- The linear sum of an integer expression where the numbers of the declared variables are given: its value, its shape, its variables.
-use mathlib.Core.Path.{_≡_, refl, sym, ap, _∙_}
+use mathlib.Core.Path.{_≡_, refl, ap, _∙_}
 use mathlib.Core.List.{List, map}
 use Prim.Native.Nat.{ℕ}
 use lib.Dec.{eqb}
-use lib.IntN.{ℤ, pos, _+ℤ_, _*ℤ_, +ℤ-idl, +ℤ-idr, +ℤ-assoc}
+use lib.IntN.{pos}
 use borrow.Author.Tests.{eq-eqb}
 use Rattle.laws.specs.Bools.{or-l}
 use Rattle.syntax.specs.Syntax.{IntExpr, IConst, IVar, Linear, Terms, tnil, tmore}
-use Rattle.syntax.specs.Satisfies.{IVal, int-value, terms-value}
 use Rattle.limits.specs.Limits.{written, written-terms}
-use Rattle.sums.specs.LinearSum.{LinearSum, constant, singleton, add-sum, mul-sum, sum-value}
-use Rattle.sums.specs.Value.{constant-value, singleton-value, add-sum-value, mul-sum-value}
+use Rattle.sums.specs.LinearSum.{LinearSum, constant, singleton, add-sum, mul-sum}
 use Rattle.sums.specs.Rising.{terms-of, Proper, constant-proper, singleton-proper, add-sum-proper, Each, constant-each, singleton-each, add-sum-each, mul-sum-each, Among, among-left, among-right, among-map}
 
 -- number: the emitted number of each declared variable
@@ -25,25 +23,6 @@ module _ (number : ℕ → ℕ) where
     pub linear-terms : Terms → LinearSum → LinearSum
     linear-terms tnil sum = sum
     linear-terms (tmore k e ts) sum = linear-terms ts (add-sum sum (mul-sum k (linear-of e)))
-
-  -- ---- value
-
-  mutual
-    unfolding linear-of int-value
-
-    pub linear-of-value : (ι : IVal) (e : IntExpr) → sum-value ι (linear-of e) ≡ int-value (λ v. ι (number v)) e
-    linear-of-value ι (IConst c) = constant-value ι c
-    linear-of-value ι (IVar v) = singleton-value ι (number v)
-    linear-of-value ι (Linear ts) = linear-terms-value ι ts (constant (pos 0)) ∙ +ℤ-idl (terms-value (λ v. ι (number v)) ts)
-
-    pub linear-terms-value : (ι : IVal) (ts : Terms) (sum : LinearSum) → sum-value ι (linear-terms ts sum) ≡ sum-value ι sum +ℤ terms-value (λ v. ι (number v)) ts
-    linear-terms-value ι tnil sum = sym (+ℤ-idr (sum-value ι sum))
-    linear-terms-value ι (tmore k e ts) sum =
-        linear-terms-value ι ts (add-sum sum (mul-sum k (linear-of e)))
-        ∙ ap (λ (x : ℤ). x +ℤ terms-value (λ v. ι (number v)) ts) (add-sum-value ι sum (mul-sum k (linear-of e)) ∙ ap (λ (x : ℤ). sum-value ι sum +ℤ x) (mul-sum-value ι k (linear-of e) ∙ ap (λ (x : ℤ). k *ℤ x) (linear-of-value ι e)))
-        ∙ +ℤ-assoc (sum-value ι sum) (k *ℤ int-value (λ v. ι (number v)) e) (terms-value (λ v. ι (number v)) ts)
-
-  -- ---- shape
 
   mutual
     unfolding linear-of

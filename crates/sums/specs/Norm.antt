@@ -6,12 +6,11 @@ use Prim.Native.Nat.{ℕ, zero, suc, _+_, _*_, _≤_, zero-le}
 use native.Mathlib.Nat.{mul-le-mul-right, mul-comm, mul-assoc, add-mul}
 use native.Mathlib.Omega.{arith}
 use lib.Dec.{eqb, ltb}
-use lib.IntN.{ℤ, pos, negsuc, natAbs, _+ℤ_, _*ℤ_}
+use lib.IntN.{ℤ, pos, natAbs, _+ℤ_, _*ℤ_}
 use lib.ListN.{take}
 use borrow.Author.Tests.{eqb-true}
 use Rattle.laws.specs.Ints.{is-zero, natAbs-add, natAbs-mul}
-use Rattle.sums.specs.LinearSum.{Term, term, LinearSum, linear-sum, constant, singleton, place, insert-coef, add-coef, add-terms, add-sum, mul-terms, mul-sum, sub-sum}
-use Rattle.sums.specs.Rising.{terms-of}
+use Rattle.sums.specs.LinearSum.{Term, term, LinearSum, linear-sum, constant, singleton, place, insert-coef, add-coef, add-terms, add-sum, mul-terms, mul-sum}
 
 -- w: the weight of each emitted number
 module _ (w : ℕ → ℕ) where
@@ -55,18 +54,6 @@ module _ (w : ℕ → ℕ) where
   mul-terms-norm k [] = omega arith
   mul-terms-norm k (term v a ∷ ts) = rw (natAbs-mul a k, mul-comm (natAbs a) (natAbs k), mul-assoc (natAbs k) (natAbs a) (w v), mul-terms-norm k ts) (omega arith)
 
-  pub mul-sum-norm : (k : ℤ) (a : LinearSum) → norm (terms-of (mul-sum k a)) ≤ natAbs k * norm (terms-of a)
-  unfolding norm mul-sum
-  mul-sum-norm k (linear-sum c ts) = go (is-zero k)
-    where
-      go : (t : Bool) → norm (terms-of (cond t (constant (pos 0)) (linear-sum (c *ℤ k) (mul-terms k ts)))) ≤ natAbs k * norm ts
-      go true = zero-le
-      go false = omega (arith, mul-terms-norm k ts)
-
-  pub add-sum-norm : (a b : LinearSum) → norm (terms-of (add-sum a b)) ≤ norm (terms-of a) + norm (terms-of b)
-  unfolding add-sum
-  add-sum-norm (linear-sum c ts) (linear-sum d us) = add-terms-norm ts us
-
   pub constant-load : (c : ℤ) → load (constant c) ≡ natAbs c
   unfolding load norm
   constant-load c = omega arith
@@ -86,10 +73,6 @@ module _ (w : ℕ → ℕ) where
       go : (t : Bool) → load (cond t (constant (pos 0)) (linear-sum (c *ℤ k) (mul-terms k ts))) ≤ natAbs k * (natAbs c + norm ts)
       go true = zero-le
       go false = omega (arith, mul-terms-norm k ts, natAbs-mul c k)
-
-  pub sub-sum-load : (a b : LinearSum) → load (sub-sum a b) ≤ load a + load b
-  unfolding sub-sum
-  sub-sum-load a b = omega (arith, add-sum-load a (mul-sum (negsuc 0) b), mul-sum-load (negsuc 0) b)
 
   pub take-norm : (i : ℕ) (ts : List Term) → norm (take i ts) ≤ norm ts
   unfolding norm

@@ -1,10 +1,10 @@
 -- Integer expressions whose words stand at one place are the same. Assumes nothing.
 use mathlib.Core.Path.{_≡_, refl, sym, ap, _∙_}
-use mathlib.Core.List.{List, [], _∷_, _++_, append-assoc}
-use Prim.Native.Nat.{ℕ, suc}
+use mathlib.Core.List.{List, _∷_, _++_, append-assoc}
+use Prim.Native.Nat.{ℕ}
 use native.Mathlib.Omega.{arith}
-use lib.IntN.{ℤ, pos, natAbs}
-use lib.ListN.{length, take, drop, take-append-drop}
+use lib.IntN.{ℤ, pos}
+use lib.ListN.{length, drop, take-append-drop}
 use Rattle.laws.specs.Slices.{Has}
 use Rattle.syntax.specs.Syntax.{IntExpr, IConst, IVar, Linear, Terms, tnil, tmore, count-terms, encode-int, encode-terms}
 

@@ -1,17 +1,16 @@
 -- Rows that agree in a prefix, and cells that permit a row of values. Rows are taken to have at least as many cells as the prefix.
 use mathlib.Core.Path.{_≡_, refl, sym, ap, _∙_}
-use mathlib.Core.Bool.{Bool, true, false, not, _&&_}
+use mathlib.Core.Bool.{Bool, true, false, _&&_}
 use mathlib.Core.List.{List, [], _∷_, map}
-use Prim.Native.Nat.{ℕ, zero, suc, _+_, _≤_, _<_}
+use Prim.Native.Nat.{ℕ, zero, suc, _≤_, _<_}
 use native.Mathlib.Omega.{arith}
-use lib.IntN.{ℤ, pos}
-use lib.ListN.{length, getD}
+use lib.ListN.{length}
 use lib.Dec.{eqb}
 use borrow.Author.Tests.{eqb-true}
 use Rattle.laws.specs.Bools.{never, and-l, and-r, and-i, and-assoc, eq1}
 use Rattle.laws.specs.Ints.{eqZ}
 use Rattle.laws.specs.Order.{eqZ-is, eqZ-sym}
-use Rattle.laws.specs.Lists.{any, all, any-cong}
+use Rattle.laws.specs.Lists.{any}
 use Rattle.syntax.specs.Syntax.{Domain, in-domain, domain-of, IntExpr, Cell, star, value}
 use Rattle.syntax.specs.Satisfies.{IVal, permits, int-value, row-holds}
 use Rattle.tables.specs.Tables.{Row, cell-at, cell-value, is-star, within, agree}

@@ -3,7 +3,7 @@ use mathlib.Core.Path.{_≡_, refl}
 use mathlib.Core.Bool.{true, false}
 use mathlib.Core.List.{List, [], _∷_}
 use Prim.Native.Nat.{ℕ}
-use lib.IntN.{ℤ, pos, negsuc}
+use lib.IntN.{pos, negsuc}
 use Rattle.syntax.specs.Syntax.{Domain, Range, Eq, IntExpr, IConst, IVar, Cell, star, value}
 use Rattle.sums.specs.LinearSum.{term, linear-sum, insert-coef, add-coef, add-terms, add-sum, mul-terms, mul-sum, sub-sum, lowest, highest, get-domain-linear-sum}
 use Rattle.clauses.specs.Clause.{lit, LinearLit, linear, Clause, clause}

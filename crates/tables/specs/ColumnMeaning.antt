@@ -4,28 +4,28 @@ use mathlib.Core.Path.{_≡_, refl, sym, ap, _∙_}
 use mathlib.Core.Bool.{Bool, true, false, _&&_, _||_, cond}
 use mathlib.Core.Option.{Option, none as nothing, some}
 use mathlib.Core.List.{List, [], _∷_, _++_, map, map-append}
-use Prim.Native.Nat.{ℕ, suc, _+_, _≤_, _<_}
+use Prim.Native.Nat.{ℕ, suc, _≤_, _<_}
 use native.Mathlib.Omega.{arith}
 use lib.IntN.{ℤ, pos}
 use lib.ListN.{length, length-append}
 use lib.Dec.{eqb, ltb}
 use borrow.Author.Tests.{ltb-true, lt-ltb, eq-eqb, ne-eqb}
-use Rattle.laws.specs.Bools.{never, and-l, and-r, and-i, eq1}
+use Rattle.laws.specs.Bools.{and-l, and-r, and-i, eq1}
 use Rattle.laws.specs.Ints.{eqZ}
 use Rattle.laws.specs.Order.{eqZ-is, eqZ-sym, is-eqZ}
-use Rattle.laws.specs.Lists.{any, all, all-append}
+use Rattle.laws.specs.Lists.{all, all-append}
 use Rattle.syntax.specs.Syntax.{Domain, in-domain, domain-of, Eq, IntExpr, IConst, IVar, Linear, Terms, tnil, tmore}
 use Rattle.syntax.specs.Satisfies.{Val, IVal, int-value}
 use Rattle.syntax.specs.Written.{EveryInt, EveryTerm, EveryColumn, Within}
-use Rattle.sums.specs.LinearSum.{LinearSum, constant, singleton, add-sum, mul-sum, sub-sum, get-domain-linear-sum, sum-value}
+use Rattle.sums.specs.LinearSum.{LinearSum, constant, singleton, add-sum, mul-sum, get-domain-linear-sum, sum-value}
 use Rattle.sums.specs.Value.{singleton-value, compare-sum}
 use Rattle.sums.specs.Rising.{terms-of, Each, constant-each, singleton-each, add-sum-each, mul-sum-each}
 use Rattle.sums.specs.Domain.{ordered, between, domain-between, domain-holds}
-use Rattle.clauses.specs.Clause.{Clause, clause-true}
-use Rattle.clauses.specs.Log.{declared-int, column, Log, next-bool, next-int, get-int-var, int-var-at, convert-int-var}
+use Rattle.clauses.specs.Clause.{clause-true}
+use Rattle.clauses.specs.Log.{declared-int, column, Log, next-int, get-int-var, int-var-at, convert-int-var}
 use Rattle.clauses.specs.Normalize.{IntOut, normalize-int-var, normalize-term, normalize-int-expr, normalize-terms}
-use Rattle.clauses.specs.Bounds.{clauses-bound, clauses-bound-append, sum-bound, sum-same}
-use Rattle.clauses.specs.Valuation.{AgreesInts, Agrees, Fits, fits-agrees, all-true}
+use Rattle.clauses.specs.Bounds.{clauses-bound, clauses-bound-append, sum-same, sub-sum-bound, ints-bound, ints-bound-append}
+use Rattle.clauses.specs.Valuation.{AgreesInts, Agrees, Fits, all-true}
 use Rattle.clauses.specs.Grow.{Legal, Grows, same, grow, grows-trans, grows-int, get-int-below, grows-get-int, agrees-int, agrees-back, fits-back}
 use Rattle.clauses.specs.Means.{MeansInt}
 use Rattle.clauses.specs.NormalizeMeaning.{int-expr-means}
@@ -65,8 +65,8 @@ module _ {ε : IVal} where
 
 module _ (ds : List Domain) (ε : IVal) where
   -- what reading and the assignment give of a declared variable
-  abbrev pub Standing : ℕ → Type 0
-  Standing v = (ordered (domain-of ds v) ≡ true) × Within ds ε v
+  abbrev pub WithinDomain : ℕ → Type 0
+  WithinDomain v = (ordered (domain-of ds v) ≡ true) × Within ds ε v
 
   abbrev domain-at : Log → ℕ → Domain
   domain-at t n = domain-of (emitted-domains ds t) n
@@ -77,18 +77,18 @@ module _ (ds : List Domain) (ε : IVal) where
     abbrev Bounded : ℕ → Type 0
     Bounded n = between (domain-at t n) (ι n) ≡ true
 
-    declared-bounded : (v n : ℕ) → Standing v → get-int-var v t ≡ some n → Bounded n
+    declared-bounded : (v n : ℕ) → WithinDomain v → get-int-var v t ≡ some n → Bounded n
     declared-bounded v n h e = rw (int-var-domain ds t v n e, agrees-int ε ι t a v n e) (domain-between (domain-of ds v) (ε v) (h .0) (h .1))
 
     mutual
       unfolding normalize-int-expr normalize-int-var normalize-term EveryInt
 
-      int-bounded : (e : IntExpr) → EveryInt Standing e → (s : Log) → Grows ε (normalize-int-expr e s .1) t → Each Bounded (terms-of (normalize-int-expr e s .0))
+      int-bounded : (e : IntExpr) → EveryInt WithinDomain e → (s : Log) → Grows ε (normalize-int-expr e s .1) t → Each Bounded (terms-of (normalize-int-expr e s .0))
       int-bounded (IConst c) h = λ s g. constant-each Bounded c
       int-bounded (IVar v) h = λ s g. singleton-each Bounded (convert-int-var v s .0) (declared-bounded v (convert-int-var v s .0) h (grows-get-int g v (convert-int-var v s .0) (convert-gets v s)))
       int-bounded (Linear ts) h = λ s g. terms-bounded ts h (constant (pos 0)) s g (constant-each Bounded (pos 0))
 
-      terms-bounded : (ts : Terms) → EveryTerm Standing ts → (sum : LinearSum) (s : Log) → Grows ε (normalize-terms ts sum s .1) t → Each Bounded (terms-of sum) → Each Bounded (terms-of (normalize-terms ts sum s .0))
+      terms-bounded : (ts : Terms) → EveryTerm WithinDomain ts → (sum : LinearSum) (s : Log) → Grows ε (normalize-terms ts sum s .1) t → Each Bounded (terms-of sum) → Each Bounded (terms-of (normalize-terms ts sum s .0))
       terms-bounded tnil h = λ sum s g b. b
       terms-bounded (tmore k e ts) h = λ sum s g b.
           let x = normalize-int-expr e s in
@@ -98,7 +98,7 @@ module _ (ds : List Domain) (ε : IVal) where
   -- ---- a new variable
 
   -- what a column may be made of: a sum over numbers given, within its domain
-  column-legal : (e : IntExpr) → EveryInt Standing e → (s : Log) → let x = normalize-int-expr e s in Legal ε (column (x .0) (get-domain-linear-sum (domain-at (x .1)) (x .0))) (x .1)
+  column-legal : (e : IntExpr) → EveryInt WithinDomain e → (s : Log) → let x = normalize-int-expr e s in Legal ε (column (x .0) (get-domain-linear-sum (domain-at (x .1)) (x .0))) (x .1)
   column-legal e h s =
       let x = normalize-int-expr e s in
       (int-expr-means (λ n. false) ε (λ n. false) ε e s .bounded, λ ι a. domain-holds (domain-at (x .1)) ι (x .0) (int-bounded ι (x .1) a e h s same))
@@ -126,7 +126,7 @@ module _ (ds : List Domain) (ε : IVal) where
     pub admits : (z : ℤ) → all-true ρ (with-value ι (next-int (normalize-int-expr e s .1)) z) (new-column ds (normalize-int-expr e s) .clauses) ≡ eqZ z (int-value ε e)
     pub inside : in-domain (int-value ε e) (domain-at (new-column ds (normalize-int-expr e s) .log) (next-int (normalize-int-expr e s .1))) ≡ true
 
-  pub column-one-value : (e : IntExpr) → EveryInt Standing e → (s : Log) (δ ρ : Val) (ι : IVal) → Agrees δ ε ρ ι (normalize-int-expr e s .1) → OneValue e s ρ ι
+  pub column-one-value : (e : IntExpr) → EveryInt WithinDomain e → (s : Log) (δ ρ : Val) (ι : IVal) → Agrees δ ε ρ ι (normalize-int-expr e s .1) → OneValue e s ρ ι
   column-one-value e h s δ ρ ι a =
       record {
         admits = λ z. new-column-true ρ (with-value ι v z) x ∙ rw (with-value-new ι v z) (ap (eqZ z) (sum-same v (with-value ι v z) ι (with-value-old ι v z) (x .0) (m .bounded) ∙ m .value a));
@@ -154,11 +154,12 @@ module _ (ds : List Domain) (ε : IVal) where
       pub below : all (λ v. ltb v (next-int (c .log))) (c .vars) ≡ true
       pub as-many : length (c .vars) ≡ length xs
       pub no-literal : clauses-bound (c .clauses) ≡ 0
+      pub numbered : ints-bound (c .clauses) ≤ next-int (c .log)
       pub sound : Agrees δ ε ρ ι (c .log) → all-true ρ ι (c .clauses) ≡ true → map ι (c .vars) ≡ xs
       pub complete : Fits δ ε ρ ι (c .log) → all-true ρ ι (c .clauses) ≡ true
       pub inside : Agrees δ ε ρ ι (c .log) → all (λ v. in-domain (ι v) (domain-at (c .log) v)) (c .vars) ≡ true
 
-    old-column-means : (v : ℕ) → Standing v → (s : Log) → ColumnsMean s (old-column (convert-int-var v s)) (ε v ∷ [])
+    old-column-means : (v : ℕ) → WithinDomain v → (s : Log) → ColumnsMean s (old-column (convert-int-var v s)) (ε v ∷ [])
     unfolding old-column
     old-column-means v h s =
         let n : ℕ = convert-int-var v s .0 in
@@ -169,17 +170,19 @@ module _ (ds : List Domain) (ε : IVal) where
           below = rw (lt-ltb n (next-int t) (get-int-below t v n e)) refl;
           as-many = refl;
           no-literal = refl;
+          numbered = omega arith;
           sound = λ a k. ap (λ (z : ℤ). z ∷ []) (agrees-int ε ι t (a .ints) v n e);
           complete = λ f. refl;
           inside = λ a. rw (int-var-domain ds t v n e, agrees-int ε ι t (a .ints) v n e, h .1) refl;
         }
 
-    new-column-means : (e : IntExpr) → EveryInt Standing e → (s : Log) → ColumnsMean s (new-column ds (normalize-int-expr e s)) (int-value ε e ∷ [])
+    new-column-means : (e : IntExpr) → EveryInt WithinDomain e → (s : Log) → ColumnsMean s (new-column ds (normalize-int-expr e s)) (int-value ε e ∷ [])
     new-column-means e h s = record {
       grows = unfold new-column in grow (column (x .0) d) (column-legal e h s) (m .grows);
       below = unfold new-column in rw (lt-ltb v (suc v) (omega arith)) refl;
       as-many = unfold new-column in refl;
       no-literal = unfold new-column in omega arith;
+      numbered = unfold new-column in omega (arith, sub-sum-bound (x .0) (singleton v), m .bounded);
       sound = λ a k. unfold new-column in ap (λ (z : ℤ). z ∷ []) (eqZ-is (ι v) (sum-value ι (x .0)) (sym (new-column-true ρ ι x) ∙ k) ∙ m .value (older (unfold new-column in a)));
       complete = λ f. new-column-true ρ ι x ∙ is-eqZ (ι v) (sum-value ι (x .0)) (value-of (unfold new-column in f));
       inside = λ a. unfold new-column in rw (new-column-domain ds (x .0) d (x .1), own (unfold new-column in a)) refl;
@@ -206,7 +209,7 @@ module _ (ds : List Domain) (ε : IVal) where
         own : Agrees δ ε ρ ι (column (x .0) d ∷ x .1) → in-domain (ι v) d ≡ true
         own a = a .ints .0
 
-    column-means : (e : IntExpr) → EveryInt Standing e → (s : Log) → ColumnsMean s (equivalent-int-var ds e s) (int-value ε e ∷ [])
+    column-means : (e : IntExpr) → EveryInt WithinDomain e → (s : Log) → ColumnsMean s (equivalent-int-var ds e s) (int-value ε e ∷ [])
     unfolding equivalent-int-var
     column-means (IVar v) h s = unfold int-value EveryInt in old-column-means v h s
     column-means (IConst c) h s = new-column-means (IConst c) h s
@@ -230,6 +233,7 @@ module _ (ds : List Domain) (ε : IVal) where
       below = all-append (λ v. ltb v (next-int (b .log))) (a .vars) (b .vars) ∙ and-i _ _ (below-stays (q .grows) (a .vars) (p .below)) (q .below);
       as-many = length-append (a .vars) (b .vars) ∙ omega (arith, p .as-many, q .as-many, length-append xs ys);
       no-literal = omega (arith, clauses-bound-append (a .clauses) (b .clauses), p .no-literal, q .no-literal);
+      numbered = omega (arith, ints-bound-append (a .clauses) (b .clauses), p .numbered, q .numbered, grows-int (q .grows));
       sound = λ r h.
           let k = sym (all-append (clause-true ρ ι) (a .clauses) (b .clauses)) ∙ h in
           map-append ι (a .vars) (b .vars) ∙ both (p .sound (agrees-back (q .grows) r) (and-l (all-true ρ ι (a .clauses)) _ k)) (q .sound r (and-r (all-true ρ ι (a .clauses)) _ k));
@@ -240,7 +244,7 @@ module _ (ds : List Domain) (ε : IVal) where
         both : {us vs : List ℤ} → us ≡ xs → vs ≡ ys → us ++ vs ≡ xs ++ ys
         both e f = cc
 
-    pub columns-mean : (es : List IntExpr) → EveryColumn Standing es → (s : Log) → ColumnsMean s (equivalent-int-vars ds es s) (map (int-value ε) es)
+    pub columns-mean : (es : List IntExpr) → EveryColumn WithinDomain es → (s : Log) → ColumnsMean s (equivalent-int-vars ds es s) (map (int-value ε) es)
     unfolding equivalent-int-vars EveryColumn
-    columns-mean [] h s = record { grows = same; below = refl; as-many = refl; no-literal = refl; sound = λ a k. refl; complete = λ f. refl; inside = λ a. refl }
+    columns-mean [] h s = record { grows = same; below = refl; as-many = refl; no-literal = refl; numbered = omega arith; sound = λ a k. refl; complete = λ f. refl; inside = λ a. refl }
     columns-mean (e ∷ es) h s = columns-append s (equivalent-int-var ds e s) (equivalent-int-vars ds es (equivalent-int-var ds e s .log)) (int-value ε e ∷ []) (map (int-value ε) es) (column-means e (h .0) s) (columns-mean es (h .1) (equivalent-int-var ds e s .log))

@@ -1,16 +1,16 @@
 -- A domain as the list of its values: a value of the domain stands in it.
 use mathlib.Core.Path.{_≡_, refl, sym, ap, _∙_}
 use mathlib.Core.Bool.{Bool, true, false, not, _&&_, _||_}
-use mathlib.Core.List.{List, [], _∷_}
+use mathlib.Core.List.{List}
 use Prim.Native.Nat.{ℕ, zero, suc}
 use native.Mathlib.Omega.{arith}
-use lib.IntN.{ℤ, pos, negsuc, sucℤ, natAbs, _+ℤ_, _-ℤ_, sucℤ-+ℤ, +ℤ-sucℤ, +ℤ-idr, +ℤ-comm, +ℤ-assoc, +ℤ-one, -ℤ-+ℤ-cancel}
+use lib.IntN.{ℤ, pos, negsuc, sucℤ, natAbs, _+ℤ_, _-ℤ_, sucℤ-+ℤ, +ℤ-sucℤ, +ℤ-idr, +ℤ-comm, +ℤ-one, -ℤ-+ℤ-cancel}
 use lib.Signed.{ltZ, leZ, nonNeg, pos-natAbs}
 use lib.Dec.{T, ltb}
 use borrow.Author.Tests.{ltb-false, le-ltb}
-use Rattle.laws.specs.Bools.{never, and-l, and-r, and-i, eq1, eq2}
+use Rattle.laws.specs.Bools.{never, and-l, and-r, eq1, eq2}
 use Rattle.laws.specs.Ints.{eqZ}
-use Rattle.laws.specs.Order.{eqZ-is, eqZ-refl, ltZ-irr, ltZ-trans, ltZ-tri, ltZ-asym, leZ-not, leZ-trans, lt-suc}
+use Rattle.laws.specs.Order.{eqZ-is, eqZ-refl, ltZ-irr, ltZ-tri, ltZ-asym, leZ-not, leZ-trans, lt-suc}
 use Rattle.laws.specs.Lists.{any}
 use Rattle.syntax.specs.Syntax.{Domain, Range, Enumerative, rising, enumerate, in-domain, num-candidates}
 

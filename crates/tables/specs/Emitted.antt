@@ -1,15 +1,15 @@
 -- The domains of the emitted integers: a number keeps its domain as the log grows; a declared variable's number has its declared domain.
 use mathlib.Core.Path.{_≡_, refl, sym, ap, _∙_}
 use mathlib.Core.Bool.{Bool, true, false, cond}
-use mathlib.Core.Option.{Option, none as nothing, some}
+use mathlib.Core.Option.{some}
 use mathlib.Core.List.{List, [], _∷_, _++_, append-assoc}
-use Prim.Native.Nat.{ℕ, suc, _+_, _≤_, _<_}
+use Prim.Native.Nat.{ℕ, suc, _+_, _<_}
 use native.Mathlib.Omega.{arith}
-use lib.ListN.{length, getD, length-append, List·getD-append}
+use lib.ListN.{length, List·getD-append}
 use lib.Seq.{getD-at}
 use lib.Dec.{eqb}
 use borrow.Author.Tests.{eqb-true}
-use Rattle.syntax.specs.Syntax.{Domain, Range, domain-of}
+use Rattle.syntax.specs.Syntax.{Domain, domain-of}
 use Rattle.syntax.specs.Satisfies.{IVal}
 use Rattle.sums.specs.LinearSum.{LinearSum}
 use Rattle.clauses.specs.Log.{Made, declared, aux, side, declared-int, column, Log, next-int, get-int-var}

@@ -11,14 +11,14 @@ use lib.ListN.{length, getD, take, drop, length-map}
 use Rattle.laws.specs.Bools.{never, and-l, and-r, and-i, or-l, or-r, or-no-l, or-no-r, or-left-no, or-right-no, or-assoc, both-ways, eq1, eq2, imp3}
 use Rattle.laws.specs.Ints.{eqZ, is-zero-true}
 use Rattle.laws.specs.Order.{eqZ-is, eqZ-refl, eqZ-sym}
-use Rattle.laws.specs.Lists.{any, all, keep-if, filter, flat, any-cong, any-split, any-append, all-append, any-mono, all-mono, none-of, all-take, all-drop, all-filter}
+use Rattle.laws.specs.Lists.{any, all, keep-if, filter, flat, any-cong, any-split, any-append, all-append, any-mono, all-mono, none-of, all-take, all-filter}
 use Rattle.syntax.specs.Syntax.{Domain, enumerate, in-domain, domain-of, Cell}
 use Rattle.syntax.specs.Satisfies.{Val, IVal}
-use Rattle.clauses.specs.Clause.{LinearLit, linear-true, Clause, clause-true}
+use Rattle.clauses.specs.Clause.{linear-true, Clause, clause-true}
 use Rattle.tables.specs.Tables.{linear-eq, linear-ne, is-star, Row, cell-value, cell-at, row-le, sort-rows, within, agree, run-length, groups, takes, variable, differs, column-clause, column-clauses, prefixes, plain-clauses, plain-table}
 use Rattle.tables.specs.Domains.{has, in-enumerate}
 use Rattle.tables.specs.Agree.{wide, wide-is, agree-same, agree-sym, agree-snoc, agree-less, agree-all, within-at, row-permits, permits-agree}
-use Rattle.tables.specs.Sorted.{any-sort, all-sort, Sorted, none, more, sorted-sort, sorted-filter, run-agrees, run-after}
+use Rattle.tables.specs.Sorted.{any-sort, all-sort, Sorted, more, sorted-sort, sorted-filter, run-agrees, run-after}
 
 -- ---- a comparison of a variable with a constant
 

@@ -1,23 +1,24 @@
 -- A starred table is the Or over its rows of the And of their unstarred equalities: its clauses say that some row's cells permit the values.
-use mathlib.Core.Path.{_≡_, refl, sym, ap, _∙_}
+use mathlib.Core.Path.{_≡_, refl}
 use mathlib.Core.Bool.{Bool, true, false, _&&_, _||_}
 use mathlib.Core.List.{List, [], _∷_, map}
-use Prim.Native.Nat.{ℕ, _≤_, max}
+use Prim.Native.Nat.{ℕ, _≤_}
 use native.Mathlib.Omega.{arith}
-use lib.IntN.{ℤ}
-use Rattle.laws.specs.Bools.{eq2}
+use lib.Dec.{ltb}
+use borrow.Author.Tests.{ltb-true}
+use Rattle.laws.specs.Bools.{and-l, and-r, eq2}
 use Rattle.laws.specs.Ints.{eqZ}
 use Rattle.laws.specs.Order.{eqZ-sym}
 use Rattle.laws.specs.Lists.{any, all}
 use Rattle.syntax.specs.Syntax.{Cell, star, value}
 use Rattle.syntax.specs.Satisfies.{Val, IVal}
-use Rattle.clauses.specs.Clause.{Clause, clause, clause-true}
-use Rattle.clauses.specs.Log.{Log, next-bool}
-use Rattle.clauses.specs.Bounds.{clauses-bound, lists-bound}
+use Rattle.clauses.specs.Clause.{clause-true}
+use Rattle.clauses.specs.Log.{Log, next-int}
+use Rattle.clauses.specs.Bounds.{clauses-bound, lists-bound, ints-bound, int-lists-bound}
 use Rattle.clauses.specs.Valuation.{any-all-true}
 use Rattle.clauses.specs.Means.{Means}
 use Rattle.clauses.specs.DisjunctionMeaning.{disjunction-means}
-use Rattle.tables.specs.Tables.{linear-eq, star-row, star-table}
+use Rattle.tables.specs.Tables.{star-row, star-table}
 use Rattle.tables.specs.Agree.{row-permits}
 use Rattle.tables.specs.PlainMeaning.{linear-eq-true}
 
@@ -49,8 +50,20 @@ star-rows-bound : (vs : List ℕ) (rows : List (List Cell)) → lists-bound (map
 star-rows-bound vs [] = refl
 star-rows-bound vs (cs ∷ rows) = rw (star-row-bound vs cs, star-rows-bound vs rows) (omega arith)
 
--- from any log
-pub star-table-means : (δ : Val) (ε : IVal) (ρ : Val) (ι : IVal) (vs : List ℕ) (rows : List (List Cell)) (s : Log)
+-- and no integers but the columns'
+star-row-ints : (n : ℕ) (vs : List ℕ) (cs : List Cell) → all (λ v. ltb v n) vs ≡ true → ints-bound (star-row vs cs) ≤ n
+unfolding star-row
+star-row-ints n [] cs h = omega arith
+star-row-ints n (v ∷ vs) [] h = omega arith
+star-row-ints n (v ∷ vs) (star ∷ cs) h = star-row-ints n vs cs (and-r (ltb v n) (all (λ v. ltb v n) vs) h)
+star-row-ints n (v ∷ vs) (value x ∷ cs) h = omega (arith, ltb-true v n (and-l (ltb v n) (all (λ v. ltb v n) vs) h), star-row-ints n vs cs (and-r (ltb v n) (all (λ v. ltb v n) vs) h))
+
+star-rows-ints : (n : ℕ) (vs : List ℕ) (rows : List (List Cell)) → all (λ v. ltb v n) vs ≡ true → int-lists-bound (map (star-row vs) rows) ≤ n
+star-rows-ints n vs [] h = omega arith
+star-rows-ints n vs (cs ∷ rows) h = omega (arith, star-row-ints n vs cs h, star-rows-ints n vs rows h)
+
+-- from any log that has the columns' numbers
+pub star-table-means : (δ : Val) (ε : IVal) (ρ : Val) (ι : IVal) (vs : List ℕ) (rows : List (List Cell)) (s : Log) → all (λ v. ltb v (next-int s)) vs ≡ true
     → Means δ ε ρ ι s (star-table vs rows s) (any (λ cs. row-permits cs (map ι vs)) rows)
 unfolding star-table
-star-table-means δ ε ρ ι vs rows s = rw (star-rows-true ρ ι vs rows) at (disjunction-means δ ε ρ ι (map (star-row vs) rows) s (omega (arith, star-rows-bound vs rows)))
+star-table-means δ ε ρ ι vs rows s h = rw (star-rows-true ρ ι vs rows) at (disjunction-means δ ε ρ ι (map (star-row vs) rows) s (omega (arith, star-rows-bound vs rows)) (star-rows-ints (next-int s) vs rows h))

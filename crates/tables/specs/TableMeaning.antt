@@ -1,28 +1,30 @@
 -- The clauses of a table statement mean the statement, in the form in which a rule's do (Means), from any log.
 use mathlib.Core.Path.{_≡_, refl, sym, ap, _∙_}
-use mathlib.Core.Bool.{Bool, true, false, not, _&&_, _||_, cond}
-use mathlib.Core.List.{List, [], _∷_, _++_, map}
-use Prim.Native.Nat.{ℕ, zero, suc, _≤_, max}
+use mathlib.Core.Bool.{Bool, true, false, not, cond}
+use mathlib.Core.List.{List, [], _∷_, map}
+use Prim.Native.Nat.{ℕ, zero, suc, _≤_, _<_}
 use native.Mathlib.Omega.{arith}
 use lib.IntN.{ℤ}
-use lib.ListN.{length, length-map}
+use lib.Dec.{ltb}
+use lib.ListN.{length, length-map, getD}
+use borrow.Author.Tests.{ltb-true}
 use Rattle.laws.specs.Bools.{and-l, and-r, and-i}
 use Rattle.laws.specs.Lists.{any, all, keep-if, filter, flat, any-cong, all-append}
 use Rattle.syntax.specs.Syntax.{Domain, in-domain, domain-of, enumerate, IntExpr, Cell, Table}
 use Rattle.syntax.specs.Satisfies.{Val, IVal, int-value, row-holds, stmt-holds}
 use Rattle.syntax.specs.Written.{EveryColumn}
-use Rattle.clauses.specs.Clause.{Clause, clause-true}
-use Rattle.clauses.specs.Log.{Log, next-bool}
-use Rattle.clauses.specs.Bounds.{clauses-bound, clauses-bound-append}
-use Rattle.clauses.specs.Valuation.{Agrees, Fits, fits-agrees, all-true}
-use Rattle.clauses.specs.Grow.{Grows, same, grows-trans, agrees-back, fits-back}
+use Rattle.clauses.specs.Clause.{clause-true}
+use Rattle.clauses.specs.Log.{Log, next-int}
+use Rattle.clauses.specs.Bounds.{clauses-bound, clauses-bound-append, linears-bound, linears-bound-append, ints-bound, ints-bound-append}
+use Rattle.clauses.specs.Valuation.{Agrees, fits-agrees, all-true}
+use Rattle.clauses.specs.Grow.{same, grows-trans, grows-int, agrees-back, fits-back}
 use Rattle.clauses.specs.Disjunction.{Out}
 use Rattle.clauses.specs.Means.{Means}
-use Rattle.tables.specs.Tables.{is-star, Row, cell-value, sort-rows, within, groups, takes, column-clause, column-clauses, prefixes, plain-clauses, plain-table, star-table, emitted-domains, Columns, equivalent-int-vars, normalize-extension-supports, normalize-table}
+use Rattle.tables.specs.Tables.{linear-eq, linear-ne, is-star, Row, cell-value, cell-at, sort-rows, within, groups, takes, differs, column-clause, column-clauses, prefixes, plain-clauses, plain-table, star-table, emitted-domains, Columns, equivalent-int-vars, normalize-extension-supports, normalize-table}
 use Rattle.tables.specs.Agree.{wide, row-permits, row-holds-permits}
 use Rattle.tables.specs.PlainMeaning.{plain-table-means}
 use Rattle.tables.specs.StarMeaning.{star-table-means}
-use Rattle.tables.specs.ColumnMeaning.{Standing, ColumnsMean, columns-mean}
+use Rattle.tables.specs.ColumnMeaning.{WithinDomain, ColumnsMean, columns-mean}
 
 -- ---- the clauses of rows name no Boolean
 
@@ -54,6 +56,55 @@ module _ (vs : List ℕ) (ds : List Domain) where
   unfolding plain-table
   table-bound rows = plain-bound (filter (within ds) (sort-rows (map (map cell-value) rows)))
 
+-- ---- and no integers but the columns'
+
+column-below : (n : ℕ) (vs : List ℕ) (i : ℕ) → 0 < n → all (λ v. ltb v n) vs ≡ true → getD vs i 0 < n
+column-below n [] i z h = z
+column-below n (v ∷ vs) zero z h = ltb-true v n (and-l (ltb v n) (all (λ v. ltb v n) vs) h)
+column-below n (v ∷ vs) (suc i) z h = column-below n vs i z (and-r (ltb v n) (all (λ v. ltb v n) vs) h)
+
+equalities-ints : (v : ℕ) (xs : List ℤ) → linears-bound (map (linear-eq v) xs) ≤ suc v
+equalities-ints v [] = omega arith
+equalities-ints v (x ∷ xs) = omega (arith, equalities-ints v xs)
+
+module _ (vs : List ℕ) (ds : List Domain) (n : ℕ) (low : (i : ℕ) → getD vs i 0 < n) where
+  differs-ints : (p : ℕ) (r : Row) → linears-bound (differs vs ds p r) ≤ n
+  unfolding differs
+  differs-ints zero r = omega arith
+  differs-ints (suc p) r = omega (arith, linears-bound-append (differs vs ds p r) (linear-ne (getD vs p 0) (cell-at r p) ∷ []), differs-ints p r, low p)
+
+  columns-ints : (p i m : ℕ) (g : Row × List Row) → ints-bound (column-clauses vs ds p i m g) ≤ n
+  unfolding column-clauses column-clause
+  columns-ints p i zero g = omega arith
+  columns-ints p i (suc m) g = go (not (all (takes i (g .1)) (enumerate (domain-of ds i)))) (columns-ints p (suc i) m g)
+    where
+      some-values : List ℤ
+      some-values = filter (takes i (g .1)) (enumerate (domain-of ds i))
+
+      go : (t : Bool) → ints-bound (column-clauses vs ds p (suc i) m g) ≤ n → ints-bound (keep-if t (column-clause vs ds p i g) (column-clauses vs ds p (suc i) m g)) ≤ n
+      go true h = omega (arith, linears-bound-append (differs vs ds p (g .0)) (map (linear-eq (getD vs i 0)) some-values), differs-ints p (g .0), equalities-ints (getD vs i 0) some-values, low i)
+      go false h = h
+
+  groups-ints : (p m : ℕ) (gs : List (Row × List Row)) → ints-bound (flat (map (column-clauses vs ds p p m) gs)) ≤ n
+  groups-ints p m [] = omega arith
+  groups-ints p m (g ∷ gs) = omega (arith, ints-bound-append (column-clauses vs ds p p m g) (flat (map (column-clauses vs ds p p m) gs)), columns-ints p p m g, groups-ints p m gs)
+
+  prefixes-ints : (p m : ℕ) (rows : List Row) → ints-bound (prefixes vs ds p m rows) ≤ n
+  unfolding prefixes
+  prefixes-ints p zero rows = omega arith
+  prefixes-ints p (suc m) rows = omega (arith, ints-bound-append (flat (map (column-clauses vs ds p p (suc m)) (groups p zero rows))) (prefixes vs ds (suc p) m rows), groups-ints p (suc m) (groups p zero rows), prefixes-ints (suc p) m rows)
+
+-- a table without columns has no clause but the empty one
+plain-ints : (n : ℕ) (vs : List ℕ) (ds : List Domain) (rows : List Row) → all (λ v. ltb v n) vs ≡ true → ints-bound (plain-clauses vs ds rows) ≤ n
+unfolding plain-clauses prefixes
+plain-ints n vs ds [] h = omega arith
+plain-ints n [] ds (r ∷ rows) h = omega arith
+plain-ints n (v ∷ vs) ds (r ∷ rows) h = prefixes-ints (v ∷ vs) ds n (λ i. column-below n (v ∷ vs) i (omega (arith, ltb-true v n (and-l (ltb v n) (all (λ v. ltb v n) vs) h))) h) 0 (length (v ∷ vs)) (r ∷ rows)
+
+table-ints : (n : ℕ) (vs : List ℕ) (ds : List Domain) (rows : List (List Cell)) → all (λ v. ltb v n) vs ≡ true → ints-bound (plain-table vs ds rows) ≤ n
+unfolding plain-table
+table-ints n vs ds rows h = plain-ints n vs ds (filter (within ds) (sort-rows (map (map cell-value) rows))) h
+
 within-map : (f : ℕ → Domain) (ι : IVal) (vs : List ℕ) → all (λ v. in-domain (ι v) (f v)) vs ≡ true → within (map f vs) (map ι vs) ≡ true
 unfolding within
 within-map f ι [] h = refl
@@ -68,27 +119,28 @@ module _ (δ : Val) (ε : IVal) (ρ : Val) (ι : IVal) (ds : List Domain) where
   Inside : List ℕ → Log → Type 0
   Inside vs s = Agrees δ ε ρ ι s → all (λ v. in-domain (ι v) (domain-of (emitted-domains ds s) v)) vs ≡ true
 
-  plain-means : (vs : List ℕ) (rows : List (List Cell)) (s : Log) → all (wide (length vs)) rows ≡ true → any (any is-star) rows ≡ false → Inside vs s
+  plain-means : (vs : List ℕ) (rows : List (List Cell)) (s : Log) → all (wide (length vs)) rows ≡ true → any (any is-star) rows ≡ false → all (λ v. ltb v (next-int s)) vs ≡ true → Inside vs s
       → Means δ ε ρ ι s (plain-table vs (map (domain-of (emitted-domains ds s)) vs) rows, s) (permitted vs rows)
-  plain-means vs rows s w h inside =
+  plain-means vs rows s w h low inside =
       let f : ℕ → Domain = domain-of (emitted-domains ds s) in
       let e : Agrees δ ε ρ ι s → all-true ρ ι (plain-table vs (map f vs) rows) ≡ permitted vs rows = λ a.
       plain-table-means vs (map f vs) ρ ι rows (length-map vs f) (within-map f ι vs (unfold Inside in inside a)) w h in
       record {
         grows = same;
         bounded = omega (arith, table-bound vs (map f vs) rows);
+        numbered = table-ints (next-int s) vs (map f vs) rows low;
         sound = λ a k. sym (e a) ∙ k;
         complete = λ g k. e (fits-agrees δ ε ρ ι s g) ∙ k;
       }
 
-  supports-mean : (vs : List ℕ) (rows : List (List Cell)) (s : Log) → all (wide (length vs)) rows ≡ true → Inside vs s
+  supports-mean : (vs : List ℕ) (rows : List (List Cell)) (s : Log) → all (wide (length vs)) rows ≡ true → all (λ v. ltb v (next-int s)) vs ≡ true → Inside vs s
       → Means δ ε ρ ι s (normalize-extension-supports ds vs rows s) (permitted vs rows)
   unfolding normalize-extension-supports
-  supports-mean vs rows s w inside = go (any (any is-star) rows) refl
+  supports-mean vs rows s w low inside = go (any (any is-star) rows) refl
     where
       go : (t : Bool) → any (any is-star) rows ≡ t → Means δ ε ρ ι s (cond t (star-table vs rows s) (plain-table vs (map (domain-of (emitted-domains ds s)) vs) rows, s)) (permitted vs rows)
-      go true e = star-table-means δ ε ρ ι vs rows s
-      go false e = plain-means vs rows s w e inside
+      go true e = star-table-means δ ε ρ ι vs rows s low
+      go false e = plain-means vs rows s w e low inside
 
   -- ---- the statement
 
@@ -99,12 +151,13 @@ module _ (δ : Val) (ε : IVal) (ρ : Val) (ι : IVal) (ds : List Domain) where
   held-permitted es vs rows e = any-cong (row-holds ε es) (λ cs. row-permits cs (map ι vs)) rows (λ cs. row-holds-permits ε es cs ∙ ap (row-permits cs) (sym e))
 
   -- a table's rows have as many cells as it has columns (reading); its columns write variables whose domains are ordered and hold their values
-  pub table-means : (es : List IntExpr) (rows : List (List Cell)) (s : Log) → all (wide (length es)) rows ≡ true → EveryColumn (Standing ds ε) es
+  pub table-means : (es : List IntExpr) (rows : List (List Cell)) (s : Log) → all (wide (length es)) rows ≡ true → EveryColumn (WithinDomain ds ε) es
       → Means δ ε ρ ι s (normalize-table ds es rows s) (stmt-holds δ ε ρ (Table es rows))
   unfolding normalize-table stmt-holds
   table-means es rows s w h = record {
     grows = grows-trans (m .grows) (r .grows);
     bounded = omega (arith, clauses-bound-append (c .clauses) (o .0), m .no-literal, r .bounded);
+    numbered = omega (arith, ints-bound-append (c .clauses) (o .0), m .numbered, r .numbered, grows-int (r .grows));
     sound = λ a k.
         let parts = sym (all-append (clause-true ρ ι) (c .clauses) (o .0)) ∙ k in
         held-permitted es (c .vars) rows (m .sound (agrees-back (r .grows) a) (and-l (all-true ρ ι (c .clauses)) _ parts)) ∙ r .sound a (and-r (all-true ρ ι (c .clauses)) _ parts);
@@ -127,4 +180,4 @@ module _ (δ : Val) (ε : IVal) (ρ : Val) (ι : IVal) (ds : List Domain) where
       wides = let e : length (c .vars) ≡ length es = m .as-many ∙ length-map es (int-value ε) in rw e w
 
       r : Means δ ε ρ ι (c .log) o (permitted (c .vars) rows)
-      r = supports-mean (c .vars) rows (c .log) wides (unfold Inside in m .inside)
+      r = supports-mean (c .vars) rows (c .log) wides (m .below) (unfold Inside in m .inside)

@@ -21,7 +21,7 @@ use Rattle.clauses.specs.Normalize.{IntOut, normalize-int-expr}
 use Rattle.clauses.specs.Grow.{Grows as GrowsFrom, grows-int, get-int-below}
 use Rattle.tables.specs.Tables.{emitted-domains, new-column, old-column, equivalent-int-var, equivalent-int-vars}
 use Rattle.tables.specs.Emitted.{length-emitted, new-column-domain, domain-stays, int-var-domain}
-use Rattle.tables.specs.ColumnMeaning.{Standing, columns-mean}
+use Rattle.tables.specs.ColumnMeaning.{WithinDomain, columns-mean}
 use Rattle.answer.specs.Answer.{domain-words}
 use Rattle.walk.specs.Item.{nat, int-number}
 use Rattle.walk.specs.Grow.{Fit, back}
@@ -63,14 +63,14 @@ module _ (F : List ℤ) (ds : List Domain) (ε : IVal) (L : Log) (w out : List �
     words = has-triple (emitted-domains ds L) out triples n (omega (arith, length-emitted ds L)) words;
   }
 
-  new-known : (p : ℕ) (e : IntExpr) (s z : Log) → EveryInt (Standing ds ε) e → heavy ds e ≡ false → getD w (column-map + p) (pos 0) ≡ pos (suc (next-int (normalize-int-expr e s .1)))
+  new-known : (p : ℕ) (e : IntExpr) (s z : Log) → EveryInt (WithinDomain ds ε) e → heavy ds e ≡ false → getD w (column-map + p) (pos 0) ≡ pos (suc (next-int (normalize-int-expr e s .1)))
       → GrowsFrom ε (new-column ds (normalize-int-expr e s) .log) z → Fit w (normalize-int-expr e s .1) → Stable ds dom z → next-int z ≤ next-int L → Ranged dom out triples (nat (getD w (column-map + p) (pos 0)) - 1)
   unfolding new-column nat
   new-known p e s z v l h g f d k =
       let x : IntOut = normalize-int-expr e s in
       let o : Domain = get-domain-linear-sum (domain-of (emitted-domains ds (x .1))) (x .0) in
       let n : nat (getD w (column-map + p) (pos 0)) - 1 ≡ next-int (x .1) = rw h (omega arith) in
-      let r : RangeOf o = column-range ds w e s l (every-int-map (Standing ds ε) (λ u. ordered (domain-of ds u) ≡ true) (λ u q. q .0) e v) f in
+      let r : RangeOf o = column-range ds w e s l (every-int-map (WithinDomain ds ε) (λ u. ordered (domain-of ds u) ≡ true) (λ u q. q .0) e v) f in
       let i : dom (next-int (x .1)) ≡ o = dom-at (column (x .0) o ∷ x .1) z (next-int (x .1)) g d (omega arith) ∙ new-column-domain ds (x .0) o (x .1) in
       rw n (ranged (next-int (x .1)) (omega (arith, grows-int g)) (subst RangeOf (sym i) r))
 
@@ -79,7 +79,7 @@ module _ (F : List ℤ) (ds : List Domain) (ε : IVal) (L : Log) (w out : List �
   new-fit e s f = back (grow-column F ds _ _ (normalize-int-expr e s .1)) f
 
   -- one column at p, behind which the log has grown to z
-  one-known : (p : ℕ) (e : IntExpr) (s z : Log) → EveryInt (Standing ds ε) e → EveryInt (λ v. v < length ds) e → heavy ds e ≡ false → PlacedOne F ds w p e s
+  one-known : (p : ℕ) (e : IntExpr) (s z : Log) → EveryInt (WithinDomain ds ε) e → EveryInt (λ v. v < length ds) e → heavy ds e ≡ false → PlacedOne F ds w p e s
       → GrowsFrom ε (equivalent-int-var ds e s .log) z → Fit w (equivalent-int-var ds e s .log) → Stable ds dom z → next-int z ≤ next-int L → Known ds dom out triples (column-number w p e) e
   unfolding equivalent-int-var old-column column-number EveryInt
   one-known p (IConst c) s z v u l h g f d k = new-known p (IConst c) s z v l h g (new-fit (IConst c) s f) d k
@@ -92,7 +92,7 @@ module _ (F : List ℤ) (ds : List Domain) (ε : IVal) (L : Log) (w out : List �
   one-known p (Linear ts) s z v u l h g f d k = new-known p (Linear ts) s z v l h g (new-fit (Linear ts) s f) d k
 
   -- the columns from p on, s the log before them
-  pub all-known : (p : ℕ) (es : List IntExpr) (s : Log) → EveryColumn (Standing ds ε) es → EveryColumn (λ v. v < length ds) es → any (heavy ds) es ≡ false → Placed F ds w p es s
+  pub all-known : (p : ℕ) (es : List IntExpr) (s : Log) → EveryColumn (WithinDomain ds ε) es → EveryColumn (λ v. v < length ds) es → any (heavy ds) es ≡ false → Placed F ds w p es s
       → Fit w (equivalent-int-vars ds es s .log) → Stable ds dom (equivalent-int-vars ds es s .log) → next-int (equivalent-int-vars ds es s .log) ≤ next-int L → AllKnown ds dom out triples w p es
   unfolding equivalent-int-vars Placed EveryColumn
   all-known p [] s v u l h f d k = tt

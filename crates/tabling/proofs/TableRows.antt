@@ -2,7 +2,7 @@
 use mathlib.Core.Path.{_≡_, refl, sym, ap, _∙_, subst}
 use mathlib.Core.Bool.{Bool, true, false, cond}
 use mathlib.Core.List.{List, [], _∷_, map}
-use Prim.Native.Nat.{ℕ, zero, suc, _+_, _-_, _*_, _≤_}
+use Prim.Native.Nat.{ℕ, zero, suc, _+_, _*_, _≤_}
 use native.Mathlib.Omega.{arith}
 use native.Mathlib.Nat.{suc-mul}
 use lib.IntN.{ℤ, pos}
@@ -36,7 +36,7 @@ use Rattle.statements.specs.Table.{starred, columns-below, domains-agree, suppo
 use Rattle.statements.specs.Statements.{Stable, supports-stable, table-words}
 use Rattle.statements.specs.Whole.{lowest}
 use Rattle.statements.specs.Saved.{Saved, saved-same, saved-below, saved-above, saved-then, saved-less, has-saved}
-use Rattle.call.specs.Ready.{rows-wide}
+use Rattle.call.specs.WellRead.{rows-wide}
 use Rattle.numbered.specs.Fresh.{RowsStand, rows-small, stars-are}
 use Rattle.columns.specs.Standing.{Standing}
 use Rattle.columns.specs.Describing.{column-words, AllKnown, Describable, SomeDescribable, Described}

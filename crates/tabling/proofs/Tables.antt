@@ -12,13 +12,13 @@ use Rattle.tables.specs.Tables.{normalize-table}
 use Rattle.answer.specs.Answer.{normalize-stmt}
 use Rattle.walk.specs.Item.{bump, nat, bool-map}
 use Rattle.walk.specs.Grow.{back}
-use Rattle.walk.specs.Two.{low-back}
+use Rattle.walk.specs.TwoWalks.{low-back}
 use Rattle.walk.specs.Decode.{word, read-part}
 use Rattle.rows.specs.Emit.{Clauses, Behind}
 use Rattle.rows.proofs.Looping.{clauses-then, clauses-to}
 use Rattle.statements.specs.Columns.{columns-clauses}
 use Rattle.statements.specs.Table.{table-fresh}
-use Rattle.statements.specs.Statements.{stmt-count, stmt-passes, table-words, table-length}
+use Rattle.statements.specs.Statements.{stmt-count, stmt-walks, table-words, table-length}
 use Rattle.statements.specs.NumberColumns.{columns-end, columns-stop}
 use Rattle.numbered.specs.Fresh.{Freshens}
 use Rattle.columns.specs.Standing.{Standing}
@@ -98,7 +98,7 @@ module _ {set w : List ℤ} {q triples m : ℕ} {out : List ℤ} {o : ℕ} where
         let a = numbers-are t .1 in
         let e : f ≡ table-fresh (length es) rows = hf rows (table-stand t) ∙ ap (λ (i : ℕ). table-fresh i rows) (t .width) in
         let i : m ≡ x .state .bools = h .number ∙ sym (h .at .numbered .bools) in
-        let s = stmt-passes (x .folded) (x .problem .domains) q (Table es rows) (x .state) (x .before) (h .at .behind, h .at .inside) (h .at .stands) (h .at .legal) (h .at .numbered) (low-back (h .at .grows) (h .low)) (omega (arith, h .at .grows .ints, h .few)) in
+        let s = stmt-walks (x .folded) (x .problem .domains) q (Table es rows) (x .state) (x .before) (h .at .behind, h .at .inside) (h .at .stands) (h .at .legal) (h .at .numbered) (low-back (h .at .grows) (h .low)) (omega (arith, h .at .grows .ints, h .few)) in
         record {
           clauses = clauses-then (b .room .part) (clauses-to a (equalities h)) (r .clauses);
           next = table-end t;

@@ -17,7 +17,7 @@ use Rattle.answer.specs.Answer.{domain-words, normalize-stmt}
 use Rattle.walk.specs.Item.{State}
 use Rattle.walk.specs.Grow.{Fit}
 use Rattle.walk.specs.Num.{max-emitted}
-use Rattle.walk.specs.Two.{Low}
+use Rattle.walk.specs.TwoWalks.{Low}
 use Rattle.walk.specs.Decode.{read-part}
 use Rattle.rows.specs.Emit.{Clauses}
 use Rattle.statements.specs.Along.{StmtAt}

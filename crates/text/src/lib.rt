@@ -42,7 +42,7 @@ fn put_rest(out: &mut [u8], at: usize, words: &[i32], from: usize) -> usize
     let a = stop(words, from, 1);
     let p = put_clauses(out, at, words, a, n);
     let i = p.at;
-    let t = p.literals;
+    let t = p.members;
     let q = put_line(out, i, &CLAUSES, words, from, 1);
     let j = q.at;
     let k = put_bytes(out, j, &TOTAL);

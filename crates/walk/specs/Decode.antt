@@ -1,14 +1,14 @@
 -- A tree read from words: total, so that a walk over any words has a meaning. What is no expression is an empty disjunction.
-use mathlib.Core.Path.{_≡_, refl}
+use mathlib.Core.Path.{_≡_}
 use mathlib.Core.Bool.{Bool, true, false, not, cond}
-use mathlib.Core.List.{List, [], _∷_, _++_}
-use Prim.Native.Nat.{ℕ, zero, suc, _+_, _≤_, _<_, min}
-use lib.IntN.{ℤ, pos, negsuc}
+use mathlib.Core.List.{List}
+use Prim.Native.Nat.{ℕ, zero, suc, _+_, _≤_, min}
+use lib.IntN.{ℤ, pos}
 use lib.ListN.{length, getD, take}
 use lib.Dec.{eqb, ltb}
 use Rattle.syntax.specs.Syntax.{op-at, IntExpr, IConst, IVar, Linear, Terms, tnil, tmore}
 use Rattle.clauses.specs.Clause.{negate-if}
-use Rattle.walk.specs.Tree.{Tree, var, num, cmp, conj, disj, cross, tied, Trees, nil, cons, append, joined, crossed, both-tied}
+use Rattle.walk.specs.Tree.{Tree, var, num, cmp, disj, cross, tied, Trees, nil, cons, append, joined, crossed, both-tied}
 use Rattle.walk.specs.Item.{limit, bump, is-none, mode-in, fresh-in, lines-in, nat, Tally, tally, Item, item, items, tallies, counts, all-lines, lines-of}
 use Rattle.walk.specs.declared.Node.{Node}
 use Rattle.walk.specs.declared.Node.the-variants.{Var, Cmp, Not, Join, Cross}
@@ -70,11 +70,6 @@ node-of ws l g at k =
     (cond (eqb k 18) (comparison-node ws l (past ws (at + 2)))
     (Join true 0 g g (past ws (at + 1)))))))))))
 
-unfoldable pub node-at : List ℤ → ℕ → Bool → ℕ → Node
-node-at ws zero g at = Join true 0 g g at
-node-at ws (suc l) g at = node-of ws l g at (word ws at)
-
--- a tree (or trees), the end of its words, the splitting's next number
 pub record Read : Type 0 where
   pub tree : Tree
   pub end : ℕ

@@ -1,17 +1,15 @@
 -- Logs grow, and a work slice whose maps agree with a later log agrees with an earlier one.
-use mathlib.Core.Path.{_≡_, refl, sym, ap, _∙_}
+use mathlib.Core.Path.{_≡_, refl, ap}
 use mathlib.Core.Bool.{Bool, true, false, cond}
 use mathlib.Core.Option.{Option, none as nothing, some}
-use mathlib.Core.List.{List, [], _∷_, _++_}
-use Prim.Native.Nat.{ℕ, zero, suc, _+_, _≤_, _<_}
+use mathlib.Core.List.{List, [], _∷_}
+use Prim.Native.Nat.{ℕ, suc, _≤_, _<_}
 use native.Mathlib.Omega.{arith}
-use lib.IntN.{ℤ, pos, negsuc, negℤ}
-use lib.Dec.{eqb, eqb→eq, leb}
+use lib.IntN.{ℤ, pos, negsuc}
+use lib.Dec.{eqb, eqb→eq}
 use borrow.Author.Tests.{le-leb, eq-eqb}
-use Rattle.syntax.specs.Syntax.{BoolExpr}
 use Rattle.clauses.specs.Clause.{Clause, BoolLit, lit}
-use Rattle.clauses.specs.Log.{Made, declared, aux, side, declared-int, column, Log, next-bool, next-int, get-bool-var, get-int-var}
-use Rattle.answer.specs.Answer.{lit-words}
+use Rattle.clauses.specs.Log.{declared, aux, side, declared-int, column, Log, next-bool, next-int, get-bool-var, get-int-var}
 use Rattle.walk.specs.Item.{limit, bool-entry, int-entry, word-of}
 
 pub record Grows (s t : Log) : Type 0 where

@@ -1,16 +1,16 @@
 -- Integers met in a comparison: the sum of an expression is that of the final map, and Booleans keep their numbers.
-use mathlib.Core.Path.{_≡_, refl, sym, ap, _∙_}
+use mathlib.Core.Path.{_≡_, refl, ap, _∙_}
 use mathlib.Core.Option.{Option, none as nothing, some}
-use mathlib.Core.List.{List, [], _∷_}
-use Prim.Native.Nat.{ℕ, suc, _+_, _-_, _≤_, _<_}
+use mathlib.Core.List.{List}
+use Prim.Native.Nat.{ℕ}
 use native.Mathlib.Omega.{arith}
 use lib.IntN.{ℤ, pos}
 use Rattle.syntax.specs.Syntax.{IntExpr, IConst, IVar, Linear, Terms, tnil, tmore}
 use Rattle.sums.specs.LinearSum.{LinearSum, constant, singleton, add-sum, mul-sum}
 use Rattle.sums.specs.Linear.{linear-of, linear-terms}
-use Rattle.clauses.specs.Log.{Log, declared-int, next-bool, next-int, get-bool-var, get-int-var, int-var-at, convert-int-var}
+use Rattle.clauses.specs.Log.{Log, next-bool, get-int-var, int-var-at, convert-int-var}
 use Rattle.clauses.specs.Normalize.{normalize-int-var, normalize-term, normalize-int-expr, normalize-terms}
-use Rattle.walk.specs.Item.{int-entry, int-number}
+use Rattle.walk.specs.Item.{int-number}
 use Rattle.walk.specs.Grow.{Grows, same, then, grow-declared-int, int-here, Fit, back}
 
 var-grows : (v : ℕ) (s : Log) → Grows s (convert-int-var v s .1)

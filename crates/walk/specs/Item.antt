@@ -1,16 +1,15 @@
 -- What the two walks compute of a tree, in one package: its tally, the counter behind it, its pool words, its words, its numbering.
 -- The maps and the emitted integers' records are words of the work slice; counters stop at a limit, and the numbers of a set are far below.
-use mathlib.Core.Path.{_≡_, refl}
-use mathlib.Core.Bool.{Bool, true, false, not, cond}
-use mathlib.Core.List.{List, [], _∷_, _++_, map}
-use Prim.Native.Nat.{ℕ, zero, suc, _+_, _-_, _≤_, _<_, min}
+use mathlib.Core.Bool.{Bool, true, false, cond}
+use mathlib.Core.List.{List, [], _∷_, _++_}
+use Prim.Native.Nat.{ℕ, zero, suc, _+_, _-_, min}
 use lib.IntN.{ℤ, pos, negsuc, negℤ}
 use lib.ListN.{length, getD, set}
 use lib.Dec.{eqb, leb}
 use Rattle.syntax.specs.Syntax.{CmpOp, IntExpr, IConst, IVar, Linear, Terms, tnil, tmore}
 use Rattle.sums.specs.LinearSum.{sub-sum}
 use Rattle.sums.specs.Linear.{linear-of}
-use Rattle.clauses.specs.Clause.{LinearLit, linear}
+use Rattle.clauses.specs.Clause.{linear}
 use Rattle.clauses.specs.Normalize.{negate-op-if}
 use Rattle.answer.specs.Answer.{linear-words}
 use Rattle.walk.specs.Tree.{Tree, var, num, cmp, conj, disj, cross, tied, Trees, nil, cons}
@@ -88,8 +87,8 @@ unfoldable mutual
   meet-terms (tmore k e ts) s = meet-terms ts (meet-int e s)
 
 -- k new numbers
-unfoldable pub pass-bools : ℕ → State → State
-pass-bools k s = record { work = s .work; bools = bump (s .bools) k; ints = s .ints }
+unfoldable pub walk-bools : ℕ → State → State
+walk-bools k s = record { work = s .work; bools = bump (s .bools) k; ints = s .ints }
 
 -- ---- words
 
@@ -281,7 +280,7 @@ disj-item is = record {
   count = λ w n. bump (counts is w n) (fresh (tallies is));
   pool = λ b w. cond (is-none (tallies is .longs)) (pools is b w) [];
   text = λ w n suf. disj-text is w n (counts is w n) suf;
-  met = λ s. pass-bools (fresh (tallies is)) (mets is s);
+  met = λ s. walk-bools (fresh (tallies is)) (mets is s);
 }
 
 unfoldable pub cross-item : List Item → List Item → Item
@@ -290,7 +289,7 @@ cross-item is js = record {
   count = λ w n. bump (bump (counts js w (counts is w n)) (fresh (tallies is))) (fresh (tallies js));
   pool = λ b w. [];
   text = λ w n suf. let p = counts is w n in let b = counts js w p in disj-text is w n b suf ++ disj-text js w p (bump b (fresh (tallies is))) suf;
-  met = λ s. pass-bools (fresh (tallies js)) (pass-bools (fresh (tallies is)) (mets js (mets is s)));
+  met = λ s. walk-bools (fresh (tallies js)) (walk-bools (fresh (tallies is)) (mets js (mets is s)));
 }
 
 -- the side's clauses, each with the literal behind it

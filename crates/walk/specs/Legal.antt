@@ -1,14 +1,14 @@
 -- Folded rules within the limits, and that their trees are proper.
-use mathlib.Core.Path.{_≡_, refl, sym, ap, _∙_}
+use mathlib.Core.Path.{_≡_, refl, ap}
 use mathlib.Core.Bool.{Bool, true, false, not}
-use Prim.Native.Nat.{ℕ, zero, suc, _+_, _-_, _≤_, _<_}
+use Prim.Native.Nat.{ℕ, suc, _+_, _-_, _≤_, _<_}
 use native.Mathlib.Omega.{arith}
 use lib.ListN.{length}
 use Rattle.syntax.specs.Syntax.{IntExpr, IConst, IVar, Linear, Terms, tnil, tmore, BoolExpr, Const, Var, NVar, And, Or, Not, Xor, Iff, Imp, Cmp, Members, none, more, count-members, encode-bool}
 use Rattle.syntax.specs.Written.{EveryInt, EveryTerm}
-use Rattle.walk.specs.Tree.{Tree, num, Trees, nil, cons, pair, size, append, joined, splits, splits-members, crossed, resolve, resolves, tie, both-tied, ties, ties-members}
+use Rattle.walk.specs.Tree.{Tree, num, Trees, nil, cons, size, append, joined, splits, splits-members, crossed, resolve, resolves, tie, both-tied, ties, ties-members}
 use Rattle.walk.specs.Item.{limit}
-use Rattle.walk.specs.Good.{Proper, Propers}
+use Rattle.walk.specs.Implements.{Proper, Propers}
 
 -- declared variables within l levels
 unfoldable mutual

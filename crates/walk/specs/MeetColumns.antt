@@ -12,7 +12,7 @@ use lib.Dec.{eqb}
 use borrow.Author.Tests.{eq-eqb, ne-eqb}
 use Rattle.walk.specs.Item.{limit, bump, emitted-ints, State, meet-int}
 use Rattle.walk.specs.Decode.{word, int-at, int-end, read-part}
-use Rattle.walk.specs.Meets.{state-of, Met, met-to, met-after, part-set}
+use Rattle.walk.specs.NumberingSteps.{state-of, Met, met-to, met-after, part-set}
 use Rattle.walk.specs.declared.Counters.{Counters}
 
 -- the number plus 1 of a column that stands at p, at column-map + p

@@ -1,26 +1,25 @@
 -- The numbering of the extras, step by step, and of a whole rule. Laws for the code of the numbering pass.
 use mathlib.Core.Path.{_≡_, refl, sym, ap, _∙_, subst}
-use mathlib.Core.Bool.{Bool, true, false, not, cond}
-use mathlib.Core.List.{List, [], _∷_, _++_}
-use Prim.Native.Nat.{ℕ, zero, suc, _+_, _-_, _≤_, _<_, min}
+use mathlib.Core.Bool.{Bool, true, false, not}
+use mathlib.Core.List.{List}
+use Prim.Native.Nat.{ℕ, zero, suc, _+_, _-_, _≤_, _<_}
 use native.Mathlib.Omega.{arith}
 use native.Mathlib.Numerals.{sub-one}
-use lib.IntN.{ℤ, pos}
+use lib.IntN.{ℤ}
 use lib.ListN.{length}
 use Rattle.laws.specs.Slices.{Has}
 use Rattle.syntax.specs.Syntax.{BoolExpr, encode-bool}
-use Rattle.walk.specs.Tree.{Tree, tied, Trees, nil, cons, append, both-tied, splits}
-use Rattle.walk.specs.Item.{limit, bump, State, pass-bools, mets, tied-item, item, items}
-use Rattle.walk.specs.Decode.{word, node-of, Read, Reads, Reader, many, cross-step, step, decode, many-ties, tie-at, cross-ties, ties-step, ties-at, read-part, Surveys}
+use Rattle.walk.specs.Tree.{Tree, Trees, nil, cons, append, both-tied, splits}
+use Rattle.walk.specs.Item.{limit, bump, State, walk-bools, mets, tied-item, item, items}
+use Rattle.walk.specs.Decode.{word, node-of, Read, Reads, Reader, many, cross-step, step, decode, many-ties, tie-at, cross-ties, ties-step, ties-at, read-part}
 use Rattle.walk.specs.Resolve.{rule-trees}
 use Rattle.walk.specs.Rule.{LegalRule}
-use Rattle.walk.specs.Standing.{rule-at, RuleStands, rule-stands}
+use Rattle.walk.specs.DecodeExact.{rule-at, rule-stands}
 use Rattle.walk.specs.NoTies.{many-same, decode-same, no-ties}
 use Rattle.walk.specs.Steps.{Okay, node-okay, decode-level, many-more}
-use Rattle.walk.specs.Meets.{state-of, Met, met-none, met-to, met-after, part-short}
+use Rattle.walk.specs.NumberingSteps.{state-of, Met, met-none, met-to, met-after, part-short}
 use Rattle.walk.specs.declared.Node.{Node}
 use Rattle.walk.specs.declared.Node.the-variants.{Var, Cmp, Not, Join, Cross}
-use Rattle.walk.specs.declared.Surveyed.{Surveyed}
 use Rattle.walk.specs.declared.Counters.{Counters}
 
 pub mets-append : (ts us : Trees) (s : State) → mets (items (append ts us)) s ≡ mets (items us) (mets (items ts) s)
@@ -277,8 +276,8 @@ met-bare-rule w w' c d e at n v hd hs i j x =
     met-rule w w w' c d d e at n v hd (met-to (ap (λ (ts : Trees). mets (items ts) (state-of w d)) (sym none)) (met-none w d a b)) x
 
 -- where a legal rule stands, that is the numbering of its trees
-pub meet-rule-is : (e : BoolExpr) (ws : List ℤ) (at : ℕ) (s : State) → LegalRule e 64 → Has ws at (encode-bool e) → s .bools + splits e false ≤ limit → meet-rule ws at s ≡ mets (items (rule-trees e at (s .bools))) (pass-bools (splits e false) s)
-unfolding meet-rule pass-bools
+pub meet-rule-is : (e : BoolExpr) (ws : List ℤ) (at : ℕ) (s : State) → LegalRule e 64 → Has ws at (encode-bool e) → s .bools + splits e false ≤ limit → meet-rule ws at s ≡ mets (items (rule-trees e at (s .bools))) (walk-bools (splits e false) s)
+unfolding meet-rule walk-bools
 meet-rule-is e ws at s x d k =
     let r = rule-stands e ws 64 at (s .bools) x d k in
     let n : decode ws 64 false false at (s .bools) .next ≡ bump (s .bools) (splits e false) = omega (arith, r .next) in

@@ -1,24 +1,24 @@
 -- The first pass: the maps and counters behind a tree are those of the log, and the records of the emitted integers stand in order.
 -- Column says what is known of the record of a column; a rule makes none.
 use mathlib.Core.Path.{_≡_, refl, sym, ap, _∙_}
-use mathlib.Core.Bool.{Bool, true, false, not, cond, false≢true}
+use mathlib.Core.Bool.{Bool, true, false, false≢true}
 use mathlib.Core.Option.{Option, none as nothing, some}
-use mathlib.Core.List.{List, [], _∷_, _++_}
+use mathlib.Core.List.{List, [], _∷_}
 use mathlib.Core.Logic.{_≢_}
-use Prim.Native.Nat.{ℕ, zero, suc, _+_, _≤_, _<_, min, max}
+use Prim.Native.Nat.{ℕ, zero, suc, _+_, _≤_, _<_}
 use native.Mathlib.Omega.{arith}
 use lib.IntN.{ℤ, pos}
 use lib.ListN.{length, getD, set, length-set}
 use lib.Seq.{getD-set-same, getD-set-other}
 use lib.Dec.{eqb, eqb→eq}
-use borrow.Author.Tests.{eq-eqb, ne-eqb}
+use borrow.Author.Tests.{eq-eqb}
 use Rattle.syntax.specs.Syntax.{Domain, IntExpr, IConst, IVar, Linear, Terms, tnil, tmore}
 use Rattle.syntax.specs.Written.{EveryInt, EveryTerm}
 use Rattle.sums.specs.LinearSum.{LinearSum, constant, add-sum, mul-sum}
-use Rattle.clauses.specs.Log.{Made, declared, aux, side, declared-int, column, Log, next-bool, next-int, get-bool-var, get-int-var, bool-var-at, int-var-at, convert-bool-var, convert-int-var}
+use Rattle.clauses.specs.Log.{declared, aux, side, declared-int, column, Log, next-bool, next-int, get-bool-var, get-int-var, bool-var-at, int-var-at, convert-int-var}
 use Rattle.clauses.specs.Normalize.{normalize-int-var, normalize-term, normalize-int-expr, normalize-terms}
-use Rattle.walk.specs.Item.{limit, bump, is-none, bool-map, int-map, emitted-ints, nat, bool-entry, int-entry, State, new-bool, meet-bool, new-int, meet-int-var, meet-int, meet-terms, pass-bools}
-use Rattle.walk.specs.Grow.{Grows, Fit}
+use Rattle.walk.specs.Item.{limit, bump, is-none, bool-map, int-map, emitted-ints, nat, bool-entry, int-entry, State, meet-bool, meet-int-var, meet-int, meet-terms}
+use Rattle.walk.specs.Grow.{Fit}
 use Rattle.walk.specs.Ints.{terms-grow}
 
 -- how many records there is room for

@@ -1,19 +1,16 @@
 -- Splitting a rule and making its clauses is running its ties and then its tree: `rule-runs`.
 use mathlib.Core.Path.{_≡_, refl, sym, ap, _∙_}
 use mathlib.Core.Bool.{Bool, true, false, not}
-use mathlib.Core.Option.{Option}
-use mathlib.Core.List.{List, [], _∷_, _++_, append-assoc, append-nil}
+use mathlib.Core.List.{List, [], _∷_, _++_}
 use Prim.Native.Nat.{ℕ, suc, _+_}
 use native.Mathlib.Omega.{arith}
 use lib.ListN.{length}
-use Rattle.laws.specs.Lists.{flat}
 use Rattle.syntax.specs.Syntax.{BoolExpr, Const, Var, NVar, And, Or, Not, Xor, Iff, Imp, Cmp, Members, none, more, encode-bool}
-use Rattle.clauses.specs.Clause.{negate-if, Clause}
 use Rattle.clauses.specs.Log.{Log, next-bool, next-int, get-bool-var, get-int-var, side}
-use Rattle.clauses.specs.Disjunction.{Out, normalize-disjunction}
-use Rattle.clauses.specs.Normalize.{Run, Runs, no-run, run-then, two, normalize-conjunction, disjunction-of, cross as cross-run, normalize-var, normalize-bool-expr, normalize-members}
-use Rattle.clauses.specs.Split.{Split, Splits, unsplit, split-not, split-members, split-two, split-sides, split-more, tseitin-transformation-bool as split, tseitin-transformation-members as split-each, normalize-each, normalize-and-register-expr}
-use Rattle.walk.specs.Tree.{Tree, var, num, cmp, conj, disj, cross, tied, Trees, nil, cons, pair, append, joined, splits, splits-members, crossed, resolve, resolves, tie, ties, ties-members, num-run, run, runs}
+use Rattle.clauses.specs.Disjunction.{normalize-disjunction}
+use Rattle.clauses.specs.Normalize.{no-run, run-then, normalize-conjunction, disjunction-of, normalize-bool-expr, normalize-members}
+use Rattle.clauses.specs.Split.{unsplit, split-not, split-members, split-two, split-sides, split-more, tseitin-transformation-bool as split, tseitin-transformation-members as split-each, normalize-each, normalize-and-register-expr}
+use Rattle.walk.specs.Tree.{Tree, Trees, nil, cons, append, joined, splits, splits-members, resolve, resolves, tie, ties, ties-members, num-run, run, runs}
 
 -- ---- the log behind the splitting
 

@@ -18,7 +18,7 @@ use Rattle.walk.specs.declared.Mode.the-variants.{Pool, Pass, Two, Each}
 use Rattle.walk.specs.declared.Node.{Node}
 use Rattle.walk.specs.declared.Node.the-variants.{Var, Cmp, Not, Join, Cross}
 use Rattle.walk.specs.declared.Surveyed.{Surveyed}
-use Rattle.walk.specs.Good.{tally-eq}
+use Rattle.walk.specs.Implements.{tally-eq}
 
 -- ---- where the parts lie
 
@@ -306,10 +306,6 @@ module _ (w : List ℤ) (l : ℕ) (t g : Bool) (at base n : ℕ) (inside : at �
         → r ≡ surveyed stop last n 1 0 0 2 2 → Surveys w l t g at base n r
     survey-passed r h q b stop last ht e hb x y f j k i =
         carry r (Cross h q) e (subst (λ (y : Surveyed). Found w at n (step (read-part w) u (decode (read-part w) u) t g at base (Cross h q)) y) (sym i) (split-found h q b stop last ht hb (okay (Cross h q) e) x y f j k))
-
-    pub survey-split : (r s : Surveyed) (h : Bool) (q b m : ℕ) → t ≡ true → Cross h q ≡ node-of (read-part w) u g at (word (read-part w) at) → b ≡ bump base 2 → SurveysAll w u true 2 false false q b m s
-        → r ≡ surveyed (s .at) (s .base) n 1 0 0 2 2 → Surveys w l t g at base n r
-    survey-split r s h q b m ht e hb f i = survey-passed r h q b (s .at) (s .base) ht e hb (f .end) (f .splits) (omega (arith, f .room)) (f .inside) (f .low-base) i
 
     pub survey-cross : (r s v : Surveyed) (h : Bool) (q : ℕ) → t ≡ false → Cross h q ≡ node-of (read-part w) u g at (word (read-part w) at) → SurveysAll w u true 2 false h q base n s → SurveysAll w u true 2 true (not h) q base (s .n) v
         → r ≡ closed-cross s v → Surveys w l t g at base n r

@@ -1,20 +1,19 @@
 -- The words of a disjunction: writing by mode is the layout of what normalize_disjunction makes.
 use mathlib.Core.Path.{_≡_, refl, sym, ap, _∙_}
-use mathlib.Core.Bool.{Bool, true, false, not, cond}
+use mathlib.Core.Bool.{true, false}
 use mathlib.Core.List.{List, [], _∷_, _++_, append-assoc, append-nil, map}
-use Prim.Native.Nat.{ℕ, zero, suc, _+_, _≤_, _<_, min}
+use Prim.Native.Nat.{ℕ, suc, _+_, _≤_, min}
 use native.Mathlib.Omega.{arith}
 use lib.IntN.{ℤ, pos, negsuc}
 use lib.ListN.{length, length-append, length-map}
 use Rattle.laws.specs.Lists.{flat, flat-append}
 use Rattle.clauses.specs.Clause.{BoolLit, lit, LinearLit, Clause, clause}
 use Rattle.clauses.specs.Log.{Log, next-bool, next-int, get-bool-var, get-int-var, aux}
-use Rattle.clauses.specs.Disjunction.{add-bool, add-bool-each, Sorted, satisfied, pool, sorted, Out, each-longer, finish-disjunction, finish-sorted, normalize-disjunction}
+use Rattle.clauses.specs.Disjunction.{add-bool-each, Sorted, satisfied, pool, sorted, each-longer, finish-disjunction, finish-sorted, normalize-disjunction}
 use Rattle.answer.specs.Answer.{lit-words, linear-words, clause-words}
-use Rattle.walk.specs.Item.{limit, bump, word-of, clause-text, tally, mode-in, fresh-in, fresh, lines-in, extra, block, pool-text}
+use Rattle.walk.specs.Item.{limit, word-of, clause-text, mode-in, fresh-in, lines-in, extra, block, pool-text}
 use Rattle.walk.specs.Grow.{Grows, same, then, grow-aux, lit-word, word-lit}
-use Rattle.walk.specs.declared.Mode.{Mode}
-use Rattle.walk.specs.declared.Mode.the-variants.{Pool, Pass, Two, Each}
+use Rattle.walk.specs.declared.Mode.the-variants.{Each}
 
 abbrev pub words : List BoolLit → List ℤ
 words = map lit-word

@@ -1,15 +1,11 @@
 -- A rule with negation pushed inward and splitting done: a tree of leaves, conjunctions, disjunctions and crosses, and the sides tied to
 -- their numbers; and the clauses of a tree, as the Rust makes them.
-use mathlib.Core.Path.{_≡_, refl, sym, ap, _∙_}
 use mathlib.Core.Bool.{Bool, true, false, not}
-use mathlib.Core.List.{List, [], _∷_, _++_}
 use Prim.Native.Nat.{ℕ, suc, _+_}
 use lib.ListN.{length}
-use Rattle.syntax.specs.Syntax.{CmpOp, IntExpr, BoolExpr, Const, Var, NVar, And, Or, Not, Xor, Iff, Imp, Cmp, Members, none, more, encode-bool, encode-members}
-use Rattle.clauses.specs.Clause.{negate-if, Clause}
-use Rattle.clauses.specs.Log.{Log}
-use Rattle.clauses.specs.Disjunction.{Out, Outs, normalize-disjunction}
-use Rattle.clauses.specs.Normalize.{Run, Runs, no-run, run-then, two, normalize-conjunction, disjunction-of, cross as cross-run, lit-clauses, normalize-var, normalize-comparison, normalize-int-expr, normalize-bool-expr, normalize-members}
+use Rattle.syntax.specs.Syntax.{CmpOp, IntExpr, BoolExpr, Const, Var, NVar, And, Or, Not, Xor, Iff, Imp, Cmp, Members, none, more, encode-bool}
+use Rattle.clauses.specs.Clause.{negate-if}
+use Rattle.clauses.specs.Normalize.{Run, Runs, no-run, run-then, two, normalize-conjunction, disjunction-of, cross as cross-run, lit-clauses, normalize-var, normalize-comparison, normalize-int-expr}
 
 -- a declared variable; an emitted number; a comparison, with the place of its words; each with whether it is negated.
 -- tied v a b: a number, and its side, plain and negated

@@ -17,15 +17,6 @@ pub record Exact {A : Type 0} (words : A → List ℤ) (Fits : A → Type 0) (p 
   pub sound : (xs : List ℤ) (a : A) (r : List ℤ) → p xs ≡ ok a r → (xs ≡ words a ++ r) × Fits a
   pub complete : (a : A) (r : List ℤ) → Fits a → p (words a ++ r) ≡ ok a r
 
--- two values that fit and whose words begin one list are the same
-pub unique : {A : Type 0} {words : A → List ℤ} {Fits : A → Type 0} {p : Parser A} → Exact words Fits p
-    → (a b : A) (r s : List ℤ) → Fits a → Fits b → words a ++ r ≡ words b ++ s → (a ≡ b) × (r ≡ s)
-unique {p = p} x a b r s ha hb e =
-    let h : ok a r ≡ ok b s = sym (x .complete a r ha) ∙ ap p e ∙ x .complete b s hb in
-    (cc, cc)
-
--- ---- taking a result apart: the parts go to a continuation, where they are variables
-
 pub refuse-ok : {A X : Type 0} (k : ℕ) (a : A) (r : List ℤ) → refuse k ≡ ok a r → X
 refuse-ok k a r h = absurd (let z : _≡_ {A = ℕ} 0 1 = cc in omega arith)
 

@@ -1,10 +1,9 @@
 -- The sum of a comparison: what linear_of and sub_sum ask at its sides, and what they give.
 use mathlib.Core.Path.{_≡_, refl, sym, ap, _∙_, subst}
-use mathlib.Core.Bool.{Bool, true, false, _||_}
-use mathlib.Core.List.{List, [], _∷_, _++_}
+use mathlib.Core.Bool.{false}
+use mathlib.Core.List.{List, _++_}
 use Prim.Native.Nat.{ℕ, _+_, _-_, _≤_, _<_, _^_}
 use native.Mathlib.Omega.{arith}
-use lib.Dec.{ltb}
 use lib.IntN.{ℤ, pos, negsuc}
 use lib.ListN.{length, getD, take, drop, length-drop}
 use lib.Seq.{take-all, getD-drop}
@@ -15,7 +14,7 @@ use Rattle.laws.specs.Slices.{Has, has-front, has-back}
 use Rattle.syntax.specs.Words.{max-weight, max-comparison-vars}
 use Rattle.syntax.specs.Syntax.{Domain, IntExpr, IConst, IVar, Linear, Terms, tnil, tmore, encode-int}
 use Rattle.limits.specs.Limits.{weight, heavy, heavy-comparison, written, many-comparison}
-use Rattle.sums.specs.LinearSum.{LinearSum, linear-sum, constant, add-sum, mul-sum, sub-sum}
+use Rattle.sums.specs.LinearSum.{LinearSum, constant, add-sum, mul-sum, sub-sum}
 use Rattle.sums.specs.Linear.{linear-of, linear-terms}
 use Rattle.sums.specs.Rising.{terms-of, Each, sub-sum-each, among-left, among-right}
 use Rattle.sums.specs.Bounds.{size, Room, linear-of-size, comparison-room}
@@ -25,7 +24,7 @@ use Rattle.sums.proofs.Laws.{stands-sum}
 use Rattle.nest.specs.Numbers.{count-of, number-at}
 use Rattle.nest.specs.Nest.{Ready, Word, Linear as Linears}
 use Rattle.walk.specs.Item.{nat, int-entry, int-number}
-use Rattle.writer.specs.Fine.{Sides, Compares, Subtracted}
+use Rattle.writer.specs.ComparisonsFit.{Compares, Subtracted}
 
 -- ---- the map's numbers
 

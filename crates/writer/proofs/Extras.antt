@@ -11,7 +11,7 @@ use Rattle.laws.specs.Writes.{Wrote, wrote-none, wrote-then, wrote-length}
 use Rattle.walk.specs.Tree.{Tree, Trees, nil, cons, append, both-tied}
 use Rattle.walk.specs.Item.{limit, bump, word-of, Item, counts, texts, all-lines, lines-of, item, items, tied-item}
 use Rattle.walk.specs.Decode.{word, node-of, Reads, Reader, many, decode, many-ties, tie-at, cross-ties, ties-step, ties-at, read-part, item-at, Surveys}
-use Rattle.walk.specs.Standing.{rule-at}
+use Rattle.walk.specs.DecodeExact.{rule-at}
 use Rattle.walk.specs.declared.Node.{Node}
 use Rattle.walk.specs.declared.Node.the-variants.{Var, Cmp, Not, Join, Cross}
 use Rattle.walk.specs.declared.Surveyed.{Surveyed}
@@ -19,7 +19,7 @@ use Rattle.walk.specs.Steps.{lines-all-low, many-more}
 use Rattle.walk.specs.MeetTies.{Reaches, ReachesAll}
 use Rattle.walk.specs.NoTies.{no-ties}
 use Rattle.writer.specs.Suffix.{Open}
-use Rattle.writer.specs.Fine.{Fine, Fines}
+use Rattle.writer.specs.ComparisonsFit.{ComparisonsFit, Fines}
 use Rattle.writer.specs.Placed.{Placed, Listed, RuleWrote}
 use Rattle.writer.proofs.Laws.{open-next}
 use Rattle.writer.proofs.Steps.{part-length}
@@ -32,12 +32,12 @@ items-append nil us = refl
 items-append (cons t ts) us = ap (λ (is : List Item). item t ∷ is) (items-append ts us)
 
 pub fines-left : (w : List ℤ) (ts us : Trees) → Fines w (append ts us) → Fines w ts
-unfolding Fine
+unfolding ComparisonsFit
 fines-left w nil us h = tt
 fines-left w (cons t ts) us h = (h .0, fines-left w ts us (h .1))
 
 pub fines-right : (w : List ℤ) (ts us : Trees) → Fines w (append ts us) → Fines w us
-unfolding Fine
+unfolding ComparisonsFit
 fines-right w nil us h = h
 fines-right w (cons t ts) us h = fines-right w ts us (h .1)
 
@@ -82,8 +82,8 @@ module _ (w : List ℤ) (l v at base n : ℕ) where
   abbrev R : Reader
   R = decode (read-part w) l true
 
-  pub fine-tie : (g : Bool) → Fine w (tie-at R v at base) → Fine w (R g at base .tree)
-  unfolding tie-at Fine
+  pub fine-tie : (g : Bool) → ComparisonsFit w (tie-at R v at base) → ComparisonsFit w (R g at base .tree)
+  unfolding tie-at ComparisonsFit
   fine-tie false h = h .0
   fine-tie true h = h .1
 
@@ -264,8 +264,8 @@ module _ (w : List ℤ) (l at base c : ℕ) (hc : c ≡ bump base 2) where
   pub split-first : Fines w both → Fines w (ties-at F3 l true at c)
   split-first h = fines-left w (ties-at F3 l true at c) (cons (tie-at R3 base at c) nil) (fines-left w (append (ties-at F3 l true at c) (cons (tie-at R3 base at c) nil)) _ (split-parts h))
 
-  pub split-tie : Fines w both → Fine w (tie-at R3 base at c)
-  unfolding Fine
+  pub split-tie : Fines w both → ComparisonsFit w (tie-at R3 base at c)
+  unfolding ComparisonsFit
   split-tie h = fines-right w (ties-at F3 l true at c) (cons (tie-at R3 base at c) nil) (fines-left w (append (ties-at F3 l true at c) (cons (tie-at R3 base at c) nil)) _ (split-parts h)) .0
 
   module _ (x y : ℕ) (hx : x ≡ R3 false at c .end) (hy : y ≡ R3 false at c .next) where
@@ -278,8 +278,8 @@ module _ (w : List ℤ) (l at base c : ℕ) (hc : c ≡ bump base 2) where
     pub split-second : Fines w both → Fines w (ties-at F3 l true x y)
     split-second h = fines-left w (ties-at F3 l true x y) (cons (tie-at R3 (base + 1) x y) nil) (later-parts h)
 
-    pub split-other : Fines w both → Fine w (tie-at R3 (base + 1) x y)
-    unfolding Fine
+    pub split-other : Fines w both → ComparisonsFit w (tie-at R3 (base + 1) x y)
+    unfolding ComparisonsFit
     split-other h = fines-right w (ties-at F3 l true x y) (cons (tie-at R3 (base + 1) x y) nil) (later-parts h) .0
 
     pub split-listed : {out a₁ a₂ a₃ a₄ : List ℤ} {n o m₁ k₁ p₁ m₂ k₂ p₂ m₃ k₃ p₃ m₄ k₄ p₄ : ℕ} → Open out o
@@ -309,8 +309,8 @@ module _ (w : List ℤ) (at n : ℕ) where
   pub rule-ties-fine : Fines w (rule-at (read-part w) 64 at n) → Fines w E
   rule-ties-fine h = fines-left w E (cons T nil) h
 
-  pub rule-tree-fine : Fines w (rule-at (read-part w) 64 at n) → Fine w T
-  unfolding Fine
+  pub rule-tree-fine : Fines w (rule-at (read-part w) 64 at n) → ComparisonsFit w T
+  unfolding ComparisonsFit
   rule-tree-fine h = fines-right w E (cons T nil) h .0
 
   -- x: the survey before the extras; y: behind them

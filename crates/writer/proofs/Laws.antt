@@ -28,7 +28,7 @@ use Rattle.sums.proofs.Laws.{stands-sum}
 use Rattle.walk.specs.Item.{limit, is-none, int-number, word-of, clause-text, comparison, block}
 use Rattle.writer.specs.declared.Suffix.{Suffix}
 use Rattle.writer.specs.Suffix.{Stacked, suffix, Open}
-use Rattle.writer.specs.Fine.{Compares, Subtracted, Compared}
+use Rattle.writer.specs.ComparisonsFit.{Compares, Subtracted, Compared}
 use Rattle.number.proofs.Leaves.{pos-is, minus-is}
 
 -- ---- the place behind what was written

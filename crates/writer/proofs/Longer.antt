@@ -5,7 +5,7 @@ use mathlib.Core.List.{List}
 use Prim.Native.Nat.{ℕ, zero, suc, _-_}
 use native.Mathlib.Omega.{arith}
 use lib.IntN.{ℤ}
-use Rattle.walk.specs.Item.{Tally, closed, Item, tallies, item, items, conj-item, disj-item, cross-item}
+use Rattle.walk.specs.Item.{Tally, closed, tallies, item, items, conj-item, disj-item, cross-item}
 use Rattle.walk.specs.Decode.{Read, step, cross-step, decode, read-part, item-at, items-at, surveyed, closed-disj, Surveys}
 use Rattle.walk.specs.Steps.{survey-not, survey-disj, Sofar, sofar-done, many-more}
 use Rattle.walk.specs.declared.Node.{Node}

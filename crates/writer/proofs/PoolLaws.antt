@@ -14,7 +14,7 @@ use Rattle.walk.specs.declared.Node.the-variants.{Var, Cmp, Not, Join, Cross}
 use Rattle.walk.specs.declared.Surveyed.{Surveyed}
 use Rattle.writer.specs.declared.Suffix.{Suffix}
 use Rattle.writer.specs.Suffix.{Stacked, suffix, Open}
-use Rattle.writer.specs.Fine.{Compared, Fine}
+use Rattle.writer.specs.ComparisonsFit.{Compared, ComparisonsFit}
 use Rattle.writer.specs.Placed.{share}
 use Rattle.writer.proofs.Laws.{word-pos, then-low, suffix-length, block-length}
 use Rattle.writer.proofs.Steps.{Is, down, up, fine-cmp, items-is}
@@ -167,7 +167,7 @@ module _ (w : List ℤ) (l u : ℕ) (t g : Bool) (at base : ℕ) (z : l ≡ 0 �
     unfolding step item
     pool-var v q e x = up w l u t g at base z hu Of (Var v q) e x
 
-    pub pool-cmp : (c q : ℕ) → Is w l u t g at base z hu (Cmp c q) → Fine w (decode F l t g at base .tree) → (k : ℕ) → k ≡ word F (at + 1) → Compared w (at + 2) k g (λ ws. cond b [] ws) out o a p → Goal
+    pub pool-cmp : (c q : ℕ) → Is w l u t g at base z hu (Cmp c q) → ComparisonsFit w (decode F l t g at base .tree) → (k : ℕ) → k ≡ word F (at + 1) → Compared w (at + 2) k g (λ ws. cond b [] ws) out o a p → Goal
     unfolding step item cmp-item
     pool-cmp c q e f k hk x =
         let y : Compared w (at + 2) (word F (at + 1)) g (λ ws. cond b [] ws) out o a p = subst (λ (k : ℕ). Compared w (at + 2) k g (λ ws. cond b [] ws) out o a p) hk x in

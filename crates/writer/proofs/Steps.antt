@@ -1,23 +1,23 @@
 -- What a step of the walks reads: the parts of a tree, their comparisons, and what is left of a member list.
 use mathlib.Core.Path.{_≡_, refl, sym, ap, _∙_, subst}
-use mathlib.Core.Bool.{Bool, true, false, not, cond}
-use mathlib.Core.List.{List, [], _∷_, _++_}
-use Prim.Native.Nat.{ℕ, zero, suc, _+_, _-_, _≤_, _<_, min}
+use mathlib.Core.Bool.{Bool, true, false, not}
+use mathlib.Core.List.{List, _∷_}
+use Prim.Native.Nat.{ℕ, _+_, _-_, _≤_}
 use native.Mathlib.Omega.{arith}
-use lib.IntN.{ℤ, pos}
+use lib.IntN.{ℤ}
 use lib.ListN.{length, length-take}
-use Rattle.laws.specs.Writes.{cap, Wrote, wrote-none, wrote-length}
+use Rattle.laws.specs.Writes.{Wrote, wrote-none, wrote-length}
 use Rattle.syntax.specs.Syntax.{IntExpr}
-use Rattle.walk.specs.Tree.{Tree, Trees, nil, cons, joined}
-use Rattle.walk.specs.Item.{limit, Tally, Item, item, items}
-use Rattle.walk.specs.Decode.{word, past, int-at, node-of, Read, Reads, Reader, many, as-tree, cross-step, step, decode, read-part, item-at, items-at, Surveys}
+use Rattle.walk.specs.Tree.{Trees, cons, joined}
+use Rattle.walk.specs.Item.{limit, items}
+use Rattle.walk.specs.Decode.{word, past, int-at, node-of, Read, Reads, Reader, many, cross-step, step, decode, read-part, item-at, items-at, Surveys}
 use Rattle.walk.specs.Steps.{Okay, okay-at, decode-level, many-more}
 use Rattle.walk.specs.declared.Node.{Node}
-use Rattle.walk.specs.declared.Node.the-variants.{Var, Cmp, Not, Join, Cross}
+use Rattle.walk.specs.declared.Node.the-variants.{Cmp, Not, Join, Cross}
 use Rattle.walk.specs.declared.Surveyed.{Surveyed}
 use Rattle.number.specs.Skip.{Skips}
 use Rattle.writer.specs.Suffix.{Open}
-use Rattle.writer.specs.Fine.{Sides, Compares, Fine, Fines}
+use Rattle.writer.specs.ComparisonsFit.{Sides, Compares, ComparisonsFit, Fines}
 use Rattle.writer.specs.Placed.{Placed}
 use Rattle.writer.proofs.Laws.{open-next}
 
@@ -43,8 +43,8 @@ placed-base m h i = record { size = h .size; inside = h .inside; low = h .low; l
 
 -- ---- the node at a place
 
-joined-fine : (w : List ℤ) (d : Bool) (ts : Trees) → Fine w (joined d ts) → Fines w ts
-unfolding Fine
+joined-fine : (w : List ℤ) (d : Bool) (ts : Trees) → ComparisonsFit w (joined d ts) → Fines w ts
+unfolding ComparisonsFit
 joined-fine w false ts h = h
 joined-fine w true ts h = h
 
@@ -65,25 +65,25 @@ module _ (w : List ℤ) (l u : ℕ) (t g : Bool) (at base : ℕ) (z : l ≡ 0 �
   up P N e = subst P (sym (decode-level F l u t g at base N z hu e))
 
   abbrev FineHere : Type 0
-  FineHere = Fine w (decode F l t g at base .tree)
+  FineHere = ComparisonsFit w (decode F l t g at base .tree)
 
   pub fine-cmp : (b q : ℕ) → Is (Cmp b q) → FineHere → Sides w (at + 2) (int-at F u (past F (at + 2)) .0) (int-at F u b .0)
-  unfolding step Fine
-  fine-cmp b q e = down (λ (r : Read). Fine w (r .tree)) (Cmp b q) e
+  unfolding step ComparisonsFit
+  fine-cmp b q e = down (λ (r : Read). ComparisonsFit w (r .tree)) (Cmp b q) e
 
-  pub fine-not : (q : ℕ) → Is (Not q) → FineHere → Fine w (decode F u t (not g) q base .tree)
+  pub fine-not : (q : ℕ) → Is (Not q) → FineHere → ComparisonsFit w (decode F u t (not g) q base .tree)
   unfolding step
-  fine-not q e = down (λ (r : Read). Fine w (r .tree)) (Not q) e
+  fine-not q e = down (λ (r : Read). ComparisonsFit w (r .tree)) (Not q) e
 
   pub fine-join : (d : Bool) (k : ℕ) (a b : Bool) (q : ℕ) → Is (Join d k a b q) → FineHere → Fines w (many (decode F u t) k a b q base .trees)
   unfolding step
-  fine-join d k a b q e h = joined-fine w d (many (decode F u t) k a b q base .trees) (down (λ (r : Read). Fine w (r .tree)) (Join d k a b q) e h)
+  fine-join d k a b q e h = joined-fine w d (many (decode F u t) k a b q base .trees) (down (λ (r : Read). ComparisonsFit w (r .tree)) (Join d k a b q) e h)
 
   pub fine-cross : (h : Bool) (q : ℕ) → t ≡ false → Is (Cross h q) → FineHere → Fines w (many (decode F u true) 2 false h q base .trees) × Fines w (many (decode F u true) 2 true (not h) q base .trees)
-  unfolding step cross-step Fine
+  unfolding step cross-step ComparisonsFit
   fine-cross h q ht e x =
-      let y : Fine w (cross-step (decode F u) t h q base .tree) = down (λ (r : Read). Fine w (r .tree)) (Cross h q) e x in
-      subst (λ (t : Bool). Fine w (cross-step (decode F u) t h q base .tree)) ht y
+      let y : ComparisonsFit w (cross-step (decode F u) t h q base .tree) = down (λ (r : Read). ComparisonsFit w (r .tree)) (Cross h q) e x in
+      subst (λ (t : Bool). ComparisonsFit w (cross-step (decode F u) t h q base .tree)) ht y
 
 -- ---- members
 
@@ -102,11 +102,11 @@ module _ (w : List ℤ) (l : ℕ) (t : Bool) (k : ℕ) (g h : Bool) (at base : �
   items-is = ap items trees-is
 
   pub fines-rest : Fines w (many R k g h at base .trees) → Fines w (many R (k - 1) h h q c .trees)
-  unfolding Fine
+  unfolding ComparisonsFit
   fines-rest x = subst (λ (ts : Trees). Fines w ts) trees-is x .1
 
-pub fines-head : (w : List ℤ) (l : ℕ) (t : Bool) (k : ℕ) (g h : Bool) (at base : ℕ) → (k ≡ 0 → ⊥) → Fines w (many (decode (read-part w) l t) k g h at base .trees) → Fine w (decode (read-part w) l t g at base .tree)
-unfolding Fine
+pub fines-head : (w : List ℤ) (l : ℕ) (t : Bool) (k : ℕ) (g h : Bool) (at base : ℕ) → (k ≡ 0 → ⊥) → Fines w (many (decode (read-part w) l t) k g h at base .trees) → ComparisonsFit w (decode (read-part w) l t g at base .tree)
+unfolding ComparisonsFit
 fines-head w l t k g h at base z x = subst (λ (ts : Trees). Fines w ts) (ap (λ (r : Reads). r .trees) (many-more (decode (read-part w) l t) k g h at base z)) x .0
 
 -- in a loop over members: the member at q is next, and `rest` are left
@@ -132,7 +132,7 @@ sofar-more {w} {l = l} {t = t} {h = h} {q = q} {rest = rest} {f = f} {c = c} {e 
   fine = fines-rest w l t rest f h q c z (s .at) (s .base) (y .end) (y .splits) (x .fine);
 }
 
-pub sofar-head : {w out₀ out : List ℤ} {l : ℕ} {t h : Bool} {at k q rest : ℕ} {f : Bool} {c e p : ℕ} → Sofar w out₀ l t h at k q rest f c e p out → (rest ≡ 0 → ⊥) → Fine w (decode (read-part w) l t f q c .tree)
+pub sofar-head : {w out₀ out : List ℤ} {l : ℕ} {t h : Bool} {at k q rest : ℕ} {f : Bool} {c e p : ℕ} → Sofar w out₀ l t h at k q rest f c e p out → (rest ≡ 0 → ⊥) → ComparisonsFit w (decode (read-part w) l t f q c .tree)
 sofar-head {w} {l = l} {t = t} {h = h} {q = q} {rest = rest} {f = f} {c = c} x z = fines-head w l t rest f h q c z (x .fine)
 
 pub sofar-with : {w out₀ out : List ℤ} {l : ℕ} {t h : Bool} {at k q rest : ℕ} {f : Bool} {c e p : ℕ} (n : ℕ) → Sofar w out₀ l t h at k q rest f c e p out → n ≤ limit → Sofar w out₀ l t h at k q rest f c n p out

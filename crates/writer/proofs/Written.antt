@@ -2,24 +2,20 @@
 use mathlib.Core.Path.{_≡_, refl, sym, ap, _∙_, subst}
 use mathlib.Core.Bool.{Bool, true, false, not, cond}
 use mathlib.Core.List.{List, [], _∷_, _++_, append-nil}
-use Prim.Native.Nat.{ℕ, zero, suc, _+_, _-_, _≤_, _<_, min}
+use Prim.Native.Nat.{ℕ, zero, suc, _+_, _-_, _≤_}
 use native.Mathlib.Omega.{arith}
 use lib.IntN.{ℤ, pos}
 use lib.ListN.{length, getD}
-use lib.Seq.{sets}
 use lib.Dec.{eqb}
 use Rattle.laws.specs.Writes.{cap, Wrote, wrote-none, wrote-then}
-use Rattle.walk.specs.Tree.{Tree, Trees, num, pair, crossed}
-use Rattle.walk.specs.Item.{bump, is-none, is-single, Tally, tally, mode-in, fresh-in, fresh, nat, bool-map, bool-entry, word-of, clause-text, comparison, block, extra, pool-text, Item, tallies, counts, pools, texts, long-texts, disj-text, item, items, var-item, num-item, cmp-item, conj-item, disj-item, cross-item}
-use Rattle.walk.specs.Decode.{word, past, int-at, node-of, Read, many, as-tree, step, cross-step, decode, read-part, item-at, items-at, Surveys, SurveysAll}
+use Rattle.walk.specs.Item.{bump, is-none, is-single, Tally, tally, mode-in, fresh-in, nat, bool-entry, word-of, clause-text, block, extra, pool-text, Item, tallies, counts, pools, texts, long-texts, disj-text, item, items, var-item, num-item, cmp-item, conj-item, disj-item, cross-item}
+use Rattle.walk.specs.Decode.{word, Read, many, step, cross-step, decode, read-part, item-at, items-at, Surveys, SurveysAll}
 use Rattle.walk.specs.declared.Mode.{Mode}
 use Rattle.walk.specs.declared.Mode.the-variants.{Pool, Pass, Two, Each}
-use Rattle.walk.specs.declared.Node.{Node}
 use Rattle.walk.specs.declared.Node.the-variants.{Var, Cmp, Not, Join, Cross}
 use Rattle.walk.specs.declared.Surveyed.{Surveyed}
-use Rattle.writer.specs.declared.Suffix.{Suffix}
 use Rattle.writer.specs.Suffix.{Open}
-use Rattle.writer.specs.Fine.{Compared, Fine}
+use Rattle.writer.specs.ComparisonsFit.{Compared, ComparisonsFit}
 use Rattle.writer.specs.Placed.{Tallied}
 use Rattle.writer.proofs.Steps.{part-length, Is, up, fine-cmp, items-is}
 
@@ -63,7 +59,7 @@ module _ (w : List ℤ) (l u : ℕ) (t g : Bool) (at base : ℕ) (z : l ≡ 0 �
   unfolding step item
   write-var v q e y = up w l u t g at base z hu Of (Var v q) e y
 
-  pub write-cmp : (c q : ℕ) → Is w l u t g at base z hu (Cmp c q) → Fine w (decode F l t g at base .tree) → (k : ℕ) → k ≡ word F (at + 1) → Compared w (at + 2) k g (clause-text [] suf 1) out o a p → Goal
+  pub write-cmp : (c q : ℕ) → Is w l u t g at base z hu (Cmp c q) → ComparisonsFit w (decode F l t g at base .tree) → (k : ℕ) → k ≡ word F (at + 1) → Compared w (at + 2) k g (clause-text [] suf 1) out o a p → Goal
   unfolding step item cmp-item
   write-cmp c q e f k hk x =
       let y : Compared w (at + 2) (word F (at + 1)) g (clause-text [] suf 1) out o a p = subst (λ (k : ℕ). Compared w (at + 2) k g (clause-text [] suf 1) out o a p) hk x in

@@ -1,4 +1,4 @@
 pub mod Suffix
-pub mod Fine
+pub mod ComparisonsFit
 pub mod Placed
 pub mod Rules

@@ -8,7 +8,7 @@ use lib.ListN.{length}
 use Rattle.laws.specs.Writes.{Wrote}
 use Rattle.walk.specs.Item.{limit, Tally, tally, Item, tallies, counts, texts, all-lines, items}
 use Rattle.walk.specs.Decode.{decode, read-part, item-at, items-at, Surveys, SurveysAll}
-use Rattle.walk.specs.Standing.{rule-at}
+use Rattle.walk.specs.DecodeExact.{rule-at}
 use Rattle.walk.specs.declared.Surveyed.{Surveyed}
 use Rattle.writer.specs.declared.Tied.{Tied}
 

@@ -4,30 +4,30 @@ use mathlib.Core.Bool.{Bool, true, false, not, _||_}
 use mathlib.Core.List.{List, [], _∷_, _++_, map}
 use Prim.Native.Nat.{ℕ, suc, _+_, _≤_, _<_, min}
 use native.Mathlib.Omega.{arith}
-use lib.IntN.{ℤ, pos}
+use lib.IntN.{ℤ}
 use lib.ListN.{length, take, drop, take-append-drop, length-drop}
 use lib.Seq.{drop-append-le, take-append-le}
 use Rattle.laws.specs.Bools.{or-no-l, or-no-r}
 use Rattle.laws.specs.Lists.{flat}
 use Rattle.laws.specs.Slices.{Has, has-fits, has-front, has-back, has-rest}
 use Rattle.laws.specs.Writes.{Wrote, wrote-to}
-use Rattle.syntax.specs.Syntax.{Domain, IntExpr, encode-op, encode-int, BoolExpr, Const, Var, NVar, And, Or, Not, Xor, Iff, Imp, Cmp, Members, none, more, count-members, encode-bool, encode-members}
+use Rattle.syntax.specs.Syntax.{Domain, IntExpr, encode-int, BoolExpr, Const, Var, NVar, And, Or, Not, Xor, Iff, Imp, Cmp, Members, none, more, encode-bool, encode-members}
 use Rattle.limits.specs.Limits.{heavy-comparison, many-comparison, any-comparison, any-comparison-members}
 use Rattle.sums.specs.LinearSum.{LinearSum}
 use Rattle.clauses.specs.Clause.{negate-if}
 use Rattle.clauses.specs.Log.{Log, next-bool}
 use Rattle.clauses.specs.Split.{normalize-and-register-expr}
 use Rattle.answer.specs.Answer.{clause-words}
-use Rattle.walk.specs.Tree.{Tree, Trees, nil, cons, pair, append, joined, splits, splits-members, crossed, resolve, resolves, tie, both-tied, ties, ties-members}
+use Rattle.walk.specs.Tree.{Tree, Trees, nil, cons, pair, append, joined, splits, crossed, resolve, resolves, tie, both-tied, ties, ties-members}
 use Rattle.walk.specs.Resolve.{rule-trees}
 use Rattle.walk.specs.Item.{limit, bump, State, counts, texts, all-lines, items}
 use Rattle.walk.specs.Grow.{Fit}
 use Rattle.walk.specs.Num.{Numbered}
-use Rattle.walk.specs.Two.{Low}
-use Rattle.walk.specs.Rule.{LegalRule, rule-passes}
+use Rattle.walk.specs.TwoWalks.{Low}
+use Rattle.walk.specs.Rule.{LegalRule, rule-walks}
 use Rattle.walk.specs.Decode.{decode, read-part}
-use Rattle.walk.specs.Standing.{rule-at, rule-stands}
-use Rattle.writer.specs.Fine.{Sides, Fine, Fines}
+use Rattle.walk.specs.DecodeExact.{rule-at, rule-stands}
+use Rattle.writer.specs.ComparisonsFit.{ComparisonsFit, Fines}
 use Rattle.writer.specs.Placed.{RuleWrote}
 
 -- ---- words of a part are words of the whole
@@ -49,22 +49,22 @@ has-two w at u v us h =
 
 -- ---- the comparisons of a rule
 
-join-fine : (w : List ℤ) (d : Bool) (ts : Trees) → Fines w ts → Fine w (joined d ts)
-unfolding Fine
+join-fine : (w : List ℤ) (d : Bool) (ts : Trees) → Fines w ts → ComparisonsFit w (joined d ts)
+unfolding ComparisonsFit
 join-fine w false ts h = h
 join-fine w true ts h = h
 
 append-fine : (w : List ℤ) (ts us : Trees) → Fines w ts → Fines w us → Fines w (append ts us)
-unfolding Fine
+unfolding ComparisonsFit
 append-fine w nil us h k = k
 append-fine w (cons t ts) us h k = (h .0, append-fine w ts us (h .1) k)
 
-cross-fine : (w : List ℤ) (a b : Bool → Tree) (h : Bool) → ((g : Bool) → Fine w (a g)) → ((g : Bool) → Fine w (b g)) → Fine w (crossed a b h)
-unfolding Fine
+cross-fine : (w : List ℤ) (a b : Bool → Tree) (h : Bool) → ((g : Bool) → ComparisonsFit w (a g)) → ((g : Bool) → ComparisonsFit w (b g)) → ComparisonsFit w (crossed a b h)
+unfolding ComparisonsFit
 cross-fine w a b h p q = ((p false, (q h, tt)), (p true, (q (not h), tt)))
 
-tied-fine : (w : List ℤ) (ts us : Trees) (a b : Tree) → Fines w ts → Fine w a → Fines w us → Fine w b → Fines w (both-tied ts a us b)
-unfolding Fine
+tied-fine : (w : List ℤ) (ts us : Trees) (a b : Tree) → Fines w ts → ComparisonsFit w a → Fines w us → ComparisonsFit w b → Fines w (both-tied ts a us b)
+unfolding ComparisonsFit
 tied-fine w ts us a b h i j k = append-fine w (append ts (cons a nil)) (append us (cons b nil)) (append-fine w ts (cons a nil) h (i, tt)) (append-fine w us (cons b nil) j (k, tt))
 
 module _ (w : List ℤ) (ds : List Domain) (column : IntExpr → Bool) where
@@ -94,9 +94,9 @@ module _ (w : List ℤ) (ds : List Domain) (column : IntExpr → Bool) where
   right-light a b c d h = (or-no-r a b (h .0), or-no-r c d (h .1))
 
   mutual
-    unfolding resolve encode-bool any-comparison Fine
+    unfolding resolve encode-bool any-comparison ComparisonsFit
 
-    resolve-fine : (e : BoolExpr) (t : Bool) (at n : ℕ) (g : Bool) → Has w at (encode-bool e) → Light e → Fine w (resolve e t at n g)
+    resolve-fine : (e : BoolExpr) (t : Bool) (at n : ℕ) (g : Bool) → Has w at (encode-bool e) → Light e → ComparisonsFit w (resolve e t at n g)
     resolve-fine (Const b) t at n g h l = join-fine w (not (negate-if g b)) nil tt
     resolve-fine (Var v) t at n g h l = tt
     resolve-fine (NVar k) t at n g h l = tt
@@ -130,12 +130,12 @@ module _ (w : List ℤ) (ds : List Domain) (column : IntExpr → Bool) where
       resolves-fine ms t (at + length (encode-bool e)) (n + splits e t) g (has-back w at (encode-bool e) (encode-members ms) h) (right-light (H e) (HM ms) (M e) (MM ms) l),
     )
 
-  tie-fine : (v : ℕ) (e : BoolExpr) (at n : ℕ) → Has w at (encode-bool e) → Light e → Fine w (tie v e at n)
-  unfolding Fine
+  tie-fine : (v : ℕ) (e : BoolExpr) (at n : ℕ) → Has w at (encode-bool e) → Light e → ComparisonsFit w (tie v e at n)
+  unfolding ComparisonsFit
   tie-fine v e at n h l = (resolve-fine e true at n false h l, resolve-fine e true at n true h l)
 
   mutual
-    unfolding ties encode-bool any-comparison Fine
+    unfolding ties encode-bool any-comparison ComparisonsFit
 
     ties-fine : (e : BoolExpr) (t : Bool) (at n : ℕ) → Has w at (encode-bool e) → Light e → Fines w (ties e t at n)
     ties-fine (Const b) t at n h l = tt
@@ -207,7 +207,7 @@ pub record Writable (w : List ℤ) (at n : ℕ) : Type 0 where
   pub few : any-comparison many-comparison (λ e. false) rule ≡ false
 
 pub writable-fine : (w : List ℤ) (at n : ℕ) → Writable w at n → Fines w (rule-at (read-part w) 64 at n)
-unfolding Fine
+unfolding ComparisonsFit
 writable-fine w at n h =
     let e = h .rule in
     let d = has-part w at (encode-bool e) (h .has) in
@@ -249,7 +249,7 @@ module _ (Column : Log → ℤ → LinearSum → Domain → Type 0) where
       → RuleIs e s at out o out' end m k p
   rule-written w at out o out' end m k p st r e s l h room num low fit =
       let t = rule-text w at (st .bools) out o out' end m k p r e l h room in
-      let q = rule-passes Column e 64 at s st l num low in
+      let q = rule-walks Column e 64 at s st l num low in
       record {
         wrote = wrote-to (q .text w fit) (t .wrote);
         stop = t .stop;

@@ -1,12 +1,11 @@
 // The words of a rule's clauses, written straight into the output in their final form.
 ghost use mathlib.Core.Path.{_≡_};
-ghost use mathlib.Core.Bool.{Bool, true, false, not, cond};
-ghost use mathlib.Core.List.{List, [], _∷_, _++_, map};
-ghost use Prim.Native.Nat.{ℕ, _+_, _*_, _-_, _≤_, _<_, min};
-ghost use lib.IntN.{ℤ, pos};
+ghost use mathlib.Core.Bool.{true, false, not, cond};
+ghost use mathlib.Core.List.{[], _∷_, _++_, map};
+ghost use Prim.Native.Nat.{_+_, _*_, _-_, _≤_, _<_, min};
 ghost use lib.ListN.{length};
 ghost use Rattle.laws.specs.Lists.{flat};
-ghost use Rattle.laws.specs.Writes.{cap, Wrote};
+ghost use Rattle.laws.specs.Writes.{Wrote};
 ghost use Rattle.syntax.specs.Syntax.{op-at, encode-op};
 ghost use Rattle.sums.specs.Rising.{Each};
 ghost use Rattle.sums.specs.Struct.{terms, sum-of};
@@ -19,7 +18,7 @@ ghost use Rattle.walk.specs.Tree.{cons, nil};
 ghost use Rattle.walk.specs.Decode.{word as word-in, many, decode, tie-at, many-ties, cross-ties, ties-at, read-part, item-at, items-at, surveyed, Surveys, SurveysAll};
 ghost use Rattle.walk.specs.MeetTies.{Reaches, ReachesAll};
 ghost use Rattle.writer.specs.Suffix.{suffix, Stacked, extra-lits, Open};
-ghost use Rattle.writer.specs.Fine.{Compares, Subtracted, Compared, Fine, Fines};
+ghost use Rattle.writer.specs.ComparisonsFit.{Compares, Subtracted, Compared, ComparisonsFit, Fines};
 ghost use Rattle.writer.specs.Placed.{Placed, Tallied, share, Probed, ProbedAll, Listed, no-extras, RuleWrote};
 ghost use Rattle.writer.specs.Rules.{Writable};
 use sums::LinearSum;
@@ -415,7 +414,7 @@ fn pool(
     out: &mut [i32],
     o: usize,
 ) -> usize
-    requires { ⌜ Placed (now work) at base 0 × Open (now out) o × Fine (now work) (decode (read-part (now work)) left t g at base .tree) ⌝ }
+    requires { ⌜ Placed (now work) at base 0 × Open (now out) o × ComparisonsFit (now work) (decode (read-part (now work)) left t g at base .tree) ⌝ }
     requires { ⌜ (item-at (read-part (now work)) left t g at base .unit .longs ≡ 0) × (m ≡ share b (item-at (read-part (now work)) left t g at base .unit)) ⌝ }
     ensures { λ r. ⌜ Wrote (now (out .entry)) o (item-at (read-part (now (work .entry))) left t g at base .pool b (now (work .entry))) (now (out .exit)) r ⌝ }
 {
@@ -689,7 +688,7 @@ fn write_disj(
 }
 
 // The clauses of the expression at a place, negated if g, each with the suffix; t: an Xor or Iff stands above.
-pub fn write(
+fn write(
     work: &[i32],
     at: usize,
     left: usize,
@@ -701,7 +700,7 @@ pub fn write(
     out: &mut [i32],
     o: usize,
 ) -> Walked
-    requires { ⌜ Placed (now work) at base n × Open (now out) o × Fine (now work) (decode (read-part (now work)) left t g at base .tree) ⌝ }
+    requires { ⌜ Placed (now work) at base n × Open (now out) o × ComparisonsFit (now work) (decode (read-part (now work)) left t g at base .tree) ⌝ }
     requires { ⌜ Stacked s left ⌝ }
     ensures { λ r. ⌜ Surveys (now (work .entry)) left t g at base n (r .seen) × Wrote (now (out .entry)) o (item-at (read-part (now (work .entry))) left t g at base .text (now (work .entry)) n (suffix s)) (now (out .exit)) (r .o) ⌝ }
 {
@@ -796,7 +795,7 @@ fn put_tie(
     out: &mut [i32],
     o: usize,
 ) -> Tied
-    requires { ⌜ Placed (now work) at base n × Open (now out) o × Fine (now work) (tie-at (decode (read-part (now work)) left true) v at base) ⌝ }
+    requires { ⌜ Placed (now work) at base n × Open (now out) o × ComparisonsFit (now work) (tie-at (decode (read-part (now work)) left true) v at base) ⌝ }
     requires { ⌜ (left ≤ 63) × (v ≤ limit + 1) ⌝ }
     ensures { λ r. ⌜ Listed (now (work .entry)) (items (cons (tie-at (decode (read-part (now (work .entry))) left true) v at base) nil)) n (now (out .entry)) o (now (out .exit)) (r .n) (r .lines) (r .o) × Reaches (read-part (now (work .entry))) left true at base (r .at) (r .base) ⌝ }
 {

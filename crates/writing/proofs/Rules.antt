@@ -19,7 +19,7 @@ use Rattle.walk.specs.Tree.{splits, runs}
 use Rattle.walk.specs.Resolve.{rule-trees, rule-runs, split-sided}
 use Rattle.walk.specs.Item.{limit, State, nat}
 use Rattle.walk.specs.Grow.{back}
-use Rattle.walk.specs.Two.{Low, low-back, runs-grow}
+use Rattle.walk.specs.TwoWalks.{Low, low-back, runs-grow}
 use Rattle.walk.specs.Rule.{LegalRule, true-rule, legal-rule}
 use Rattle.walk.specs.Decode.{word, read-part}
 use Rattle.writer.specs.Placed.{Placed, RuleWrote}

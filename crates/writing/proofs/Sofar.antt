@@ -18,8 +18,8 @@ use Rattle.rows.specs.Emit.{Clauses, Behind}
 use Rattle.rows.proofs.Looping.{clauses-none, clauses-then, clauses-to}
 use Rattle.statements.specs.Statements.{meet-stmt}
 use Rattle.statements.specs.Whole.{start}
-use Rattle.statements.specs.Ready.{stmts-words, clauses-of, log-of}
-use Rattle.statements.specs.ReadyEntry.{settled-emitted, settled-low, ready-fit}
+use Rattle.statements.specs.Stages.{stmts-words, clauses-of, log-of}
+use Rattle.statements.specs.NumberedEntry.{settled-emitted, settled-low, ready-fit}
 use Rattle.statements.specs.Along.{zeros, StmtAt, Rest, rest-start, rest-first, rest-next}
 use Rattle.statements.specs.Saved.{Saved, saved-same, saved-then, has-saved, fit-saved, in-place-saved}
 use Rattle.tabling.proofs.After.{triples-stay}

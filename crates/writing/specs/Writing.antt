@@ -15,12 +15,12 @@ use Rattle.walk.specs.declared.Counters.{Counters}
 use Rattle.writer.specs.Placed.{RuleWrote}
 use Rattle.rows.specs.Emit.{Clauses, Behind}
 use Rattle.rows.specs.declared.Written.{Written}
-use Rattle.statements.specs.Ready.{stmts-words, clauses-of, log-of, Ready}
+use Rattle.statements.specs.Stages.{stmts-words, clauses-of, log-of, NumberedSet}
 
 -- the set's words, the work slice after numbering, and the answer with its emitted integers' words from `triples` on, in front of o
 pub record Writable (p : Problem) (f : Fixed) (ss : List Stmt) (c : Counters) (set w : List ℤ) (end triples : ℕ) (out : List ℤ) (o : ℕ) : Type 0 where
   pub words : set ≡ encode p
-  pub ready : Ready p f ss w c
+  pub ready : NumberedSet p f ss w c
   pub ends : end ≡ 512 + length (stmts-words ss)
   pub domains : Has out triples (flat (map domain-words (emitted-domains (p .domains) (log-of p ss))))
   pub behind : triples + 3 * c .ints ≤ o

@@ -94,7 +94,7 @@ fn tables() -> Vec<Known> {
         case(
             "P9",
             &[0, 1, 0, 0, 2, 1, 2, 1, 2, 21, 0, 0, 2],
-            &format!("{one}clause=;0:0:0,1;0:-2:0,1\nclauses=1\ntotal=0\n"),
+            &format!("{one}clause=;0:0:0,1;0:-2:0,1\nclauses=1\ntotal=2\n"),
         ),
         case("P10", &[0, 1, 0, 0, 2, 1, 2, 1, 3, 21, 0, 0, 1, 2], &format!("{one}clauses=0\ntotal=0\n")),
         case("P11", &[0, 1, 0, 0, 2, 1, 2, 1, 1, 21, 0, 5], &format!("{one}clause=\nclauses=1\ntotal=0\n")),
@@ -102,7 +102,7 @@ fn tables() -> Vec<Known> {
             "P12",
             &[0, 2, 0, 0, 1, 0, 0, 1, 1, 2, 2, 2, 21, 0, 21, 1, 0, 0, 1, 1],
             "answer=compiled\nfixed=\nbools=\nints=1,2\nemitted=0,2\ndomain=0,1,2\ndomain=0,1,2\n\
-             clause=;1:0:0,1;0:0:1,1\nclause=;1:-1:0,1;0:-1:1,1\nclauses=2\ntotal=0\n",
+             clause=;1:0:0,1;0:0:1,1\nclause=;1:-1:0,1;0:-1:1,1\nclauses=2\ntotal=4\n",
         ),
         case(
             "a row of stars only",
@@ -115,11 +115,11 @@ fn tables() -> Vec<Known> {
 fn limits() -> Vec<Known> {
     let largest = 1073741823;
     vec![
-        case("1 = 2", &[0, 0, 1, 1, 18, 0, 20, 1, 20, 2], &format!("{EMPTY}clause=;0:-1:\nclauses=1\ntotal=0\n")),
+        case("1 = 2", &[0, 0, 1, 1, 18, 0, 20, 1, 20, 2], &format!("{EMPTY}clause=;0:-1:\nclauses=1\ntotal=1\n")),
         case(
             "1073741823 against 0",
             &[0, 0, 1, 1, 18, 0, 20, largest, 20, 0],
-            &format!("{EMPTY}clause=;0:1073741823:\nclauses=1\ntotal=0\n"),
+            &format!("{EMPTY}clause=;0:1073741823:\nclauses=1\ntotal=1\n"),
         ),
         case("1073741823 against 1", &[0, 0, 1, 1, 18, 0, 20, largest, 20, 1], "answer=refused,9\n"),
         case("depth 64", &nots(63), "answer=compiled\nfixed=0\nbools=0\nints=\nemitted=0,0\nclauses=0\ntotal=0\n"),

@@ -94,7 +94,7 @@ fn compiled(set: &[i32], words: &[i32]) -> String {
     for clause in &answer.clauses {
         let _ = writeln!(text, "{}", clause_line(clause));
     }
-    let total: usize = answer.clauses.iter().map(|clause| clause.literals.len()).sum();
+    let total: usize = answer.clauses.iter().map(|clause| clause.literals.len() + clause.comparisons.len()).sum();
     let _ = writeln!(text, "clauses={}\ntotal={total}", answer.clauses.len());
     text
 }

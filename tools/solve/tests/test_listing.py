@@ -16,7 +16,7 @@ clause=-1;0:-1:0,1;4:3:0,-2,2,1
 clause=
 clause=;0:-1:
 clauses=4
-total=3
+total=6
 """
 
 
@@ -38,6 +38,11 @@ class Listings(unittest.TestCase):
         for missing in range(len(lines)):
             with self.assertRaisesRegex(Failed, "cut off", msg=lines[missing]):
                 listing.read("".join(lines[:missing] + lines[missing + 1:]))
+
+    def test_a_listing_with_another_total_is_refused(self):
+        for total in ("total=3\n", "total=7\n", "total=\n", "total=6,6\n"):  # three literals, three comparisons
+            with self.assertRaisesRegex(Failed, "cut off", msg=total):
+                listing.read(COMPILED.replace("total=6\n", total))
 
     def test_other_answers(self):
         self.assertEqual(listing.read("answer=contradiction\n").answer, "contradiction")

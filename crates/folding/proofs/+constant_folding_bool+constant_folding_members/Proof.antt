@@ -19,7 +19,7 @@ use Rattle.folding.proofs.kept_end.Reads as kept-end-reads
 use Rattle.domains.proofs.number.Reads as number-reads
 use Rattle.folding.proofs.+constant_folding_bool+constant_folding_members.{statement}
 use Rattle.folding.proofs.+constant_folding_bool+constant_folding_members.Tie.{close}
-use mathlib.Core.Path.{_≡_, refl, sym, _∙_}
+use mathlib.Core.Path.{_≡_, refl, _∙_}
 use mathlib.Core.Bool.{Bool, _||_}
 use mathlib.Core.List.{List}
 use Prim.Native.Nat.{_+_, _-_, _*_, _≤_}
@@ -29,7 +29,7 @@ use lib.IntN.{ℤ}
 use lib.ListN.{length}
 use borrow.Author.Needs.{needs}
 use Rattle.fold.specs.Steps.{Ready-members, Members-post}
-use Rattle.folding.proofs.BoolLaws.{ready-inside, ready-first, ready-second, low-tag, not-ready, not-closes, not-folds, list-ready, list-closes, list-folds, left-ready, right-ready, binary-closes, binary-folds, members-none, first-ready, rest-ready, members-more, members-sum, binary-low, members-fit, members-start, members-end, kept-room}
+use Rattle.folding.proofs.BoolLaws.{ready-inside, ready-first, ready-second, not-ready, not-closes, not-folds, list-ready, list-closes, list-folds, left-ready, right-ready, binary-closes, binary-folds, members-none, first-ready, rest-ready, members-more, members-sum, binary-low, members-fit, members-start, members-end, kept-room}
 
 abbrev μ-constant-folding-bool : Measures 2 constant-folding-bool-kinds.ps ℕ
 μ-constant-folding-bool κs a = 2 * (length (a .0 .now) - a .1 .1 .0)

@@ -2,7 +2,6 @@ use Rattle.folding.proofs.binary_state.Statement.{statement}
 use Rattle.folding.proofs.binary_state.Tie as tie
 use Rattle.folding.proofs.binary_state.Reads as reads
 use Rattle.folding.proofs.binary_state.Lts as lts
-use borrow.Author.Needs.{needs}
 use borrow.Author.Tests.{lt-ltb, le-ltb}
 use mathlib.Core.Path.{refl}
 use Rattle.fold.specs.Steps.{binary-state}

@@ -5,7 +5,7 @@ use Rattle.folding.proofs.close_not.Reads as reads
 use Rattle.folding.proofs.close_not.Lts as lts
 use Rattle.folding.proofs.put.Reads as put-reads
 use Rattle.folding.proofs.put_two.Reads as put-two-reads
-use mathlib.Core.Path.{_≡_, refl, sym, ap, _∙_}
+use mathlib.Core.Path.{refl}
 use native.Mathlib.Omega.{arith}
 use borrow.Author.Tests.{eq-eqb, ne-eqb}
 use Rattle.fold.specs.Steps.{not-step, not-state}

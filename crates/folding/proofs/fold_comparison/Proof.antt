@@ -1,4 +1,3 @@
-use borrow.Author.Needs.{needs}
 use Rattle.folding.proofs.fold_comparison.Statement.{statement}
 use Rattle.folding.proofs.fold_comparison.Tie as tie
 use Rattle.folding.proofs.fold_comparison.Reads as reads
@@ -7,7 +6,7 @@ use Rattle.folding.proofs.constant_folding_int.Reads as constant-foldin
 use Rattle.domains.proofs.number.Reads as number-reads
 use Rattle.folding.proofs.put_two.Reads as put-two-reads
 use native.Mathlib.Omega.{arith}
-use mathlib.Core.Path.{_≡_, refl, sym, ap, _∙_}
+use mathlib.Core.Path.{refl, _∙_}
 use Rattle.folding.proofs.BoolLaws.{ready-inside, ready-second, left-side, right-side, cmp-folds}
 
 add-number : tie.Need-add-number

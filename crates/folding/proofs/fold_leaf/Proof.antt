@@ -8,7 +8,6 @@ use Rattle.folding.proofs.put_two.Reads as put-two-reads
 use Rattle.folding.proofs.put_var.Reads as put-var-reads
 use Rattle.folding.proofs.state_at.Reads as state-at-reads
 use native.Mathlib.Omega.{arith}
-use mathlib.Core.Path.{_≡_, sym, ap, _∙_}
 use lib.IntN.{pos}
 use lib.ListN.{getD}
 use Rattle.fold.specs.Steps.{state-of}

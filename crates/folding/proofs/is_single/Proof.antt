@@ -7,8 +7,8 @@ use lib.ListN.{getD, length}
 use Prim.Native.Nat.{_<_}
 use mir.Syntax.{w32}
 use mir.Val.{SFits}
-use mathlib.Core.Path.{_≡_, refl, sym, ap, _∙_}
-use borrow.Author.Needs.{needs, sfits-of, scaled-fits}
+use mathlib.Core.Path.{sym}
+use borrow.Author.Needs.{needs, sfits-of}
 use borrow.Author.Tests.{eq-eqb, ne-eqb}
 use Rattle.fold.specs.Steps.{single-of}
 use Rattle.folding.proofs.Signed.{one-is, one-not}

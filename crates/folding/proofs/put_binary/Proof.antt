@@ -6,7 +6,6 @@ use Rattle.folding.proofs.put_binary.Lts as lts
 use Rattle.folding.proofs.put.Reads as put-reads
 use Rattle.folding.proofs.put_two.Reads as put-two-reads
 use Rattle.folding.proofs.shift.Reads as shift-reads
-use mathlib.Core.Path.{_≡_, refl, sym, ap, _∙_}
 use native.Mathlib.Omega.{arith}
 use Prim.Native.Nat.{_+_}
 use lib.IntN.{pos}

@@ -9,7 +9,6 @@ use Rattle.domains.proofs.domain_of.Reads as domain-of-reads
 use Rattle.folding.proofs.put.Reads as put-reads
 use Rattle.folding.proofs.put_two.Reads as put-two-reads
 use native.Mathlib.Omega.{arith}
-use mathlib.Core.Path.{_≡_, sym, ap, _∙_}
 use Rattle.folding.proofs.DomainLaws.{domain-stands, value-inside, var-kept, var-constant}
 
 domain-of-requires : tie.Need-domain-of-requires

@@ -4,7 +4,6 @@ use Rattle.folding.proofs.put_two.Tie as tie
 use Rattle.folding.proofs.put_two.Reads as reads
 use Rattle.folding.proofs.put_two.Lts as lts
 use Rattle.folding.proofs.put.Reads as put-reads
-use mathlib.Core.Path.{_≡_, refl, sym, ap, _∙_}
 use Rattle.laws.specs.Slices.{stored-two}
 
 put-requires : tie.Need-put-requires

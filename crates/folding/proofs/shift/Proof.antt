@@ -2,8 +2,7 @@ use Rattle.folding.proofs.shift.Statement.{statement}
 use Rattle.folding.proofs.shift.Tie as tie
 use Rattle.folding.proofs.shift.Reads as reads
 use Rattle.folding.proofs.shift.Lts as lts
-use mathlib.Core.Path.{_≡_, refl, sym, ap, _∙_}
-use Prim.Native.Nat.{ℕ, _+_, _-_, _≤_, _<_}
+use Prim.Native.Nat.{_-_, _≤_}
 use native.Mathlib.Omega.{arith}
 use lib.IntN.{pos}
 use mir.Facts.{toZ-ofZ}

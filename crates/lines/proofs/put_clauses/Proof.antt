@@ -3,8 +3,8 @@ use Prim.Native.Nat.{_≤_, _+_}
 use mathlib.Core.Path.{_≡_}
 use native.Mathlib.Omega.{arith}
 use lib.ListN.{drop}
-use Rattle.lines.specs.Lines.{print-clause, total}
-use Rattle.lines.proofs.Writing.{Showing, showing-start, showing-done, showing-out, showing-next, total-done, total-out, total-next}
+use Rattle.lines.specs.Lines.{members, print-clause, total}
+use Rattle.lines.proofs.Writing.{Showing, showing-start, showing-done, showing-out, showing-next, sum-done, sum-out, sum-next}
 use borrow.Author.Needs.{needs}
 use Rattle.lines.proofs.put_clauses.Statement.{statement}
 use Rattle.lines.proofs.put_clauses.Tie as tie
@@ -22,7 +22,7 @@ same-length : tie.Need-same-length Inv-loop μ-loop
 same-length c = c .before .before .loop .inv .0 .size
 
 returns : tie.Need-returns Inv-loop μ-loop
-returns c = (showing-out _ _ _ _ _ _ _ _ _ _ (c .before .before .loop .inv .0) (c .if1 .taken), total-out (c .before .before .before .before .args .words .now) (c .before .before .before .before .args .from) (c .before .before .before .before .args .n) (c .before .before .loop .i) (c .before .before .loop .left) (c .before .before .loop .sum) (c .before .before .loop .inv .1) (c .if1 .taken))
+returns c = (showing-out _ _ _ _ _ _ _ _ _ _ (c .before .before .loop .inv .0) (c .if1 .taken), sum-out print-clause members (c .before .before .before .before .args .words .now) _ (c .before .before .loop .i) (c .before .before .loop .left) (c .before .before .loop .sum) (c .before .before .loop .inv .1) (c .if1 .taken))
 
 put-clause-requires : tie.Need-put-clause-requires Inv-loop μ-loop
 put-clause-requires c κs = c .before .before .before .loop .inv .0 .high
@@ -37,13 +37,13 @@ loop-less : tie.Need-loop-less Inv-loop μ-loop
 loop-less c = search needs
 
 loop-again : tie.Need-loop-again Inv-loop μ-loop
-loop-again c = (showing-next _ _ _ _ _ _ _ _ _ _ (c .before .before .before .before .before .before .before .loop .inv .0) _ _ _ (c .before .before .before .before .before .before .loop-test .taken) (omega (arith, c .before .before .before .before .before .before .before .loop .inv .0 .high, c .before .before .before .before .before .if1 .left)) (c .before .before .before .put-clause .ensures .0), total-next (c .before .before .before .before .before .before .before .before .before .args .words .now) (c .before .before .before .before .before .before .before .before .before .args .from) (c .before .before .before .before .before .before .before .before .before .args .n) (c .before .before .before .before .before .before .before .loop .i) (c .before .before .before .before .before .before .before .loop .left) (c .before .before .before .before .before .before .before .loop .sum) (c .before .before .before .before .before .before .before .loop .inv .1) _ (c .before .before .before .put-clause .result .next) (c .before .before .before .before .before .before .loop-test .taken) (omega (arith, c .before .before .before .before .before .before .before .loop .inv .0 .high, c .before .before .before .before .before .if1 .left)) (c .before .before .before .put-clause .ensures .1 .0) (c .before .before .before .put-clause .ensures .0 .rest), omega (arith, c .before .before .before .before .before .before .before .loop .inv .2, c .before .before .before .put-clause .ensures .1 .1))
+loop-again c = (showing-next _ _ _ _ _ _ _ _ _ _ (c .before .before .before .before .before .before .before .loop .inv .0) _ _ _ (c .before .before .before .before .before .before .loop-test .taken) (omega (arith, c .before .before .before .before .before .before .before .loop .inv .0 .high, c .before .before .before .before .before .if1 .left)) (c .before .before .before .put-clause .ensures .0), sum-next print-clause members (c .before .before .before .before .before .before .before .before .before .args .words .now) _ (c .before .before .before .before .before .before .before .loop .i) (c .before .before .before .before .before .before .before .loop .left) (c .before .before .before .before .before .before .before .loop .sum) (c .before .before .before .before .before .before .before .loop .inv .1) _ (c .before .before .before .put-clause .result .next) (c .before .before .before .before .before .before .loop-test .taken) (omega (arith, c .before .before .before .before .before .before .before .loop .inv .0 .high, c .before .before .before .before .before .if1 .left)) (c .before .before .before .put-clause .ensures .1 .0) (c .before .before .before .put-clause .ensures .0 .rest), omega (arith, c .before .before .before .before .before .before .before .loop .inv .2, c .before .before .before .put-clause .ensures .1 .1))
 
 same-length-2 : tie.Need-same-length-2 Inv-loop μ-loop
 same-length-2 c = c .before .loop .inv .0 .size
 
 returns-2 : tie.Need-returns-2 Inv-loop μ-loop
-returns-2 c = (showing-done _ _ _ _ _ _ _ _ _ _ (c .before .loop .inv .0) (c .loop-test .left), total-done (c .before .before .before .args .words .now) (c .before .before .before .args .from) (c .before .before .before .args .n) (c .before .loop .i) (c .before .loop .left) (c .before .loop .sum) (c .before .loop .inv .1) (c .loop-test .left))
+returns-2 c = (showing-done _ _ _ _ _ _ _ _ _ _ (c .before .loop .inv .0) (c .loop-test .left), sum-done print-clause members (c .before .before .before .args .words .now) _ (c .before .loop .i) (c .before .loop .left) (c .before .loop .sum) (c .before .loop .inv .1) (c .loop-test .left))
 
 pub put-clauses-spec : {M : Type 1} → statement M
 put-clauses-spec =

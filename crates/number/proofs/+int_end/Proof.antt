@@ -9,8 +9,8 @@ use Rattle.number.proofs.within.Reads as within-reads
 use Rattle.number.proofs.word.Reads as word-reads
 use Rattle.number.proofs.+int_end.{statement}
 use Rattle.number.proofs.+int_end.Tie.{close}
-use mathlib.Core.Path.{_≡_, refl, sym, ap, _∙_}
-use Prim.Native.Nat.{ℕ, _+_, _-_, _<_, _≤_}
+use mathlib.Core.Path.{_≡_, refl, _∙_}
+use Prim.Native.Nat.{ℕ, _-_, _<_, _≤_}
 use native.Mathlib.Omega.{arith}
 use Rattle.walk.specs.Decode.{read-part, terms, int-at}
 use Rattle.number.proofs.Leaves.{end-none, end-leaf, end-sum, terms-more, terms-none}

@@ -21,13 +21,11 @@ use Rattle.number.proofs.single.Reads as single-reads
 use Rattle.number.proofs.skips.Reads as skips-reads
 use Rattle.number.proofs.+number+numbers.{statement}
 use Rattle.number.proofs.+number+numbers.Tie.{close}
-use mathlib.Core.Path.{_≡_, refl, sym, ap, _∙_}
-use Prim.Native.Nat.{ℕ, _<_, _≤_, _+_, _-_, _*_, min}
+use mathlib.Core.Path.{refl, sym, _∙_}
+use Prim.Native.Nat.{ℕ, _<_, _+_, _-_, _*_, min}
 use native.Mathlib.Omega.{arith}
-use lib.ListN.{length}
-use Rattle.walk.specs.Decode.{read-part}
 use Rattle.walk.specs.Steps.{okay-at}
-use Rattle.walk.specs.Meets.{Met, met-to, number-cmp, met-zero, met-var, met-not, met-conj, met-disj, met-split, met-cross}
+use Rattle.walk.specs.NumberingSteps.{met-to, number-cmp, met-zero, met-var, met-not, met-conj, met-disj, met-split, met-cross}
 use Rattle.number.specs.Sized.{sized-none, sized-var, sized-cmp, sized-not, sized-conj, sized-disj, sized-split, sized-cross}
 use Rattle.number.proofs.Leaves.{read-length, join-is, at-in}
 use Rattle.number.proofs.Members.{met-as, sized-all-in, NumbersSofar, numbers-start, numbers-again, numbers-done, inside-short, passed-by}

@@ -17,13 +17,10 @@ use Rattle.number.proofs.node_at.Reads as node-at-reads
 use Rattle.number.proofs.number_tie.Reads as number-tie-reads
 use Rattle.number.proofs.+number_each_ties+number_sides+number_ties.{statement}
 use Rattle.number.proofs.+number_each_ties+number_sides+number_ties.Tie.{close}
-use mathlib.Core.Path.{_≡_, refl, sym, ap, _∙_}
-use Prim.Native.Nat.{ℕ, _<_, _≤_, _+_, _-_, _*_, min}
+use mathlib.Core.Path.{refl, sym, _∙_}
+use Prim.Native.Nat.{ℕ, _<_, _+_, _-_, _*_, min}
 use native.Mathlib.Omega.{arith}
-use lib.ListN.{length}
-use Rattle.walk.specs.Decode.{read-part}
 use Rattle.walk.specs.Steps.{okay-at}
-use Rattle.walk.specs.Meets.{Met}
 use Rattle.walk.specs.MeetTies.{reaches-sides, reaches-none, reaches-var, reaches-cmp, reaches-not, reaches-join, reaches-cross, reaches-split, TiesSofar, ties-start, ties-again, ties-done, ties-zero, ties-var, ties-cmp, ties-not, ties-join, ties-cross, ties-split, met-sides}
 use Rattle.number.proofs.Leaves.{read-length, at-in}
 use Rattle.number.proofs.Members.{met-as}

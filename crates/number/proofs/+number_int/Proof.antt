@@ -12,10 +12,10 @@ use Rattle.number.proofs.within.Reads as within-reads
 use Rattle.number.proofs.word.Reads as word-reads
 use Rattle.number.proofs.+number_int.{statement}
 use Rattle.number.proofs.+number_int.Tie.{close}
-use mathlib.Core.Path.{_≡_, refl, sym, ap, _∙_}
-use Prim.Native.Nat.{ℕ, _<_, _≤_, _+_, _-_}
+use mathlib.Core.Path.{refl, _∙_}
+use Prim.Native.Nat.{ℕ, _<_, _-_}
 use native.Mathlib.Omega.{arith}
-use Rattle.walk.specs.Meets.{Met, met-none, met-to, int-none, int-var, int-const, int-sum}
+use Rattle.walk.specs.NumberingSteps.{met-none, met-to, int-none, int-var, int-const, int-sum}
 use Rattle.walk.specs.Steps.{below-lt}
 use Rattle.number.proofs.Leaves.{past-is, end-none, end-leaf, end-sum}
 use Rattle.number.proofs.Members.{met-as}

@@ -14,7 +14,7 @@ use Rattle.number.proofs.within.Reads as within-reads
 use Rattle.number.proofs.word.Reads as word-reads
 use Rattle.number.proofs.+skip+skips.{statement}
 use Rattle.number.proofs.+skip+skips.Tie.{close}
-use mathlib.Core.Path.{_≡_, refl}
+use mathlib.Core.Path.{refl}
 use native.Mathlib.Omega.{arith}
 use Rattle.walk.specs.Decode.{read-part}
 use Rattle.number.specs.Skip.{inside-low, skips-none, Passing, passing-first, passing-next, passing-last}

@@ -19,12 +19,12 @@ use Rattle.number.proofs.single.Reads as single-reads
 use Rattle.number.proofs.skips.Reads as skips-reads
 use Rattle.number.proofs.+survey+surveys.{statement}
 use Rattle.number.proofs.+survey+surveys.Tie.{close}
-use mathlib.Core.Path.{_≡_, refl, sym, ap, _∙_}
+use mathlib.Core.Path.{refl, sym, _∙_}
 use Prim.Native.Nat.{ℕ, _<_, _≤_, _+_, _-_, _*_, min}
 use native.Mathlib.Omega.{arith}
 use lib.ListN.{length}
 use Rattle.walk.specs.Decode.{read-part}
-use Rattle.walk.specs.Steps.{node-okay, okay-at, survey-none, survey-var, survey-cmp, survey-not, survey-conj, survey-disj, survey-cross, Sofar, sofar-none, sofar-more, sofar-done}
+use Rattle.walk.specs.Steps.{okay-at, survey-none, survey-var, survey-cmp, survey-not, survey-conj, survey-disj, survey-cross, Sofar, sofar-none, sofar-more, sofar-done}
 use Rattle.number.specs.Skip.{survey-skipped}
 use Rattle.number.proofs.Leaves.{read-length, join-is}
 

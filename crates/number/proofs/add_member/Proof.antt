@@ -4,7 +4,6 @@ use Rattle.number.proofs.add_member.Tie as tie
 use Rattle.number.proofs.add_member.Reads as reads
 use Rattle.number.proofs.add_member.Lts as lts
 use Rattle.number.proofs.bump.Reads as bump-reads
-use mathlib.Core.Path.{_≡_, refl, sym, ap, _∙_}
 use Rattle.walk.specs.Decode.{added}
 
 add-t3 : tie.Need-add-t3

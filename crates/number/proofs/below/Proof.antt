@@ -1,4 +1,3 @@
-use borrow.Author.Needs.{needs}
 use Rattle.number.proofs.below.Statement.{statement}
 use Rattle.number.proofs.below.Tie as tie
 use Rattle.number.proofs.below.Reads as reads

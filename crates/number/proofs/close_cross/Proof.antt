@@ -7,7 +7,7 @@ use Rattle.number.proofs.bump.Reads as bump-reads
 use Rattle.number.proofs.disj_lines.Reads as disj-lines-reads
 use Rattle.number.proofs.fresh.Reads as fresh-reads
 use Rattle.number.proofs.longer.Reads as longer-reads
-use mathlib.Core.Path.{_≡_, refl, sym, ap, _∙_}
+use mathlib.Core.Path.{_∙_}
 use Rattle.walk.specs.Decode.{closed-cross}
 
 fresh-requires : tie.Need-fresh-requires

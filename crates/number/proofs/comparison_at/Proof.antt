@@ -4,7 +4,6 @@ use Rattle.number.proofs.comparison_at.Tie as tie
 use Rattle.number.proofs.comparison_at.Reads as reads
 use Rattle.number.proofs.comparison_at.Lts as lts
 use Rattle.number.proofs.int_end.Reads as int-end-reads
-use mathlib.Core.Path.{_≡_, refl, sym, ap, _∙_}
 
 int-end-requires : tie.Need-int-end-requires
 int-end-requires c κs = search needs

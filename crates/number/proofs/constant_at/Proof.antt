@@ -1,4 +1,3 @@
-use borrow.Author.Needs.{needs}
 use Rattle.number.proofs.constant_at.Statement.{statement}
 use Rattle.number.proofs.constant_at.Tie as tie
 use Rattle.number.proofs.constant_at.Reads as reads

@@ -6,9 +6,9 @@ use Rattle.number.proofs.declare_int.Lts as lts
 use Rattle.number.proofs.bump.Reads as bump-reads
 use Rattle.number.proofs.entry.Reads as entry-reads
 use Rattle.number.proofs.store.Reads as store-reads
-use mathlib.Core.Path.{_≡_, refl, sym, ap, _∙_}
+use mathlib.Core.Path.{refl, _∙_}
 use native.Mathlib.Omega.{arith}
-use Rattle.walk.specs.Meets.{Met, int-old, int-new}
+use Rattle.walk.specs.NumberingSteps.{int-old, int-new}
 
 add-entry : tie.Need-add-entry
 add-entry c = search needs

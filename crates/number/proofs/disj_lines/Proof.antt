@@ -5,7 +5,7 @@ use Rattle.number.proofs.disj_lines.Reads as reads
 use Rattle.number.proofs.disj_lines.Lts as lts
 use Rattle.number.proofs.bump.Reads as bump-reads
 use Rattle.number.proofs.mode_of.Reads as mode-of-reads
-use mathlib.Core.Path.{_≡_, refl, sym, ap, _∙_}
+use mathlib.Core.Path.{sym, ap, _∙_}
 use Rattle.walk.specs.Item.{lines-in}
 
 mode-of-requires : tie.Need-mode-of-requires

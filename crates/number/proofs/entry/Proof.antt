@@ -3,8 +3,7 @@ use Rattle.number.proofs.entry.Statement.{statement}
 use Rattle.number.proofs.entry.Tie as tie
 use Rattle.number.proofs.entry.Reads as reads
 use Rattle.number.proofs.entry.Lts as lts
-use mathlib.Core.Path.{_≡_, refl, sym, ap, _∙_}
-use lib.IntN.{ℤ, pos}
+use lib.IntN.{pos}
 use lib.Signed.{ltZ}
 use lib.ListN.{getD}
 use mir.Syntax.{w32}

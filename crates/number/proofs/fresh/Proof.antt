@@ -4,7 +4,7 @@ use Rattle.number.proofs.fresh.Tie as tie
 use Rattle.number.proofs.fresh.Reads as reads
 use Rattle.number.proofs.fresh.Lts as lts
 use Rattle.number.proofs.mode_of.Reads as mode-of-reads
-use mathlib.Core.Path.{_≡_, refl, sym, ap, _∙_}
+use mathlib.Core.Path.{sym, ap, _∙_}
 use Rattle.walk.specs.Item.{fresh-in}
 
 mode-of-requires : tie.Need-mode-of-requires

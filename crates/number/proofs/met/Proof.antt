@@ -5,7 +5,7 @@ use Rattle.number.proofs.met.Reads as reads
 use Rattle.number.proofs.met.Lts as lts
 use Rattle.number.proofs.bump.Reads as bump-reads
 use Rattle.number.proofs.entry.Reads as entry-reads
-use mathlib.Core.Path.{_≡_, refl, sym, ap, _∙_}
+use mathlib.Core.Path.{sym, _∙_}
 use borrow.Author.Tests.{eq-eqb, ne-eqb}
 use Rattle.walk.specs.Item.{var-item, bool-entry}
 

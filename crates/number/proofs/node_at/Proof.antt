@@ -8,7 +8,6 @@ use Rattle.number.proofs.comparison_at.Reads as comparison-at-reads
 use Rattle.number.proofs.constant_at.Reads as constant-at-reads
 use Rattle.number.proofs.within.Reads as within-reads
 use Rattle.number.proofs.word.Reads as word-reads
-use mathlib.Core.Path.{_≡_, refl, sym, ap, _∙_}
 use native.Mathlib.Omega.{arith}
 use Rattle.number.proofs.Leaves.{node-const, node-var, node-and, node-or, node-not, node-xor, node-iff, node-imp, node-cmp, node-other}
 

@@ -4,7 +4,6 @@ use Rattle.number.proofs.number_columns.Reads as reads
 use Rattle.number.proofs.number_columns.Lts as lts
 use Rattle.number.proofs.number_column.Reads as number-column-reads
 use borrow.Author.Needs.{needs}
-use mathlib.Core.Path.{_≡_, refl, sym, ap, _∙_}
 use native.Mathlib.Omega.{arith}
 use Rattle.walk.specs.MeetColumns.{ColumnsSofar, columns-start, columns-again, columns-done}
 use Rattle.number.proofs.Terms.{end-in}

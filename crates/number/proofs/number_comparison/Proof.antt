@@ -5,7 +5,7 @@ use Rattle.number.proofs.number_comparison.Reads as reads
 use Rattle.number.proofs.number_comparison.Lts as lts
 use Rattle.number.proofs.number_int.Reads as number-int-reads
 use Rattle.number.proofs.within.Reads as within-reads
-use mathlib.Core.Path.{_≡_, refl, sym, ap, _∙_}
+use mathlib.Core.Path.{_∙_}
 use native.Mathlib.Omega.{arith}
 use Rattle.number.proofs.Leaves.{past-is}
 use Rattle.number.proofs.Terms.{sides-met}

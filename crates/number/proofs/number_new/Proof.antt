@@ -6,7 +6,7 @@ use Rattle.number.proofs.number_new.Lts as lts
 use Rattle.number.proofs.bump.Reads as bump-reads
 use Rattle.number.proofs.store.Reads as store-reads
 use Rattle.number.proofs.store_place.Reads as store-place-reads
-use mathlib.Core.Path.{_≡_, refl, sym, ap, _∙_}
+use mathlib.Core.Path.{refl, _∙_}
 use native.Mathlib.Omega.{arith}
 use Rattle.walk.specs.MeetColumns.{met-new}
 

@@ -1,12 +1,10 @@
-use borrow.Author.Needs.{needs}
 use Rattle.number.proofs.number_tie.Statement.{statement}
 use Rattle.number.proofs.number_tie.Tie as tie
 use Rattle.number.proofs.number_tie.Reads as reads
 use Rattle.number.proofs.number_tie.Lts as lts
 use Rattle.number.proofs.number.Reads as number-reads
-use mathlib.Core.Path.{_≡_, refl, sym, ap, _∙_}
+use mathlib.Core.Path.{_∙_}
 use native.Mathlib.Omega.{arith}
-use Rattle.walk.specs.Meets.{Met}
 use Rattle.walk.specs.MeetTies.{met-tie}
 
 number-requires : tie.Need-number-requires

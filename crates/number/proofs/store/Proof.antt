@@ -3,7 +3,7 @@ use Rattle.number.proofs.store.Statement.{statement}
 use Rattle.number.proofs.store.Tie as tie
 use Rattle.number.proofs.store.Reads as reads
 use Rattle.number.proofs.store.Lts as lts
-use mathlib.Core.Path.{_≡_, refl, sym, ap, _∙_}
+use mathlib.Core.Path.{refl, sym, ap}
 use lib.Seq.{set-out}
 use lib.ListN.{set, length-set}
 use Rattle.number.proofs.Leaves.{pos-is}

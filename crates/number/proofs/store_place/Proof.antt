@@ -3,10 +3,9 @@ use Rattle.number.proofs.store_place.Statement.{statement}
 use Rattle.number.proofs.store_place.Tie as tie
 use Rattle.number.proofs.store_place.Reads as reads
 use Rattle.number.proofs.store_place.Lts as lts
-use mathlib.Core.Path.{_≡_, refl, sym, ap, _∙_}
+use mathlib.Core.Path.{refl, sym, ap}
 use lib.Seq.{set-out}
 use lib.ListN.{set, length-set}
-use native.Mathlib.Omega.{arith}
 use Rattle.number.proofs.Leaves.{place-fits, place-is}
 
 add-w : tie.Need-add-w

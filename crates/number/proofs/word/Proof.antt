@@ -4,7 +4,7 @@ use Rattle.number.proofs.word.Tie as tie
 use Rattle.number.proofs.word.Reads as reads
 use Rattle.number.proofs.word.Lts as lts
 use Rattle.number.proofs.entry.Reads as entry-reads
-use mathlib.Core.Path.{_≡_, refl, sym, ap, _∙_}
+use mathlib.Core.Path.{_∙_}
 use Rattle.number.proofs.Leaves.{word-inside, word-outside}
 
 entry-requires : tie.Need-entry-requires

@@ -17,7 +17,7 @@ use Rattle.passes.proofs.skip_comparison.Reads as skip-comparison-reads
 use Rattle.passes.proofs.worst.Reads as worst-reads
 use Rattle.passes.proofs.+constant_prop_bool+constant_prop_members.{statement}
 use Rattle.passes.proofs.+constant_prop_bool+constant_prop_members.Tie.{close}
-use mathlib.Core.Path.{_≡_, refl, sym, _∙_}
+use mathlib.Core.Path.{_≡_, refl, _∙_}
 use mathlib.Core.List.{List}
 use Prim.Native.Nat.{_+_, _-_, _*_, _≤_}
 use native.Mathlib.Omega.{arith}

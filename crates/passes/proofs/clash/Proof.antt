@@ -2,7 +2,7 @@ use Rattle.passes.proofs.clash.Statement.{statement}
 use Rattle.passes.proofs.clash.Tie as tie
 use Rattle.passes.proofs.clash.Reads as reads
 use Rattle.passes.proofs.clash.Lts as lts
-use borrow.Author.Tests.{eq-eqb, ne-eqb, lt-ltb, le-ltb}
+use borrow.Author.Tests.{eq-eqb, ne-eqb}
 use Rattle.passes.specs.Want.{clash-num}
 
 returns : tie.Need-returns

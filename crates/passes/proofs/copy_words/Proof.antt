@@ -4,7 +4,6 @@ use Rattle.passes.proofs.copy_words.Reads as reads
 use Rattle.passes.proofs.copy_words.Lts as lts
 use Rattle.folding.proofs.copy_word.Reads as copy-word-reads
 use borrow.Author.Needs.{needs}
-use mathlib.Core.Path.{_≡_}
 use native.Mathlib.Omega.{arith}
 use Prim.Native.Nat.{_-_, _≤_}
 use Rattle.passes.proofs.StmtLaws.{Copying, copying-none, copying-next, copying-end}

@@ -3,7 +3,7 @@ use Rattle.passes.proofs.flip.Statement.{statement}
 use Rattle.passes.proofs.flip.Tie as tie
 use Rattle.passes.proofs.flip.Reads as reads
 use Rattle.passes.proofs.flip.Lts as lts
-use borrow.Author.Tests.{eq-eqb, ne-eqb, lt-ltb, le-ltb}
+use borrow.Author.Tests.{eq-eqb, ne-eqb}
 use Rattle.passes.specs.Want.{flip-num}
 
 sub-result : tie.Need-sub-result

@@ -1,4 +1,3 @@
-use borrow.Author.Needs.{needs}
 use Rattle.passes.proofs.fold_stmt.Statement.{statement}
 use Rattle.passes.proofs.fold_stmt.Tie as tie
 use Rattle.passes.proofs.fold_stmt.Reads as reads
@@ -7,7 +6,7 @@ use Rattle.folding.proofs.constant_folding_bool.Reads as constant-folding-bool-
 use Rattle.domains.proofs.number.Reads as number-reads
 use Rattle.folding.proofs.put.Reads as put-reads
 use Rattle.passes.proofs.fold_table.Reads as fold-table-reads
-use mathlib.Core.Path.{_≡_, refl, sym, _∙_}
+use mathlib.Core.Path.{_∙_}
 use native.Mathlib.Omega.{arith}
 use Rattle.passes.proofs.StmtLaws.{stmt-room, stmt-first, rule-ready, rule-folds, no-rule}
 

@@ -1,4 +1,3 @@
-use borrow.Author.Needs.{needs}
 use Rattle.passes.proofs.fold_table.Statement.{statement}
 use Rattle.passes.proofs.fold_table.Tie as tie
 use Rattle.passes.proofs.fold_table.Reads as reads
@@ -8,7 +7,7 @@ use Rattle.folding.proofs.put.Reads as put-reads
 use Rattle.folding.proofs.put_two.Reads as put-two-reads
 use Rattle.passes.proofs.copy_words.Reads as copy-words-reads
 use Rattle.passes.proofs.fold_columns.Reads as fold-columns-reads
-use mathlib.Core.Path.{_≡_, refl, sym, _∙_}
+use mathlib.Core.Path.{_∙_}
 use native.Mathlib.Omega.{arith}
 use Rattle.passes.proofs.StmtLaws.{stmt-room, columns-word, rows-word, table-columns, table-rows, table-folds}
 

@@ -2,7 +2,7 @@ use Rattle.passes.proofs.pass.Statement.{statement}
 use Rattle.passes.proofs.pass.Tie as tie
 use Rattle.passes.proofs.pass.Reads as reads
 use Rattle.passes.proofs.pass.Lts as lts
-use borrow.Author.Tests.{eq-eqb, ne-eqb, lt-ltb, le-ltb}
+use borrow.Author.Tests.{eq-eqb, ne-eqb}
 use Rattle.passes.specs.Want.{pass-num}
 
 returns : tie.Need-returns

@@ -6,7 +6,6 @@ use Rattle.passes.proofs.prop_leaf.Lts as lts
 use Rattle.domains.proofs.number.Reads as number-reads
 use Rattle.passes.proofs.clash.Reads as clash-reads
 use Rattle.passes.proofs.set_infeasible.Reads as set-infeasible-reads
-use mathlib.Core.Path.{_≡_, refl}
 use native.Mathlib.Omega.{arith}
 use Rattle.passes.proofs.PropLaws.{stands-inside, stands-second, const-props, var-below, var-props}
 

@@ -6,7 +6,6 @@ use Rattle.passes.proofs.prop_stmt.Lts as lts
 use Rattle.domains.proofs.number.Reads as number-reads
 use Rattle.passes.proofs.constant_prop_bool.Reads as constant-prop-bool-reads
 use Rattle.passes.proofs.skip_table.Reads as skip-table-reads
-use mathlib.Core.Path.{_≡_}
 use native.Mathlib.Omega.{arith}
 use Rattle.passes.proofs.StmtLaws.{no-rule}
 use Rattle.passes.proofs.PropStmtLaws.{stmt-fits, stands-plain, rule-stands, rule-props, table-props}

@@ -2,7 +2,7 @@ use Rattle.passes.proofs.right_want.Statement.{statement}
 use Rattle.passes.proofs.right_want.Tie as tie
 use Rattle.passes.proofs.right_want.Reads as reads
 use Rattle.passes.proofs.right_want.Lts as lts
-use borrow.Author.Tests.{eq-eqb, ne-eqb, lt-ltb, le-ltb}
+use borrow.Author.Tests.{eq-eqb, ne-eqb}
 use Rattle.passes.specs.Want.{right-num}
 
 returns : tie.Need-returns

@@ -5,9 +5,9 @@ use Rattle.passes.proofs.set_infeasible.Reads as reads
 use Rattle.passes.proofs.set_infeasible.Lts as lts
 use Rattle.folding.proofs.put.Reads as put-reads
 use Rattle.folding.proofs.state_at.Reads as state-at-reads
-use borrow.Author.Tests.{eq-eqb, ne-eqb, lt-ltb, le-ltb}
+use borrow.Author.Tests.{eq-eqb, ne-eqb}
 use Rattle.passes.specs.Want.{set-status, set-words}
-use mathlib.Core.Path.{_≡_, refl, sym, ap, _∙_}
+use mathlib.Core.Path.{refl}
 
 returns : tie.Need-returns
 unfolding set-status set-words

@@ -4,7 +4,6 @@ use Rattle.passes.proofs.skip_columns.Reads as reads
 use Rattle.passes.proofs.skip_columns.Lts as lts
 use Rattle.passes.proofs.skip_int.Reads as skip-int-reads
 use borrow.Author.Needs.{needs}
-use mathlib.Core.Path.{_≡_}
 use Prim.Native.Nat.{ℕ}
 use Rattle.passes.specs.Statements.{Some-columns, Skip-columns-post}
 use Rattle.passes.proofs.PropStmtLaws.{columns-end, column-stands, columns-stand, columns-skip}

@@ -3,8 +3,7 @@ use Rattle.passes.proofs.skip_comparison.Tie as tie
 use Rattle.passes.proofs.skip_comparison.Reads as reads
 use Rattle.passes.proofs.skip_comparison.Lts as lts
 use Rattle.passes.proofs.skip_int.Reads as skip-int-reads
-use borrow.Author.Needs.{needs}
-use mathlib.Core.Path.{_≡_, refl}
+use mathlib.Core.Path.{refl}
 use native.Mathlib.Omega.{arith}
 use Rattle.passes.proofs.PropLaws.{stands-inside, left-int, right-int, both-ints}
 

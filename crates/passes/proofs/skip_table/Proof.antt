@@ -4,8 +4,6 @@ use Rattle.passes.proofs.skip_table.Reads as reads
 use Rattle.passes.proofs.skip_table.Lts as lts
 use Rattle.domains.proofs.number.Reads as number-reads
 use Rattle.passes.proofs.skip_columns.Reads as skip-columns-reads
-use borrow.Author.Needs.{needs}
-use mathlib.Core.Path.{_≡_}
 use native.Mathlib.Omega.{arith}
 use Rattle.passes.proofs.PropStmtLaws.{stmt-fits, columns-word, rows-word, table-columns, table-skips, table-fits}
 

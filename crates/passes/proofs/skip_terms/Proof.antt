@@ -4,9 +4,8 @@ use Rattle.passes.proofs.skip_terms.Reads as reads
 use Rattle.passes.proofs.skip_terms.Lts as lts
 use Rattle.passes.proofs.sum_count.Reads as sum-count-reads
 use borrow.Author.Needs.{needs}
-use mathlib.Core.Path.{_≡_}
 use native.Mathlib.Omega.{arith}
-use Prim.Native.Nat.{ℕ, _-_, _≤_}
+use Prim.Native.Nat.{ℕ, _-_}
 use lib.ListN.{length}
 use Rattle.passes.specs.Contracts.{Some-terms, Skip-terms-post}
 use Rattle.passes.proofs.SkipLaws.{term-stands, rest-stand, terms-skip, terms-end, some-inside, terms-room}

@@ -3,7 +3,6 @@ use Rattle.passes.proofs.sum_count.Tie as tie
 use Rattle.passes.proofs.sum_count.Reads as reads
 use Rattle.passes.proofs.sum_count.Lts as lts
 use Rattle.domains.proofs.number.Reads as number-reads
-use borrow.Author.Needs.{needs}
 use native.Mathlib.Omega.{arith}
 use Rattle.passes.proofs.SkipLaws.{some-inside, some-first, sum-second, sum-counts, none-counts}
 

@@ -2,7 +2,7 @@ use Rattle.passes.proofs.worst.Statement.{statement}
 use Rattle.passes.proofs.worst.Tie as tie
 use Rattle.passes.proofs.worst.Reads as reads
 use Rattle.passes.proofs.worst.Lts as lts
-use borrow.Author.Tests.{eq-eqb, ne-eqb, lt-ltb, le-ltb}
+use borrow.Author.Tests.{lt-ltb, le-ltb}
 
 returns : tie.Need-returns
 returns c = rw (lt-ltb _ _ (c .if1 .taken))

@@ -4,7 +4,6 @@ use Rattle.propagate.proofs.domains_end.Reads as reads
 use Rattle.propagate.proofs.domains_end.Lts as lts
 use Rattle.domains.proofs.domain_end.Reads as domain-end-reads
 use borrow.Author.Needs.{needs}
-use mathlib.Core.Path.{_≡_}
 use Prim.Native.Nat.{ℕ}
 use Rattle.propagate.specs.Optimized.{Some-domains, Domains-end-post}
 use Rattle.propagate.proofs.PassLaws.{domains-none, domain-stands, domains-stand, domains-more}

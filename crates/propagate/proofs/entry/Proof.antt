@@ -15,7 +15,7 @@ use mir.Val.{SFits, toZ, ofZ}
 use mir.Facts.{toZ-ofZ, fits-natAbs}
 use borrow.Author.Needs.{sfits-of}
 use Rattle.laws.specs.Signed.{test-of, not-neg}
-use Rattle.propagate.proofs.HurryLaws.{number-kept}
+use Rattle.propagate.proofs.WorklistLaws.{number-kept}
 
 fits : (c : tie.After-w) → SFits w32 (getD (c .before .before .args .a .now) (c .before .before .args .i) (pos 0))
 fits c = sfits-of (c .w .given)

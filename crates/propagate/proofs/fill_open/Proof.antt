@@ -4,7 +4,6 @@ use Rattle.propagate.proofs.fill_open.Reads as reads
 use Rattle.propagate.proofs.fill_open.Lts as lts
 use Rattle.folding.proofs.put.Reads as put-reads
 use borrow.Author.Needs.{needs}
-use mathlib.Core.Path.{_≡_}
 use native.Mathlib.Omega.{arith}
 use Prim.Native.Nat.{_-_, _≤_}
 use Rattle.propagate.proofs.PassLaws.{Opening, opening-none, opening-next, opening-end}

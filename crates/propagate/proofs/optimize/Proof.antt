@@ -1,4 +1,3 @@
-use borrow.Author.Needs.{needs}
 use Rattle.propagate.proofs.optimize.Statement.{statement}
 use Rattle.propagate.proofs.optimize.Tie as tie
 use Rattle.propagate.proofs.optimize.Reads as reads
@@ -7,7 +6,7 @@ use Rattle.domains.proofs.number.Reads as number-reads
 use Rattle.propagate.proofs.domains_end.Reads as domains-end-reads
 use Rattle.propagate.proofs.fill_open.Reads as fill-open-reads
 use Rattle.propagate.proofs.run_passes.Reads as run-passes-reads
-use mathlib.Core.Path.{_≡_, sym, _∙_}
+use mathlib.Core.Path.{_∙_}
 use native.Mathlib.Omega.{arith}
 use Rattle.propagate.proofs.PassLaws.{ints-word, some-domains, count-word, at-fits, passes-ready, optimized}
 

@@ -9,10 +9,10 @@ use Prim.Native.Nat.{_-_, _≤_}
 use lib.ListN.{length}
 
 abbrev Inv-loop : tie.InvT-loop
-Inv-loop work end notes₀ marked count₀ p₀ notes count p = (count ≤ 2048) × (length notes ≡ length notes₀)
+Inv-loop work end watches₀ queued count₀ p₀ watches count p = (count ≤ 2048) × (length watches ≡ length watches₀)
 
 abbrev μ-loop : tie.MeasureT-loop
-μ-loop work end notes₀ marked count₀ p₀ notes count p = end - p
+μ-loop work end watches₀ queued count₀ p₀ watches count p = end - p
 
 loop-holds : tie.Need-loop-holds Inv-loop μ-loop
 loop-holds c = search needs

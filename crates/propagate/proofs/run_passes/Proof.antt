@@ -7,14 +7,13 @@ use Rattle.propagate.proofs.less_one.Reads as less-one-reads
 use Rattle.passes.proofs.constant_prop_stmts.Reads as constant-prop-stmts-reads
 use Rattle.passes.proofs.fold_stmts.Reads as fold-stmts-reads
 use borrow.Author.Needs.{needs}
-use mathlib.Core.Path.{_≡_, sym, _∙_}
 use mathlib.Core.Bool.{cond}
 use Prim.Native.Nat.{_+_}
 use lib.Dec.{eqb}
 use Rattle.fold.specs.Steps.{fixed-in}
 use Rattle.propagate.specs.Passes.{open-count}
 use Rattle.propagate.proofs.PassLaws.{Between, between-first, between-next, stand-folded, values-now, falls, less}
-use Rattle.propagate.proofs.HurryLaws.{falls-after, between-after}
+use Rattle.propagate.proofs.WorklistLaws.{falls-after, between-after}
 
 abbrev Inv-loop : tie.InvT-loop
 Inv-loop words at count work₀ status₀ end₀ left₀ work status end left = Between words at count work₀ work status end

@@ -5,7 +5,7 @@ use Rattle.propagate.proofs.step.Reads as reads
 use Rattle.propagate.proofs.step.Lts as lts
 use Rattle.passes.proofs.fold_stmt.Reads as fold-stmt-reads
 use Rattle.passes.proofs.prop_stmt.Reads as prop-stmt-reads
-use Rattle.propagate.proofs.HurryLaws.{step-stands, stepped}
+use Rattle.propagate.proofs.WorklistLaws.{step-stands, stepped}
 
 fold-stmt-requires : tie.Need-fold-stmt-requires
 fold-stmt-requires c κs = search needs

@@ -4,7 +4,7 @@ use Rattle.propagate.proofs.store.Tie as tie
 use Rattle.propagate.proofs.store.Reads as reads
 use Rattle.propagate.proofs.store.Lts as lts
 use Rattle.folding.proofs.put.Reads as put-reads
-use Rattle.propagate.proofs.HurryLaws.{only-set}
+use Rattle.propagate.proofs.WorklistLaws.{only-set}
 
 returns : tie.Need-returns
 returns c = search needs

@@ -9,10 +9,10 @@ use Prim.Native.Nat.{_-_}
 use lib.ListN.{length}
 
 abbrev Inv-loop : tie.InvT-loop
-Inv-loop words from to i notes₀ p₀ notes p = length notes ≡ length notes₀
+Inv-loop words from to i watches₀ p₀ watches p = length watches ≡ length watches₀
 
 abbrev μ-loop : tie.MeasureT-loop
-μ-loop words from to i notes₀ p₀ notes p = to - p
+μ-loop words from to i watches₀ p₀ watches p = to - p
 
 loop-holds : tie.Need-loop-holds Inv-loop μ-loop
 loop-holds c = search needs

@@ -20,13 +20,13 @@ use Rattle.writer.proofs.+pool+pools.{statement}
 use Rattle.writer.proofs.+pool+pools.Tie.{close}
 use mathlib.Core.Path.{_≡_, refl, sym, ap, _∙_}
 use mathlib.Core.List.{List}
-use Prim.Native.Nat.{ℕ, _<_, _≤_, _+_, _-_, _*_, min}
+use Prim.Native.Nat.{ℕ, _<_, _+_, _-_, _*_, min}
 use native.Mathlib.Omega.{arith}
 use lib.IntN.{ℤ}
 use Rattle.laws.specs.Writes.{Wrote, wrote-length}
 use Rattle.walk.specs.Item.{Tally, tallies, pools as pools-of}
 use Rattle.walk.specs.Decode.{read-part, items-at}
-use Rattle.writer.specs.Placed.{Placed, share}
+use Rattle.writer.specs.Placed.{share}
 use Rattle.writer.proofs.Laws.{compared-length}
 use Rattle.writer.proofs.Steps.{part-length, okay, placed-at, compares, fine-cmp, fine-not, fine-join, Sofar, sofar-none, sofar-more, sofar-with, sofar-past, sofar-head}
 use Rattle.writer.proofs.PoolLaws.{pool-none, single-not, pool-var, pool-cmp, pool-not, pool-disj, pool-conj, pool-cross, pools-none, pools-more, some-left, share-not, share-disj, share-rest, share-long, share-found, pool-skip}

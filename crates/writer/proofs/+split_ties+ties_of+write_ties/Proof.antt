@@ -16,19 +16,18 @@ use Rattle.number.proofs.node_at.Reads as node-at-reads
 use Rattle.writer.proofs.put_tie.Reads as put-tie-reads
 use Rattle.writer.proofs.+split_ties+ties_of+write_ties.{statement}
 use Rattle.writer.proofs.+split_ties+ties_of+write_ties.Tie.{close}
-use mathlib.Core.Path.{_≡_, refl, sym, ap, _∙_}
-use mathlib.Core.Bool.{Bool, true, false}
+use mathlib.Core.Path.{refl, sym, _∙_}
+use mathlib.Core.Bool.{true}
 use mathlib.Core.List.{List}
-use Prim.Native.Nat.{ℕ, _<_, _≤_, _+_, _-_, _*_, min}
+use Prim.Native.Nat.{ℕ, _<_, _+_, _-_, _*_, min}
 use native.Mathlib.Omega.{arith}
 use borrow.Author.Needs.{needs}
 use lib.IntN.{ℤ}
-use lib.ListN.{length}
-use Rattle.laws.specs.Writes.{Wrote, wrote-length}
+use Rattle.laws.specs.Writes.{wrote-length}
 use Rattle.walk.specs.Item.{bump, items}
 use Rattle.walk.specs.Decode.{decode, many-ties, ties-at, read-part}
 use Rattle.walk.specs.MeetTies.{reaches-sides, reaches-none, reaches-var, reaches-cmp, reaches-not, reaches-join, reaches-cross, reaches-split}
-use Rattle.writer.specs.Placed.{Placed, Listed}
+use Rattle.writer.specs.Placed.{Listed}
 use Rattle.writer.proofs.Steps.{part-length, placed-in, okay, placed-at, placed-with, placed-base}
 use Rattle.writer.proofs.Extras.{listed-open, listed-none, listed-lines, listed-zero, ties-none, fine-not, fine-join, fine-cross, fine-plain, ties-var, ties-cmp, ties-not, ties-join, ties-cross, ties-plain, members-none, members-first, members-more, Going, going-none, going-more, going-done, split-first, split-tie, split-second, split-other, split-listed}
 

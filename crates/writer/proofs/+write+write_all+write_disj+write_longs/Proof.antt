@@ -38,7 +38,7 @@ use Rattle.writer.proofs.pushed.Reads as pushed-reads
 use Rattle.writer.proofs.+write+write_all+write_disj+write_longs.{statement}
 use Rattle.writer.proofs.+write+write_all+write_disj+write_longs.Tie.{close}
 use mathlib.Core.Path.{_≡_, refl, sym, ap, _∙_}
-use mathlib.Core.Bool.{Bool, true, false}
+use mathlib.Core.Bool.{true}
 use mathlib.Core.List.{List}
 use Prim.Native.Nat.{ℕ, _<_, _≤_, _+_, _-_, _*_, min}
 use native.Mathlib.Omega.{arith}
@@ -50,9 +50,8 @@ use lib.IntN.{ℤ, pos}
 use lib.ListN.{length, getD}
 use Rattle.laws.specs.Writes.{Wrote, wrote-length}
 use Rattle.walk.specs.Item.{Tally, pools, texts, long-texts}
-use Rattle.walk.specs.Decode.{many, decode, read-part, item-at, items-at, added}
-use Rattle.writer.specs.Suffix.{Open, suffix, extra-lits}
-use Rattle.writer.specs.Placed.{Placed}
+use Rattle.walk.specs.Decode.{many, decode, read-part, items-at, added}
+use Rattle.writer.specs.Suffix.{suffix, extra-lits}
 use Rattle.writer.proofs.Laws.{open-next, stack-down, compared-length}
 use Rattle.walk.specs.Steps.{survey-none, survey-var, survey-cmp, survey-not, survey-conj, survey-disj, survey-cross, Sofar as Seen, sofar-none as seen-none, sofar-more as seen-more, sofar-done as seen-done}
 use Rattle.writer.proofs.Steps.{part-length, okay, placed-in, sofar-head, placed-at, placed-with, compares, fine-cmp, fine-not, fine-join, fine-cross, Sofar, sofar-none, sofar-more, sofar-skip}

@@ -1,5 +1,3 @@
-use mathlib.Core.Path.{_≡_, refl, sym, ap, _∙_}
-use native.Mathlib.Omega.{arith}
 use Rattle.writer.proofs.Differences.{ready-left, ready-right, sub-asked, subtracted}
 use borrow.Author.Needs.{needs}
 use Rattle.writer.proofs.difference.Statement.{statement}

@@ -1,10 +1,7 @@
-use mathlib.Core.Path.{_≡_, refl, sym, ap, _∙_}
-use mathlib.Core.List.{_∷_, []}
 use native.Mathlib.Omega.{arith}
 use mir.Facts.{toZ-ofZ}
 use mir.Syntax.{w32}
 use mir.Val.{SFits}
-use Rattle.writer.specs.Suffix.{suffix}
 use Rattle.writer.proofs.Laws.{stack-down, one-stacked}
 use borrow.Author.Needs.{needs}
 use Rattle.writer.proofs.one_literal.Statement.{statement}

@@ -1,9 +1,8 @@
-use mathlib.Core.Path.{_≡_, refl, sym, ap, _∙_}
+use mathlib.Core.Path.{sym, ap}
 use mathlib.Core.Bool.{true, false}
 use Rattle.syntax.specs.Syntax.{encode-op}
 use Rattle.clauses.specs.Normalize.{negate-op-if}
 use Rattle.writer.proofs.Laws.{op-five}
-use borrow.Author.Needs.{needs}
 use Rattle.writer.proofs.op_word.Statement.{statement}
 use Rattle.writer.proofs.op_word.Tie as tie
 use Rattle.writer.proofs.op_word.Reads as reads

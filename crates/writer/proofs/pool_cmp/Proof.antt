@@ -1,8 +1,5 @@
-use mathlib.Core.Path.{_≡_, refl, sym, ap, _∙_}
-use Rattle.laws.specs.Writes.{wrote-length}
 use Rattle.writer.proofs.Laws.{compared-length}
 use Rattle.writer.proofs.PoolLaws.{compared-plain, compared-none}
-use borrow.Author.Needs.{needs}
 use Rattle.writer.proofs.pool_cmp.Statement.{statement}
 use Rattle.writer.proofs.pool_cmp.Tie as tie
 

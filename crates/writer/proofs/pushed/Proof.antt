@@ -1,9 +1,9 @@
-use mathlib.Core.Path.{_≡_, refl, sym, ap, _∙_}
+use mathlib.Core.Path.{ap, _∙_}
 use native.Mathlib.Omega.{arith}
 use mir.Facts.{toZ-ofZ}
 use mir.Syntax.{w32}
 use mir.Val.{SFits}
-use mathlib.Core.List.{_∷_, []}
+use mathlib.Core.List.{_∷_}
 use Prim.Native.Nat.{_+_}
 use Rattle.walk.specs.Item.{word-of}
 use Rattle.writer.specs.Suffix.{suffix}

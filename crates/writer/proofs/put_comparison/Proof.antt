@@ -1,7 +1,5 @@
-use mathlib.Core.Path.{_≡_, refl, sym, ap, _∙_}
 use Rattle.laws.specs.Writes.{wrote-length}
 use Rattle.writer.proofs.Laws.{few-terms, compared}
-use borrow.Author.Needs.{needs}
 use Rattle.writer.proofs.put_comparison.Statement.{statement}
 use Rattle.writer.proofs.put_comparison.Tie as tie
 

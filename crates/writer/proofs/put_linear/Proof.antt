@@ -1,8 +1,7 @@
-use mathlib.Core.Path.{_≡_, refl, sym, ap, _∙_}
+use mathlib.Core.Path.{refl, _∙_}
 use native.Mathlib.Omega.{arith}
 use mir.Syntax.{w32}
 use mir.Val.{SFits}
-use lib.IntN.{pos}
 use Rattle.sums.proofs.Laws.{length-terms}
 use Rattle.laws.specs.Writes.{wrote-length}
 use Rattle.writer.proofs.Laws.{open-next, put-word, put-cast, linear-clause}

@@ -1,0 +1,6 @@
+pub mod Sums
+pub mod Proper
+pub mod Loads
+pub mod Cases
+pub mod Loaded
+pub mod Each

@@ -1,0 +1,275 @@
+-- Every answer of the call passes a loader's tests (Loads): for all words and lengths.
+use mathlib.Core.Path.{_≡_, refl, sym, ap, _∙_}
+use mathlib.Core.Bool.{Bool, true, false, not, _&&_, _||_, cond}
+use mathlib.Core.Option.{Option, none as nothing, some}
+use mathlib.Core.List.{List, [], _∷_, _++_, map, append-assoc, append-nil}
+use Prim.Native.Nat.{ℕ, zero, suc, _+_, _≤_, _<_, zero-le}
+use native.Mathlib.Omega.{arith}
+use lib.IntN.{ℤ, pos, negℤ, _-ℤ_, +ℤ-invr}
+use lib.Signed.{leZ}
+use lib.Dec.{leb, ltb, eqb·suc-zero}
+use lib.ListN.{length, getD, length-map}
+use borrow.Author.Tests.{le-leb, lt-ltb}
+use Rattle.laws.specs.Bools.{never, and-l, and-r, and-i, or-l}
+use Rattle.laws.specs.Ints.{eqZ, is-zero}
+use Rattle.laws.specs.Order.{leZ-refl, leZ-trans, leZ-shift, eqZ-refl}
+use Rattle.laws.specs.Lists.{any, all, flat, counted, below, below-all, length-from}
+use Rattle.syntax.specs.Words.{max-set-words, min-work-words, max-answer-words}
+use Rattle.syntax.specs.Syntax.{Domain, Range, Enumerative, lower-bound, upper-bound, num-candidates, in-domain, domain-of, CmpOp, Eq, Ne, Le, Lt, Ge, Gt, encode-op, Stmt, Problem}
+use Rattle.syntax.specs.Satisfies.{Val, IVal, in-domains}
+use Rattle.words.specs.Parse.{Parsed, ok, refuse}
+use Rattle.read.specs.Read.{read-set}
+use Rattle.read.specs.WellFormed.{WellFormed}
+use Rattle.read.specs.Exact.{set-sound}
+use Rattle.limits.specs.Limits.{check}
+use Rattle.fold.specs.Fold.{Fixed}
+use Rattle.fold.specs.Optimize.{Outcome, inconsistent, settled, optimize}
+use Rattle.sums.specs.LinearSum.{Term, term, linear-sum}
+use Rattle.sums.specs.Rising.{Rises}
+use Rattle.sums.specs.Domain.{ordered}
+use Rattle.clauses.specs.Clause.{BoolLit, lit, LinearLit, linear, Clause, clause}
+use Rattle.clauses.specs.Log.{Log, next-bool, get-bool-var, get-int-var}
+use Rattle.clauses.specs.Disjunction.{Out}
+use Rattle.clauses.specs.Bounds.{lits-bound, clauses-bound, terms-bound, linears-bound, ints-bound}
+use Rattle.clauses.specs.Valuation.{fits-agrees}
+use Rattle.clauses.specs.Grow.{get-bool-below, get-int-below}
+use Rattle.clauses.specs.Exist.{ints-of, bools-of, fitting-exists}
+use Rattle.tables.specs.Tables.{emitted-domains}
+use Rattle.tables.specs.Emitted.{length-emitted}
+use Rattle.answer.specs.Answer.{answer-of, normalize, normalize-stmts, layout, fixed-word, map-word, domain-words, lit-words, term-words, linear-words, clause-words}
+use Rattle.answer.specs.Declared.{stmts-declared}
+use Rattle.answer.specs.Carried.{agrees-bounded}
+use Rattle.call.specs.Call.{Result, compiled, refused, measured, answered, checked, when-read, call}
+use Rattle.call.specs.Claim.{of-set}
+use Rattle.call.specs.Demand.{domains-ordered, ss-declared, means, grown, inside-bounds}
+use Rattle.facts.specs.Proper.{ProperLinears, ProperClauses, stmts-proper}
+use Rattle.facts.specs.Loads.{take-word, take-times, take-counted, from-to, take-record, take-literal, take-terms, take-comparison, take-clause, loads-with, loads}
+
+-- ---- words, one for each number of a list
+
+module _ {A : Type 0} (fine : ℤ → Bool) (f : A → ℤ) (g : ℕ → A) (h : (v : ℕ) → fine (f (g v)) ≡ true) where
+  words-take : (vs : List ℕ) (r : List ℤ) → take-times (take-word fine) (length vs) (map f (map g vs) ++ r) ≡ some r
+  unfolding take-times take-word
+  words-take [] r = refl
+  words-take (v ∷ vs) r = rw (h v) (words-take vs r)
+
+  below-take : (n : ℕ) (r : List ℤ) → take-times (take-word fine) n (map f (map g (below n)) ++ r) ≡ some r
+  below-take n r = rw (length-from 0 n) at (words-take (below n) r)
+
+fixed-fine : (o : Option Bool) → from-to 0 2 (fixed-word o) ≡ true
+fixed-fine (some true) = refl
+fixed-fine (some false) = refl
+fixed-fine nothing = refl
+
+map-fine : (k : ℕ) (o : Option ℕ) → ((n : ℕ) → o ≡ some n → n < k) → from-to 0 k (map-word o) ≡ true
+map-fine k (some n) h = and-i (leb 0 (suc n)) (leb (suc n) k) (le-leb 0 (suc n) zero-le) (le-leb (suc n) k (h n refl))
+map-fine k nothing h = and-i (leb 0 0) (leb 0 k) (le-leb 0 0 zero-le) (le-leb 0 k zero-le)
+
+-- ---- records
+
+-- lowest is not above highest
+abbrev sound-bounds : Domain → Bool
+sound-bounds d = leZ (lower-bound d) (upper-bound d)
+
+some-values : (d : Domain) → sound-bounds d ≡ true → leZ (pos 1) (num-candidates d) ≡ true
+some-values (Range low high) h = leZ-shift (pos 0) (high -ℤ low) (pos 1) ∙ ap (λ (z : ℤ). leZ z (high -ℤ low)) (sym (+ℤ-invr low)) ∙ leZ-shift low high (negℤ low) ∙ h
+some-values (Enumerative []) h = never h
+some-values (Enumerative (x ∷ xs)) h = le-leb 1 (suc (length xs)) (omega arith)
+
+records-take : (ds : List Domain) (r : List ℤ) → all sound-bounds ds ≡ true → take-times take-record (length ds) (flat (map domain-words ds) ++ r) ≡ some r
+unfolding take-times take-record take-word
+records-take [] r h = refl
+records-take (d ∷ ds) r h = rw (and-l (sound-bounds d) _ h, some-values d (and-l (sound-bounds d) _ h)) (records-take ds r (and-r (sound-bounds d) _ h))
+
+-- ---- clauses
+
+module _ (bools ints : ℕ) where
+  literal-fine : (n : ℕ) → not (is-zero (pos (suc n))) && leb (suc n) bools ≡ leb (suc n) bools
+  literal-fine n = rw (eqb·suc-zero n) refl
+
+  lits-take : (ls : List BoolLit) (r : List ℤ) → lits-bound ls ≤ bools → take-times (take-literal bools) (length ls) (flat (map lit-words ls) ++ r) ≡ some r
+  unfolding take-times take-literal take-word
+  lits-take [] r h = refl
+  lits-take (lit n false ∷ ls) r h = rw (literal-fine n, le-leb (suc n) bools (omega arith)) (lits-take ls r (omega arith))
+  lits-take (lit n true ∷ ls) r h = rw (le-leb (suc n) bools (omega arith)) (lits-take ls r (omega arith))
+
+  terms-take : (low : ℕ) (ts : List Term) (r : List ℤ) → Rises low ts → terms-bound ts ≤ ints → take-terms ints low (length ts) (flat (map term-words ts) ++ r) ≡ some r
+  unfolding take-terms take-word Rises
+  terms-take low [] r p h = refl
+  terms-take low (term v a ∷ ts) r p h = rw (le-leb low v (p .0), lt-ltb v ints (omega arith), p .1) (terms-take (suc v) ts r (p .2) (omega arith))
+
+  operator-fine : (o : CmpOp) → from-to 0 5 (encode-op o) ≡ true
+  operator-fine Eq = refl
+  operator-fine Ne = refl
+  operator-fine Le = refl
+  operator-fine Lt = refl
+  operator-fine Ge = refl
+  operator-fine Gt = refl
+
+  linear-take : (k : LinearLit) (r : List ℤ) → ProperLinears (k ∷ []) → linears-bound (k ∷ []) ≤ ints → take-comparison ints (linear-words k ++ r) ≡ some r
+  unfolding take-comparison take-word take-counted
+  linear-take (linear o (linear-sum c ts)) r p h = rw (operator-fine o) (terms-take 0 ts r (p .0) (omega arith))
+
+  linears-take : (ks : List LinearLit) (r : List ℤ) → ProperLinears ks → linears-bound ks ≤ ints → take-times (take-comparison ints) (length ks) (flat (map linear-words ks) ++ r) ≡ some r
+  unfolding take-times
+  linears-take [] r p h = refl
+  linears-take (linear o l ∷ ks) r p h =
+      rw (append-assoc (linear-words (linear o l)) (flat (map linear-words ks)) r, linear-take (linear o l) (flat (map linear-words ks) ++ r) (p .0, tt) (omega arith)) (linears-take ks r (p .1) (omega arith))
+
+  clause-take : (ls : List BoolLit) (ks : List LinearLit) (r : List ℤ) → lits-bound ls ≤ bools → ProperLinears ks → linears-bound ks ≤ ints → take-clause bools ints (clause-words (clause ls ks) ++ r) ≡ some r
+  unfolding take-clause take-counted
+  clause-take ls ks r h p k = rw (append-assoc (flat (map lit-words ls)) (counted linear-words ks) r, lits-take ls (counted linear-words ks ++ r) h) (linears-take ks r p k)
+
+  clauses-take : (cs : List Clause) (r : List ℤ) → clauses-bound cs ≤ bools → ProperClauses cs → ints-bound cs ≤ ints → take-times (take-clause bools ints) (length cs) (flat (map clause-words cs) ++ r) ≡ some r
+  unfolding take-times
+  clauses-take [] r h p k = refl
+  clauses-take (clause ls ks ∷ cs) r h p k =
+      rw (append-assoc (clause-words (clause ls ks)) (flat (map clause-words cs)) r, clause-take ls ks (flat (map clause-words cs) ++ r) (omega arith) (p .0) (omega arith)) (clauses-take cs r (omega arith) (p .1) (omega arith))
+
+-- ---- the words of an answer
+
+-- the word n places on stands k places behind xs
+word-behind : (xs ys : List ℤ) (k n : ℕ) → n ≡ length xs + k → getD (xs ++ ys) n (pos 0) ≡ getD ys k (pos 0)
+word-behind [] ys k n e = ap (λ (m : ℕ). getD ys m (pos 0)) (omega arith)
+word-behind (x ∷ xs) ys k zero e = absurd (omega arith)
+word-behind (x ∷ xs) ys k (suc n) e = word-behind xs ys k n (omega arith)
+
+all-at : (ds : List Domain) → ((j : ℕ) → j < length ds → sound-bounds (domain-of ds j) ≡ true) → all sound-bounds ds ≡ true
+all-at [] h = refl
+all-at (d ∷ ds) h = and-i (sound-bounds d) _ (h 0 (omega arith)) (all-at ds (λ j k. h (suc j) (omega arith)))
+
+-- an assignment within the domains: each variable its lowest value
+lowest-in : (d : Domain) → ordered d ≡ true → in-domain (lower-bound d) d ≡ true
+lowest-in (Range low high) h = and-i (leZ low low) (leZ low high) (leZ-refl low) h
+lowest-in (Enumerative []) h = never h
+lowest-in (Enumerative (x ∷ xs)) h = or-l (eqZ x x) (any (eqZ x) xs) (eqZ-refl x)
+
+module _ (p : Problem) (well : WellFormed p) (f : Fixed) (ss : List Stmt) (end : optimize p ≡ settled f ss) where
+  abbrev b : ℕ
+  b = p .bools
+
+  abbrev i : ℕ
+  i = length (p .domains)
+
+  abbrev out : Out
+  out = normalize-stmts (p .domains) ss []
+
+  abbrev s : Log
+  s = out .1
+
+  abbrev δ : Val
+  δ v = false
+
+  abbrev ε : IVal
+  ε v = lower-bound (domain-of (p .domains) v)
+
+  inside : in-domains p ε ≡ true
+  unfolding in-domains
+  inside = below-all _ i (λ v k. lowest-in (domain-of (p .domains) v) (domains-ordered (p .domains) (well .domains-well) v k))
+
+  abbrev ι : IVal
+  ι = ints-of ε s
+
+  abbrev ρ : Val
+  ρ = bools-of δ ε ι s
+
+  -- every emitted integer has a value within its record
+  records-sound : all sound-bounds (emitted-domains (p .domains) s) ≡ true
+  records-sound = all-at (emitted-domains (p .domains) s) (λ j k.
+      let d : Domain = domain-of (emitted-domains (p .domains) s) j in
+      let fits = fits-agrees δ ε ρ ι s (fitting-exists δ ε (grown p well f ss end δ ε inside)) in
+      let x = agrees-bounded (p .domains) b i ε ι (inside-bounds p well f ss end δ ε inside) s (stmts-declared b i (p .domains) ss (ss-declared p well f ss end δ ε inside) [] tt) (fits .ints) j (omega (arith, length-emitted (p .domains) s)) in
+      leZ-trans (lower-bound d) (ι j) (upper-bound d) (and-l (leZ (lower-bound d) (ι j)) _ x) (and-r (leZ (lower-bound d) (ι j)) _ x))
+
+  abbrev fixed-part : List ℤ
+  fixed-part = map fixed-word (map f (below b))
+
+  abbrev bool-part : List ℤ
+  bool-part = map map-word (map (λ v. get-bool-var v s) (below b))
+
+  abbrev int-part : List ℤ
+  int-part = map map-word (map (λ v. get-int-var v s) (below i))
+
+  abbrev domains : List Domain
+  domains = emitted-domains (p .domains) s
+
+  abbrev clause-part : List ℤ
+  clause-part = counted clause-words (out .0)
+
+  abbrev rest : List ℤ
+  rest = pos (next-bool s) ∷ (counted domain-words domains ++ clause-part)
+
+  part-length : {A : Type 0} (g : A → ℤ) (h : ℕ → A) (n : ℕ) → length (map g (map h (below n))) ≡ n
+  part-length g h n = length-map (map h (below n)) g ∙ length-map (below n) h ∙ length-from 0 n
+
+  -- the word n, k places behind the maps
+  word-at : (k n : ℕ) → n ≡ b + (b + i) + k → getD (fixed-part ++ (bool-part ++ (int-part ++ rest))) n (pos 0) ≡ getD rest k (pos 0)
+  word-at k n e =
+      let x = part-length fixed-word f b in
+      let y = part-length map-word (λ v. get-bool-var v s) b in
+      let z = part-length map-word (λ v. get-int-var v s) i in
+      word-behind fixed-part (bool-part ++ (int-part ++ rest)) (b + i + k) n (omega (arith, x))
+      ∙ word-behind bool-part (int-part ++ rest) (i + k) (b + i + k) (omega (arith, y))
+      ∙ word-behind int-part rest k (i + k) (omega (arith, z))
+
+  tests-pass : loads-with b i (next-bool s) (length domains) (fixed-part ++ (bool-part ++ (int-part ++ rest))) ≡ true
+  unfolding loads-with take-word take-counted
+  tests-pass =
+      let m = means p well f ss end δ ε inside ρ ι in
+      let t1 = below-take (from-to 0 2) fixed-word f (λ v. fixed-fine (f v)) b (bool-part ++ (int-part ++ rest)) in
+      let t2 = below-take (from-to 0 (next-bool s)) map-word (λ v. get-bool-var v s) (λ v. map-fine (next-bool s) (get-bool-var v s) (get-bool-below s v)) b (int-part ++ rest) in
+      let t3 = below-take (from-to 0 (length domains)) map-word (λ v. get-int-var v s) (λ v. map-fine (length domains) (get-int-var v s) (λ n e. omega (arith, get-int-below s v n e, length-emitted (p .domains) s))) i rest in
+      let t4 : leb 0 (next-bool s) ≡ true = le-leb 0 (next-bool s) zero-le in
+      let t5 = records-take domains clause-part records-sound in
+      let t6 : take-times (take-clause (next-bool s) (length domains)) (length (out .0)) (flat (map clause-words (out .0))) ≡ some [] =
+      rw (append-nil (flat (map clause-words (out .0)))) at (clauses-take (next-bool s) (length domains) (out .0) [] (m .bounded) (stmts-proper (p .domains) ss []) (omega (arith, m .numbered, length-emitted (p .domains) s))) in
+      rw (t1, t2, t3, t4, t5, t6) refl
+
+  pub layout-loads : loads b i (layout (normalize p f ss)) ≡ true
+  unfolding loads layout normalize answer-of
+  layout-loads =
+      let bools : getD (fixed-part ++ (bool-part ++ (int-part ++ rest))) (b + (b + i)) (pos 0) ≡ pos (next-bool s) = word-at 0 (b + (b + i)) (omega arith) in
+      let ints : getD (fixed-part ++ (bool-part ++ (int-part ++ rest))) (suc (b + (b + i))) (pos 0) ≡ pos (length domains) = word-at 1 (suc (b + (b + i))) (omega arith) in
+      rw (bools, ints) tests-pass
+
+-- ---- the call
+
+not-compiled : {X : Type 0} (k : ℕ) (ws : List ℤ) → refused k ≡ compiled ws → X
+not-compiled k ws e = let z : _≡_ {A = ℕ} 0 1 = cc in absurd (omega arith)
+
+-- a refusal that was not given
+given-on : {X : Type 0} (t : Bool) (k : ℕ) (x : Result) (ws : List ℤ) → cond t (refused k) x ≡ compiled ws → (x ≡ compiled ws → X) → X
+given-on true k x ws e go = not-compiled k ws e
+given-on false k x ws e go = go e
+
+module _ (p : Problem) (well : WellFormed p) where
+  answered-loads : (o : ℕ) (x : Outcome) (ws : List ℤ) → optimize p ≡ x → answered o p x ≡ compiled ws → loads (p .bools) (length (p .domains)) ws ≡ true
+  unfolding answered measured
+  answered-loads o inconsistent ws q e = let z : _≡_ {A = ℕ} 0 1 = cc in absurd (omega arith)
+  answered-loads o (settled f ss) ws q e =
+      let made : List ℤ = layout (normalize p f ss) in
+      given-on (ltb o (length made) || ltb max-answer-words (length made)) 12 (compiled made) ws e
+      (λ c. let z : made ≡ ws = cc in rw (← z) (layout-loads p well f ss q))
+
+  checked-loads : (o k : ℕ) (ws : List ℤ) → checked o p k ≡ compiled ws → loads (p .bools) (length (p .domains)) ws ≡ true
+  unfolding checked
+  checked-loads o zero ws e = answered-loads o (optimize p) ws refl e
+  checked-loads o (suc k) ws e = not-compiled (suc k) ws e
+
+-- how many variables are declared stands in the set's words
+abbrev pub bools-of-set : List ℤ → ℕ
+bools-of-set set = of-set 0 (λ p. p .bools) (read-set set)
+
+abbrev pub ints-of-set : List ℤ → ℕ
+ints-of-set set = of-set 0 (λ p. length (p .domains)) (read-set set)
+
+read-loads : (set : List ℤ) (o : ℕ) (q : Parsed Problem) (ws : List ℤ) → read-set set ≡ q → when-read o q ≡ compiled ws → loads (of-set 0 (λ p. p .bools) q) (of-set 0 (λ p. length (p .domains)) q) ws ≡ true
+unfolding when-read
+read-loads set o (ok p r) ws q e = checked-loads p (set-sound set p r q .1) o (check p) ws e
+read-loads set o (refuse k) ws q e = not-compiled k ws e
+
+pub answer-loads : (set : List ℤ) (out-length work-length : ℕ) (ws : List ℤ) → call set out-length work-length ≡ compiled ws → loads (bools-of-set set) (ints-of-set set) ws ≡ true
+unfolding call
+answer-loads set o w ws e =
+    given-on (ltb w min-work-words) 1 _ ws e
+    (λ c. given-on (ltb max-set-words (length set)) 2 (when-read o (read-set set)) ws c (λ d. read-loads set o (read-set set) ws refl d))
