@@ -12,7 +12,7 @@ use lib.ListN.{length, getD}
 use borrow.Author.Tests.{ltb-false, eq-eqb, ne-eqb, leb-true}
 use Rattle.laws.specs.Bools.{and-l, and-r, and-i, never, or-pick}
 use Rattle.laws.specs.Ints.{eqZ, apart}
-use Rattle.laws.specs.Lists.{any, all, all-cong, flat, from, below}
+use Rattle.laws.specs.Lists.{any, all, from, below}
 use Rattle.laws.specs.Order.{eqZ-is}
 use Rattle.syntax.specs.Words.{min-work-words, max-set-words}
 use Rattle.syntax.specs.Syntax.{Domain, Range, Enumerative, domain-of, in-domain, encode-stmt, Stmt, Problem}
@@ -55,12 +55,16 @@ all-later : (f : ℕ → Bool) (i n : ℕ) → all f (from (suc i) n) ≡ all (�
 all-later f i zero = refl
 all-later f i (suc n) = ap (λ b. f (suc i) && b) (all-later f (suc i) n)
 
+same-tests : (f g : ℕ → Bool) (xs : List ℕ) → ((x : ℕ) → f x ≡ g x) → all f xs ≡ all g xs
+same-tests f g [] h = refl
+same-tests f g (x ∷ xs) h = rw (h x, same-tests f g xs h)
+
 each-is : (values : List ℤ) (p : ℕ) (ds : List Domain) → each-inside values p ds ≡ all (λ v. in-domain (getD values (p + v) (pos 0)) (domain-of ds v)) (below (length ds))
 each-is values p [] = refl
 each-is values p (d ∷ ds) =
     let z : p + 0 ≡ p = omega arith in
     let a = all-later (λ v. in-domain (getD values (p + v) (pos 0)) (domain-of (d ∷ ds) v)) 0 (length ds) in
-    let b = all-cong (λ v. in-domain (getD values (p + 1 + v) (pos 0)) (domain-of ds v)) (λ v. in-domain (getD values (p + suc v) (pos 0)) (domain-of ds v)) (below (length ds)) (λ v. ap (λ i. in-domain (getD values i (pos 0)) (domain-of ds v)) (omega arith)) in
+    let b = same-tests (λ v. in-domain (getD values (p + 1 + v) (pos 0)) (domain-of ds v)) (λ v. in-domain (getD values (p + suc v) (pos 0)) (domain-of ds v)) (below (length ds)) (λ v. ap (λ i. in-domain (getD values i (pos 0)) (domain-of ds v)) (omega arith)) in
     rw z (ap (λ c. in-domain (getD values p (pos 0)) d && c) (each-is values (p + 1) ds ∙ b ∙ sym a))
 
 -- ---- no part weighs too much
