@@ -4,8 +4,8 @@ use mathlib.Core.Path.{_≡_, refl, sym, ap, _∙_, subst}
 use mathlib.Core.Bool.{Bool, true, false, not, _&&_, _||_, Bool·beq}
 use mathlib.Core.List.{List}
 use native.Mathlib.Omega.{arith}
-use lib.Dec.{eqb, ltb}
-use lib.IntN.{ℤ, pos, negsuc}
+use lib.Dec.{eqb}
+use lib.IntN.{ℤ, pos}
 use lib.ListN.{length, getD, length-append}
 use mir.Syntax.{w32}
 use mir.Val.{SFits, ofZ}
@@ -14,19 +14,17 @@ use Rattle.laws.specs.Bools.{never, beq-same, or-no-l, or-no-r}
 use Rattle.laws.specs.Ints.{eqZ, pos-eq}
 use Rattle.laws.specs.Order.{is-eqZ, not-eqZ}
 use Rattle.laws.specs.Signed.{same-value}
-use Rattle.laws.specs.Slices.{Has, has-fits, has-front, has-back, has-rest}
+use Rattle.laws.specs.Slices.{Has, has-front, has-back, has-rest}
 use Rattle.syntax.specs.Syntax.{Domain, CmpOp, Eq, Ne, Le, Lt, Ge, Gt, op-at, IntExpr, BoolExpr, Const, Var, Cmp, Not, Members, none, more, count-members, encode-int, encode-bool, encode-members}
-use Rattle.syntax.specs.Satisfies.{compare, int-value, holds}
+use Rattle.syntax.specs.Satisfies.{compare, holds}
 use Rattle.syntax.specs.Written.{EveryOf}
-use Rattle.domains.specs.Declared.{Plain}
 use Rattle.fold.specs.Fold.{Op, op-xor, op-iff, op-imp, expr-of}
 use Rattle.fold.specs.Table.{op-num, bit}
 use Rattle.fold.specs.Forms.{list-of, list-words, binary-words, op-word, declared-list, declared-binary, bool-long}
-use Rattle.folding.proofs.BoolLaws.{tag, not-inv, binary-inv, second, tag-low}
+use Rattle.folding.proofs.BoolLaws.{not-inv, binary-inv, second, tag-low}
 use Rattle.limits.specs.Limits.{heavy, heavy-comparison, any-comparison, any-comparison-members}
-use Rattle.evaluate.specs.Roster.{bool-of, int-of}
-use Rattle.evaluate.specs.Contracts.{Roster, Int-at, Ready-int, Int-post, Bool-stands, Members-stand, Some-bool, Some-members, Skip-post, Bool-at, Members-at, Ready-bool, Ready-members, held, decided, side-value, Bool-post, Members-post}
-use Rattle.evaluate.proofs.SkipLaws.{leaf-inv, some-inside, some-first, tag-is, second-is, some-second, the-list, sides, first-inv}
+use Rattle.evaluate.specs.Contracts.{Int-at, Ready-int, Int-post, Bool-stands, Some-bool, Some-members, Skip-post, Bool-at, Members-at, Ready-bool, Ready-members, held, decided, side-value, Bool-post, Members-post}
+use Rattle.evaluate.proofs.SkipLaws.{leaf-inv, tag-is, second-is, the-list, sides, first-inv}
 
 -- ---- tests of words
 

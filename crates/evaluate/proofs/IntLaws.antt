@@ -1,7 +1,6 @@
 -- What the value of an integer expression asks and gives at each step, over variables. Assumes nothing.
 use Prim.Native.Nat.{ℕ, suc, _+_, _-_, _*_, _≤_, _<_}
 use mathlib.Core.Path.{_≡_, refl, sym, ap, _∙_}
-use mathlib.Core.Bool.{false, _||_}
 use mathlib.Core.List.{List, _++_}
 use native.Mathlib.Omega.{arith}
 use native.Mathlib.Nat.{mul-le-mul-left}
@@ -16,7 +15,7 @@ use Rattle.laws.specs.Bools.{or-no-l, or-no-r}
 use Rattle.laws.specs.Ints.{natAbs-add, natAbs-mul, sfits-natAbs}
 use Rattle.laws.specs.Slices.{Has, has-front, has-back, has-word, has-rest}
 use Rattle.syntax.specs.Words.{max-weight}
-use Rattle.syntax.specs.Syntax.{Domain, IntExpr, IConst, IVar, Linear, Terms, tnil, tmore, count-terms, encode-int, encode-terms}
+use Rattle.syntax.specs.Syntax.{Domain, IntExpr, Linear, Terms, tnil, tmore, count-terms, encode-int, encode-terms}
 use Rattle.syntax.specs.Satisfies.{int-value, terms-value}
 use Rattle.syntax.specs.Written.{EveryInt, EveryTerm, every-int-map}
 use Rattle.syntax.specs.Lengths.{int-long, int-fits}

@@ -1,37 +1,32 @@
 -- What the check says of a whole set, over variables. Assumes nothing.
-use Prim.Native.Nat.{ℕ, zero, suc, _+_, _≤_, _<_, max}
+use Prim.Native.Nat.{ℕ, zero, suc, _+_, _≤_, max}
 use mathlib.Core.Path.{_≡_, refl, sym, ap, _∙_, subst}
-use mathlib.Core.Bool.{Bool, true, false, not, _&&_, _||_, cond}
-use mathlib.Core.List.{List, [], _∷_, map}
+use mathlib.Core.Bool.{Bool, true, false, _&&_, cond}
+use mathlib.Core.List.{List, [], _∷_}
 use native.Mathlib.Omega.{arith}
-use native.Mathlib.Numerals.{add-one}
 use lib.IntN.{ℤ, pos, negsuc, natAbs}
 use lib.Signed.{leZ}
-use lib.Dec.{eqb, ltb}
 use lib.ListN.{length, getD}
 use borrow.Author.Tests.{ltb-false, eq-eqb, ne-eqb, leb-true}
-use Rattle.laws.specs.Bools.{and-l, and-r, and-i, never, or-pick}
-use Rattle.laws.specs.Ints.{eqZ, apart}
+use Rattle.laws.specs.Bools.{and-l, and-r, never, or-pick}
+use Rattle.laws.specs.Ints.{eqZ}
 use Rattle.laws.specs.Lists.{any, all, from, below}
 use Rattle.laws.specs.Order.{eqZ-is}
 use Rattle.syntax.specs.Words.{min-work-words, max-set-words}
-use Rattle.syntax.specs.Syntax.{Domain, Range, Enumerative, domain-of, in-domain, encode-stmt, Stmt, Problem}
+use Rattle.syntax.specs.Syntax.{Domain, Range, Enumerative, domain-of, in-domain, Problem}
 use Rattle.syntax.specs.Satisfies.{in-domains}
 use Rattle.syntax.specs.Written.{in-domains-within}
-use Rattle.words.specs.Parse.{ok, refuse}
 use Rattle.words.specs.Exact.{Each}
 use Rattle.read.specs.WellFormed.{WellStmt}
-use Rattle.read.specs.Read.{read-set}
 use Rattle.limits.specs.Limits.{largest, domain-weight, heavy, heavy-comparison, any-part, check}
-use Rattle.domains.specs.Declared.{Domains}
 use Rattle.reader.specs.declared.Declared.{Declared}
 use Rattle.reader.specs.declared.Set.the-variants as set
 use Rattle.accept.specs.Accepted.{accepted}
 use Rattle.accept.specs.Taken.{Taken, accepted-ok, accepted-refused, taken-set, declared-is, taken-domains, taken-stmts}
-use Rattle.evaluate.specs.Roster.{int-of, is-bit, right-count, all-inside, Verdict, satisfied, broken, refused, truth, first-broken, stops-same, judged, rostered, unless-refused, when-read, check-roster}
+use Rattle.evaluate.specs.Roster.{int-of, is-bit, right-count, all-inside, truth, first-broken, stops-same, judged, rostered, unless-refused, when-read, check-roster}
 use Rattle.evaluate.specs.Contracts.{Roster, each-inside, Ready-domains, Inside-post, Stmts-at, Ready-stmts, checked-of, Broken-post}
 use Rattle.evaluate.specs.declared.Checked.{Checked}
-use Rattle.evaluate.specs.declared.Checked.the-variants.{Yes, Broken, Refused}
+use Rattle.evaluate.specs.declared.Checked.the-variants.{Refused}
 
 -- ---- a value of a domain is no larger than its weight
 

@@ -1,27 +1,24 @@
 -- What the statements ask and give at each step, over variables. Assumes nothing.
 use Prim.Native.Nat.{ℕ, suc, _+_, _-_, _*_, _≤_, _<_}
-use mathlib.Core.Path.{_≡_, refl, sym, ap, _∙_, subst}
-use mathlib.Core.Bool.{Bool, true, false, _&&_, cond}
+use mathlib.Core.Path.{_≡_, refl, sym, ap, _∙_}
+use mathlib.Core.Bool.{Bool, true, false, _&&_}
 use mathlib.Core.List.{List, [], _∷_, _++_, map}
 use native.Mathlib.Omega.{arith}
 use native.Mathlib.Numerals.{add-one}
 use lib.IntN.{ℤ, pos}
 use lib.ListN.{length, getD, length-append, length-map}
-use lib.Seq.{sets}
 use Rattle.laws.specs.Bools.{or-no-l, or-no-r}
 use Rattle.laws.specs.Ints.{pos-eq}
 use Rattle.laws.specs.Lists.{any, any-cong, flat}
 use Rattle.laws.specs.Slices.{Has, has-fits, has-front, has-back, has-word, has-rest, has-sets}
 use Rattle.syntax.specs.Syntax.{Domain, IntExpr, encode-int, BoolExpr, encode-bool, Cell, encode-cell, Stmt, Rule, Table, encode-stmt}
-use Rattle.syntax.specs.Satisfies.{int-value, permits, row-holds, holds, stmt-holds}
+use Rattle.syntax.specs.Satisfies.{int-value, permits, row-holds, stmt-holds}
 use Rattle.syntax.specs.Lengths.{int-long, rows-length}
-use Rattle.words.specs.Exact.{Each}
-use Rattle.read.specs.WellFormed.{WellRow, WellStmt}
 use Rattle.read.specs.Vars.{columns-vars, bool-vars, rows-wide}
 use Rattle.domains.specs.Declared.{Plain}
-use Rattle.limits.specs.Limits.{heavy, heavy-comparison, any-comparison, any-part}
+use Rattle.limits.specs.Limits.{heavy, heavy-comparison, any-part}
 use Rattle.evaluate.specs.Roster.{int-of, truth, first-broken}
-use Rattle.evaluate.specs.Contracts.{Roster, Bool-at, Ready-bool, Bool-post, Columns-at, Ready-columns, Columns-post, Rows-at, Ready-rows, row-permits, Rows-post, Stmt-at, Stmts-at, Ready-stmt, Ready-stmts, Stmt-post, checked-of, Broken-post}
+use Rattle.evaluate.specs.Contracts.{Bool-at, Ready-bool, Bool-post, Columns-at, Ready-columns, Columns-post, Rows-at, Ready-rows, row-permits, Rows-post, Stmt-at, Stmts-at, Ready-stmt, Ready-stmts, Stmt-post, checked-of, Broken-post}
 use Rattle.evaluate.specs.declared.Checked.{Checked}
 use Rattle.evaluate.specs.declared.Checked.the-variants.{Yes, Broken}
 

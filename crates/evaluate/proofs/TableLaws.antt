@@ -1,26 +1,22 @@
 -- What the columns' values and the rows ask and give at each step, over variables. Assumes nothing.
-use Prim.Native.Nat.{ℕ, suc, _+_, _-_, _*_, _≤_, _<_}
+use Prim.Native.Nat.{ℕ, suc, _+_, _-_, _≤_, _<_}
 use mathlib.Core.Path.{_≡_, refl, sym, ap, _∙_}
-use mathlib.Core.Bool.{Bool, true, false, _&&_, _||_}
-use mathlib.Core.List.{List, [], _∷_, _++_, map}
+use mathlib.Core.Bool.{Bool, true, false}
+use mathlib.Core.List.{List, [], _∷_, map}
 use native.Mathlib.Omega.{arith}
 use native.Mathlib.Numerals.{add-one}
 use lib.IntN.{ℤ, pos, natAbs}
 use lib.ListN.{length, getD, set, length-append, length-set, length-map}
-use lib.Seq.{sets}
 use Rattle.laws.specs.Bools.{or-no-l, or-no-r}
-use Rattle.laws.specs.Ints.{eqZ}
-use Rattle.laws.specs.Lists.{any, flat}
+use Rattle.laws.specs.Lists.{flat}
 use Rattle.laws.specs.Order.{not-eqZ}
-use Rattle.laws.specs.Slices.{Has, has-fits, has-front, has-back, has-word, has-rest}
+use Rattle.laws.specs.Slices.{has-fits, has-front, has-back, has-word, has-rest}
 use Rattle.syntax.specs.Words.{star-word}
 use Rattle.syntax.specs.Syntax.{Domain, IntExpr, encode-int, Cell, star, value, encode-cell}
-use Rattle.syntax.specs.Satisfies.{int-value, permits}
+use Rattle.syntax.specs.Satisfies.{permits}
 use Rattle.syntax.specs.Written.{EveryColumn}
-use Rattle.syntax.specs.Lengths.{int-long, int-fits}
-use Rattle.read.specs.WellFormed.{WellCell, WellRow}
+use Rattle.read.specs.WellFormed.{WellCell}
 use Rattle.limits.specs.Limits.{heavy}
-use Rattle.evaluate.specs.Roster.{int-of}
 use Rattle.evaluate.specs.Contracts.{Int-at, Ready-int, Int-post, Columns-at, Ready-columns, Columns-post, Values-at, Row-at, Rows-at, Ready-row, Ready-rows, word-permits, row-permits, Row-post, Rows-post}
 
 -- ---- `column_values`

@@ -1,19 +1,19 @@
 -- What the tests of the values ask and give at each step, over variables. Assumes nothing.
 use Prim.Native.Nat.{ℕ, suc, _+_, _-_, _≤_, _<_}
 use mathlib.Core.Path.{_≡_, refl, sym, ap, _∙_}
-use mathlib.Core.Bool.{Bool, true, false, _&&_}
-use mathlib.Core.List.{List, [], _∷_, map}
+use mathlib.Core.Bool.{Bool, true, false}
+use mathlib.Core.List.{List, [], _∷_}
 use native.Mathlib.Omega.{arith}
 use native.Mathlib.Numerals.{add-one}
 use lib.IntN.{ℤ, pos}
 use lib.Signed.{leZ}
 use lib.ListN.{length, getD}
 use Rattle.laws.specs.Ints.{eqZ, pos-eq}
-use Rattle.laws.specs.Lists.{any, all, flat, from, below}
+use Rattle.laws.specs.Lists.{any, all, from, below}
 use Rattle.laws.specs.Slices.{Has, has-fits, has-front, has-back, has-word, has-rest}
 use Rattle.syntax.specs.Syntax.{Domain, Range, Enumerative, in-domain, encode-domain}
 use Rattle.domains.specs.Declared.{Plain, Domain-at, Domains}
-use Rattle.evaluate.specs.Contracts.{Words-at, Listed-post, Domain-post, each-inside, Ready-domains, Inside-post}
+use Rattle.evaluate.specs.Contracts.{Words-at, Listed-post, Domain-post, Ready-domains, Inside-post}
 
 -- ---- `bools_inside`
 

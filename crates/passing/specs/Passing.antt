@@ -1,6 +1,6 @@
 -- Where the compile is not refused, the check says yes exactly to the rosters that pass its answer; a contradiction's set is broken by every roster.
 -- Over the words of both calls; from demand 3 (`demand-3`). Assumes nothing.
-use mathlib.Core.Path.{_≡_, refl, sym, ap, _∙_}
+use mathlib.Core.Path.{_≡_, refl, sym, _∙_}
 use mathlib.Core.Logic.{_↔_}
 use mathlib.Core.Bool.{Bool, true, false, not, _&&_, cond}
 use mathlib.Core.List.{List}
@@ -20,7 +20,7 @@ use Rattle.limits.specs.Limits.{check}
 use Rattle.call.specs.Call.{Result, contradiction, refused, checked, when-read, call}
 use Rattle.call.specs.Claim.{of-set, within, satisfied as meets, Passed, NotRefused}
 use Rattle.call.specs.Demand.{demand-3}
-use Rattle.evaluate.specs.Roster.{bool-of, int-of, is-bit, right-count, all-inside, Verdict, satisfied, broken, refused as refuses, judged, rostered, unless-refused, when-read as judge-read, check-roster, judged-satisfied, satisfied-judged, Breaks, judged-breaks}
+use Rattle.evaluate.specs.Roster.{bool-of, int-of, is-bit, right-count, all-inside, satisfied, refused as refuses, judged, rostered, unless-refused, when-read as judge-read, check-roster, judged-satisfied, satisfied-judged, Breaks, judged-breaks}
 
 -- how many Booleans the set declares, and the integers' values behind theirs
 abbrev pub declared-bools : List ℤ → ℕ

@@ -1,13 +1,13 @@
 -- A law for each answer of the functions from text to verdict, over variables. Assumes nothing.
 use mathlib.Core.Path.{_≡_, refl, sym, ap, _∙_, subst}
-use mathlib.Core.Bool.{Bool, true, false, cond, not}
+use mathlib.Core.Bool.{Bool, true, false, cond}
 use mathlib.Core.List.{List, [], _∷_, _++_}
 use mathlib.Core.Option.{Option, none, some}
-use Prim.Native.Nat.{ℕ, zero, suc, _+_, _-_, _≤_, _<_, min}
+use Prim.Native.Nat.{ℕ, zero, suc, _+_, _-_, _≤_, _<_}
 use native.Mathlib.Omega.{arith}
 use lib.IntN.{ℤ, pos}
-use lib.Dec.{eqb, ltb}
-use lib.ListN.{length, take, drop, getD, length-drop, length-replicate, replicate}
+use lib.Dec.{eqb}
+use lib.ListN.{length, take, drop, getD, length-drop, length-replicate}
 use lib.Seq.{sets, sets-eq, length-sets, take-suc, take-all, take-append-seam, length-take-le}
 use borrow.Author.Tests.{ne-eqb, eq-eqb, lt-ltb, le-ltb}
 use Rattle.laws.specs.Ints.{apart}
@@ -20,8 +20,7 @@ use Rattle.input.specs.Room.{few-words}
 use Rattle.input.specs.declared.Words.{Words}
 use Rattle.input.specs.declared.Words.the-variants as read
 use Rattle.refuse.specs.Refuse.{zeros}
-use Rattle.evaluate.specs.Roster.{check-roster}
-use Rattle.evaluate.specs.Contracts.{checked-of, Checks}
+use Rattle.evaluate.specs.Contracts.{Checks}
 use Rattle.evaluate.specs.declared.Checked.{Checked}
 use Rattle.rostertext.specs.RosterText.{values-key, unread-line, print-numbered, print-checked, feed-step, last-feed, values-of, print-read, check-lines, check-text}
 use Rattle.rostertext.specs.Contracts.{Prints, Room, Tells, Told}

@@ -1,6 +1,6 @@
 -- Computed cases of reading: the last line, its values. Assumes nothing.
 use mathlib.Core.Path.{_≡_, refl}
-use mathlib.Core.List.{List, [], _∷_}
+use mathlib.Core.List.{[], _∷_}
 use mathlib.Core.Option.{none, some}
 use Rattle.rostertext.specs.RosterText.{last-feed, values-of}
 

@@ -1,6 +1,6 @@
 -- The contract of `check_roster`: the number returned and every word of the work slice are the definition's, for all words and lengths;
 -- and what 0 says of the answer of a compile (passing/Passing). The numbers tell the verdicts apart. Assumes nothing.
-use mathlib.Core.Path.{_≡_, refl, sym, ap, _∙_}
+use mathlib.Core.Path.{_≡_, refl}
 use mathlib.Core.Logic.{_↔_}
 use mathlib.Core.Bool.{Bool, true, false, not, cond}
 use mathlib.Core.List.{List, [], _∷_, map}

@@ -16,7 +16,6 @@ use Rattle.evaluate.proofs.+bool_holds+members_hold.{statement}
 use Rattle.evaluate.proofs.+bool_holds+members_hold.Tie.{close}
 use Prim.Native.Nat.{_+_, _-_, _*_, _≤_}
 use native.Mathlib.Omega.{arith}
-use mathlib.Core.Path.{refl}
 use mathlib.Core.Bool.{Bool}
 use lib.ListN.{length}
 use Rattle.evaluate.specs.Contracts.{Ready-members, Members-post}

@@ -12,7 +12,6 @@ use Rattle.evaluate.proofs.+int_value+terms_value.{statement}
 use Rattle.evaluate.proofs.+int_value+terms_value.Tie.{close}
 use Prim.Native.Nat.{_+_, _-_, _*_, _≤_}
 use native.Mathlib.Omega.{arith}
-use mathlib.Core.Path.{refl}
 use lib.IntN.{ℤ, pos}
 use lib.ListN.{length, getD}
 use mir.Syntax.{w32}

@@ -1,10 +1,8 @@
 use Rattle.evaluate.proofs.bit.Statement.{statement}
 use Rattle.evaluate.proofs.bit.Tie as tie
-use Rattle.evaluate.proofs.bit.Reads as reads
-use Rattle.evaluate.proofs.bit.Lts as lts
 use mathlib.Core.Path.{refl}
 use lib.IntN.{pos}
-use Rattle.laws.specs.Ints.{eqZ, bits-zero, bits-nonzero}
+use Rattle.laws.specs.Ints.{bits-zero, bits-nonzero}
 use Rattle.evaluate.proofs.BoolLaws.{eq-bits}
 use borrow.Author.Needs.{needs}
 

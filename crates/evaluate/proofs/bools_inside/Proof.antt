@@ -1,14 +1,11 @@
 use Rattle.evaluate.proofs.bools_inside.Statement.{statement}
 use Rattle.evaluate.proofs.bools_inside.Tie as tie
-use Rattle.evaluate.proofs.bools_inside.Reads as reads
-use Rattle.evaluate.proofs.bools_inside.Lts as lts
-use Rattle.evaluate.proofs.bit.Reads as bit-reads
 use native.Mathlib.Omega.{arith}
 use Prim.Native.Nat.{_-_, _≤_}
 use mathlib.Core.Path.{_≡_, sym, _∙_}
 use mathlib.Core.Bool.{Bool}
 use lib.IntN.{pos}
-use lib.ListN.{length, getD}
+use lib.ListN.{getD}
 use mir.Syntax.{w32}
 use mir.Val.{SFits}
 use mir.Facts.{toZ-ofZ}

@@ -1,10 +1,6 @@
 use borrow.Author.Needs.{needs}
 use Rattle.evaluate.proofs.check_roster.Statement.{statement}
 use Rattle.evaluate.proofs.check_roster.Tie as tie
-use Rattle.evaluate.proofs.check_roster.Reads as reads
-use Rattle.evaluate.proofs.check_roster.Lts as lts
-use Rattle.evaluate.proofs.judge.Reads as judge-reads
-use Rattle.refuse.proofs.clear.Reads as clear-reads
 use mathlib.Core.Path.{ap, _∙_}
 use Rattle.refuse.specs.Refuse.{zeros}
 

@@ -1,14 +1,10 @@
 use Rattle.evaluate.proofs.column_values.Statement.{statement}
 use Rattle.evaluate.proofs.column_values.Tie as tie
-use Rattle.evaluate.proofs.column_values.Reads as reads
-use Rattle.evaluate.proofs.column_values.Lts as lts
-use Rattle.evaluate.proofs.int_value.Reads as int-value-reads
-use native.Mathlib.Omega.{arith}
-use Prim.Native.Nat.{ℕ, _+_, _≤_}
+use Prim.Native.Nat.{ℕ}
 use mathlib.Core.Path.{_≡_, refl, _∙_}
 use mathlib.Core.List.{List}
 use lib.IntN.{ℤ}
-use lib.ListN.{length, set as put, length-set}
+use lib.ListN.{length, length-set}
 use mir.Syntax.{w32}
 use mir.Val.{SFits}
 use mir.Facts.{toZ-ofZ}

@@ -1,13 +1,9 @@
 use Rattle.evaluate.proofs.compares.Statement.{statement}
 use Rattle.evaluate.proofs.compares.Tie as tie
-use Rattle.evaluate.proofs.compares.Reads as reads
-use Rattle.evaluate.proofs.compares.Lts as lts
-use mathlib.Core.Path.{refl, ap, _∙_, sym}
+use mathlib.Core.Path.{refl, ap}
 use mathlib.Core.Bool.{not}
-use Rattle.syntax.specs.Satisfies.{compare}
 use mir.Facts.{toZ-ofZ}
 use Rattle.evaluate.proofs.BoolLaws.{eq-bits, op-last}
-use borrow.Author.Needs.{needs}
 
 returns : tie.Need-returns
 returns c = rw (c .match .keys1) (eq-bits (c .before .args .x) (c .before .args .y) (c .before .fits .x) (c .before .fits .y))

@@ -1,11 +1,6 @@
 use borrow.Author.Needs.{needs}
 use Rattle.evaluate.proofs.comparison_holds.Statement.{statement}
 use Rattle.evaluate.proofs.comparison_holds.Tie as tie
-use Rattle.evaluate.proofs.comparison_holds.Reads as reads
-use Rattle.evaluate.proofs.comparison_holds.Lts as lts
-use Rattle.domains.proofs.number.Reads as number-reads
-use Rattle.evaluate.proofs.compares.Reads as compares-reads
-use Rattle.evaluate.proofs.int_value.Reads as int-value-reads
 use Rattle.evaluate.proofs.SkipLaws.{some-inside, some-second}
 use Rattle.evaluate.proofs.BoolLaws.{ready-some, left-ready, right-ready, comparison-held}
 use mathlib.Core.Path.{refl}

@@ -1,8 +1,5 @@
 use Rattle.evaluate.proofs.first_broken.Statement.{statement}
 use Rattle.evaluate.proofs.first_broken.Tie as tie
-use Rattle.evaluate.proofs.first_broken.Reads as reads
-use Rattle.evaluate.proofs.first_broken.Lts as lts
-use Rattle.evaluate.proofs.statement_holds.Reads as statement-holds-reads
 use native.Mathlib.Omega.{arith}
 use Prim.Native.Nat.{_+_}
 use mathlib.Core.Path.{_≡_, refl, _∙_}

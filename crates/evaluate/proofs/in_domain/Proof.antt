@@ -1,14 +1,7 @@
 use Rattle.evaluate.proofs.in_domain.Statement.{statement}
 use Rattle.evaluate.proofs.in_domain.Tie as tie
-use Rattle.evaluate.proofs.in_domain.Reads as reads
-use Rattle.evaluate.proofs.in_domain.Lts as lts
-use Rattle.domains.proofs.number.Reads as number-reads
-use Rattle.evaluate.proofs.listed.Reads as listed-reads
-use native.Mathlib.Omega.{arith}
-use mathlib.Core.Path.{_≡_, refl, sym}
-use mathlib.Core.Bool.{true, false}
+use mathlib.Core.Path.{refl}
 use lib.IntN.{pos}
-use lib.Signed.{leZ}
 use lib.ListN.{getD}
 use mir.Syntax.{w32}
 use mir.Val.{SFits}

@@ -1,11 +1,5 @@
 use Rattle.evaluate.proofs.ints_inside.Statement.{statement}
 use Rattle.evaluate.proofs.ints_inside.Tie as tie
-use Rattle.evaluate.proofs.ints_inside.Reads as reads
-use Rattle.evaluate.proofs.ints_inside.Lts as lts
-use Rattle.domains.proofs.domain_end.Reads as domain-end-reads
-use Rattle.evaluate.proofs.in_domain.Reads as in-domain-reads
-use native.Mathlib.Omega.{arith}
-use mathlib.Core.Path.{_≡_, refl}
 use mathlib.Core.Bool.{Bool}
 use lib.IntN.{pos}
 use lib.ListN.{getD}
@@ -13,7 +7,7 @@ use mir.Syntax.{w32}
 use mir.Val.{SFits}
 use mir.Facts.{toZ-ofZ}
 use borrow.Author.Needs.{needs, sfits-of}
-use Rattle.evaluate.specs.Contracts.{Ready-domains, Domain-post, Inside-post}
+use Rattle.evaluate.specs.Contracts.{Ready-domains, Inside-post}
 use Rattle.evaluate.proofs.BoolLaws.{not-true, not-false}
 use Rattle.evaluate.proofs.ValueLaws.{inside-none, next-domain, next-value, inside-stop, rest-domains, inside-more, domain-same}
 

@@ -1,12 +1,6 @@
 use borrow.Author.Needs.{needs}
 use Rattle.evaluate.proofs.judge.Statement.{statement}
 use Rattle.evaluate.proofs.judge.Tie as tie
-use Rattle.evaluate.proofs.judge.Reads as reads
-use Rattle.evaluate.proofs.judge.Lts as lts
-use Rattle.accept.proofs.accept.Reads as accept-reads
-use Rattle.evaluate.proofs.bools_inside.Reads as bools-inside-reads
-use Rattle.evaluate.proofs.first_broken.Reads as first-broken-reads
-use Rattle.evaluate.proofs.ints_inside.Reads as ints-inside-reads
 use native.Mathlib.Omega.{arith}
 use mathlib.Core.Path.{sym, _∙_}
 use lib.ListN.{length}

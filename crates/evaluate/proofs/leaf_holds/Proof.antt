@@ -1,9 +1,6 @@
 use borrow.Author.Needs.{needs}
 use Rattle.evaluate.proofs.leaf_holds.Statement.{statement}
 use Rattle.evaluate.proofs.leaf_holds.Tie as tie
-use Rattle.evaluate.proofs.leaf_holds.Reads as reads
-use Rattle.evaluate.proofs.leaf_holds.Lts as lts
-use Rattle.domains.proofs.number.Reads as number-reads
 use native.Mathlib.Omega.{arith}
 use mathlib.Core.Path.{refl}
 use lib.IntN.{pos}

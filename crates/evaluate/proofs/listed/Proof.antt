@@ -1,12 +1,9 @@
 use Rattle.evaluate.proofs.listed.Statement.{statement}
 use Rattle.evaluate.proofs.listed.Tie as tie
-use Rattle.evaluate.proofs.listed.Reads as reads
-use Rattle.evaluate.proofs.listed.Lts as lts
-use native.Mathlib.Omega.{arith}
-use mathlib.Core.Path.{_≡_, ap}
+use mathlib.Core.Path.{ap}
 use mathlib.Core.Bool.{Bool}
 use lib.IntN.{pos}
-use lib.ListN.{length, getD}
+use lib.ListN.{getD}
 use mir.Syntax.{w32}
 use mir.Val.{SFits, ofZ, toZ}
 use mir.Facts.{toZ-ofZ}

@@ -1,16 +1,12 @@
 use Rattle.evaluate.proofs.permits.Statement.{statement}
 use Rattle.evaluate.proofs.permits.Tie as tie
-use Rattle.evaluate.proofs.permits.Reads as reads
-use Rattle.evaluate.proofs.permits.Lts as lts
 use mathlib.Core.Path.{refl, ap}
 use mir.Syntax.{w32}
 use mir.Val.{ofZ}
-use Rattle.laws.specs.Ints.{eqZ}
 use Rattle.laws.specs.Order.{is-eqZ, not-eqZ}
 use Rattle.laws.specs.Signed.{value-is}
 use Rattle.syntax.specs.Words.{star-word}
 use Rattle.evaluate.proofs.BoolLaws.{eq-bits}
-use borrow.Author.Needs.{needs}
 
 returns : tie.Need-returns
 returns c = rw (is-eqZ (c .before .args .cell) star-word (value-is (c .before .fits .cell) (c .if1 .taken))) refl

@@ -1,10 +1,5 @@
 use Rattle.evaluate.proofs.row_holds.Statement.{statement}
 use Rattle.evaluate.proofs.row_holds.Tie as tie
-use Rattle.evaluate.proofs.row_holds.Reads as reads
-use Rattle.evaluate.proofs.row_holds.Lts as lts
-use Rattle.evaluate.proofs.permits.Reads as permits-reads
-use native.Mathlib.Omega.{arith}
-use mathlib.Core.Path.{_≡_, refl}
 use mathlib.Core.Bool.{Bool}
 use lib.IntN.{pos}
 use lib.ListN.{getD}

@@ -1,12 +1,6 @@
 use Rattle.evaluate.proofs.rows_hold.Statement.{statement}
 use Rattle.evaluate.proofs.rows_hold.Tie as tie
-use Rattle.evaluate.proofs.rows_hold.Reads as reads
-use Rattle.evaluate.proofs.rows_hold.Lts as lts
-use Rattle.evaluate.proofs.row_holds.Reads as row-holds-reads
-use native.Mathlib.Omega.{arith}
-use Prim.Native.Nat.{_+_, _*_, _≤_}
 use mathlib.Core.Bool.{Bool}
-use lib.ListN.{length}
 use Rattle.evaluate.specs.Contracts.{Ready-rows, Rows-post}
 use Rattle.evaluate.proofs.TableLaws.{rows-none, row-ready, rows-rest, rows-hit, rows-more, rows-room}
 use borrow.Author.Needs.{needs}

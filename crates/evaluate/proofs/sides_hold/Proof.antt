@@ -1,11 +1,8 @@
 use Rattle.evaluate.proofs.sides_hold.Statement.{statement}
 use Rattle.evaluate.proofs.sides_hold.Tie as tie
-use Rattle.evaluate.proofs.sides_hold.Reads as reads
-use Rattle.evaluate.proofs.sides_hold.Lts as lts
-use mathlib.Core.Path.{refl, _∙_, sym, ap}
+use mathlib.Core.Path.{_∙_, sym, ap}
 use mathlib.Core.Bool.{not, _||_}
 use Rattle.evaluate.proofs.BoolLaws.{xor-is, iff-is, imp-is}
-use borrow.Author.Needs.{needs}
 
 returns : tie.Need-returns
 returns c = xor-is _ _ _ (c .if1 .taken)

@@ -1,8 +1,5 @@
 use Rattle.evaluate.proofs.skip_members.Statement.{statement}
 use Rattle.evaluate.proofs.skip_members.Tie as tie
-use Rattle.evaluate.proofs.skip_members.Reads as reads
-use Rattle.evaluate.proofs.skip_members.Lts as lts
-use Rattle.evaluate.proofs.skip_step.Reads as skip-step-reads
 use native.Mathlib.Omega.{arith}
 use Prim.Native.Nat.{ℕ, _-_}
 use lib.ListN.{length}

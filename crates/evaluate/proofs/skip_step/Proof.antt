@@ -1,9 +1,5 @@
 use Rattle.evaluate.proofs.skip_step.Statement.{statement}
 use Rattle.evaluate.proofs.skip_step.Tie as tie
-use Rattle.evaluate.proofs.skip_step.Reads as reads
-use Rattle.evaluate.proofs.skip_step.Lts as lts
-use Rattle.domains.proofs.number.Reads as number-reads
-use Rattle.passes.proofs.skip_int.Reads as skip-int-reads
 use native.Mathlib.Omega.{arith}
 use Rattle.evaluate.proofs.SkipLaws.{some-inside, some-first, some-second, step-leaf, step-list, step-not, step-two, step-left, step-right, step-cmp, at-18}
 use borrow.Author.Needs.{needs}

@@ -1,12 +1,6 @@
 use borrow.Author.Needs.{needs}
 use Rattle.evaluate.proofs.statement_holds.Statement.{statement}
 use Rattle.evaluate.proofs.statement_holds.Tie as tie
-use Rattle.evaluate.proofs.statement_holds.Reads as reads
-use Rattle.evaluate.proofs.statement_holds.Lts as lts
-use Rattle.domains.proofs.number.Reads as number-reads
-use Rattle.evaluate.proofs.bool_holds.Reads as bool-holds-reads
-use Rattle.evaluate.proofs.table_holds.Reads as table-holds-reads
-use mathlib.Core.Path.{sym, _∙_}
 use Rattle.laws.specs.Ints.{pos-eq}
 use Rattle.evaluate.proofs.StmtLaws.{stmt-inside, stmt-first, rule-ready, rule-held}
 

@@ -1,14 +1,7 @@
 use borrow.Author.Needs.{needs}
 use Rattle.evaluate.proofs.table_holds.Statement.{statement}
 use Rattle.evaluate.proofs.table_holds.Tie as tie
-use Rattle.evaluate.proofs.table_holds.Reads as reads
-use Rattle.evaluate.proofs.table_holds.Lts as lts
-use Rattle.domains.proofs.number.Reads as number-reads
-use Rattle.evaluate.proofs.column_values.Reads as column-values-reads
-use Rattle.evaluate.proofs.rows_hold.Reads as rows-hold-reads
-use native.Mathlib.Omega.{arith}
-use Prim.Native.Nat.{_+_, _*_}
-use mathlib.Core.Path.{sym, _∙_, ap}
+use mathlib.Core.Path.{_∙_, ap}
 use Rattle.evaluate.proofs.StmtLaws.{stmt-first, table-inside, table-columns, table-rows, columns-start, rows-start, table-held}
 use lib.IntN.{pos}
 

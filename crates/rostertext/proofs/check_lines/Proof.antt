@@ -2,15 +2,6 @@
 use borrow.Author.Needs.{needs}
 use Rattle.rostertext.proofs.check_lines.Statement.{statement}
 use Rattle.rostertext.proofs.check_lines.Tie as tie
-use Rattle.rostertext.proofs.check_lines.Reads as reads
-use Rattle.rostertext.proofs.check_lines.Lts as lts
-use Rattle.decimal.proofs.put_bytes.Reads as put-bytes-reads
-use Rattle.evaluate.proofs.check_roster.Reads as check-roster-reads
-use Rattle.input.proofs.words_of_text.Reads as words-of-text-reads
-use Rattle.rostertext.proofs.line_start.Reads as line-start-reads
-use Rattle.rostertext.proofs.put_checked.Reads as put-checked-reads
-use Rattle.rostertext.proofs.read_values.Reads as read-values-reads
-use native.Mathlib.Omega.{arith}
 use Prim.Native.Nat.{_-_}
 use lib.ListN.{length, take, drop}
 use Rattle.rostertext.proofs.Laws.{start-inside, part-length, part-short, set-unread, set-fits, set-is, values-unread, values-fit, values-are, tells-unread-set, tells-unread-values, tells-checked}

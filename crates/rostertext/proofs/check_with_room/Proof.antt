@@ -2,11 +2,6 @@
 use borrow.Author.Needs.{needs}
 use Rattle.rostertext.proofs.check_with_room.Statement.{statement}
 use Rattle.rostertext.proofs.check_with_room.Tie as tie
-use Rattle.rostertext.proofs.check_with_room.Reads as reads
-use Rattle.rostertext.proofs.check_with_room.Lts as lts
-use Rattle.decimal.proofs.put_bytes.Reads as put-bytes-reads
-use Rattle.refuse.proofs.clear.Reads as clear-reads
-use Rattle.rostertext.proofs.check_lines.Reads as check-lines-reads
 use native.Mathlib.Omega.{arith}
 use Prim.Native.Nat.{_-_}
 use lib.ListN.{length}

@@ -1,8 +1,6 @@
 -- `line_start` meets its contract.
 use Rattle.rostertext.proofs.line_start.Statement.{statement}
 use Rattle.rostertext.proofs.line_start.Tie as tie
-use Rattle.rostertext.proofs.line_start.Reads as reads
-use Rattle.rostertext.proofs.line_start.Lts as lts
 use native.Mathlib.Omega.{arith}
 use Prim.Native.Nat.{_≤_}
 use mathlib.Core.Path.{_≡_}

@@ -2,10 +2,6 @@
 use borrow.Author.Needs.{needs}
 use Rattle.rostertext.proofs.put_checked.Statement.{statement}
 use Rattle.rostertext.proofs.put_checked.Tie as tie
-use Rattle.rostertext.proofs.put_checked.Reads as reads
-use Rattle.rostertext.proofs.put_checked.Lts as lts
-use Rattle.decimal.proofs.put_bytes.Reads as put-bytes-reads
-use Rattle.rostertext.proofs.put_numbered.Reads as put-numbered-reads
 use Rattle.rostertext.specs.RosterText.{print-checked}
 use Rattle.rostertext.proofs.Laws.{checked-shown}
 

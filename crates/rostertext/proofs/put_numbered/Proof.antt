@@ -2,11 +2,6 @@
 use borrow.Author.Needs.{needs}
 use Rattle.rostertext.proofs.put_numbered.Statement.{statement}
 use Rattle.rostertext.proofs.put_numbered.Tie as tie
-use Rattle.rostertext.proofs.put_numbered.Reads as reads
-use Rattle.rostertext.proofs.put_numbered.Lts as lts
-use Rattle.decimal.proofs.put_byte.Reads as put-byte-reads
-use Rattle.decimal.proofs.put_bytes.Reads as put-bytes-reads
-use Rattle.decimal.proofs.put_natural.Reads as put-natural-reads
 use Rattle.rostertext.proofs.Laws.{numbered-shown}
 
 put-bytes-requires : tie.Need-put-bytes-requires

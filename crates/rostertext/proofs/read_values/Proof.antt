@@ -2,11 +2,6 @@
 use borrow.Author.Needs.{needs}
 use Rattle.rostertext.proofs.read_values.Statement.{statement}
 use Rattle.rostertext.proofs.read_values.Tie as tie
-use Rattle.rostertext.proofs.read_values.Reads as reads
-use Rattle.rostertext.proofs.read_values.Lts as lts
-use Rattle.input.proofs.has_key.Reads as has-key-reads
-use Rattle.input.proofs.read_numbers.Reads as read-numbers-reads
-use native.Mathlib.Omega.{arith}
 use Rattle.evaluate.proofs.BoolLaws.{not-true, not-false}
 use Rattle.rostertext.proofs.Laws.{no-key, key-fits, no-values, some-values}
 

@@ -2,10 +2,6 @@
 use borrow.Author.Needs.{needs}
 use Rattle.station.proofs.check_roster.Statement.{statement}
 use Rattle.station.proofs.check_roster.Tie as tie
-use Rattle.station.proofs.check_roster.Reads as reads
-use Rattle.station.proofs.check_roster.Lts as lts
-use Rattle.evaluate.proofs.check_roster.Reads as check-roster-reads
-use native.Mathlib.Omega.{arith}
 use Rattle.station.proofs.RosterNumbers.{number-fits, negated-fits, broken-small, refused-small, judges-yes, judges-broken, judges-refused}
 
 check-roster-requires : tie.Need-check-roster-requires
