@@ -223,18 +223,18 @@ fn run(seed: u64, count: u64, families: &[&str]) -> Result<(), String> {
     Ok(())
 }
 
-/// The least time of some rounds, in nanoseconds, each of many checks.
+/// The least time of many single checks, in nanoseconds.
 fn time(name: &str, set: &[i32], values: &[i32]) {
     let mut work = vec![0; WORK];
     let want = number(check(set, values, WORK));
-    let round = |work: &mut Vec<i32>| {
+    let once = |work: &mut Vec<i32>| {
         let start = Instant::now();
-        for _ in 0..200 {
-            assert_eq!(black_box(roster(black_box(set), black_box(values), work)), want);
-        }
-        start.elapsed().as_nanos() as f64 / 200.0
+        let got = black_box(roster(black_box(set), black_box(values), work));
+        let time = start.elapsed().as_nanos() as f64;
+        assert_eq!(got, want);
+        time
     };
-    let least = (0..9).map(|_| round(&mut work)).fold(f64::INFINITY, f64::min);
+    let least = (0..20000).map(|_| once(&mut work)).fold(f64::INFINITY, f64::min);
     println!("{name:44} {:5} words  answer {want:5}  {least:9.0} ns  {:6.2} ns a word", set.len(), least / set.len() as f64);
 }
 
