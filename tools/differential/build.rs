@@ -6,6 +6,7 @@ fn main() {
         ("settled", "remaining"),
         ("calls", "station"),
         ("joins", "station"),
+        ("rosters", "station"),
         ("bench", "station"),
     ] {
         let file = root.join(format!("lib{library}.a"));

@@ -57,6 +57,31 @@ static void numbers(void) {
     claim(call(longest, PLANNER_SET_WORDS + 1, OUT, PLANNER_WORK_WORDS) == PLANNER_LONG_SET, "PLANNER_LONG_SET", 0);
 }
 
+/* A roster of the set "v0 or v1; x is not 1", x among 0, 1 and 3. */
+static int64_t check(size_t count, int32_t v0, int32_t v1, int32_t x, size_t work_len) {
+    const int32_t set[] = {2, 1, 1, 3, 0, 1, 3, 2, 1, 13, 2, 11, 0, 11, 1, 1, 18, 1, 21, 0, 20, 1};
+    const int32_t values[] = {v0, v1, x, 0};
+    for (size_t i = 0; i < PLANNER_WORK_WORDS; i++) work[i] = NOISE;
+    int64_t n = check_roster(set, sizeof set / sizeof *set, values, count, work, work_len);
+    claim(zeros(work, 0, work_len), "work is zero after check_roster", (long)n);
+    claim(work_len == PLANNER_WORK_WORDS || work[work_len] == NOISE, "nothing is written behind work", (long)n);
+    return n;
+}
+
+static void rosters(void) {
+    const size_t all = PLANNER_WORK_WORDS;
+    claim(check(3, 1, 0, 3, all) == 0, "a roster that satisfies", 0);
+    claim(check(3, 0, 0, 1, all) == 1, "the first broken statement", 1);
+    claim(check(3, 0, 1, 1, all) == 2, "the second statement broken", 2);
+    claim(check(2, 2, 0, 0, all) == PLANNER_OTHER_COUNT, "PLANNER_OTHER_COUNT", 2);
+    claim(check(4, 1, 0, 0, all) == PLANNER_OTHER_COUNT, "PLANNER_OTHER_COUNT", 4);
+    claim(check(3, 2, 0, 0, all) == PLANNER_OUTSIDE_DOMAIN, "PLANNER_OUTSIDE_DOMAIN", 2);
+    claim(check(3, 1, 0, 2, all) == PLANNER_OUTSIDE_DOMAIN, "a gap of an enumerated domain", 2);
+    claim(check(3, 1, 0, 3, all - 1) == PLANNER_SHORT_WORK, "PLANNER_SHORT_WORK", 1);
+    const int32_t p6[] = {0, 0, 0};
+    claim(check_roster(p6, 3, NULL, 0, work, all) == 0, "no variables, no values, NULL", 0);
+}
+
 /* Sets that want some writing: 65 levels; 65 variables in one comparison. */
 static void deep_and_many(void) {
     int32_t set[400] = {1, 0, 1, 1};
@@ -106,6 +131,7 @@ static void growing(void) {
 
 int main(void) {
     numbers();
+    rosters();
     deep_and_many();
     null_with_length_0();
     growing();

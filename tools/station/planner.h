@@ -46,6 +46,8 @@ enum {
     PLANNER_MANY_VARIABLES = -10,      /* over 64 different integer variables in one comparison, or over 63 in one column */
     PLANNER_WIDE_COLUMN = -11,         /* a column's span is over 4096 */
     PLANNER_SHORT_OUTPUT = -12,        /* the answer is longer than the output slice, or than 16777216 words */
+    PLANNER_OTHER_COUNT = -14,         /* check_roster: the number of values is not that of the declared variables */
+    PLANNER_OUTSIDE_DOMAIN = -15,      /* check_roster: a value is outside its domain, a Boolean's neither 0 nor 1 */
     PLANNER_DECLARATIONS_DIFFER = -16, /* of a join: the declarations differ word by word */
     PLANNER_LONG_JOIN = -17            /* the joined set is longer than 4096 words, or than the buffer */
 };
@@ -77,6 +79,14 @@ int64_t join_sets(const int32_t *first, size_t first_len, const int32_t *second,
    place    receives that number, the statement's start in that set's words and how many words it has (0, 0, 0 for none);
             lend three words. What lies behind them is zero; of fewer words, those are written that there is room for. */
 int64_t find_statement(const int32_t *first, size_t first_len, const int32_t *second, size_t second_len, int32_t *place, size_t place_len, int32_t *work, size_t work_len, size_t number);
+
+/* check_roster: a finished roster against a set's words.
+
+   Returns 0 if the values satisfy every statement, the number of the first broken statement (from 1), or a refusal: -1 to -11
+   of the set, then PLANNER_OTHER_COUNT, then PLANNER_OUTSIDE_DOMAIN. Where compile_set compiles the set, 0 is returned exactly
+   for the rosters that pass its answer; where it returns PLANNER_CONTRADICTION, for none.
+   set, values  are only read. One value for every declared variable, the Booleans first, as 0 or 1. */
+int64_t check_roster(const int32_t *set, size_t set_len, const int32_t *values, size_t values_len, int32_t *work, size_t work_len);
 
 #ifdef __cplusplus
 }

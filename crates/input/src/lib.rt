@@ -51,7 +51,7 @@ fn find(text: &[u8], at: usize, s: u8) -> usize
 }
 
 // Whether a key stands in front of a line.
-fn has_key(line: &[u8], key: &[u8]) -> bool
+pub fn has_key(line: &[u8], key: &[u8]) -> bool
     ensures { λ r. ⌜ after (now (key .entry)) (now (line .entry)) ≡ cond r (some (drop (length (now (key .entry))) (now (line .entry)))) none ⌝ }
 {
     let mut i = 0;
@@ -85,7 +85,7 @@ fn store(z: Number, words: &mut [i32], k: usize) -> Words
 }
 
 // Numbers parted by commas, stored from k on.
-fn read_numbers(part: &[u8], words: &mut [i32], k: usize) -> Words
+pub fn read_numbers(part: &[u8], words: &mut [i32], k: usize) -> Words
     requires { ⌜ k + length (now part) < 131072 ⌝ }
     ensures { λ r. ⌜ Filled (now (words .entry)) k (numbers (split comma (now (part .entry)))) (k + length (now (part .entry)) + 1) (now (words .exit)) r ⌝ }
 {

@@ -1,3 +1,4 @@
 pub mod Small
 pub mod Returned
 pub mod Joined
+pub mod Rosters

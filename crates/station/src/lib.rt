@@ -1,4 +1,5 @@
 // What a station links: every entry for C, over the proved calls. A slice is a pointer and a length in C (tools/station/planner.h).
+use evaluate::Checked;
 use join::Joined;
 use planner::Answer;
 ghost use mathlib.Core.Path.{_≡_};
@@ -7,6 +8,7 @@ ghost use lib.IntN.{pos};
 ghost use lib.ListN.{set};
 ghost use Rattle.station.specs.Returned.{Returns};
 ghost use Rattle.station.specs.Joined.{Join-returns, Find-returns};
+ghost use Rattle.station.specs.Rosters.{Judges};
 
 // The number of words written, the refusal's number negated, or -100 for a contradiction.
 #[no_mangle]
@@ -66,4 +68,16 @@ pub extern "C" fn find_statement(
     put(place, 1, from);
     put(place, 2, words);
     set as i64
+}
+
+// Whether a roster's values satisfy a set: 0 for yes, the number of the first broken statement, or the refusal's number negated.
+#[no_mangle]
+pub extern "C" fn check_roster(set: &[i32], values: &[i32], work: &mut [i32]) -> i64
+    ensures { λ r. ⌜ Judges (now (set .entry)) (now (values .entry)) (now (work .entry)) (now (work .exit)) r ⌝ }
+{
+    match evaluate::check_roster(set, values, work) {
+        Checked::Yes => 0,
+        Checked::Broken(k) => k as i64,
+        Checked::Refused(k) => 0 - (k as i64),
+    }
 }

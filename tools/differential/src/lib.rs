@@ -24,6 +24,15 @@ entry!(
     settle, settle_set, usize
 );
 
+/// The check of a roster, in the static library of `station`.
+#[inline]
+pub fn roster(set: &[i32], values: &[i32], work: &mut [i32]) -> i64 {
+    extern "C" {
+        fn check_roster(s: *const i32, n: usize, v: *const i32, m: usize, w: *mut i32, k: usize) -> i64;
+    }
+    unsafe { check_roster(set.as_ptr(), set.len(), values.as_ptr(), values.len(), work.as_mut_ptr(), work.len()) }
+}
+
 /// Runs `SEED COUNT [FAMILY]` of the command line: COUNT sets of every family, or of one.
 pub fn run_families(
     program: &str,

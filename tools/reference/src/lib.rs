@@ -27,6 +27,7 @@ mod passes;
 pub mod read;
 pub mod record;
 pub mod refuse;
+pub mod roster;
 mod rust;
 pub mod set;
 pub mod settled;

@@ -170,10 +170,19 @@ fn clause_fits(clause: &Clause, bools: i32, ints: i32) -> bool {
 
 /// Whether every statement of the set holds.
 pub fn satisfies(set: &Set, a: &Assignment) -> bool {
-    set.statements.iter().all(|statement| match statement {
+    set.statements.iter().all(|statement| statement_holds(statement, a))
+}
+
+pub fn statement_holds(statement: &Statement, a: &Assignment) -> bool {
+    match statement {
         Statement::Rule(rule) => holds(rule, a),
         Statement::Table(table) => permits(table, a),
-    })
+    }
+}
+
+/// Whether an assignment passes an answer's words; nothing where they do not fit the layout or the search was given up.
+pub fn passing(set: &Set, answer: &[i32], a: &Assignment) -> Option<bool> {
+    passes(&decode(set.bools, set.domains.len(), answer)?, a)
 }
 
 fn holds(e: &Bool, a: &Assignment) -> bool {

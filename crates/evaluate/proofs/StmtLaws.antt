@@ -1,0 +1,200 @@
+-- What the statements ask and give at each step, over variables. Assumes nothing.
+use Prim.Native.Nat.{ℕ, suc, _+_, _-_, _*_, _≤_, _<_}
+use mathlib.Core.Path.{_≡_, refl, sym, ap, _∙_}
+use mathlib.Core.Bool.{Bool, true, false, _&&_}
+use mathlib.Core.List.{List, [], _∷_, _++_, map}
+use native.Mathlib.Omega.{arith}
+use native.Mathlib.Numerals.{add-one}
+use lib.IntN.{ℤ, pos}
+use lib.ListN.{length, getD, length-append, length-map}
+use Rattle.laws.specs.Bools.{or-no-l, or-no-r}
+use Rattle.laws.specs.Ints.{pos-eq}
+use Rattle.laws.specs.Lists.{any, any-cong, flat}
+use Rattle.laws.specs.Slices.{Has, has-fits, has-front, has-back, has-word, has-rest, has-sets}
+use Rattle.syntax.specs.Syntax.{Domain, IntExpr, encode-int, BoolExpr, encode-bool, Cell, encode-cell, Stmt, Rule, Table, encode-stmt}
+use Rattle.syntax.specs.Satisfies.{int-value, permits, row-holds, stmt-holds}
+use Rattle.syntax.specs.Lengths.{int-long, rows-length}
+use Rattle.read.specs.Vars.{columns-vars, bool-vars, rows-wide}
+use Rattle.domains.specs.Declared.{Plain}
+use Rattle.limits.specs.Limits.{heavy, heavy-comparison, any-part}
+use Rattle.evaluate.specs.Roster.{int-of, truth, first-broken}
+use Rattle.evaluate.specs.Contracts.{Bool-at, Ready-bool, Bool-post, Columns-at, Ready-columns, Columns-post, Rows-at, Ready-rows, row-permits, Rows-post, Stmt-at, Stmts-at, Ready-stmt, Ready-stmts, Stmt-post, checked-of, Broken-post}
+use Rattle.evaluate.specs.declared.Checked.{Checked}
+use Rattle.evaluate.specs.declared.Checked.the-variants.{Yes, Broken}
+
+-- ---- a statement, by its first word
+
+tag : Stmt → ℕ
+tag (Rule e) = 1
+tag (Table es rows) = 2
+
+tag-word : (ws : List ℤ) (at : ℕ) (s : Stmt) → Has ws at (encode-stmt s) → getD ws at (pos 0) ≡ pos (tag s)
+unfolding encode-stmt tag
+tag-word ws at (Rule e) h = has-word ws at _ _ (pos 0) h
+tag-word ws at (Table es rows) h = has-word ws at _ _ (pos 0) h
+
+stmt-some : (s : Stmt) → 0 < length (encode-stmt s)
+unfolding encode-stmt
+stmt-some (Rule e) = omega arith
+stmt-some (Table es rows) = omega arith
+
+-- at most as many columns as words
+columns-long : (es : List IntExpr) → length es ≤ length (flat (map encode-int es))
+columns-long [] = omega arith
+columns-long (e ∷ es) = omega (arith, int-long e, columns-long es, length-append (encode-int e) (flat (map encode-int es)))
+
+-- a row holds exactly if its cells permit the columns' values
+row-is : (nb : ℕ) (values : List ℤ) (es : List IntExpr) (cs : List Cell) → row-permits (map (int-value (int-of nb values)) es) cs ≡ row-holds (int-of nb values) es cs
+row-is nb values [] cs = refl
+row-is nb values (e ∷ es) [] = refl
+row-is nb values (e ∷ es) (c ∷ cs) = ap (λ b. permits c (int-value (int-of nb values) e) && b) (row-is nb values es cs)
+
+module _ (ws values : List ℤ) (nb at : ℕ) (work : List ℤ) where
+  pub stmt-inside : Ready-stmt ws values nb at work → at < length ws
+  stmt-inside r = omega (arith, stmt-some (r .it), has-fits ws at (encode-stmt (r .it)) (r .reads .words) (stmt-some (r .it)))
+
+  pub stmt-first : Ready-stmt ws values nb at work → Plain ws at
+  stmt-first r = record { inside = stmt-inside r; value = tag (r .it); is = tag-word ws at (r .it) (r .reads .words) }
+
+  module _ (w : ℕ) (hw : getD ws at (pos 0) ≡ pos w) where
+    tag-is : (s : Stmt) → Has ws at (encode-stmt s) → tag s ≡ w
+    tag-is s h = pos-eq _ _ _ (tag-word ws at s h) hw
+
+    -- ---- a rule
+
+    module _ (z : w ≡ 1) where
+      the-rule : {X : Type 0} (ds : List Domain) (s : Stmt) → Stmt-at nb ds ws at s → ((e : BoolExpr) → s ≡ Rule e → Bool-at nb ds ws (at + 1) e → X) → X
+      unfolding encode-stmt any-part tag
+      the-rule ds (Rule e) r go = go e refl (record { stands = record { words = has-rest ws at _ _ (r .words); vars = bool-vars nb (length ds) 64 e (r .well) }; light = r .light })
+      the-rule ds (Table es rows) r go = absurd (let t : 2 ≡ w = tag-is (Table es rows) (r .words) in omega arith)
+
+      pub rule-ready : Ready-stmt ws values nb at work → Ready-bool ws values nb (at + 1)
+      rule-ready r = the-rule (r .ds) (r .it) (r .reads) λ e q h. record { ds = r .ds; roster = r .roster; it = e; reads = h }
+
+      pub rule-held : (next : ℕ) (h : Bool) → Bool-post ws values nb (at + 1) next h → Stmt-post ws values nb at next h
+      unfolding encode-stmt stmt-holds
+      rule-held next h p ds s b r =
+          the-rule ds s r λ e q g.
+          let y = p ds e b g in
+          let l : next ≡ at + 1 + length (encode-bool e) = y .0 in
+          rw q (omega arith, y .1)
+
+    -- ---- a table
+
+    module _ (z : w ≡ 1 → ⊥) where
+      the-table : {X : Type 0} (ds : List Domain) (s : Stmt) → Stmt-at nb ds ws at s
+          → ((es : List IntExpr) (rows : List (List Cell)) → s ≡ Table es rows → getD ws (at + 1) (pos 0) ≡ pos (length es) → getD ws (at + 2) (pos 0) ≡ pos (length rows)
+          → Columns-at ds ws (at + 3) (length es) es → Rows-at ws (at + 3 + length (flat (map encode-int es))) (length es) (length rows) rows
+          → at + (3 + (length (flat (map encode-int es)) + length es * length rows)) ≤ length ws → length (encode-stmt (Table es rows)) ≡ 3 + (length (flat (map encode-int es)) + length es * length rows) → X) → X
+      unfolding encode-stmt any-part tag
+      the-table ds (Rule e) r go = absurd (z (let t : 1 ≡ w = tag-is (Rule e) (r .words) in sym t))
+      the-table ds (Table es rows) r go =
+          let cs = flat (map encode-int es) in
+          let rs = flat (map (map encode-cell) rows) in
+          let h1 = has-rest ws at _ _ (r .words) in
+          let h2 = has-rest ws (at + 1) _ _ h1 in
+          let m2 : at + 2 ≡ at + 1 + 1 = omega arith in
+          let m3 : at + 3 ≡ at + 1 + 1 + 1 = omega arith in
+          let h3 : Has ws (at + 3) (cs ++ rs) = rw m3 (has-rest ws (at + 1 + 1) _ _ h2) in
+          let l : length (encode-stmt (Table es rows)) ≡ 3 + (length cs + length es * length rows) = omega (arith, length-append cs rs, rows-length (length es) rows (rows-wide (length es) rows (r .well .3))) in
+          go es rows refl (has-word ws (at + 1) _ _ (pos 0) h1) (ap (λ i. getD ws i (pos 0)) m2 ∙ has-word ws (at + 1 + 1) _ _ (pos 0) h2)
+          (record { words = has-front ws (at + 3) cs rs h3; vars = columns-vars (length ds) 64 es (r .well .2); light = r .light; size = refl })
+          (record { words = has-back ws (at + 3) cs rs h3; well = r .well .3; size = refl }) (omega (arith, has-fits ws at (encode-stmt (Table es rows)) (r .words) (omega arith), l)) l
+
+      pub table-inside : Ready-stmt ws values nb at work → at + 3 ≤ length ws
+      table-inside r = the-table (r .ds) (r .it) (r .reads) λ es rows q a b c d l k. omega (arith, l)
+
+      pub table-columns : Ready-stmt ws values nb at work → Plain ws (at + 1)
+      table-columns r = the-table (r .ds) (r .it) (r .reads) λ es rows q a b c d l k. record { inside = omega (arith, l); value = length es; is = a }
+
+      pub table-rows : Ready-stmt ws values nb at work → Plain ws (at + 2)
+      table-rows r = the-table (r .ds) (r .it) (r .reads) λ es rows q a b c d l k. record { inside = omega (arith, l); value = length rows; is = b }
+
+      module _ (n : ℕ) (hn : getD ws (at + 1) (pos 0) ≡ pos n) (k : ℕ) (hk : getD ws (at + 2) (pos 0) ≡ pos k) where
+        pub columns-start : Ready-stmt ws values nb at work → Ready-columns ws values nb (at + 3) n work 0
+        columns-start r =
+            the-table (r .ds) (r .it) (r .reads) λ es rows q a b c d l m.
+            let s : n ≡ length es = pos-eq _ _ _ hn a in
+            record { ds = r .ds; roster = r .roster; them = es; reads = rw s c; room = omega (arith, l, s, r .room, columns-long es) }
+
+        module _ (work' : List ℤ) (p : ℕ) (cp : Columns-post ws values nb (at + 3) n work 0 work' p) where
+          -- the columns' values, stored
+          pub rows-start : Ready-stmt ws values nb at work → Ready-rows ws p n k work' × (p + n * k ≤ length ws)
+          rows-start r =
+              the-table (r .ds) (r .it) (r .reads) λ es rows q a b c d l m.
+              let s : n ≡ length es = pos-eq _ _ _ hn a in
+              let t : k ≡ length rows = pos-eq _ _ _ hk b in
+              let y = cp (r .ds) es (r .roster) (rw s c) in
+              let e : p ≡ at + 3 + length (flat (map encode-int es)) = y .0 in
+              let xs = map (int-value (int-of nb values)) es in
+              let g : length xs ≡ length es = length-map es (int-value (int-of nb values)) in
+              let o : 0 + length xs ≤ length work = omega (arith, l, g, r .room, columns-long es) in
+              (record { them = rows; rows = rw (e, s, t) d; values = xs; stored = record { words = rw (y .1) (has-sets work 0 xs o); size = s ∙ sym g }; inside = omega (arith, l, e) }, rw (s, t) (omega (arith, l, e)))
+
+          pub table-held : length ws ≤ length work → (h : Bool) → Rows-post ws p n k work' h → Stmt-post ws values nb at (p + n * k) h
+          unfolding stmt-holds
+          table-held room h rp ds st bb r =
+              the-table ds st r λ es rows q a b c d l m.
+              let s : n ≡ length es = pos-eq _ _ _ hn a in
+              let t : k ≡ length rows = pos-eq _ _ _ hk b in
+              let y = cp ds es bb (rw s c) in
+              let e : p ≡ at + 3 + length (flat (map encode-int es)) = y .0 in
+              let xs = map (int-value (int-of nb values)) es in
+              let g : length xs ≡ length es = length-map es (int-value (int-of nb values)) in
+              let o : 0 + length xs ≤ length work = omega (arith, l, g, room, columns-long es) in
+              let v = rp rows xs (rw (e, s, t) d) (record { words = rw (y .1) (has-sets work 0 xs o); size = s ∙ sym g }) in
+              rw q (rw (s, t) (omega (arith, e, m)), v ∙ any-cong (row-permits xs) (row-holds (int-of nb values) es) rows (row-is nb values es))
+
+-- ---- `first_broken`
+
+pub stmts-none : (ws values : List ℤ) (nb at n k : ℕ) → n ≡ 0 → Broken-post ws values nb at n k Yes
+unfolding checked-of first-broken
+stmts-none ws values nb at n k z ds [] b r = refl
+stmts-none ws values nb at n k z ds (s ∷ ss) b r = absurd (let t : n ≡ suc (length ss) = r .size in omega arith)
+
+stmts-long : (ss : List Stmt) → length ss ≤ length (flat (map encode-stmt ss))
+stmts-long [] = omega arith
+stmts-long (s ∷ ss) = omega (arith, stmt-some s, stmts-long ss, length-append (encode-stmt s) (flat (map encode-stmt ss)))
+
+pub stmts-few : (ws values : List ℤ) (nb at n : ℕ) (work : List ℤ) → Ready-stmts ws values nb at n work → n ≤ length ws
+stmts-few ws values nb at n work r = go (r .them) (r .reads)
+  where
+    go : (ss : List Stmt) → Stmts-at nb (r .ds) ws at n ss → n ≤ length ws
+    go [] y = omega (arith, y .size)
+    go (s ∷ ss) y = omega (arith, y .size, stmts-long (s ∷ ss), has-fits ws at (flat (map encode-stmt (s ∷ ss))) (y .words) (omega (arith, stmts-long (s ∷ ss))))
+
+module _ (ws values : List ℤ) (nb at n : ℕ) (z : n ≡ 0 → ⊥) where
+  the-stmt : {X : Type 0} (ds : List Domain) (ss : List Stmt) → Stmts-at nb ds ws at n ss
+      → ((s : Stmt) (us : List Stmt) → ss ≡ s ∷ us → Stmt-at nb ds ws at s → Stmts-at nb ds ws (at + length (encode-stmt s)) (n - 1) us → X) → X
+  the-stmt ds [] r go = absurd (z (r .size))
+  the-stmt ds (s ∷ us) r go =
+      let e : n ≡ suc (length us) = r .size in
+      let test = any-part (heavy-comparison ds) (heavy ds) in
+      go s us refl (record { words = has-front ws at (encode-stmt s) _ (r .words); well = r .well .0; light = or-no-l (test s) (any test us) (r .light) })
+      (record { words = has-back ws at (encode-stmt s) _ (r .words); well = r .well .1; light = or-no-r (test s) (any test us) (r .light); size = omega arith })
+
+  pub stmt-ready : (work : List ℤ) → Ready-stmts ws values nb at n work → Ready-stmt ws values nb at work
+  stmt-ready work r = the-stmt (r .ds) (r .them) (r .reads) λ s us q h g. record { ds = r .ds; roster = r .roster; it = s; reads = h; room = r .room }
+
+  module _ (next : ℕ) (h : Bool) (p : Stmt-post ws values nb at next h) where
+    pub stmts-stop : (k : ℕ) → h ≡ false → Broken-post ws values nb at n k (Broken k)
+    unfolding checked-of first-broken
+    stmts-stop k f ds ss b r =
+        the-stmt ds ss r λ s us q g o.
+        let e : truth nb values s ≡ false = sym (p ds s b g .1) ∙ f in
+        rw (q, e) refl
+
+    pub stmts-ready : (work work' : List ℤ) → length work' ≡ length work → Ready-stmts ws values nb at n work → Ready-stmts ws values nb next (n - 1) work'
+    stmts-ready work work' e r =
+        the-stmt (r .ds) (r .them) (r .reads) λ s us q g o.
+        let l : next ≡ at + length (encode-stmt s) = p (r .ds) s (r .roster) g .0 in
+        record { ds = r .ds; roster = r .roster; them = us; reads = rw l o; room = omega (arith, r .room) }
+
+    pub stmts-more : (k : ℕ) → h ≡ true → (a : Checked) → Broken-post ws values nb next (n - 1) (k + 1) a → Broken-post ws values nb at n k a
+    unfolding first-broken
+    stmts-more k f a o ds ss b r =
+        the-stmt ds ss r λ s us q g i.
+        let y = p ds s b g in
+        let l : next ≡ at + length (encode-stmt s) = y .0 in
+        let e : truth nb values s ≡ true = sym (y .1) ∙ f in
+        rw (q, e, sym (add-one k)) (o ds us b (rw l i))

@@ -1,0 +1,4 @@
+pub mod Roster
+pub mod Cases
+pub mod Small
+pub mod Contracts
