@@ -1,0 +1,289 @@
+-- A law for each answer of the functions that fill lines, over variables. Assumes nothing.
+use mathlib.Core.Path.{_≡_, refl, sym, ap, _∙_, subst}
+use mathlib.Core.Bool.{Bool, true, false, cond}
+use mathlib.Core.List.{List, [], _∷_, _++_, map, append-assoc, append-nil}
+use Prim.Native.Nat.{ℕ, zero, suc, _+_, _-_, _*_, _≤_, _<_}
+use native.Mathlib.Omega.{arith}
+use lib.IntN.{ℤ, pos}
+use lib.Dec.{leb}
+use lib.ListN.{length, take, drop, getD, length-append, length-replicate, drop-of-length-le}
+use lib.Seq.{sets}
+use borrow.Author.Tests.{leb-true, leb-false, le-leb, lt-leb}
+use Rattle.laws.specs.Lists.{flat, flat-append}
+use Rattle.decimal.specs.Decimal.{print-number}
+use Rattle.lines.specs.Output.{cons-word}
+use Rattle.page.specs.Sheet.{spaces, space, width, margin, Item, literal-item, Page, full, put, turn, fresh, gap, place-part, place-parts, place-item, place-items}
+use Rattle.page.specs.Writes.{Wrote, Line, page-text, On, Moves, begun, Begins}
+use Rattle.page.specs.declared.Place.{Place}
+use Rattle.page.proofs.Bytes.{sets-append, wrote-then, wrote-to, wrote-length}
+
+abbrev pub place : ℕ → ℕ → Bool → Place
+place l a b = record { line = l; at = a; bare = b }
+
+-- ---- one page after another
+
+pub moves-none : {out : List ℕ} {p : Place} → Line p → Moves (λ x. x) 0 out p out p
+moves-none l = record { line = l; few = omega arith; size = refl; page = λ out₀ base x o. o }
+
+pub moves-then : {f g : Page → Page} {m n : ℕ} {a b c : List ℕ} {p q r : Place} → Moves f m a p b q → Moves g n b q c r → Moves (λ x. g (f x)) (m + n) a p c r
+moves-then {f} x y = record {
+  line = y .line;
+  few = let h = x .few in let k = y .few in omega arith;
+  size = y .size ∙ x .size;
+  page = λ out₀ base P o. y .page out₀ base (f P) (x .page out₀ base P o);
+}
+
+-- the same change, said another way, and more lines
+pub moves-as : {f g : Page → Page} {m n : ℕ} {a b : List ℕ} {p r : Place} → ((x : Page) → f x ≡ g x) → m ≤ n → Moves f m a p b r → Moves g n a p b r
+moves-as {f} {g} {m} {n} {a} {b} {p} {r} e h x = record {
+  line = x .line;
+  few = let k = x .few in omega arith;
+  size = x .size;
+  page = λ out₀ base P o. subst (λ (Q : Page). On out₀ base Q b r) (e P) (x .page out₀ base P o);
+}
+
+-- bytes that make a page another
+on-more : {out₀ out out' : List ℕ} {base : ℕ} {p r : Place} (P Q : Page) (bs : List ℕ) → On out₀ base P out p → Wrote out (p .at) bs out' (r .at) → page-text Q ≡ page-text P ++ bs → r .at ≡ r .line + length (Q .line) → Q .bare ≡ r .bare → On out₀ base Q out' r
+on-more {out₀} {out} {out'} {base} {p} {r} P Q bs o w e c b = record {
+  bytes = w .bytes ∙ ap (λ (l : List ℕ). sets l (p .at) bs) (o .bytes) ∙ ap (λ n. sets (sets out₀ base (page-text P)) n bs) (o .after) ∙ sym (sets-append out₀ base (page-text P) bs) ∙ ap (sets out₀ base) (sym e);
+  after = let f = w .after in let g = o .after in rw (e, length-append (page-text P) bs) (omega arith);
+  column = c;
+  bare = b;
+}
+
+put-text : (t : List ℕ) (P : Page) → page-text (put t P) ≡ page-text P ++ t
+unfolding page-text put
+put-text t P = sym (append-assoc (flat (map full (P .lines))) (P .line) t)
+
+map-append : (xs ys : List (List ℕ)) → map full (xs ++ ys) ≡ map full xs ++ map full ys
+map-append [] ys = refl
+map-append (x ∷ xs) ys = ap (λ l. full x ∷ l) (map-append xs ys)
+
+turn-text : (P : Page) → page-text (turn P) ≡ page-text P ++ ((spaces (80 - length (P .line)) ++ (10 ∷ [])) ++ spaces 10)
+unfolding page-text turn full
+turn-text P =
+    let ls : List ℕ = flat (map full (P .lines)) in
+    let end : List ℕ = spaces (80 - length (P .line)) ++ (10 ∷ []) in
+    let e : flat (map full (P .lines ++ (P .line ∷ []))) ≡ ls ++ (P .line ++ end) = ap flat (map-append (P .lines) (P .line ∷ [])) ∙ flat-append (map full (P .lines)) (map full (P .line ∷ [])) ∙ ap (λ (l : List ℕ). ls ++ l) (append-nil (P .line ++ end)) in
+    ap (λ (l : List ℕ). l ++ spaces 10) e ∙ ap (λ (l : List ℕ). l ++ spaces 10) (sym (append-assoc ls (P .line) end)) ∙ append-assoc (ls ++ P .line) end (spaces 10)
+
+-- ---- lines
+
+pub end-written : {out mid out' : List ℕ} {at k o : ℕ} (line : ℕ) → line + 10 ≤ at → at ≤ line + 80 → k ≡ line + 80 - at → Wrote out at (spaces k) mid o → o ≡ at + k → out' ≡ sets mid o (10 ∷ []) → (Wrote out at (spaces (80 - (at - line)) ++ (10 ∷ [])) out' (o + 1)) × (o + 1 ≡ line + 81)
+end-written {out} {mid} {out'} {at} {k} {o} line l h e w a b =
+    let f : k ≡ 80 - (at - line) = omega arith in
+    let x : Wrote out at (spaces (80 - (at - line))) mid o = wrote-to (ap spaces f) w in
+    let y : Wrote mid o (10 ∷ []) out' (o + 1) = record { bytes = b; after = refl } in
+    (wrote-then x y, omega arith)
+
+pub turn-moves : {out mid out' : List ℕ} {p : Place} {e o : ℕ} → Line p → Wrote out (p .at) (spaces (80 - (p .at - p .line)) ++ (10 ∷ [])) mid e → e ≡ p .line + 81 → Wrote mid e (spaces 10) out' o → o ≡ e + 10
+    → (Moves turn 1 out p out' (place e o true)) × (o ≡ e + 10)
+turn-moves {out} {mid} {out'} {p} {e} {o} l x a y b = (record {
+  line = record { low = omega arith; high = omega arith; start = λ t. b };
+  few = omega arith;
+  size = wrote-length y ∙ wrote-length x;
+  page = λ out₀ base P n.
+      let c : 80 - (p .at - p .line) ≡ 80 - length (P .line) = let d = n .column in omega arith in
+      on-more P (turn P) _ n (wrote-then x y) (turn-text P ∙ rw c refl) (unfold turn in (rw (length-replicate {A = ℕ} 10 32) b)) (unfold turn in refl);
+}, b)
+
+-- ---- an item's beginning
+
+begun-here : (w : ℕ) (P : Page) → P .bare ≡ true → begun w P ≡ P
+unfolding begun
+begun-here w P b = ap (λ (t : Bool). cond t P (cond (leb (length (P .line) + (1 + w)) width) (put (space ∷ []) P) (turn P))) b
+
+begun-else : (w : ℕ) (P : Page) → P .bare ≡ false → begun w P ≡ cond (leb (length (P .line) + (1 + w)) width) (put (space ∷ []) P) (turn P)
+unfolding begun
+begun-else w P b = ap (λ (t : Bool). cond t P (cond (leb (length (P .line) + (1 + w)) width) (put (space ∷ []) P) (turn P))) b
+
+begun-space : (w : ℕ) (P : Page) → P .bare ≡ false → length (P .line) + (1 + w) ≤ 80 → begun w P ≡ put (space ∷ []) P
+begun-space w P b h = begun-else w P b ∙ ap (λ (t : Bool). cond t (put (space ∷ []) P) (turn P)) (le-leb (length (P .line) + (1 + w)) 80 h)
+
+begun-turn : (w : ℕ) (P : Page) → P .bare ≡ false → 80 < length (P .line) + (1 + w) → begun w P ≡ turn P
+begun-turn w P b h = begun-else w P b ∙ ap (λ (t : Bool). cond t (put (space ∷ []) P) (turn P)) (lt-leb (length (P .line) + (1 + w)) 80 h)
+
+on-as : {out₀ out : List ℕ} {base : ℕ} {r : Place} {P Q : Page} → P ≡ Q → On out₀ base P out r → On out₀ base Q out r
+on-as {out₀} {out} {base} {r} {P} {Q} e o = subst (λ (X : Page). On out₀ base X out r) e o
+
+pub begin-bare : {out : List ℕ} {p : Place} (w : ℕ) → Line p → p .bare ≡ true → Begins w out p out p
+begin-bare w l b = record {
+  moves = record { line = l; few = omega arith; size = refl; page = λ out₀ base P o. on-as (sym (begun-here w P (o .bare ∙ b))) o };
+  fits = λ h. let e = l .start b in omega arith;
+  start = λ h. l .start b;
+}
+
+pub begin-space : {out out' : List ℕ} {p : Place} (w : ℕ) → Line p → p .bare ≡ false → p .at + 1 + w ≤ p .line + 80 → out' ≡ sets out (p .at) (32 ∷ []) → length out' ≡ length out → Begins w out p out' (place (p .line) (p .at + 1) false)
+begin-space {out} {out'} {p} w l b h x z = record {
+  moves = record {
+    line = record { low = let a = l .low in omega arith; high = omega arith; start = λ e. absurd (let q : _≡_ {A = ℕ} 0 1 = cc in omega arith) };
+    few = omega arith;
+    size = z;
+    page = λ out₀ base P o.
+        let c = o .column in
+        let w1 : Wrote out (p .at) (space ∷ []) out' (p .at + 1) = record { bytes = x; after = refl } in
+        on-as (sym (begun-space w P (o .bare ∙ b) (omega arith))) (on-more {r = place (p .line) (p .at + 1) false} P (put (space ∷ []) P) (space ∷ []) o w1 (put-text (space ∷ []) P) (unfold put in (omega (arith, length-append (P .line) (space ∷ [])))) (unfold put in refl));
+  };
+  fits = λ k. omega arith;
+  start = λ k. absurd (let a = l .low in omega arith);
+}
+
+pub begin-turn : {out out' : List ℕ} {p r : Place} (w : ℕ) → Line p → p .bare ≡ false → p .line + 80 < p .at + 1 + w → Moves turn 1 out p out' r → r .at ≡ r .line + 10 → Begins w out p out' r
+begin-turn {out} {out'} {p} {r} w l b h x z = record {
+  moves = record {
+    line = x .line;
+    few = x .few;
+    size = x .size;
+    page = λ out₀ base P o. let c = o .column in on-as (sym (begun-turn w P (o .bare ∙ b) (omega arith))) (x .page out₀ base P o);
+  };
+  fits = λ k. omega arith;
+  start = λ k. z;
+}
+
+-- ---- an item whole, and in parts
+
+put-put : (t u : List ℕ) (P : Page) → put u (put t P) ≡ put (t ++ u) P
+unfolding put
+put-put t u P = ap (λ (l : List ℕ). record { lines = P .lines; line = l; bare = false }) (append-assoc (P .line) t u)
+
+part-fits : (t : List ℕ) (P : Page) → length (P .line) + length t ≤ 80 → place-part t P ≡ put t P
+unfolding place-part
+part-fits t P h = rw (le-leb (length (P .line) + length t) 80 h) refl
+
+-- parts that all fit stand whole
+pub parts-fit : (t : List ℕ) (ts : Item) (P : Page) → length (P .line) + length (flat (t ∷ ts)) ≤ 80 → place-parts (t ∷ ts) P ≡ put (flat (t ∷ ts)) P
+unfolding place-parts
+parts-fit t [] P h = part-fits t P (omega (arith, length-append t [])) ∙ ap (λ (l : List ℕ). put l P) (sym (append-nil t))
+parts-fit t (u ∷ us) P h =
+    let e : place-part t P ≡ put t P = part-fits t P (omega (arith, length-append t (flat (u ∷ us)))) in
+    let l : length (put t P .line) ≡ length (P .line) + length t = unfold put in (length-append (P .line) t) in
+    ap (place-parts (u ∷ us)) e ∙ parts-fit u us (put t P) (omega (arith, length-append t (flat (u ∷ us)))) ∙ put-put t (flat (u ∷ us)) P
+
+-- a line without items, and what stands in front of an item
+fresh-here : (P : Page) → P .bare ≡ true → fresh P ≡ P
+unfolding fresh
+fresh-here P b = ap (λ (t : Bool). cond t P (turn P)) b
+
+fresh-turn : (P : Page) → P .bare ≡ false → fresh P ≡ turn P
+unfolding fresh
+fresh-turn P b = ap (λ (t : Bool). cond t P (turn P)) b
+
+gap-is : (P : Page) (t : Bool) (x : List ℕ) → P .bare ≡ t → gap P ++ x ≡ cond t [] (space ∷ []) ++ x
+gap-is P t x b = ap (λ (t : Bool). cond t [] (space ∷ []) ++ x) b
+
+-- the three ways of an item
+module _ (i : Item) (P : Page) where
+  abbrev else-way : Page
+  else-way = cond (leb (10 + length (flat i)) 80) (put (flat i) (fresh P)) (place-parts i (fresh P))
+
+  item-fits : length (P .line) + length (gap P ++ flat i) ≤ 80 → place-item i P ≡ put (gap P ++ flat i) P
+  unfolding place-item
+  item-fits h = ap (λ (t : Bool). cond t (put (gap P ++ flat i) P) else-way) (le-leb (length (P .line) + length (gap P ++ flat i)) 80 h)
+
+  item-else : 80 < length (P .line) + length (gap P ++ flat i) → place-item i P ≡ else-way
+  unfolding place-item
+  item-else h = ap (λ (t : Bool). cond t (put (gap P ++ flat i) P) else-way) (lt-leb (length (P .line) + length (gap P ++ flat i)) 80 h)
+
+  item-whole : 80 < length (P .line) + length (gap P ++ flat i) → 10 + length (flat i) ≤ 80 → place-item i P ≡ put (flat i) (fresh P)
+  item-whole h k = item-else h ∙ ap (λ (t : Bool). cond t (put (flat i) (fresh P)) (place-parts i (fresh P))) (le-leb (10 + length (flat i)) 80 k)
+
+  item-broken : 80 < length (P .line) + length (gap P ++ flat i) → 80 < 10 + length (flat i) → place-item i P ≡ place-parts i (fresh P)
+  item-broken h k = item-else h ∙ ap (λ (t : Bool). cond t (put (flat i) (fresh P)) (place-parts i (fresh P))) (lt-leb (10 + length (flat i)) 80 k)
+
+-- an item is begun, and then placed by its parts
+module _ (t : List ℕ) (ts : Item) (P : Page) where
+  abbrev item : Item
+  item = t ∷ ts
+
+  abbrev size : ℕ
+  size = length (flat item)
+
+  on-bare : P .bare ≡ true → length (P .line) ≡ 10 → place-item item P ≡ place-parts item (begun size P)
+  on-bare b l = go (leb (10 + size) 80) refl ∙ ap (place-parts item) (sym (begun-here size P b))
+    where
+      g : gap P ++ flat item ≡ flat item
+      g = gap-is P true (flat item) b
+
+      go : (x : Bool) → leb (10 + size) 80 ≡ x → place-item item P ≡ place-parts item P
+      go true e = let h = leb-true (10 + size) 80 e in item-fits item P (omega (arith, ap length g)) ∙ ap (λ (x : List ℕ). put x P) g ∙ sym (parts-fit t ts P (omega arith))
+      go false e = let h = leb-false (10 + size) 80 e in item-broken item P (omega (arith, ap length g)) h ∙ ap (place-parts item) (fresh-here P b)
+
+  behind : P .bare ≡ false → place-item item P ≡ place-parts item (begun size P)
+  behind b = go (leb (length (P .line) + (1 + size)) 80) refl (leb (10 + size) 80) refl
+    where
+      g : gap P ++ flat item ≡ space ∷ flat item
+      g = gap-is P false (flat item) b
+
+      go : (x : Bool) → leb (length (P .line) + (1 + size)) 80 ≡ x → (y : Bool) → leb (10 + size) 80 ≡ y → place-item item P ≡ place-parts item (begun size P)
+      go true e y f =
+          let h = leb-true (length (P .line) + (1 + size)) 80 e in
+          let n : length (put (space ∷ []) P .line) ≡ length (P .line) + 1 = unfold put in (length-append (P .line) (space ∷ [])) in
+          item-fits item P (omega (arith, ap length g)) ∙ ap (λ (x : List ℕ). put x P) g ∙ sym (put-put (space ∷ []) (flat item) P) ∙ sym (parts-fit t ts (put (space ∷ []) P) (omega arith)) ∙ ap (place-parts item) (sym (begun-space size P b h))
+      go false e true f =
+          let h = leb-false (length (P .line) + (1 + size)) 80 e in
+          let k = leb-true (10 + size) 80 f in
+          let n : length (turn P .line) ≡ 10 = unfold turn in refl in
+          item-whole item P (omega (arith, ap length g)) k ∙ ap (put (flat item)) (fresh-turn P b) ∙ sym (parts-fit t ts (turn P) (omega arith)) ∙ ap (place-parts item) (sym (begun-turn size P b h))
+      go false e false f =
+          let h = leb-false (length (P .line) + (1 + size)) 80 e in
+          item-broken item P (omega (arith, ap length g)) (leb-false (10 + size) 80 f) ∙ ap (place-parts item) (fresh-turn P b ∙ sym (begun-turn size P b h))
+
+  place-begun : (P .bare ≡ true → length (P .line) ≡ 10) → place-item item P ≡ place-parts item (begun size P)
+  place-begun h = go (P .bare) refl
+    where
+      go : (x : Bool) → P .bare ≡ x → place-item item P ≡ place-parts item (begun size P)
+      go true b = on-bare b (h b)
+      go false b = behind b
+
+-- an item of which the beginning and then the parts are written
+pub item-moves : {out mid out' : List ℕ} {p q r : Place} {n w : ℕ} (t : List ℕ) (ts : Item) → Line p → w ≡ length (flat (t ∷ ts)) → Begins w out p mid q → Moves (place-parts (t ∷ ts)) n mid q out' r → Moves (place-item (t ∷ ts)) (1 + n) out p out' r
+item-moves {out} {mid} {out'} {p} {q} {r} {n} {w} t ts l e b m =
+    let x : Moves (λ P. place-parts (t ∷ ts) (begun w P)) (1 + n) out p out' r = moves-then (b .moves) m in
+    record {
+      line = x .line;
+      few = x .few;
+      size = x .size;
+      page = λ out₀ base P o. on-as (ap (λ (k : ℕ). place-parts (t ∷ ts) (begun k P)) e ∙ sym (place-begun t ts P (λ h. let a = l .start (sym (o .bare) ∙ h) in let c = o .column in omega arith))) (x .page out₀ base P o);
+    }
+
+-- a part that fits
+pub part-moves : {out out' : List ℕ} {p : Place} {a : ℕ} (t : List ℕ) → Line p → p .at + length t ≤ p .line + 80 → Wrote out (p .at) t out' a → Moves (place-part t) 0 out p out' (place (p .line) a false)
+part-moves {out} {out'} {p} {a} t l h w = record {
+  line = record { low = let c = l .low in let d = w .after in omega arith; high = let d = w .after in omega arith; start = λ e. absurd (let q : _≡_ {A = ℕ} 0 1 = cc in omega arith) };
+  few = omega arith;
+  size = wrote-length w;
+  page = λ out₀ base P o.
+      let c = o .column in
+      let d = w .after in
+      on-as (sym (part-fits t P (omega arith))) (on-more {r = place (p .line) a false} P (put t P) t o w (put-text t P) (unfold put in (omega (arith, length-append (P .line) t))) (unfold put in refl));
+}
+
+-- ---- literals: i of them are placed
+
+pub literal-moves : {out mid out' : List ℕ} {p q : Place} {w : ℕ} (z : ℤ) → Line p → w ≡ length (print-number z) → w ≤ 11 → Begins w out p mid q → out' ≡ sets mid (q .at) (print-number z) → Moves (place-item (literal-item z)) 1 out p out' (place (q .line) (q .at + w) false)
+unfolding place-parts
+literal-moves {out} {mid} {out'} {p} {q} {w} z l e h b x =
+    let k = b .fits (omega arith) in
+    let y : Wrote mid (q .at) (print-number z) out' (q .at + w) = record { bytes = x; after = rw e refl } in
+    let f : w ≡ length (flat (literal-item z)) = omega (arith, length-append (print-number z) []) in
+    item-moves (print-number z) [] l f b (part-moves (print-number z) (b .moves .line) (omega arith) y)
+
+-- whatever places the rest has placed all
+pub record Literals (part : List ℤ) (out₀ : List ℕ) (p₀ : Place) (i : ℕ) (out : List ℕ) (p : Place) : Type 0 where
+  pub whole : (out' : List ℕ) (r : Place) → Moves (place-items (map literal-item (drop i part))) (length part - i) out p out' r → Moves (place-items (map literal-item part)) (length part) out₀ p₀ out' r
+
+module _ {part : List ℤ} {out₀ : List ℕ} {p₀ : Place} where
+  pub literals-start : Literals part out₀ p₀ 0 out₀ p₀
+  literals-start = record { whole = λ out' r m. moves-as (λ x. refl) (omega arith) m }
+
+  pub literals-next : {i : ℕ} {out : List ℕ} {p : Place} {out' : List ℕ} {r : Place} (z : ℤ) → Literals part out₀ p₀ i out p → i < length part → z ≡ getD part i (pos 0) → Moves (place-item (literal-item z)) 1 out p out' r → Literals part out₀ p₀ (i + 1) out' r
+  unfolding place-items
+  literals-next {i} {out} {p} {out'} {r} z inv h e m = record { whole = λ out'' r' n.
+      let c : place-items (map literal-item (drop i part)) ≡ place-items (literal-item z ∷ map literal-item (drop (i + 1) part)) = ap (λ (l : List ℤ). place-items (map literal-item l)) (cons-word part i h ∙ ap (λ (k : ℤ). k ∷ drop (i + 1) part) (sym e)) in
+      inv .whole out'' r' (moves-as (λ x. ap (λ (f : Page → Page). f x) (sym c)) (omega arith) (moves-then m n)) }
+
+  pub literals-end : {i : ℕ} {out : List ℕ} {p : Place} → Literals part out₀ p₀ i out p → Line p → length part ≤ i → Moves (place-items (map literal-item part)) (length part) out₀ p₀ out p
+  unfolding place-items
+  literals-end {i} {out} {p} inv l h =
+      let c : [] ≡ drop i part = sym (drop-of-length-le part h) in
+      inv .whole out p (moves-as (λ x. ap (λ (l : List ℤ). place-items (map literal-item l) x) c) (omega arith) (moves-none l))

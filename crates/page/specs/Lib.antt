@@ -1,0 +1,4 @@
+pub mod Sheet
+pub mod Cases
+pub mod Writes
+pub mod Widths

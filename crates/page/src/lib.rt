@@ -1,0 +1,169 @@
+// The clause sheet, written from the words of an answer straight into the lent bytes. Bytes past the end are dropped, and counted.
+use decimal::put_byte;
+use decimal::put_natural;
+use decimal::put_number;
+use lines::count_at;
+use lines::stop;
+ghost use mathlib.Core.Path.{_≡_};
+ghost use mathlib.Core.Bool.{false};
+ghost use mathlib.Core.List.{[], _∷_, _++_, map};
+ghost use Prim.Native.Nat.{_+_, _*_, _-_, _≤_, _<_, min};
+ghost use lib.ListN.{length, drop, take};
+ghost use Rattle.decimal.specs.Decimal.{print-natural, print-number};
+ghost use Rattle.lines.specs.Lines.{print-numbers};
+ghost use Rattle.page.specs.Sheet.{spaces, literal-item, pair-parts, comparison-item, comparison-items, clause-items, turn as turned, place-part, place-parts, place-item, place-items, numbered, all-lines, full, sheet-lines, print-sheet};
+ghost use Rattle.page.specs.Writes.{Wrote, Few, far, Line, Moves, Shows, Begins};
+
+// Where a line starts, where its next byte goes, and whether no item stands on it yet.
+pub struct Place {
+    pub line: usize,
+    pub at: usize,
+    pub bare: bool,
+}
+
+// The number of digits.
+fn natural_width(n: u64) -> usize
+    ensures { λ r. ⌜ r ≡ length (print-natural n) ⌝ }
+{
+    let mut w = 1;
+    let mut m = n;
+    while 10 <= m {
+        m = m / 10;
+        w += 1;
+    }
+    w
+}
+
+// The number of characters.
+fn width(z: i32) -> usize
+    ensures { λ r. ⌜ (r ≡ length (print-number z)) × (r ≤ 11) ⌝ }
+{
+    if z < 0 {
+        let m = -1 - z;
+        return 1 + natural_width(m as u64 + 1);
+    }
+    natural_width(z as u64)
+}
+
+// The number of characters of numbers parted by commas.
+fn numbers_width(part: &[i32]) -> usize
+    requires { ⌜ Few (now part) ⌝ }
+    ensures { λ r. ⌜ (r ≡ length (print-numbers (now (part .entry)))) × (r ≤ 12 * length (now (part .entry))) ⌝ }
+{
+    let mut w = 0;
+    let mut i = 0;
+    while i < part.len() {
+        w += width(part[i]) + 1;
+        i += 1;
+    }
+    if w == 0 {
+        return 0;
+    }
+    w - 1
+}
+
+// Numbers parted by commas.
+fn put_numbers(out: &mut [u8], at: usize, part: &[i32]) -> usize
+    requires { ⌜ (at ≤ far) × (Few (now part)) ⌝ }
+    ensures { λ r. ⌜ Wrote (now (out .entry)) at (print-numbers (now (part .entry))) (now (out .exit)) r ⌝ }
+{
+    if part.len() == 0 {
+        return at;
+    }
+    put_number(out, at, part[0]);
+    let mut o = at + width(part[0]);
+    let mut i = 1;
+    while i < part.len() {
+        put_byte(out, o, b',');
+        put_number(out, o + 1, part[i]);
+        o += width(part[i]) + 1;
+        i += 1;
+    }
+    o
+}
+
+fn least(a: usize, b: usize) -> usize
+    ensures { λ r. ⌜ r ≡ min a b ⌝ }
+{
+    if a < b {
+        return a;
+    }
+    b
+}
+
+fn put_spaces(out: &mut [u8], at: usize, n: usize) -> usize
+    requires { ⌜ (at ≤ far) × (n ≤ 80) ⌝ }
+    ensures { λ r. ⌜ (Wrote (now (out .entry)) at (spaces n) (now (out .exit)) r) × (r ≡ at + n) ⌝ }
+{
+    let end = least(at + n, out.len());
+    let mut o = at;
+    while o < end {
+        out[o] = b' ';
+        o += 1;
+    }
+    at + n
+}
+
+// The line is filled with spaces and ended. The place after it.
+fn end_line(out: &mut [u8], p: Place) -> usize
+    requires { ⌜ (Line p) × (p .line + 81 ≤ far) ⌝ }
+    ensures { λ r. ⌜ (Wrote (now (out .entry)) (p .at) (spaces (80 - (p .at - p .line)) ++ (10 ∷ [])) (now (out .exit)) r) × (r ≡ p .line + 81) ⌝ }
+{
+    let o = put_spaces(out, p.at, p.line + 80 - p.at);
+    put_byte(out, o, b'\n');
+    o + 1
+}
+
+// A continuation line.
+fn turn(out: &mut [u8], p: Place) -> Place
+    requires { ⌜ (Line p) × (p .line + 81 ≤ far) ⌝ }
+    ensures { λ r. ⌜ (Moves turned 1 (now (out .entry)) p (now (out .exit)) r) × (r .at ≡ r .line + 10) ⌝ }
+{
+    let e = end_line(out, p);
+    let o = put_spaces(out, e, 10);
+    Place {
+        line: e,
+        at: o,
+        bare: true,
+    }
+}
+
+// Before an item of w characters: a space behind the item before it, or a new line where it does not fit.
+fn begin(out: &mut [u8], p: Place, w: usize) -> Place
+    requires { ⌜ (Line p) × (p .line + 81 ≤ far) × (w ≤ far) ⌝ }
+    ensures { λ r. ⌜ Begins w (now (out .entry)) p (now (out .exit)) r ⌝ }
+{
+    if p.bare {
+        return p;
+    }
+    if p.at + 1 + w <= p.line + 80 {
+        put_byte(out, p.at, b' ');
+        return Place {
+            line: p.line,
+            at: p.at + 1,
+            bare: false,
+        };
+    }
+    turn(out, p)
+}
+
+// A clause's literals.
+fn place_literals(out: &mut [u8], page: Place, part: &[i32]) -> Place
+    requires { ⌜ (Line page) × (Few (now part)) × (page .line + 81 * length (now part) ≤ far) ⌝ }
+    ensures { λ r. ⌜ Moves (place-items (map literal-item (now (part .entry)))) (length (now (part .entry))) (now (out .entry)) page (now (out .exit)) r ⌝ }
+{
+    let mut p = page;
+    let mut i = 0;
+    while i < part.len() {
+        let w = width(part[i]);
+        let q = begin(out, p, w);
+        put_number(out, q.at, part[i]);
+        p = Place {
+            line: q.line,
+            at: q.at + w,
+            bare: false,
+        };
+        i += 1;
+    }
+    p
+}
