@@ -2,18 +2,20 @@
 use mathlib.Core.Path.{_≡_, refl, sym, ap, _∙_, subst}
 use mathlib.Core.Bool.{Bool, true, false, cond}
 use mathlib.Core.List.{List, [], _∷_, _++_, map, append-assoc, append-nil}
-use Prim.Native.Nat.{ℕ, zero, suc, _+_, _-_, _*_, _≤_, _<_}
+use Prim.Native.Nat.{ℕ, zero, suc, _+_, _-_, _*_, _≤_, _<_, min}
 use native.Mathlib.Omega.{arith}
 use lib.IntN.{ℤ, pos}
-use lib.Dec.{leb}
-use lib.ListN.{length, take, drop, getD, length-append, length-replicate, drop-of-length-le}
+use lib.Dec.{leb, ltb}
+use lib.ListN.{length, take, drop, getD, length-append, length-take, length-drop, length-replicate, drop-of-length-le}
 use lib.Seq.{sets}
-use borrow.Author.Tests.{leb-true, leb-false, le-leb, lt-leb}
+use borrow.Author.Tests.{leb-true, leb-false, le-leb, lt-leb, lt-ltb, le-ltb, ltb-true, ltb-false}
 use Rattle.laws.specs.Lists.{flat, flat-append}
 use Rattle.decimal.specs.Decimal.{print-number}
-use Rattle.lines.specs.Output.{cons-word}
-use Rattle.page.specs.Sheet.{spaces, space, width, margin, Item, literal-item, Page, full, put, turn, fresh, gap, place-part, place-parts, place-item, place-items}
-use Rattle.page.specs.Writes.{Wrote, Line, page-text, On, Moves, begun, Begins}
+use Rattle.decimal.specs.Bytes.{comma}
+use Rattle.lines.specs.Lines.{print-numbers}
+use Rattle.lines.specs.Output.{cons-word, Stops}
+use Rattle.page.specs.Sheet.{spaces, space, width, margin, Item, literal-item, Page, full, put, turn, fresh, gap, place-part, place-parts, place-item, place-items, pair-parts}
+use Rattle.page.specs.Writes.{Wrote, Line, page-text, On, Moves, begun, Begins, with-room, Rooms, pair-text}
 use Rattle.page.specs.declared.Place.{Place}
 use Rattle.page.proofs.Bytes.{sets-append, wrote-then, wrote-to, wrote-length}
 
@@ -287,3 +289,117 @@ module _ {part : List ℤ} {out₀ : List ℕ} {p₀ : Place} where
   literals-end {i} {out} {p} inv l h =
       let c : [] ≡ drop i part = sym (drop-of-length-le part h) in
       inv .whole out p (moves-as (λ x. ap (λ (l : List ℤ). place-items (map literal-item l) x) c) (omega arith) (moves-none l))
+
+-- ---- a pair
+
+pub pair-plain : (zs : List ℤ) (more : Bool) → more ≡ false → print-numbers zs ≡ pair-text zs more
+unfolding pair-text
+pair-plain zs more h = rw h (sym (append-nil (print-numbers zs)))
+
+pub pair-comma : (zs : List ℤ) (more : Bool) → more ≡ true → print-numbers zs ++ (comma ∷ []) ≡ pair-text zs more
+unfolding pair-text
+pair-comma zs more h = rw h refl
+
+module _ (zs : List ℤ) (more : Bool) (w : ℕ) (e : w ≡ length (print-numbers zs)) where
+  pub width-plain : more ≡ false → w ≡ length (pair-text zs more)
+  width-plain h = e ∙ ap length (pair-plain zs more h)
+
+  pub width-comma : more ≡ true → w + 1 ≡ length (pair-text zs more)
+  width-comma h = omega (arith, ap length (pair-comma zs more h), length-append (print-numbers zs) (comma ∷ []))
+
+pub put-comma : {out mid out' : List ℕ} {at o : ℕ} (zs : List ℤ) (more : Bool) → more ≡ true → Wrote out at (print-numbers zs) mid o → out' ≡ sets mid o (comma ∷ []) → Wrote out at (pair-text zs more) out' (o + 1)
+put-comma {out} {mid} {out'} {at} {o} zs more h w x = let y : Wrote mid o (comma ∷ []) out' (o + 1) = record { bytes = x; after = refl } in wrote-to (pair-comma zs more h) (wrote-then w y)
+
+room-here : (w : ℕ) (P : Page) → length (P .line) + w ≤ 80 → with-room w P ≡ P
+unfolding with-room
+room-here w P h = ap (λ (t : Bool). cond t P (turn P)) (le-leb (length (P .line) + w) 80 h)
+
+room-turn : (w : ℕ) (P : Page) → 80 < length (P .line) + w → with-room w P ≡ turn P
+unfolding with-room
+room-turn w P h = ap (λ (t : Bool). cond t P (turn P)) (lt-leb (length (P .line) + w) 80 h)
+
+pub rooms-here : {out : List ℕ} {p : Place} (w : ℕ) → Line p → p .at + w ≤ p .line + 80 → Rooms w out p out p
+rooms-here w l h = record {
+  moves = record { line = l; few = omega arith; size = refl; page = λ out₀ base P o. let c = o .column in on-as (sym (room-here w P (omega arith))) o };
+  fits = λ k. h;
+}
+
+pub rooms-turn : {out out' : List ℕ} {p r : Place} (w : ℕ) → p .line + 80 < p .at + w → Moves turn 1 out p out' r → r .at ≡ r .line + 10 → Rooms w out p out' r
+rooms-turn w h m z = record {
+  moves = record { line = m .line; few = m .few; size = m .size; page = λ out₀ base P o. let c = o .column in on-as (sym (room-turn w P (omega arith))) (m .page out₀ base P o) };
+  fits = λ k. omega arith;
+}
+
+part-room : (t : List ℕ) (P : Page) → place-part t P ≡ put t (with-room (length t) P)
+unfolding place-part with-room
+part-room t P = go (leb (length (P .line) + length t) width)
+  where
+    go : (x : Bool) → cond x (put t P) (put t (turn P)) ≡ put t (cond x P (turn P))
+    go true = refl
+    go false = refl
+
+-- a part written where there is room for it
+pub pair-moves : {out mid out' : List ℕ} {p q : Place} {w a : ℕ} (t : List ℕ) → w ≡ length t → w ≤ 25 → Rooms w out p mid q → Wrote mid (q .at) t out' a → Moves (place-part t) 1 out p out' (place (q .line) a false)
+pair-moves {out} {mid} {out'} {p} {q} {w} {a} t e h r x =
+    let f = r .fits (omega arith) in
+    let y : Moves (λ P. place-part t (with-room w P)) (1 + 0) out p out' (place (q .line) a false) = moves-then (r .moves) (part-moves t (r .moves .line) (omega arith) x) in
+    record {
+      line = y .line;
+      few = y .few;
+      size = y .size;
+      page = λ out₀ base P o.
+          let c = r .moves .page out₀ base P o .column in
+          let u : place-part t (with-room w P) ≡ put t (with-room w P) = part-fits t (with-room w P) (omega arith) in
+          let v : put t (with-room w P) ≡ put t (with-room (length t) P) = ap (λ (k : ℕ). put t (with-room k P)) e in
+          on-as (u ∙ v ∙ sym (part-room t P)) (y .page out₀ base P o);
+    }
+
+-- ---- pairs: those below i are placed
+
+pairs-first : (zs : List ℤ) → 0 < length zs → pair-parts zs ≡ pair-text (take 2 zs) (ltb 2 (length zs)) ∷ pair-parts (drop 2 zs)
+unfolding pair-parts pair-text
+pairs-first [] h = absurd (omega arith)
+pairs-first (v ∷ []) h = ap (λ (l : List ℕ). l ∷ []) (sym (append-nil (print-numbers (v ∷ []))))
+pairs-first (v ∷ a ∷ []) h = ap (λ (l : List ℕ). l ∷ []) (sym (append-nil (print-numbers (v ∷ a ∷ []))))
+pairs-first (v ∷ a ∷ w ∷ ws) h =
+    let e : ltb 2 (length (v ∷ a ∷ w ∷ ws)) ≡ true = lt-ltb 2 (length (v ∷ a ∷ w ∷ ws)) (omega arith) in
+    ap (λ (t : Bool). (print-numbers (v ∷ a ∷ []) ++ cond t (comma ∷ []) []) ∷ pair-parts (w ∷ ws)) (sym e)
+
+-- both tests have the same answer
+same-test : (a b c d : ℕ) → (a < b → c < d) → (b ≤ a → d ≤ c) → ltb a b ≡ ltb c d
+same-test a b c d f g = go (ltb a b) refl
+  where
+    go : (t : Bool) → ltb a b ≡ t → t ≡ ltb c d
+    go true e = sym (lt-ltb c d (f (ltb-true a b e)))
+    go false e = sym (le-ltb c d (g (ltb-false a b e)))
+
+pub stop-two : (part : List ℤ) (i j : ℕ) → i < length part → Stops part i 2 j → (i < j) × (j ≤ length part) × (length (take (j - i) (drop i part)) ≤ 2)
+stop-two part i j h s =
+    let n : length (drop i part) ≡ length part - i = length-drop i part in
+    let t : length (take 2 (drop i part)) ≡ min 2 (length (drop i part)) = length-take 2 (drop i part) in
+    let k = s .size in
+    let e : length (take (j - i) (drop i part)) ≡ length (take 2 (drop i part)) = ap length (s .part) in
+    (omega arith, s .high, omega arith)
+
+pub record Pairs (part : List ℤ) (out₀ : List ℕ) (p₀ : Place) (i : ℕ) (out : List ℕ) (p : Place) : Type 0 where
+  pub whole : (out' : List ℕ) (r : Place) → Moves (place-parts (pair-parts (drop i part))) (length part - i) out p out' r → Moves (place-parts (pair-parts part)) (length part) out₀ p₀ out' r
+
+module _ {part : List ℤ} {out₀ : List ℕ} {p₀ : Place} where
+  pub pairs-start : Pairs part out₀ p₀ 0 out₀ p₀
+  pairs-start = record { whole = λ out' r m. moves-as (λ x. refl) (omega arith) m }
+
+  pub pairs-next : {i j : ℕ} {out : List ℕ} {p : Place} {out' : List ℕ} {r : Place} (more : Bool) → Pairs part out₀ p₀ i out p → i < length part → Stops part i 2 j → more ≡ ltb j (length part) → Moves (place-part (pair-text (take (j - i) (drop i part)) more)) 1 out p out' r → Pairs part out₀ p₀ j out' r
+  unfolding place-parts
+  pairs-next {i} {j} {out} {p} {out'} {r} more inv h s b m =
+      let n : length (drop i part) ≡ length part - i = length-drop i part in
+      let k : j ≡ i + length (take 2 (drop i part)) = s .size in
+      let t : length (take 2 (drop i part)) ≡ min 2 (length (drop i part)) = length-take 2 (drop i part) in
+      let c : more ≡ ltb 2 (length (drop i part)) = b ∙ same-test j (length part) 2 (length (drop i part)) (λ x. omega arith) (λ x. omega arith) in
+      let e : pair-parts (drop i part) ≡ pair-text (take (j - i) (drop i part)) more ∷ pair-parts (drop j part) = pairs-first (drop i part) (omega arith) ∙ rw (s .part, c, s .rest) refl in
+      record { whole = λ out'' r' q. inv .whole out'' r' (moves-as (λ x. ap (λ (l : Item). place-parts l x) (sym e)) (omega arith) (moves-then m q)) }
+
+  pub pairs-end : {i : ℕ} {out : List ℕ} {p : Place} → Pairs part out₀ p₀ i out p → Line p → length part ≤ i → Moves (place-parts (pair-parts part)) (length part) out₀ p₀ out p
+  unfolding place-parts pair-parts
+  pairs-end {i} {out} {p} inv l h =
+      let c : [] ≡ drop i part = sym (drop-of-length-le part h) in
+      inv .whole out p (moves-as (λ x. ap (λ (l : List ℤ). place-parts (pair-parts l) x) c) (omega arith) (moves-none l))

@@ -63,6 +63,9 @@ unfolding print-natural
 natural-short n h = steps-short (suc n) 7 n (omega arith)
 
 -- within i32
+abbrev pub fitting : ℤ → Bool
+fitting z = leb (natAbs z) 2147483648
+
 pub number-short : (z : ℤ) → natAbs z ≤ 2147483648 → length (print-number z) ≤ 11
 unfolding print-number print-natural
 number-short (pos n) h = let l = steps-short (suc n) 9 n (omega arith) in omega arith

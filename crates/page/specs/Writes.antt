@@ -8,7 +8,9 @@ use lib.Dec.{leb}
 use lib.ListN.{length, drop, take}
 use lib.Seq.{sets}
 use Rattle.laws.specs.Lists.{flat}
-use Rattle.page.specs.Sheet.{space, width, Page, full, put, turn}
+use Rattle.decimal.specs.Bytes.{comma}
+use Rattle.lines.specs.Lines.{print-numbers}
+use Rattle.page.specs.Sheet.{space, width, Page, full, put, turn, all-lines}
 use Rattle.page.specs.declared.Place.{Place}
 
 -- bytes from a place on, and the place after them
@@ -62,3 +64,22 @@ pub record Begins (w : ℕ) (out : List ℕ) (p : Place) (out' : List ℕ) (r : 
   pub moves : Moves (begun w) 1 out p out' r
   pub fits : w ≤ 70 → r .at + w ≤ r .line + 80
   pub start : 70 < w → r .at ≡ r .line + 10
+
+-- for a part of w characters: the line, or a continuation line where it does not fit
+unfoldable pub with-room : ℕ → Page → Page
+with-room w p = cond (leb (length (p .line) + w) width) p (turn p)
+
+pub record Rooms (w : ℕ) (out : List ℕ) (p : Place) (out' : List ℕ) (r : Place) : Type 0 where
+  pub moves : Moves (with-room w) 1 out p out' r
+  pub fits : w ≤ 70 → r .at + w ≤ r .line + 80
+
+-- the numbers of a pair, and a comma where more pairs follow
+unfoldable pub pair-text : List ℤ → Bool → List ℕ
+pair-text zs more = print-numbers zs ++ cond more (comma ∷ []) []
+
+-- a clause's first line, begun at a place
+pub record Starts (it : Page) (at : ℕ) (out out' : List ℕ) (r : Place) : Type 0 where
+  pub line : Line r
+  pub starts : r .line ≡ at
+  pub size : length out' ≡ length out
+  pub page : On out at it out' r

@@ -5,14 +5,16 @@ use decimal::put_number;
 use lines::count_at;
 use lines::stop;
 ghost use mathlib.Core.Path.{_≡_};
-ghost use mathlib.Core.Bool.{false};
+ghost use mathlib.Core.Bool.{true};
 ghost use mathlib.Core.List.{[], _∷_, _++_, map};
 ghost use Prim.Native.Nat.{_+_, _*_, _-_, _≤_, _<_, min};
 ghost use lib.ListN.{length, drop, take};
 ghost use Rattle.decimal.specs.Decimal.{print-natural, print-number};
-ghost use Rattle.lines.specs.Lines.{print-numbers};
+ghost use Rattle.laws.specs.Lists.{all, flat};
+ghost use Rattle.lines.specs.Lines.{count-word, print-numbers, print-comparison, print-comparisons, print-clause};
 ghost use Rattle.page.specs.Sheet.{spaces, literal-item, pair-parts, comparison-item, comparison-items, clause-items, turn as turned, place-part, place-parts, place-item, place-items, numbered, all-lines, full, sheet-lines, print-sheet};
-ghost use Rattle.page.specs.Writes.{Wrote, Few, far, Line, Moves, Shows, Begins};
+ghost use Rattle.page.specs.Writes.{Wrote, Few, far, Line, Moves, Shows, Begins, Rooms, pair-text, Starts};
+ghost use Rattle.page.specs.Widths.{fitting};
 
 // Where a line starts, where its next byte goes, and whether no item stands on it yet.
 pub struct Place {
@@ -65,7 +67,7 @@ fn numbers_width(part: &[i32]) -> usize
 // Numbers parted by commas.
 fn put_numbers(out: &mut [u8], at: usize, part: &[i32]) -> usize
     requires { ⌜ (at ≤ far) × (Few (now part)) ⌝ }
-    ensures { λ r. ⌜ Wrote (now (out .entry)) at (print-numbers (now (part .entry))) (now (out .exit)) r ⌝ }
+    ensures { λ r. ⌜ (Wrote (now (out .entry)) at (print-numbers (now (part .entry))) (now (out .exit)) r) × (r ≤ at + 11 + 12 * length (now (part .entry))) ⌝ }
 {
     if part.len() == 0 {
         return at;
@@ -164,6 +166,70 @@ fn place_literals(out: &mut [u8], page: Place, part: &[i32]) -> Place
             bare: false,
         };
         i += 1;
+    }
+    p
+}
+
+// The line, or a continuation line where w characters do not fit.
+fn with_room(out: &mut [u8], p: Place, w: usize) -> Place
+    requires { ⌜ (Line p) × (p .line + 81 ≤ far) × (w ≤ far) ⌝ }
+    ensures { λ r. ⌜ Rooms w (now (out .entry)) p (now (out .exit)) r ⌝ }
+{
+    if p.at + w <= p.line + 80 {
+        return p;
+    }
+    turn(out, p)
+}
+
+fn pair_width(pair: &[i32], more: bool) -> usize
+    requires { ⌜ length (now pair) ≤ 2 ⌝ }
+    ensures { λ r. ⌜ (r ≡ length (pair-text (now (pair .entry)) more)) × (r ≤ 25) ⌝ }
+{
+    let w = numbers_width(pair);
+    if more {
+        return w + 1;
+    }
+    w
+}
+
+fn put_pair(out: &mut [u8], at: usize, pair: &[i32], more: bool) -> usize
+    requires { ⌜ (at ≤ far) × (length (now pair) ≤ 2) ⌝ }
+    ensures { λ r. ⌜ Wrote (now (out .entry)) at (pair-text (now (pair .entry)) more) (now (out .exit)) r ⌝ }
+{
+    let o = put_numbers(out, at, pair);
+    if more {
+        put_byte(out, o, b',');
+        return o + 1;
+    }
+    o
+}
+
+// A pair of a comparison, with the comma behind it where more pairs follow.
+fn place_pair(out: &mut [u8], p: Place, pair: &[i32], more: bool) -> Place
+    requires { ⌜ (Line p) × (p .line + 200 ≤ far) × (length (now pair) ≤ 2) ⌝ }
+    ensures { λ r. ⌜ Moves (place-part (pair-text (now (pair .entry)) more)) 1 (now (out .entry)) p (now (out .exit)) r ⌝ }
+{
+    let w = pair_width(pair, more);
+    let q = with_room(out, p, w);
+    let o = put_pair(out, q.at, pair, more);
+    Place {
+        line: q.line,
+        at: o,
+        bare: false,
+    }
+}
+
+// The pairs of a comparison.
+fn place_pairs(out: &mut [u8], page: Place, part: &[i32]) -> Place
+    requires { ⌜ (Line page) × (Few (now part)) × (page .line ≤ 17592186044416) ⌝ }
+    ensures { λ r. ⌜ Moves (place-parts (pair-parts (now (part .entry)))) (length (now (part .entry))) (now (out .entry)) page (now (out .exit)) r ⌝ }
+{
+    let mut p = page;
+    let mut i = 0;
+    while i < part.len() {
+        let j = stop(part, i, 2);
+        p = place_pair(out, p, &part[i..j], j < part.len());
+        i = j;
     }
     p
 }

@@ -20,7 +20,7 @@ abbrev μ-loop : tie.MeasureT-loop
 μ-loop out₀ at part o₀ i₀ out o i = length part - i
 
 returns : tie.Need-returns Inv-loop μ-loop
-returns c = numbers-none _ _ _ (c .if1 .taken)
+returns c = (numbers-none _ _ _ (c .if1 .taken), omega arith)
 
 shared-slice-copy-out-put-number : tie.Need-shared-slice-copy-out-put-number Inv-loop μ-loop
 shared-slice-copy-out-put-number c = search needs
@@ -83,7 +83,7 @@ same-length : tie.Need-same-length Inv-loop μ-loop
 same-length c = c .before .loop .inv .2 ∙ c .before .before .before .before .before .before .put-number .ensures .size
 
 returns-2 : tie.Need-returns-2 Inv-loop μ-loop
-returns-2 c = numbers-first _ _ _ _ _ _ _ (c .before .before .before .before .before .before .before .before .before .if1 .left) _ (search needs) (put-sets (c .before .before .before .before .before .before .put-number .ensures)) (c .before .before .width .ensures .0) (numbers-written _ _ _ _ _ _ _ (c .before .loop .inv .3) (c .loop-test .left))
+returns-2 c = (numbers-first _ _ _ _ _ _ _ (c .before .before .before .before .before .before .before .before .before .if1 .left) _ (search needs) (put-sets (c .before .before .before .before .before .before .put-number .ensures)) (c .before .before .width .ensures .0) (numbers-written _ _ _ _ _ _ _ (c .before .loop .inv .3) (c .loop-test .left)), omega (arith, c .before .loop .inv .1, c .before .loop .inv .0, c .before .before .width .ensures .1))
 
 pub put-numbers-spec : {M : Type 1} → statement M
 put-numbers-spec =
