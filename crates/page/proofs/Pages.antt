@@ -105,7 +105,7 @@ begun-space w P b h = begun-else w P b ∙ ap (λ (t : Bool). cond t (put (space
 begun-turn : (w : ℕ) (P : Page) → P .bare ≡ false → 80 < length (P .line) + (1 + w) → begun w P ≡ turn P
 begun-turn w P b h = begun-else w P b ∙ ap (λ (t : Bool). cond t (put (space ∷ []) P) (turn P)) (lt-leb (length (P .line) + (1 + w)) 80 h)
 
-on-as : {out₀ out : List ℕ} {base : ℕ} {r : Place} {P Q : Page} → P ≡ Q → On out₀ base P out r → On out₀ base Q out r
+pub on-as : {out₀ out : List ℕ} {base : ℕ} {r : Place} {P Q : Page} → P ≡ Q → On out₀ base P out r → On out₀ base Q out r
 on-as {out₀} {out} {base} {r} {P} {Q} e o = subst (λ (X : Page). On out₀ base X out r) e o
 
 pub begin-bare : {out : List ℕ} {p : Place} (w : ℕ) → Line p → p .bare ≡ true → Begins w out p out p
@@ -144,11 +144,11 @@ begin-turn {out} {out'} {p} {r} w l b h x z = record {
 
 -- ---- an item whole, and in parts
 
-put-put : (t u : List ℕ) (P : Page) → put u (put t P) ≡ put (t ++ u) P
+pub put-put : (t u : List ℕ) (P : Page) → put u (put t P) ≡ put (t ++ u) P
 unfolding put
 put-put t u P = ap (λ (l : List ℕ). record { lines = P .lines; line = l; bare = false }) (append-assoc (P .line) t u)
 
-part-fits : (t : List ℕ) (P : Page) → length (P .line) + length t ≤ 80 → place-part t P ≡ put t P
+pub part-fits : (t : List ℕ) (P : Page) → length (P .line) + length t ≤ 80 → place-part t P ≡ put t P
 unfolding place-part
 part-fits t P h = rw (le-leb (length (P .line) + length t) 80 h) refl
 

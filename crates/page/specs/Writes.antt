@@ -8,7 +8,7 @@ use lib.Dec.{leb}
 use lib.ListN.{length, drop, take}
 use lib.Seq.{sets}
 use Rattle.laws.specs.Lists.{flat}
-use Rattle.decimal.specs.Bytes.{comma}
+use Rattle.decimal.specs.Bytes.{comma, colon}
 use Rattle.lines.specs.Lines.{print-numbers}
 use Rattle.page.specs.Sheet.{space, width, Page, full, put, turn, all-lines}
 use Rattle.page.specs.declared.Place.{Place}
@@ -83,3 +83,7 @@ pub record Starts (it : Page) (at : ℕ) (out out' : List ℕ) (r : Place) : Typ
   pub starts : r .line ≡ at
   pub size : length out' ≡ length out
   pub page : On out at it out' r
+
+-- operator and constant of a comparison
+unfoldable pub head-text : List ℤ → List ℤ → List ℕ
+head-text o c = print-numbers o ++ (colon ∷ (print-numbers c ++ (colon ∷ [])))

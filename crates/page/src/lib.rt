@@ -12,8 +12,8 @@ ghost use lib.ListN.{length, drop, take};
 ghost use Rattle.decimal.specs.Decimal.{print-natural, print-number};
 ghost use Rattle.laws.specs.Lists.{all, flat};
 ghost use Rattle.lines.specs.Lines.{count-word, print-numbers, print-comparison, print-comparisons, print-clause};
-ghost use Rattle.page.specs.Sheet.{spaces, literal-item, pair-parts, comparison-item, comparison-items, clause-items, turn as turned, place-part, place-parts, place-item, place-items, numbered, all-lines, full, sheet-lines, print-sheet};
-ghost use Rattle.page.specs.Writes.{Wrote, Few, far, Line, Moves, Shows, Begins, Rooms, pair-text, Starts};
+ghost use Rattle.page.specs.Sheet.{spaces, literal-item, in-front, pair-parts, comparison-item, comparison-items, clause-items, turn as turned, place-part, place-parts, place-item, place-items, numbered, all-lines, full, sheet-lines, print-sheet};
+ghost use Rattle.page.specs.Writes.{Wrote, Few, far, Line, Moves, Shows, Begins, Rooms, pair-text, head-text, Starts};
 ghost use Rattle.page.specs.Widths.{fitting};
 
 // Where a line starts, where its next byte goes, and whether no item stands on it yet.
@@ -232,4 +232,71 @@ fn place_pairs(out: &mut [u8], page: Place, part: &[i32]) -> Place
         i = j;
     }
     p
+}
+
+// Every word lies within i32: the loop only learns this of the whole slice, and does nothing.
+fn all_fit(words: &[i32])
+    ensures { λ _. ⌜ all fitting (now (words .entry)) ≡ true ⌝ }
+{
+    let mut i = 0;
+    while i < words.len() {
+        let _w = words[i];
+        i += 1;
+    }
+}
+
+// Operator and constant of a comparison.
+fn put_head(out: &mut [u8], at: usize, o: &[i32], c: &[i32]) -> usize
+    requires { ⌜ (at ≤ 70368744177664) × (length (now o) ≤ 1) × (length (now c) ≤ 1) ⌝ }
+    ensures { λ r. ⌜ Wrote (now (out .entry)) at (head-text (now (o .entry)) (now (c .entry))) (now (out .exit)) r ⌝ }
+{
+    let a = put_numbers(out, at, o);
+    put_byte(out, a, b':');
+    let b = put_numbers(out, a + 1, c);
+    put_byte(out, b, b':');
+    b + 1
+}
+
+fn comparison_width(o: &[i32], c: &[i32], terms: &[i32]) -> usize
+    requires { ⌜ (length (now o) ≤ 1) × (length (now c) ≤ 1) × (Few (now terms)) ⌝ }
+    ensures { λ r. ⌜ (r ≡ length (head-text (now (o .entry)) (now (c .entry))) + length (print-numbers (now (terms .entry)))) × (length (head-text (now (o .entry)) (now (c .entry))) ≤ 26) × (r ≤ far) ⌝ }
+{
+    let a = numbers_width(o);
+    let b = numbers_width(c);
+    a + b + 2 + numbers_width(terms)
+}
+
+// A comparison, from its three slices of words.
+fn place_terms(out: &mut [u8], page: Place, o: &[i32], c: &[i32], terms: &[i32]) -> Place
+    requires { ⌜ (Line page) × (Few (now terms)) × (page .line ≤ 8796093022208) × (length (now o) ≤ 1) × (length (now c) ≤ 1) × (all fitting (now terms) ≡ true) ⌝ }
+    ensures { λ r. ⌜ Moves (place-item (in-front (head-text (now (o .entry)) (now (c .entry))) (pair-parts (now (terms .entry))))) (1 + length (now (terms .entry))) (now (out .entry)) page (now (out .exit)) r ⌝ }
+{
+    let w = comparison_width(o, c, terms);
+    let q = begin(out, page, w);
+    let a = put_head(out, q.at, o, c);
+    let p = Place {
+        line: q.line,
+        at: a,
+        bare: false,
+    };
+    place_pairs(out, p, terms)
+}
+
+// A page, and the next word to show.
+pub struct Placed {
+    pub page: Place,
+    pub next: usize,
+}
+
+fn place_comparison(out: &mut [u8], page: Place, words: &[i32], from: usize) -> Placed
+    requires { ⌜ (Line page) × (Few (now words)) × (page .line ≤ 8796093022208) × (from < length (now words)) × (all fitting (now words) ≡ true) ⌝ }
+    ensures { λ r. ⌜ (Moves (place-item (comparison-item (drop from (now (words .entry))))) (r .next - from) (now (out .entry)) page (now (out .exit)) (r .page)) × (Shows (print-comparison (drop from (now (words .entry))) .rest) (now (words .entry)) from (r .next)) × (from < r .next) ⌝ }
+{
+    let a = stop(words, from, 1);
+    let b = stop(words, a, 1);
+    let n = count_at(words, b);
+    let c = stop(words, b, 1);
+    let e = stop(words, c, n + n);
+    let p = place_terms(out, page, &words[from..a], &words[a..b], &words[c..e]);
+    Placed { page: p, next: e }
 }

@@ -1,0 +1,134 @@
+-- A law for each answer of the functions that place comparisons, over variables. Assumes nothing.
+use mathlib.Core.Path.{_≡_, refl, sym, ap, _∙_, subst}
+use mathlib.Core.Bool.{Bool, true, false, cond}
+use mathlib.Core.List.{List, [], _∷_, _++_, map, append-assoc, append-nil}
+use Prim.Native.Nat.{ℕ, zero, suc, _+_, _-_, _*_, _≤_, _<_, min}
+use native.Mathlib.Omega.{arith}
+use native.Mathlib.Numerals.{add-one}
+use lib.IntN.{ℤ, pos, negsuc}
+use lib.ListN.{length, take, drop, getD, length-append, length-take, length-drop, drop-of-length-le}
+use lib.Seq.{sets, take-suc, take-all}
+use borrow.Author.Tests.{le-leb, leb-true, leb-false}
+use lib.Dec.{leb}
+use mir.Syntax.{w32}
+use mir.Val.{SFits}
+use Rattle.laws.specs.Bools.{and-l, and-r}
+use Rattle.laws.specs.Lists.{all, all-append, all-take, all-drop, flat}
+use Rattle.decimal.specs.Bytes.{comma, colon}
+use Rattle.decimal.specs.Decimal.{print-number}
+use Rattle.lines.specs.Lines.{count-word, print-more, print-numbers, times, print-comparison, print-comparisons}
+use Rattle.lines.specs.Output.{cons-word, Stops}
+use Rattle.page.specs.Sheet.{Item, pair-parts, in-front, comparison-item, comparison-items, Page, put, place-part, place-parts, place-item, place-items}
+use Rattle.page.specs.Writes.{Wrote, Few, Line, On, Moves, Shows, Begins, head-text}
+use Rattle.page.specs.Widths.{fitting, number-short}
+use Rattle.page.specs.declared.Place.{Place}
+use Rattle.page.proofs.Bytes.{wrote-then, wrote-to}
+use Rattle.page.proofs.Pages.{place, moves-none, moves-then, moves-as, on-as, put-put, part-fits, item-moves, part-moves}
+
+-- ---- words within i32
+
+fits-fitting : (z : ℤ) → SFits w32 z → fitting z ≡ true
+fits-fitting (pos n) f = le-leb n 2147483648 (let l = f .sfits in omega arith)
+fits-fitting (negsuc n) f = le-leb (suc n) 2147483648 (let l = f .sfits in omega arith)
+
+pub fit-next : (ws : List ℤ) (i : ℕ) → i < length ws → all fitting (take i ws) ≡ true → SFits w32 (getD ws i (pos 0)) → all fitting (take (i + 1) ws) ≡ true
+fit-next ws i h e f = rw (add-one i, take-suc ws i (pos 0) h) (all-append fitting (take i ws) (getD ws i (pos 0) ∷ []) ∙ rw (e, fits-fitting (getD ws i (pos 0)) f) refl)
+
+pub fit-all : (ws : List ℤ) (i : ℕ) → length ws ≤ i → all fitting (take i ws) ≡ true → all fitting ws ≡ true
+fit-all ws i h e = rw (← take-all i ws h) e
+
+pub fit-part : (ws : List ℤ) (i n : ℕ) → all fitting ws ≡ true → all fitting (take n (drop i ws)) ≡ true
+fit-part ws i n h = all-take fitting n (drop i ws) (all-drop fitting i ws h)
+
+one-short : (z : ℤ) (zs : List ℤ) → all fitting (z ∷ zs) ≡ true → length (print-number z) ≤ 11
+one-short z zs h = number-short z (leb-true _ 2147483648 (and-l (fitting z) (all fitting zs) h))
+
+-- ---- operator and constant
+
+head-length : (o c : List ℤ) → length (head-text o c) ≡ length (print-numbers o) + 1 + (length (print-numbers c) + 1)
+unfolding head-text
+head-length o c = omega (arith, length-append (print-numbers o) (colon ∷ (print-numbers c ++ (colon ∷ []))), length-append (print-numbers c) (colon ∷ []))
+
+pub head-written : {out m₁ m₂ m₃ out' : List ℕ} {at a b : ℕ} (o c : List ℤ) → Wrote out at (print-numbers o) m₁ a → m₂ ≡ sets m₁ a (58 ∷ []) → Wrote m₂ (a + 1) (print-numbers c) m₃ b → out' ≡ sets m₃ b (58 ∷ []) → Wrote out at (head-text o c) out' (b + 1)
+unfolding head-text
+head-written {out} {m₁} {m₂} {m₃} {out'} {at} {a} {b} o c x e y f =
+    let u : Wrote m₁ a (58 ∷ []) m₂ (a + 1) = record { bytes = e; after = refl } in
+    let v : Wrote m₃ b (58 ∷ []) out' (b + 1) = record { bytes = f; after = refl } in
+    wrote-then x (wrote-then u (wrote-then y v))
+
+pub comparison-measured : (o c ts : List ℤ) (a b n : ℕ) → length o ≤ 1 → length c ≤ 1 → length ts ≤ 16777216 → a ≡ length (print-numbers o) → a ≤ 12 * length o → b ≡ length (print-numbers c) → b ≤ 12 * length c → n ≡ length (print-numbers ts) → n ≤ 12 * length ts
+    → (a + b + 2 + n ≡ length (head-text o c) + length (print-numbers ts)) × (length (head-text o c) ≤ 26) × (a + b + 2 + n ≤ 9223372036854775807)
+comparison-measured o c ts a b n ho hc ht e f g h i j = let l = head-length o c in (omega arith, omega arith, omega arith)
+
+-- ---- a comparison by its parts
+
+pub flat-front : (h : List ℕ) (ps : Item) → flat (in-front h ps) ≡ h ++ flat ps
+unfolding in-front
+flat-front h [] = refl
+flat-front h (p ∷ ps) = append-assoc h p (flat ps)
+
+pub flat-pairs : (zs : List ℤ) → flat (pair-parts zs) ≡ print-numbers zs
+unfolding pair-parts print-numbers print-more
+flat-pairs [] = refl
+flat-pairs (v ∷ []) = append-nil (print-number v ++ [])
+flat-pairs (v ∷ a ∷ []) = append-nil (print-number v ++ (comma ∷ (print-number a ++ [])))
+flat-pairs (v ∷ a ∷ w ∷ ws) =
+    let rest : List ℕ = print-number w ++ print-more ws in
+    let e : ((print-number v ++ (comma ∷ (print-number a ++ []))) ++ (comma ∷ [])) ++ rest ≡ print-number v ++ (comma ∷ (print-number a ++ (comma ∷ rest))) = simp (append-assoc, append-nil) in
+    ap (λ (l : List ℕ). ((print-number v ++ (comma ∷ (print-number a ++ []))) ++ (comma ∷ [])) ++ l) (flat-pairs (w ∷ ws)) ∙ e
+
+first : Item → List ℕ
+first [] = []
+first (p ∷ ps) = p
+
+first-short : (zs : List ℤ) → all fitting zs ≡ true → length (first (pair-parts zs)) ≤ 25
+unfolding first pair-parts print-numbers print-more
+first-short [] h = omega arith
+first-short (v ∷ []) h = omega (arith, one-short v [] h, length-append (print-number v) [])
+first-short (v ∷ a ∷ []) h = omega (arith, one-short v (a ∷ []) h, one-short a [] (and-r (fitting v) _ h), length-append (print-number v) (comma ∷ (print-number a ++ [])), length-append (print-number a) [])
+first-short (v ∷ a ∷ w ∷ ws) h =
+    omega (arith, one-short v (a ∷ w ∷ ws) h, one-short a (w ∷ ws) (and-r (fitting v) _ h), length-append (print-number v) (comma ∷ (print-number a ++ [])), length-append (print-number a) [], length-append (print-number v ++ (comma ∷ (print-number a ++ []))) (comma ∷ []))
+
+first-flat : (ps : Item) → length (first ps) ≤ length (flat ps)
+unfolding first
+first-flat [] = omega arith
+first-flat (p ∷ ps) = omega (arith, length-append p (flat ps))
+
+-- the head on its line, then the parts
+front-moves : {out mid m₂ out' : List ℕ} {p q r : Place} {n w a : ℕ} (h : List ℕ) (ps : Item) → Line p → w ≡ length (flat (in-front h ps)) → Begins w out p mid q → q .at + length h + length (first ps) ≤ q .line + 80
+    → Wrote mid (q .at) h m₂ a → Moves (place-parts ps) n m₂ (place (q .line) a false) out' r → Moves (place-item (in-front h ps)) (1 + n) out p out' r
+unfolding in-front place-parts first
+front-moves {q = q} h [] l e b k w m = item-moves h [] l e b (moves-as (λ x. refl) (omega arith) (moves-then (part-moves h (b .moves .line) (omega arith) w) m))
+front-moves {mid = mid} {m₂ = m₂} {out' = out'} {q = q} {r = r} {n = n} {a = a} h (t ∷ ts) l e b k w m =
+    let x : Moves (λ P. place-parts (t ∷ ts) (place-part h P)) (0 + n) mid q out' r = moves-then (part-moves h (b .moves .line) (omega arith) w) m in
+    item-moves (h ++ t) ts l e b (record {
+      line = x .line;
+      few = let f = x .few in omega arith;
+      size = x .size;
+      page = λ out₀ base P o.
+          let c = o .column in
+          let u : place-part h P ≡ put h P = part-fits h P (omega arith) in
+          let d : length (put h P .line) ≡ length (P .line) + length h = unfold put in (length-append (P .line) h) in
+          let v : place-part t (put h P) ≡ put t (put h P) = part-fits t (put h P) (omega arith) in
+          let z : place-part (h ++ t) P ≡ put (h ++ t) P = part-fits (h ++ t) P (omega (arith, length-append h t)) in
+          on-as (ap (place-parts ts) (ap (place-part t) u ∙ v ∙ put-put h t P ∙ sym z)) (x .page out₀ base P o);
+    })
+
+pub terms-moves : {out mid m₂ out' : List ℕ} {p q r : Place} {w a : ℕ} (h : List ℕ) (zs : List ℤ) → Line p → all fitting zs ≡ true → w ≡ length h + length (print-numbers zs) → length h ≤ 26 → Begins w out p mid q
+    → Wrote mid (q .at) h m₂ a → Moves (place-parts (pair-parts zs)) (length zs) m₂ (place (q .line) a false) out' r → Moves (place-item (in-front h (pair-parts zs))) (1 + length zs) out p out' r
+terms-moves {q = q} {w = w} h zs l f e s b x m =
+    let n : length (flat (in-front h (pair-parts zs))) ≡ length h + length (print-numbers zs) = ap length (flat-front h (pair-parts zs) ∙ ap (λ (t : List ℕ). h ++ t) (flat-pairs zs)) ∙ length-append h (print-numbers zs) in
+    let g : length (first (pair-parts zs)) ≤ length (print-numbers zs) = subst (λ (t : List ℕ). length (first (pair-parts zs)) ≤ length t) (flat-pairs zs) (first-flat (pair-parts zs)) in
+    front-moves h (pair-parts zs) l (e ∙ sym n) b (room (leb w 70) refl g) x m
+  where
+    room : (t : Bool) → leb w 70 ≡ t → length (first (pair-parts zs)) ≤ length (print-numbers zs) → q .at + length h + length (first (pair-parts zs)) ≤ q .line + 80
+    room true k g = let y = b .fits (leb-true w 70 k) in omega arith
+    room false k g = let y = b .start (leb-false w 70 k) in omega (arith, first-short zs f)
+
+-- a line that has only its head
+pub head-line : {out mid m₂ : List ℕ} {p q : Place} {w a : ℕ} (h : List ℕ) (n : ℕ) → w ≡ length h + n → length h ≤ 26 → Begins w out p mid q → Wrote mid (q .at) h m₂ a → Line (place (q .line) a false)
+head-line {q = q} {w = w} {a = a} h n e s b x = go (leb w 70) refl
+  where
+    go : (t : Bool) → leb w 70 ≡ t → Line (place (q .line) a false)
+    go true k = part-moves h (b .moves .line) (let y = b .fits (leb-true w 70 k) in omega arith) x .line
+    go false k = part-moves h (b .moves .line) (let y = b .start (leb-false w 70 k) in omega arith) x .line
