@@ -132,3 +132,121 @@ head-line {q = q} {w = w} {a = a} h n e s b x = go (leb w 70) refl
     go : (t : Bool) → leb w 70 ≡ t → Line (place (q .line) a false)
     go true k = part-moves h (b .moves .line) (let y = b .fits (leb-true w 70 k) in omega arith) x .line
     go false k = part-moves h (b .moves .line) (let y = b .start (leb-false w 70 k) in omega arith) x .line
+
+-- ---- a comparison's words
+
+pub stop-short : (ws : List ℤ) (from n r : ℕ) → Stops ws from n r → (length (take (r - from) (drop from ws)) ≤ n) × (length (take (r - from) (drop from ws)) ≤ length ws) × (length (take (r - from) (drop from ws)) ≡ r - from)
+stop-short ws from n r s =
+    let e : length (take (r - from) (drop from ws)) ≡ length (take n (drop from ws)) = ap length (s .part) in
+    let k = s .size in
+    let l = s .low in
+    let h = s .high in
+    (omega (arith, length-take n (drop from ws)), omega (arith, length-take n (drop from ws), length-drop from ws), omega arith)
+
+pub stop-one : (ws : List ℤ) (from r : ℕ) → from < length ws → Stops ws from 1 r → r ≡ from + 1
+stop-one ws from r h s = omega (arith, s .size, length-take 1 (drop from ws), length-drop from ws)
+
+module _ (ws : List ℤ) (from a b n c e : ℕ) (fit : all fitting ws ≡ true) (few : length ws ≤ 16777216) (here : from < length ws) (s₁ : Stops ws from 1 a) (s₂ : Stops ws a 1 b) (m : n ≡ count-word (drop b ws)) (s₃ : Stops ws b 1 c) (s₄ : Stops ws c (n + n) e) where
+  pub terms-fit : (length (take (e - c) (drop c ws)) ≤ 16777216) × (length (take (a - from) (drop from ws)) ≤ 1) × (length (take (b - a) (drop a ws)) ≤ 1) × (all fitting (take (e - c) (drop c ws)) ≡ true)
+  terms-fit = (omega (arith, stop-short ws c (n + n) e s₄ .1), stop-short ws from 1 a s₁ .0, stop-short ws a 1 b s₂ .0, fit-part ws c (e - c) fit)
+
+  rest-a : drop a ws ≡ drop 1 (drop from ws)
+  rest-a = s₁ .rest
+
+  rest-b : drop b ws ≡ drop 1 (drop 1 (drop from ws))
+  rest-b = s₂ .rest ∙ ap (drop 1) rest-a
+
+  rest-c : drop c ws ≡ drop 1 (drop 1 (drop 1 (drop from ws)))
+  rest-c = s₃ .rest ∙ ap (drop 1) rest-b
+
+  count-is : n ≡ count-word (drop 1 (drop 1 (drop from ws)))
+  count-is = m ∙ ap count-word rest-b
+
+  item-is : in-front (head-text (take (a - from) (drop from ws)) (take (b - a) (drop a ws))) (pair-parts (take (e - c) (drop c ws))) ≡ comparison-item (drop from ws)
+  unfolding head-text comparison-item
+  item-is = rw (s₁ .part, s₂ .part, s₄ .part, rest-a, rest-c, count-is) refl
+
+  pub comparison-placed : {out out' : List ℕ} {p r : Place} → Moves (place-item (in-front (head-text (take (a - from) (drop from ws)) (take (b - a) (drop a ws))) (pair-parts (take (e - c) (drop c ws))))) (1 + length (take (e - c) (drop c ws))) out p out' r
+      → (Moves (place-item (comparison-item (drop from ws))) (e - from) out p out' r) × (Shows (print-comparison (drop from ws) .rest) ws from e) × (from < e)
+  unfolding print-comparison
+  comparison-placed x =
+      let u : a ≡ from + 1 = stop-one ws from a here s₁ in
+      let l₂ = s₂ .low in
+      let l₃ = s₃ .low in
+      let l₄ = s₄ .low in
+      let k = stop-short ws c (n + n) e s₄ .2 in
+      (moves-as (λ y. ap (λ (i : Item). place-item i y) item-is) (omega arith) x, record { rest = s₄ .rest ∙ rw (rest-c, count-is) refl; low = omega arith; high = s₄ .high }, omega arith)
+
+-- ---- comparisons: `left` of them are still to come
+
+comparisons-suc : (n : ℕ) (ws : List ℤ) → 0 < length ws → comparison-items (suc n) ws ≡ comparison-item ws ∷ comparison-items n (print-comparison ws .rest)
+unfolding comparison-items
+comparisons-suc n [] h = absurd (omega arith)
+comparisons-suc n (w ∷ ws) h = refl
+
+comparisons-none : (n : ℕ) → comparison-items n [] ≡ []
+unfolding comparison-items
+comparisons-none zero = refl
+comparisons-none (suc n) = refl
+
+times-suc : (n : ℕ) (ws : List ℤ) → 0 < length ws → times print-comparison (suc n) ws .rest ≡ times print-comparison n (print-comparison ws .rest) .rest
+unfolding times
+times-suc n [] h = absurd (omega arith)
+times-suc n (w ∷ ws) h = refl
+
+times-none : (n : ℕ) → times print-comparison n [] .rest ≡ []
+unfolding times
+times-none zero = refl
+times-none (suc n) = refl
+
+-- whatever places the rest has placed all
+pub record Comparing (ws : List ℤ) (from : ℕ) (out₀ : List ℕ) (p₀ : Place) (i left : ℕ) (out : List ℕ) (p : Place) : Type 0 where
+  pub low : from ≤ i
+  pub high : i ≤ length ws
+  pub rest : times print-comparison left (drop i ws) .rest ≡ print-comparisons (drop from ws) .rest
+  pub whole : (n : ℕ) (out' : List ℕ) (r : Place) → Moves (place-items (comparison-items left (drop i ws))) n out p out' r
+      → Moves (place-items (comparison-items (count-word (drop from ws)) (drop 1 (drop from ws)))) (n + (i - from)) out₀ p₀ out' r
+
+module _ {ws : List ℤ} {from : ℕ} {out₀ : List ℕ} {p₀ : Place} where
+  pub comparing-start : {a n : ℕ} → n ≡ count-word (drop from ws) → Stops ws from 1 a → Comparing ws from out₀ p₀ a n out₀ p₀
+  unfolding print-comparisons
+  comparing-start {a} {n} m s = record {
+    low = s .low;
+    high = s .high;
+    rest = rw (m, s .rest) refl;
+    whole = λ k out' r x. moves-as (λ y. rw (m, s .rest) refl) (omega arith) x;
+  }
+
+  module _ {i left : ℕ} {out : List ℕ} {p : Place} (inv : Comparing ws from out₀ p₀ i left out p) where
+    pub comparing-next : {next : ℕ} {out' : List ℕ} {r : Place} → 0 < left → i < length ws → Moves (place-item (comparison-item (drop i ws))) (next - i) out p out' r → Shows (print-comparison (drop i ws) .rest) ws i next → Comparing ws from out₀ p₀ next (left - 1) out' r
+    unfolding place-items
+    comparing-next {next} {out'} {r} h k x s =
+        let z : left ≡ suc (left - 1) = omega arith in
+        let d : 0 < length (drop i ws) = omega (arith, length-drop i ws) in
+        let e : comparison-items left (drop i ws) ≡ comparison-item (drop i ws) ∷ comparison-items (left - 1) (drop next ws) = ap (λ m. comparison-items m (drop i ws)) z ∙ comparisons-suc (left - 1) (drop i ws) d ∙ ap (λ (l : List ℤ). comparison-item (drop i ws) ∷ comparison-items (left - 1) l) (sym (s .rest)) in
+        let t : times print-comparison left (drop i ws) .rest ≡ times print-comparison (left - 1) (drop next ws) .rest = ap (λ m. times print-comparison m (drop i ws) .rest) z ∙ times-suc (left - 1) (drop i ws) d ∙ ap (λ (l : List ℤ). times print-comparison (left - 1) l .rest) (sym (s .rest)) in
+        let a = inv .low in
+        let b = s .low in
+        record {
+          low = omega arith;
+          high = s .high;
+          rest = sym t ∙ inv .rest;
+          whole = λ n out'' r' y. moves-as (λ v. refl) (omega arith) (inv .whole (next - i + n) out'' r' (moves-as (λ v. ap (λ (l : List Item). place-items l v) (sym e)) (omega arith) (moves-then x y)));
+        }
+
+    abbrev Done : Type 0
+    Done = (Moves (place-items (comparison-items (count-word (drop from ws)) (drop 1 (drop from ws)))) (i - from) out₀ p₀ out p) × (Shows (print-comparisons (drop from ws) .rest) ws from i)
+
+    nothing-left : comparison-items left (drop i ws) ≡ [] → times print-comparison left (drop i ws) .rest ≡ drop i ws → Line p → Done
+    unfolding place-items
+    nothing-left e f l =
+        (moves-as (λ v. refl) (omega arith) (inv .whole 0 out p (moves-as (λ v. ap (λ (l : List Item). place-items l v) (sym e)) (omega arith) (moves-none l))), record { rest = sym f ∙ inv .rest; low = inv .low; high = inv .high })
+
+    pub comparing-done : Line p → left ≤ 0 → Done
+    unfolding comparison-items times
+    comparing-done l h = let z : left ≡ 0 = omega arith in nothing-left (rw z refl) (rw z refl) l
+
+    pub comparing-out : Line p → i ≡ length ws → Done
+    comparing-out l h =
+        let z : drop i ws ≡ [] = drop-of-length-le ws (let q : length ws ≤ i = omega arith in q) in
+        nothing-left (ap (comparison-items left) z ∙ comparisons-none left) (ap (λ (x : List ℤ). times print-comparison left x .rest) z ∙ times-none left ∙ sym z) l

@@ -57,7 +57,7 @@ put-text : (t : List ℕ) (P : Page) → page-text (put t P) ≡ page-text P ++ 
 unfolding page-text put
 put-text t P = sym (append-assoc (flat (map full (P .lines))) (P .line) t)
 
-map-append : (xs ys : List (List ℕ)) → map full (xs ++ ys) ≡ map full xs ++ map full ys
+pub map-append : (xs ys : List (List ℕ)) → map full (xs ++ ys) ≡ map full xs ++ map full ys
 map-append [] ys = refl
 map-append (x ∷ xs) ys = ap (λ l. full x ∷ l) (map-append xs ys)
 
@@ -80,14 +80,17 @@ end-written {out} {mid} {out'} {at} {k} {o} line l h e w a b =
 
 pub turn-moves : {out mid out' : List ℕ} {p : Place} {e o : ℕ} → Line p → Wrote out (p .at) (spaces (80 - (p .at - p .line)) ++ (10 ∷ [])) mid e → e ≡ p .line + 81 → Wrote mid e (spaces 10) out' o → o ≡ e + 10
     → (Moves turn 1 out p out' (place e o true)) × (o ≡ e + 10)
-turn-moves {out} {mid} {out'} {p} {e} {o} l x a y b = (record {
-  line = record { low = omega arith; high = omega arith; start = λ t. b };
-  few = omega arith;
-  size = wrote-length y ∙ wrote-length x;
-  page = λ out₀ base P n.
-      let c : 80 - (p .at - p .line) ≡ 80 - length (P .line) = let d = n .column in omega arith in
-      on-more P (turn P) _ n (wrote-then x y) (turn-text P ∙ rw c refl) (unfold turn in (rw (length-replicate {A = ℕ} 10 32) b)) (unfold turn in refl);
-}, b)
+turn-moves {out} {mid} {out'} {p} {e} {o} l x a y b = (
+  record {
+    line = record { low = omega arith; high = omega arith; start = λ t. b };
+    few = omega arith;
+    size = wrote-length y ∙ wrote-length x;
+    page = λ out₀ base P n.
+        let c : 80 - (p .at - p .line) ≡ 80 - length (P .line) = let d = n .column in omega arith in
+        on-more P (turn P) _ n (wrote-then x y) (turn-text P ∙ rw c refl) (unfold turn in (rw (length-replicate {A = ℕ} 10 32) b)) (unfold turn in refl);
+  },
+  b,
+)
 
 -- ---- an item's beginning
 
@@ -280,9 +283,11 @@ module _ {part : List ℤ} {out₀ : List ℕ} {p₀ : Place} where
 
   pub literals-next : {i : ℕ} {out : List ℕ} {p : Place} {out' : List ℕ} {r : Place} (z : ℤ) → Literals part out₀ p₀ i out p → i < length part → z ≡ getD part i (pos 0) → Moves (place-item (literal-item z)) 1 out p out' r → Literals part out₀ p₀ (i + 1) out' r
   unfolding place-items
-  literals-next {i} {out} {p} {out'} {r} z inv h e m = record { whole = λ out'' r' n.
-      let c : place-items (map literal-item (drop i part)) ≡ place-items (literal-item z ∷ map literal-item (drop (i + 1) part)) = ap (λ (l : List ℤ). place-items (map literal-item l)) (cons-word part i h ∙ ap (λ (k : ℤ). k ∷ drop (i + 1) part) (sym e)) in
-      inv .whole out'' r' (moves-as (λ x. ap (λ (f : Page → Page). f x) (sym c)) (omega arith) (moves-then m n)) }
+  literals-next {i} {out} {p} {out'} {r} z inv h e m = record {
+    whole = λ out'' r' n.
+        let c : place-items (map literal-item (drop i part)) ≡ place-items (literal-item z ∷ map literal-item (drop (i + 1) part)) = ap (λ (l : List ℤ). place-items (map literal-item l)) (cons-word part i h ∙ ap (λ (k : ℤ). k ∷ drop (i + 1) part) (sym e)) in
+        inv .whole out'' r' (moves-as (λ x. ap (λ (f : Page → Page). f x) (sym c)) (omega arith) (moves-then m n));
+  }
 
   pub literals-end : {i : ℕ} {out : List ℕ} {p : Place} → Literals part out₀ p₀ i out p → Line p → length part ≤ i → Moves (place-items (map literal-item part)) (length part) out₀ p₀ out p
   unfolding place-items

@@ -300,3 +300,96 @@ fn place_comparison(out: &mut [u8], page: Place, words: &[i32], from: usize) -> 
     let p = place_terms(out, page, &words[from..a], &words[a..b], &words[c..e]);
     Placed { page: p, next: e }
 }
+
+// The comparisons of a clause, from their count on.
+fn place_comparisons(out: &mut [u8], page: Place, words: &[i32], from: usize) -> Placed
+    requires { ⌜ (Line page) × (Few (now words)) × (page .line ≤ 4398046511104) × (from ≤ length (now words)) × (all fitting (now words) ≡ true) ⌝ }
+    ensures { λ r. ⌜ (Moves (place-items (comparison-items (count-word (drop from (now (words .entry)))) (drop 1 (drop from (now (words .entry)))))) (r .next - from) (now (out .entry)) page (now (out .exit)) (r .page)) × (Shows (print-comparisons (drop from (now (words .entry))) .rest) (now (words .entry)) from (r .next)) ⌝ }
+{
+    let mut p = page;
+    let mut i = stop(words, from, 1);
+    let mut left = count_at(words, from);
+    while left > 0 {
+        if i == words.len() {
+            return Placed { page: p, next: i };
+        }
+        let r = place_comparison(out, p, words, i);
+        p = r.page;
+        i = r.next;
+        left -= 1;
+    }
+    Placed { page: p, next: i }
+}
+
+// A clause's number, right-aligned in 8 places, and two spaces.
+fn start_clause(out: &mut [u8], at: usize, k: u64) -> Place
+    requires { ⌜ (at ≤ 2199023255552) × (k < 100000000) ⌝ }
+    ensures { λ r. ⌜ Starts (numbered k) at (now (out .entry)) (now (out .exit)) r ⌝ }
+{
+    let w = natural_width(k);
+    let o = put_spaces(out, at, 8 - w);
+    put_natural(out, o, k);
+    let e = put_spaces(out, o + w, 2);
+    Place {
+        line: at,
+        at: e,
+        bare: true,
+    }
+}
+
+// Where the next byte goes, and the next word to show.
+pub struct After {
+    pub at: usize,
+    pub next: usize,
+}
+
+// Clause number k.
+fn put_clause(out: &mut [u8], at: usize, k: u64, words: &[i32], from: usize) -> After
+    requires { ⌜ (at ≤ 2199023255552) × (k < 100000000) × (Few (now words)) × (from < length (now words)) × (all fitting (now words) ≡ true) ⌝ }
+    ensures { λ r. ⌜ (Wrote (now (out .entry)) at (flat (map full (all-lines (place-items (clause-items (drop from (now (words .entry)))) (numbered k))))) (now (out .exit)) (r .at)) × (Shows (print-clause (drop from (now (words .entry))) .rest) (now (words .entry)) from (r .next)) × (r .at + 81 * from ≤ at + 81 * r .next) × (from < r .next) ⌝ }
+{
+    let n = count_at(words, from);
+    let a = stop(words, from, 1);
+    let b = stop(words, a, n);
+    let s = start_clause(out, at, k);
+    let p = place_literals(out, s, &words[a..b]);
+    let q = place_comparisons(out, p, words, b);
+    let e = end_line(out, q.page);
+    After {
+        at: e,
+        next: q.next,
+    }
+}
+
+// n clauses from a place on, the first of them number 1.
+fn put_clauses(out: &mut [u8], words: &[i32], from: usize, n: usize) -> usize
+    requires { ⌜ (Few (now words)) × (from ≤ length (now words)) × (all fitting (now words) ≡ true) ⌝ }
+    ensures { λ r. ⌜ Wrote (now (out .entry)) 0 (flat (map full (sheet-lines 1 n (drop from (now (words .entry)))))) (now (out .exit)) r ⌝ }
+{
+    let mut o = 0;
+    let mut i = from;
+    let mut left = n;
+    let mut k = 1;
+    while left > 0 {
+        if i == words.len() {
+            return o;
+        }
+        let r = put_clause(out, o, k, words, i);
+        o = r.at;
+        i = r.next;
+        left -= 1;
+        k += 1;
+    }
+    o
+}
+
+// The sheet of an answer, from its count of clauses on, and how many bytes it has.
+pub fn put_sheet(out: &mut [u8], words: &[i32], from: usize) -> usize
+    requires { ⌜ (Few (now words)) × (from ≤ length (now words)) ⌝ }
+    ensures { λ r. ⌜ (Wrote (now (out .entry)) 0 (print-sheet (drop from (now (words .entry)))) (now (out .exit)) r) × (all fitting (now (words .entry)) ≡ true) ⌝ }
+{
+    all_fit(words);
+    let n = count_at(words, from);
+    let a = stop(words, from, 1);
+    put_clauses(out, words, a, n)
+}
