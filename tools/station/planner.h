@@ -1,4 +1,4 @@
-/* The normaliser for C: link target/staticlib/libplanner.a, which `rt staticlib planner` makes. */
+/* The normaliser for C: link target/staticlib/libstation.a, which `rt staticlib station` makes. */
 #ifndef PLANNER_H
 #define PLANNER_H
 #include <stddef.h>

@@ -3,5 +3,3 @@ pub mod Head
 pub mod Whole
 pub mod Cases
 pub mod Claims
-pub mod Refusals
-pub mod Numbers

@@ -8,7 +8,7 @@ use Prim.Native.Nat.{ℕ}
 use lib.IntN.{ℤ}
 use lib.ListN.{length, take}
 use Rattle.syntax.specs.Satisfies.{Val, IVal}
-use Rattle.call.specs.Call.{Result, compiled, contradiction, refused, returned, call, output-after, zeros}
+use Rattle.call.specs.Call.{Result, compiled, contradiction, refused, call, output-after, zeros}
 use Rattle.call.specs.Claim.{within, satisfied, Passed, Consequences}
 use Rattle.planner.specs.declared.Answer.{Answer}
 use Rattle.planner.specs.declared.Answer.the-variants.{Compiled, Contradiction, Refused}
@@ -28,9 +28,3 @@ pub record Compiles (set out work out' work' : List ℤ) (r : Answer) : Type 0 w
   pub unsatisfied : r ≡ Contradiction → (δ : Val) (ε : IVal) → within set ε ≡ true → satisfied set δ ε ≡ false
   -- two statement lists joined pass exactly when both do; Not of a rule, when the rule fails; Or of rules, when one passes
   pub consequences : Consequences
-
--- the same by number, for stations
-pub record Returns (set out work out' work' : List ℤ) (r : ℤ) : Type 0 where
-  pub number : r ≡ returned (call set (length out) (length work))
-  pub output : out' ≡ output-after (call set (length out) (length work)) (length out)
-  pub zeroed : work' ≡ zeros (length work)

@@ -4,7 +4,7 @@ use walk::Counters;
 ghost use mathlib.Core.Path.{_≡_};
 ghost use Prim.Native.Nat.{min};
 ghost use Rattle.syntax.specs.Words.{max-answer-words};
-ghost use Rattle.planner.specs.Contract.{Compiles, Returns};
+ghost use Rattle.planner.specs.Contract.{Compiles};
 ghost use Rattle.planner.specs.Steps.{SomeWrites, Written-answer, SomeEmits, Emit-post};
 
 // The number of words written, a contradiction, or the refusal's number.
@@ -84,17 +84,5 @@ pub fn compile(set: &[i32], output: &mut [i32], work: &mut [i32]) -> Answer
             refuse::clear(work);
             r
         }
-    }
-}
-
-// For stations: the number of words written, the refusal's number negated, or -100 for a contradiction.
-#[no_mangle]
-pub extern "C" fn compile_set(set: &[i32], output: &mut [i32], work: &mut [i32]) -> i64
-    ensures { λ r. ⌜ Returns (now (set .entry)) (now (output .entry)) (now (work .entry)) (now (output .exit)) (now (work .exit)) r ⌝ }
-{
-    match compile(set, output, work) {
-        Answer::Compiled(n) => n as i64,
-        Answer::Contradiction => -100,
-        Answer::Refused(k) => 0 - (k as i64),
     }
 }

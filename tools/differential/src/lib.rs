@@ -16,7 +16,7 @@ macro_rules! entry {
 }
 
 entry!(
-    /// The call, in the static library of `planner`.
+    /// The call, in the static library of `station`.
     compile, compile_set, i64
 );
 entry!(

@@ -1,9 +1,9 @@
--- The answer as a station's number: it fits i64, and it is the definition's.
+-- The answer as a station's number: it fits i64, and it is the definition's; with what `compile` says of the answer.
 use mathlib.Core.Path.{_≡_, refl, sym, ap, _∙_}
 use mathlib.Core.List.{List}
 use Prim.Native.Nat.{ℕ, zero, suc, _≤_}
 use native.Mathlib.Omega.{arith}
-use lib.IntN.{ℤ, pos, negℤ, _-ℤ_, +ℤ-idl}
+use lib.IntN.{ℤ, pos, negsuc, negℤ, _-ℤ_, +ℤ-idl}
 use lib.ListN.{length}
 use mir.Syntax.{w64}
 use mir.Val.{toZ, ofZ, SFits}
@@ -11,17 +11,18 @@ use mir.Facts.{toZ-ofZ}
 use Rattle.laws.specs.Ints.{apart}
 use Rattle.syntax.specs.Words.{max-answer-words}
 use Rattle.call.specs.Call.{Result, compiled, contradiction, refused, returned, call}
 use Rattle.planner.specs.declared.Answer.{Answer}
 use Rattle.planner.specs.declared.Answer.the-variants.{Compiled, Contradiction, Refused}
-use Rattle.planner.specs.Contract.{answer-of, Compiles, Returns}
-use Rattle.planner.proofs.Refusals.{Small, call-small}
+use Rattle.planner.specs.Contract.{answer-of, Compiles}
+use Rattle.station.specs.Small.{Small, call-small}
+use Rattle.station.specs.Returned.{Returns}
 
 -- ---- small numbers as bits
 
 pub number-fits : (n : ℕ) → n ≤ max-answer-words → SFits w64 (pos n)
 number-fits n h = record { sfits = omega arith }
 
-pub number-is : (n : ℕ) → n ≤ max-answer-words → toZ w64 n ≡ pos n
+number-is : (n : ℕ) → n ≤ max-answer-words → toZ w64 n ≡ pos n
 number-is n h = toZ-ofZ (number-fits n h)
 
 minus-is : (k : ℕ) → pos 0 -ℤ pos k ≡ negℤ (pos k)
@@ -34,7 +35,7 @@ minus-fits (suc k) h = record { sfits = omega arith }
 pub negated-fits : (k : ℕ) → k ≤ 12 → SFits w64 (pos 0 -ℤ toZ w64 k)
 negated-fits k h = rw (number-is k (omega arith), minus-is k) (minus-fits k h)
 
-pub negated-is : (k : ℕ) → k ≤ 12 → toZ w64 (ofZ w64 (pos 0 -ℤ toZ w64 k)) ≡ negℤ (pos k)
+negated-is : (k : ℕ) → k ≤ 12 → toZ w64 (ofZ w64 (pos 0 -ℤ toZ w64 k)) ≡ negℤ (pos k)
 negated-is k h = toZ-ofZ (negated-fits k h) ∙ ap (λ (z : ℤ). pos 0 -ℤ z) (number-is k (omega arith)) ∙ minus-is k
 
 -- ---- of an answer
@@ -55,26 +56,53 @@ refusal-of : (x : Result) → Small x → (k : ℕ) → answer-of x ≡ Refused 
 unfolding answer-of returned
 refusal-of (compiled ws) s k e = apart (cc)
 refusal-of contradiction s k e = apart (cc)
-refusal-of (refused j) s k e = let l : j ≡ k = cc in (omega (arith, s), ap (λ (m : ℕ). negℤ (pos m)) (sym l))
+refusal-of (refused zero) s k e = absurd s
+refusal-of (refused (suc j)) s k e = let l : suc j ≡ k = cc in (omega (arith, s), ap (λ (m : ℕ). negℤ (pos m)) (sym l))
+
+-- the number tells the answer: no refusal has the number 0 or 100
+words-back : (x : Result) → Small x → (n : ℕ) → returned x ≡ pos n → answer-of x ≡ Compiled n
+unfolding answer-of returned
+words-back (compiled ws) s n e = let l : length ws ≡ n = cc in ap Compiled l
+words-back contradiction s n e = apart (cc)
+words-back (refused zero) s n e = absurd s
+words-back (refused (suc k)) s n e = apart (cc)
+
+none-back : (x : Result) → Small x → returned x ≡ negℤ (pos 100) → answer-of x ≡ Contradiction
+unfolding answer-of returned
+none-back (compiled ws) s e = apart (cc)
+none-back contradiction s e = refl
+none-back (refused zero) s e = absurd s
+none-back (refused (suc k)) s e = let l : k ≡ 99 = cc in absurd (omega (arith, s))
 
 module _ (set out work out' work' : List ℤ) (r : Answer) (h : Compiles set out work out' work' r) where
   abbrev result : Result
   result = call set (length out) (length work)
 
+  small : Small result
+  small = call-small set (length out) (length work)
+
   gives : (x : ℤ) → x ≡ returned result → Returns set out work out' work' x
-  gives x e = record { number = e; output = h .output; zeroed = h .zeroed }
+  gives x e =
+      record {
+        number = e;
+        output = h .output;
+        zeroed = h .zeroed;
+        exact = λ n f. h .exact n (h .answer ∙ words-back result small n (sym e ∙ f));
+        unsatisfied = λ f. h .unsatisfied (h .answer ∙ none-back result small (sym e ∙ f));
+        consequences = h .consequences;
+      }
 
   pub words-small : (n : ℕ) → r ≡ Compiled n → n ≤ max-answer-words
-  words-small n e = words-of result (call-small set (length out) (length work)) n (sym (h .answer) ∙ e) .0
+  words-small n e = words-of result small n (sym (h .answer) ∙ e) .0
 
   pub refusal-small : (k : ℕ) → r ≡ Refused k → k ≤ 12
-  refusal-small k e = refusal-of result (call-small set (length out) (length work)) k (sym (h .answer) ∙ e) .0
+  refusal-small k e = refusal-of result small k (sym (h .answer) ∙ e) .0
 
   pub returns-words : (n : ℕ) → r ≡ Compiled n → Returns set out work out' work' (toZ w64 n)
-  returns-words n e = gives (toZ w64 n) (number-is n (words-small n e) ∙ words-of result (call-small set (length out) (length work)) n (sym (h .answer) ∙ e) .1)
+  returns-words n e = gives (toZ w64 n) (number-is n (words-small n e) ∙ words-of result small n (sym (h .answer) ∙ e) .1)
 
   pub returns-none : r ≡ Contradiction → Returns set out work out' work' (negℤ (pos 100))
   returns-none e = gives (negℤ (pos 100)) (none-of result (sym (h .answer) ∙ e))
 
   pub returns-refusal : (k : ℕ) → r ≡ Refused k → Returns set out work out' work' (toZ w64 (ofZ w64 (pos 0 -ℤ toZ w64 k)))
-  returns-refusal k e = gives _ (negated-is k (refusal-small k e) ∙ refusal-of result (call-small set (length out) (length work)) k (sym (h .answer) ∙ e) .1)
+  returns-refusal k e = gives _ (negated-is k (refusal-small k e) ∙ refusal-of result small k (sym (h .answer) ∙ e) .1)

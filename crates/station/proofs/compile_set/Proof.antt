@@ -1,12 +1,11 @@
 -- `compile_set` meets its contract.
 use native.Mathlib.Omega.{arith}
-use Rattle.planner.proofs.Numbers.{number-fits, negated-fits, words-small, refusal-small, returns-words, returns-none, returns-refusal}
+use Rattle.station.proofs.Numbers.{number-fits, negated-fits, words-small, refusal-small, returns-words, returns-none, returns-refusal}
 use borrow.Author.Needs.{needs}
-use Rattle.planner.proofs.compile_set.Statement.{statement}
-use Rattle.planner.proofs.compile_set.Tie as tie
-use Rattle.planner.proofs.compile_set.Reads as reads
-use Rattle.planner.proofs.compile_set.Lts as lts
-use Rattle.planner.proofs.compile.Reads as compile-reads
+use Rattle.station.proofs.compile_set.Statement.{statement}
+use Rattle.station.proofs.compile_set.Tie as tie
+use Rattle.station.proofs.compile_set.Reads as reads
+use Rattle.station.proofs.compile_set.Lts as lts
 
 compile-requires : tie.Need-compile-requires
 compile-requires c κs = search needs

@@ -1,8 +1,8 @@
--- A refusal's number is at most 12, and an answer at most 16777216 words long.
+-- A refusal's number is 1 to 12, and an answer at most 16777216 words long.
 use mathlib.Core.Path.{_≡_, refl}
 use mathlib.Core.Bool.{Bool, true, false, _||_, cond}
 use mathlib.Core.List.{List, [], _∷_}
-use Prim.Native.Nat.{ℕ, zero, suc, _≤_}
+use Prim.Native.Nat.{ℕ, zero, suc, _≤_, _<_}
 use native.Mathlib.Omega.{arith}
 use lib.IntN.{ℤ, pos, negsuc}
 use lib.Signed.{ltZ}
@@ -20,11 +20,16 @@ use Rattle.fold.specs.Optimize.{Outcome, inconsistent, settled, optimize}
 use Rattle.answer.specs.Answer.{layout, normalize}
 use Rattle.call.specs.Call.{Result, compiled, contradiction, refused, measured, answered, checked, when-read, call}
 
+-- the documents' numbers
+abbrev pub Number : ℕ → Type 0
+Number zero = ⊥
+Number (suc k) = k < 12
+
 -- ---- what reading refuses
 
-abbrev Low : {A : Type 0} → Parsed A → Type 0
+abbrev pub Low : {A : Type 0} → Parsed A → Type 0
 Low (ok a r) = Unit {0}
-Low (refuse k) = k ≤ 12
+Low (refuse k) = Number k
 
 low-bind : {A B : Type 0} (q : Parsed A) (f : A → Parser B) → Low q → ((a : A) (r : List ℤ) → Low (f a r)) → Low (bind q f)
 low-bind (ok a r) f h g = g a r
@@ -47,7 +52,7 @@ word-low : (xs : List ℤ) → Low (word xs)
 word-low [] = omega arith
 word-low (w ∷ xs) = tt
 
-up-to-low : (limit k : ℕ) → k ≤ 12 → (xs : List ℤ) → Low (up-to limit k xs)
+up-to-low : (limit k : ℕ) → Number k → (xs : List ℤ) → Low (up-to limit k xs)
 unfolding up-to
 up-to-low limit k h xs = low-bind (word xs) _ (word-low xs) at
   where
@@ -101,13 +106,13 @@ cell-low xs = low-bind (word xs) _ (word-low xs) (λ w r. low-cond (eqZ w star-w
 
 -- ---- expressions
 
-deep-int : (k : IntKind) → too-deep-int k ≤ 12
+deep-int : (k : IntKind) → Number (too-deep-int k)
 deep-int i-const = omega arith
 deep-int i-var = omega arith
 deep-int i-sum = omega arith
 deep-int i-unknown = omega arith
 
-deep-bool : (k : BoolKind) → too-deep-bool k ≤ 12
+deep-bool : (k : BoolKind) → Number (too-deep-bool k)
 deep-bool k-const = omega arith
 deep-bool k-var = omega arith
 deep-bool k-and = omega arith
@@ -181,7 +186,7 @@ end-low (ok p []) h = tt
 end-low (ok p (w ∷ r)) h = omega arith
 end-low (refuse k) h = h
 
-set-low : (xs : List ℤ) → Low (read-set xs)
+pub set-low : (xs : List ℤ) → Low (read-set xs)
 unfolding read-set
 set-low xs = end-low (read-problem xs) (
     low-bind (up-to max-bools 4 xs) _ (up-to-low max-bools 4 (omega arith) xs) (λ b r.
@@ -195,7 +200,7 @@ set-low xs = end-low (read-problem xs) (
 abbrev pub Small : Result → Type 0
 Small (compiled ws) = length ws ≤ max-answer-words
 Small contradiction = Unit {0}
-Small (refused k) = k ≤ 12
+Small (refused k) = Number k
 
 cond-small : (t : Bool) (x y : Result) → Small x → Small y → Small (cond t x y)
 cond-small true x y h k = h
@@ -215,17 +220,22 @@ unfolding answered
 answered-small o p inconsistent = tt
 answered-small o p (settled f ss) = measured-small o (layout (normalize p f ss))
 
-check-small : (p : Problem) → check p ≤ 12
+-- 0 where nothing is refused
+abbrev pub Checked : ℕ → Type 0
+Checked zero = Unit {0}
+Checked (suc k) = k < 12
+
+pub check-small : (p : Problem) → Checked (check p)
 unfolding check
 check-small p = go (any (any-part (heavy-comparison (p .domains)) (heavy (p .domains))) (p .stmts)) (any (any-part many-comparison many-column) (p .stmts)) (any (any-part (λ a b. false) (wide-column (p .domains))) (p .stmts))
   where
-    go : (a b c : Bool) → cond a 9 (cond b 10 (cond c 11 0)) ≤ 12
+    go : (a b c : Bool) → Checked (cond a 9 (cond b 10 (cond c 11 0)))
     go true b c = omega arith
     go false true c = omega arith
     go false false true = omega arith
-    go false false false = omega arith
+    go false false false = tt
 
-checked-small : (o : ℕ) (p : Problem) (k : ℕ) → k ≤ 12 → Small (checked o p k)
+checked-small : (o : ℕ) (p : Problem) (k : ℕ) → Checked k → Small (checked o p k)
 unfolding checked
 checked-small o p zero h = answered-small o p (optimize p)
 checked-small o p (suc k) h = h
