@@ -23,7 +23,8 @@ use Rattle.page.specs.Writes.{Wrote, Few, Line, On, Moves, Shows, Begins
 use Rattle.page.specs.Widths.{fitting, number-short}
 use Rattle.page.specs.declared.Place.{Place}
 use Rattle.page.proofs.Bytes.{wrote-then, wrote-to}
-use Rattle.page.proofs.Pages.{place, moves-none, moves-then, moves-as, on-as, put-put, part-fits, item-moves, part-moves}
+use Rattle.page.proofs.Pages.{place, moves-none, moves-then, moves-as, on-as, item-moves, part-moves}
+use Rattle.page.specs.Placing.{put-put, part-fits, flat-front, flat-pairs}
 
 -- ---- words within i32
 
@@ -61,21 +62,6 @@ pub comparison-measured : (o c ts : List ℤ) (a b n : ℕ) → length o ≤ 1 �
 comparison-measured o c ts a b n ho hc ht e f g h i j = let l = head-length o c in (omega arith, omega arith, omega arith)
 
 -- ---- a comparison by its parts
-
-pub flat-front : (h : List ℕ) (ps : Item) → flat (in-front h ps) ≡ h ++ flat ps
-unfolding in-front
-flat-front h [] = refl
-flat-front h (p ∷ ps) = append-assoc h p (flat ps)
-
-pub flat-pairs : (zs : List ℤ) → flat (pair-parts zs) ≡ print-numbers zs
-unfolding pair-parts print-numbers print-more
-flat-pairs [] = refl
-flat-pairs (v ∷ []) = append-nil (print-number v ++ [])
-flat-pairs (v ∷ a ∷ []) = append-nil (print-number v ++ (comma ∷ (print-number a ++ [])))
-flat-pairs (v ∷ a ∷ w ∷ ws) =
-    let rest : List ℕ = print-number w ++ print-more ws in
-    let e : ((print-number v ++ (comma ∷ (print-number a ++ []))) ++ (comma ∷ [])) ++ rest ≡ print-number v ++ (comma ∷ (print-number a ++ (comma ∷ rest))) = simp (append-assoc, append-nil) in
-    ap (λ (l : List ℕ). ((print-number v ++ (comma ∷ (print-number a ++ []))) ++ (comma ∷ [])) ++ l) (flat-pairs (w ∷ ws)) ∙ e
 
 first : Item → List ℕ
 first [] = []

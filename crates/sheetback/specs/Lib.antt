@@ -1,0 +1,5 @@
+pub mod ReadSheet
+pub mod Cases
+pub mod Tokens
+pub mod Placed
+pub mod SheetBack
