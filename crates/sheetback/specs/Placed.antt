@@ -26,7 +26,7 @@ map-append : {A B : Type 0} (f : A → B) (xs ys : List A) → map f (xs ++ ys) 
 map-append f [] ys = refl
 map-append f (x ∷ xs) ys = ap (λ l. f x ∷ l) (map-append f xs ys)
 
-toks-snoc : (ls : List (List ℕ)) (l : List ℕ) → toks (ls ++ (l ∷ [])) ≡ toks ls ++ line-tokens l
+pub toks-snoc : (ls : List (List ℕ)) (l : List ℕ) → toks (ls ++ (l ∷ [])) ≡ toks ls ++ line-tokens l
 toks-snoc ls l = ap flat (map-append line-tokens ls (l ∷ [])) ∙ flat-append (map line-tokens ls) (line-tokens l ∷ []) ∙ ap (λ x. toks ls ++ x) (append-nil (line-tokens l))
 
 -- ---- lines: the first has a clause's number, the others go on

@@ -9,7 +9,7 @@ use lib.IntN.{ℤ, pos}
 use lib.Dec.{eqb, leb}
 use lib.ListN.{length, take, drop, length-append, length-map, length-replicate, drop-of-length-le}
 use lib.Seq.{take-append-seam, drop-append-seam, take-append-le, drop-append-le, take-all}
-use borrow.Author.Tests.{leb-true, le-leb, eq-eqb}
+use borrow.Author.Tests.{leb-true, le-leb, eqb-false, ne-eqb, not-true}
 use Rattle.laws.specs.Bools.{and-l, and-r, and-i}
 use Rattle.laws.specs.Lists.{all, any, all-append, any-append, filter, flat, flat-append, counted}
 use Rattle.syntax.specs.Syntax.{encode-op}
@@ -28,8 +28,8 @@ use Rattle.page.specs.Sheet.{space, spaces, Item, literal-item, pair-parts, in-
 use Rattle.page.specs.Placing.{flat-front, flat-pairs}
 use Rattle.page.specs.Widths.{natural-short}
 use Rattle.sheetback.specs.ReadSheet.{tokens, ends-open, glued, is-comparison, read-items, goes-on, line-tokens, Grouped, grouped, read-clauses, read-sheet}
-use Rattle.sheetback.specs.Tokens.{tokens-pad, tokens-none, closed, open-append}
-use Rattle.sheetback.specs.Placed.{toks, led, sound, Read, Plain, Good, AllGood, filled-append, items-read}
+use Rattle.sheetback.specs.Tokens.{filter-append, tokens-pad, tokens-none, closed, open-append}
+use Rattle.sheetback.specs.Placed.{toks, toks-snoc, led, sound, Read, Plain, Good, AllGood, filled-append, items-read}
 
 -- ---- the items of a clause
 
@@ -163,3 +163,257 @@ clause-shown-items (clause ls ks) r =
     let a : literals (pos (length ls) ∷ (lits-words ls ++ rest)) ≡ lits-words ls = rw (← lits-length ls) (take-append-seam (lits-words ls) rest) in
     let b : after-literals (pos (length ls) ∷ (lits-words ls ++ rest)) ≡ rest = rw (← lits-length ls) (drop-append-seam (lits-words ls) rest) in
     rw (laid, a, b, linears-shown ks r) refl
+
+-- ---- reading the items
+
+integers-back : (zs : List ℤ) → read-integers (map print-number zs) ≡ some zs
+unfolding read-integers
+integers-back [] = refl
+integers-back (z ∷ zs) = rw (integer-back z, integers-back zs) refl
+
+comparisons-back : (ks : List LinearLit) → read-comparisons (map linear-body ks) ≡ some (flat (map linear-words ks))
+unfolding read-comparisons
+comparisons-back [] = refl
+comparisons-back (linear o (linear-sum c ts) ∷ ks) = rw (comparison-back _ c (length ts) (terms-words ts) (terms-length ts), comparisons-back ks) refl
+
+-- a literal has no colon, a comparison has
+none-equal : (s : ℕ) (t : List ℕ) → avoids s t ≡ true → any (eqb s) t ≡ false
+none-equal s [] h = refl
+none-equal s (b ∷ bs) h = go (eqb b s) refl (and-l (not (eqb b s)) (avoids s bs) h) (none-equal s bs (and-r (not (eqb b s)) (avoids s bs) h))
+  where
+    go : (x : Bool) → eqb b s ≡ x → not x ≡ true → any (eqb s) bs ≡ false → eqb s b || any (eqb s) bs ≡ false
+    go true e k f = absurd (false≢true k)
+    go false e k f = rw (ne-eqb s b (λ q. eqb-false b s e (sym q))) f
+
+literal-plain : (z : ℤ) → is-comparison (print-number z) ≡ false
+literal-plain z = none-equal colon (print-number z) (number-avoids colon (λ b l u e. omega arith) z)
+
+body-comparison : (k : LinearLit) → is-comparison (linear-body k) ≡ true
+body-comparison (linear o (linear-sum c ts)) =
+    let a : List ℕ = print-numbers (encode-op o ∷ []) in
+    let b : List ℕ = colon ∷ (print-numbers (c ∷ []) ++ (colon ∷ print-numbers (terms-words ts))) in
+    any-append (eqb colon) a b ∙ or-true (any (eqb colon) a)
+  where
+    or-true : (x : Bool) → x || true ≡ true
+    or-true true = refl
+    or-true false = refl
+
+module _ {A : Type 0} (text : A → List ℕ) (f : List ℕ → Bool) where
+  filter-all : ((a : A) → f (text a) ≡ true) → (ys : List A) → filter f (map text ys) ≡ map text ys
+  filter-all h [] = refl
+  filter-all h (a ∷ ys) = rw (h a, filter-all h ys) refl
+
+  filter-none : ((a : A) → f (text a) ≡ false) → (ys : List A) → filter f (map text ys) ≡ []
+  filter-none h [] = refl
+  filter-none h (a ∷ ys) = rw (h a, filter-none h ys) refl
+
+map-append : {A B : Type 0} (f : A → B) (xs ys : List A) → map f (xs ++ ys) ≡ map f xs ++ map f ys
+map-append f [] ys = refl
+map-append f (x ∷ xs) ys = ap (λ l. f x ∷ l) (map-append f xs ys)
+
+abbrev texts : List BoolLit → List LinearLit → List (List ℕ)
+texts ls ks = map print-number (lits-words ls) ++ map linear-body ks
+
+items-back : (ls : List BoolLit) (ks : List LinearLit) → read-items (texts ls ks) ≡ some (clause-words (clause ls ks))
+unfolding read-items
+items-back ls ks =
+    let zs : List ℤ = lits-words ls in
+    let plain : List ℕ → Bool = λ t. not (is-comparison t) in
+    let a : filter plain (texts ls ks) ≡ map print-number zs = filter-append plain (map print-number zs) (map linear-body ks) ∙ rw (filter-all print-number plain (λ z. ap not (literal-plain z)) zs, filter-none linear-body plain (λ k. ap not (body-comparison k)) ks) (append-nil (map print-number zs)) in
+    let b : filter is-comparison (texts ls ks) ≡ map linear-body ks = filter-append is-comparison (map print-number zs) (map linear-body ks) ∙ rw (filter-none print-number is-comparison literal-plain zs, filter-all linear-body is-comparison body-comparison ks) refl in
+    rw (a, b, integers-back zs, comparisons-back ks, length-map zs print-number, lits-length ls, length-map ks linear-body) refl
+
+-- ---- a clause's lines
+
+spaces-avoid : (m : ℕ) → avoids line-feed (spaces m) ≡ true
+spaces-avoid zero = refl
+spaces-avoid (suc m) = spaces-avoid m
+
+-- a number's digits are no spaces
+not-all : (t : List ℕ) → is-empty t ≡ false → avoids space t ≡ true → all (λ b. eqb b space) t ≡ false
+not-all [] h k = absurd (false≢true (sym h))
+not-all (b ∷ bs) h k = go (eqb b space) (and-l (not (eqb b space)) (avoids space bs) k)
+  where
+    go : (x : Bool) → not x ≡ true → x && all (λ b. eqb b space) bs ≡ false
+    go true e = absurd (false≢true e)
+    go false e = refl
+
+module _ (k : ℕ) (h : k < 100000000) where
+  abbrev digits : List ℕ
+  digits = print-natural k
+
+  abbrev line : List ℕ
+  line = spaces (8 - length digits) ++ (digits ++ spaces 2)
+
+  line-ten : length line ≡ 10
+  line-ten = omega (arith, length-append (spaces (8 - length digits)) (digits ++ spaces 2), length-append digits (spaces 2), length-replicate {A = ℕ} (8 - length digits) 32, natural-short k h)
+
+  line-free : avoids line-feed line ≡ true
+  line-free = avoids-append line-feed (spaces (8 - length digits)) (digits ++ spaces 2) (spaces-avoid (8 - length digits)) (avoids-append line-feed digits (spaces 2) (natural-avoids line-feed (λ b l u e. omega arith) k) refl)
+
+  line-rest : drop 10 line ≡ []
+  line-rest = drop-of-length-le line (let q : length line ≤ 10 = omega (arith, line-ten) in q)
+
+  digits-some : is-empty digits ≡ false
+  digits-some = unfold print-number in (number-filled (pos k))
+
+  line-leads : goes-on line ≡ false
+  unfolding goes-on
+  line-leads =
+      let test : List ℕ → Bool = all (λ b. eqb b space) in
+      let e : take 10 line ≡ line = take-all 10 line (let q : length line ≤ 10 = omega (arith, line-ten) in q) in
+      let d : test digits ≡ false = not-all digits digits-some (natural-avoids space (λ b l u e. omega arith) k) in
+      ap test e ∙ all-append (λ b. eqb b space) (spaces (8 - length digits)) (digits ++ spaces 2) ∙ ap (λ (x : Bool). test (spaces (8 - length digits)) && x) (all-append (λ b. eqb b space) digits (spaces 2) ∙ rw d refl) ∙ and-false (test (spaces (8 - length digits)))
+    where
+      and-false : (x : Bool) → x && false ≡ false
+      and-false true = refl
+      and-false false = refl
+
+  numbered-read : Read (numbered k) []
+  unfolding numbered line-tokens
+  numbered-read = record {
+    glue = λ U. ap (λ (x : List ℕ). glued (tokens x ++ U)) line-rest ∙ ap (λ (x : List (List ℕ)). glued (x ++ U)) tokens-none;
+    start = λ b. line-rest;
+    long = omega (arith, line-ten);
+    leads = ap (λ (x : Bool). not x && true) line-leads;
+    sounds = and-i (sound line) true (and-i (leb 10 (length line)) (avoids line-feed line) (le-leb 10 (length line) (omega (arith, line-ten))) line-free) refl;
+  }
+
+lits-good : (zs : List ℤ) (is : List Item) → AllGood is → AllGood (map literal-item zs ++ is)
+lits-good [] is g = g
+lits-good (z ∷ zs) is g = AllGood.more (literal-good z) (lits-good zs is g)
+
+linears-good : (ks : List LinearLit) → AllGood (map linear-item ks)
+linears-good [] = AllGood.none
+linears-good (k ∷ ks) = AllGood.more (linear-good k) (linears-good ks)
+
+flats-are : (ls : List BoolLit) (ks : List LinearLit) → map flat (items-of (clause ls ks)) ≡ texts ls ks
+unfolding items-of
+flats-are ls ks = map-append flat (map literal-item (lits-words ls)) (map linear-item ks) ∙ rw (lits (lits-words ls), linears ks) refl
+  where
+    lits : (zs : List ℤ) → map flat (map literal-item zs) ≡ map print-number zs
+    lits [] = refl
+    lits (z ∷ zs) = rw (append-nil (print-number z), lits zs) refl
+
+    linears : (ks : List LinearLit) → map flat (map linear-item ks) ≡ map linear-body ks
+    linears [] = refl
+    linears (k ∷ ks) = rw (linear-flat k, linears ks) refl
+
+abbrev page-lines : ℕ → Clause → List (List ℕ)
+page-lines k c = all-lines (place-items (items-of c) (numbered k))
+
+pub record ClauseRead (c : Clause) (ls : List (List ℕ)) : Type 0 where
+  pub items : read-items (glued (toks ls)) ≡ some (clause-words c)
+  pub leads : led ls ≡ true
+  pub sounds : all sound ls ≡ true
+
+glued-none : glued [] ≡ []
+unfolding glued
+glued-none = refl
+
+clause-read : (k : ℕ) → k < 100000000 → (c : Clause) → ClauseRead c (page-lines k c)
+unfolding all-lines
+clause-read k h (clause ls ks) =
+    let r : Read (place-items (items-of (clause ls ks)) (numbered k)) (map flat (items-of (clause ls ks))) = items-read (unfold items-of in (lits-good (lits-words ls) (map linear-item ks) (linears-good ks))) (numbered-read k h) in
+    let P = place-items (items-of (clause ls ks)) (numbered k) in
+    let e : toks (P .lines ++ (P .line ∷ [])) ≡ (toks (P .lines) ++ line-tokens (P .line)) ++ [] = toks-snoc (P .lines) (P .line) ∙ sym (append-nil (toks (P .lines) ++ line-tokens (P .line))) in
+    let g : glued (toks (P .lines ++ (P .line ∷ []))) ≡ texts ls ks = ap glued e ∙ r .glue [] ∙ (ap (λ (x : List (List ℕ)). map flat (items-of (clause ls ks)) ++ x) glued-none ∙ append-nil (map flat (items-of (clause ls ks)))) ∙ flats-are ls ks in
+    record { items = ap read-items g ∙ items-back ls ks; leads = r .leads; sounds = r .sounds }
+
+-- ---- all lines
+
+abbrev pad : List ℕ → List ℕ
+pad l = l ++ spaces (80 - length l)
+
+full-split : (l rest : List ℕ) → avoids line-feed l ≡ true → split line-feed (full l ++ rest) ≡ pad l ∷ split line-feed rest
+unfolding full
+full-split l rest h =
+    let e : (l ++ (spaces (80 - length l) ++ (line-feed ∷ []))) ++ rest ≡ pad l ++ (line-feed ∷ rest) = simp append-assoc in
+    ap (split line-feed) e ∙ split-at line-feed (pad l) rest (avoids-append line-feed l (spaces (80 - length l)) h (spaces-avoid (80 - length l)))
+
+lines-split : (ls : List (List ℕ)) → all sound ls ≡ true → split line-feed (flat (map full ls)) ≡ map pad ls ++ ([] ∷ [])
+lines-split [] h = unfold split in refl
+lines-split (l ∷ ls) h =
+    let s : sound l ≡ true = and-l (sound l) (all sound ls) h in
+    full-split l (flat (map full ls)) (and-r (leb 10 (length l)) (avoids line-feed l) s) ∙ ap (λ (x : List (List ℕ)). pad l ∷ x) (lines-split ls (and-r (sound l) (all sound ls) h))
+
+pad-on : (l : List ℕ) → sound l ≡ true → goes-on (pad l) ≡ goes-on l
+unfolding goes-on
+pad-on l h = ap (all (λ b. eqb b space)) (take-append-le 10 l (spaces (80 - length l)) (leb-true 10 (length l) (and-l (leb 10 (length l)) (avoids line-feed l) h)))
+
+pad-tokens : (l : List ℕ) → sound l ≡ true → line-tokens (pad l) ≡ line-tokens l
+unfolding line-tokens
+pad-tokens l h = ap tokens (drop-append-le 10 l (spaces (80 - length l)) (leb-true 10 (length l) (and-l (leb 10 (length l)) (avoids line-feed l) h))) ∙ tokens-pad (80 - length l) (drop 10 l)
+
+grouped-on : (l : List ℕ) (ls : List (List ℕ)) → goes-on l ≡ true → grouped (l ∷ ls) ≡ record { pending = line-tokens l ++ grouped ls .pending; clauses = grouped ls .clauses }
+unfolding grouped
+grouped-on l ls h = rw h refl
+
+grouped-start : (l : List ℕ) (ls : List (List ℕ)) → goes-on l ≡ false → grouped (l ∷ ls) ≡ record { pending = []; clauses = (line-tokens l ++ grouped ls .pending) ∷ grouped ls .clauses }
+unfolding grouped
+grouped-start l ls h = rw h refl
+
+read-more : (ts : List (List ℕ)) (cs : List (List (List ℕ))) (xs ys : List ℤ) → read-items (glued ts) ≡ some xs → read-clauses cs ≡ some ys → read-clauses (ts ∷ cs) ≡ some (xs ++ ys)
+unfolding read-clauses
+read-more ts cs xs ys h k = rw (h, k) refl
+
+goes-grouped : (ls rest : List (List ℕ)) → all goes-on ls ≡ true → all sound ls ≡ true → grouped (map pad ls ++ rest) ≡ record { pending = toks ls ++ grouped rest .pending; clauses = grouped rest .clauses }
+goes-grouped [] rest h k = refl
+goes-grouped (l ∷ ls) rest h k =
+    let s : sound l ≡ true = and-l (sound l) (all sound ls) k in
+    let e : goes-on (pad l) ≡ true = pad-on l s ∙ and-l (goes-on l) (all goes-on ls) h in
+    let f = goes-grouped ls rest (and-r (goes-on l) (all goes-on ls) h) (and-r (sound l) (all sound ls) k) in
+    grouped-on (pad l) (map pad ls ++ rest) e ∙ rw (pad-tokens l s, f) (ap (λ (x : List (List ℕ)). record { pending = x; clauses = grouped rest .clauses }) (sym (append-assoc (line-tokens l) (toks ls) (grouped rest .pending))))
+
+clause-grouped : (ls rest : List (List ℕ)) → led ls ≡ true → all sound ls ≡ true → grouped rest .pending ≡ [] → grouped (map pad ls ++ rest) ≡ record { pending = []; clauses = toks ls ∷ grouped rest .clauses }
+clause-grouped [] rest h k p = absurd (false≢true h)
+clause-grouped (l ∷ ls) rest h k p =
+    let s : sound l ≡ true = and-l (sound l) (all sound ls) k in
+    let e : goes-on (pad l) ≡ false = pad-on l s ∙ not-true (goes-on l) (and-l (not (goes-on l)) (all goes-on ls) h) in
+    let f = goes-grouped ls rest (and-r (not (goes-on l)) (all goes-on ls) h) (and-r (sound l) (all sound ls) k) in
+    grouped-start (pad l) (map pad ls ++ rest) e ∙ rw (pad-tokens l s, f, p, append-nil (toks ls)) refl
+
+-- ---- the sheet
+
+abbrev lines-of : ℕ → List Clause → List (List ℕ)
+lines-of k [] = []
+lines-of k (c ∷ cs) = page-lines k c ++ lines-of (suc k) cs
+
+lines-sound : (k : ℕ) (cs : List Clause) → k + length cs ≤ 100000000 → all sound (lines-of k cs) ≡ true
+lines-sound k [] h = refl
+lines-sound k (c ∷ cs) h = all-append sound (page-lines k c) (lines-of (suc k) cs) ∙ and-i (all sound (page-lines k c)) _ (clause-read k (omega arith) c .sounds) (lines-sound (suc k) cs (omega arith))
+
+sheet-suc : (k n : ℕ) (ws : List ℤ) → 0 < length ws → sheet-lines k (suc n) ws ≡ all-lines (place-items (clause-items ws) (numbered k)) ++ sheet-lines (suc k) n (print-clause ws .rest)
+unfolding sheet-lines
+sheet-suc k n [] h = absurd (omega arith)
+sheet-suc k n (w ∷ ws) h = refl
+
+lines-shown : (k : ℕ) (cs : List Clause) (r : List ℤ) → sheet-lines k (length cs) (flat (map clause-words cs) ++ r) ≡ lines-of k cs
+lines-shown k [] r = unfold sheet-lines in refl
+lines-shown k (c ∷ cs) r =
+    let rest : List ℤ = flat (map clause-words cs) ++ r in
+    ap (sheet-lines k (suc (length cs))) (append-assoc (clause-words c) (flat (map clause-words cs)) r)
+    ∙ sheet-suc k (length cs) (clause-words c ++ rest) (omega (arith, clause-filled c, length-append (clause-words c) rest))
+    ∙ rw (clause-shown-items c rest, clause-shown c rest, lines-shown (suc k) cs r) refl
+
+abbrev end : List (List ℕ)
+end = [] ∷ []
+
+clauses-grouped : (k : ℕ) (cs : List Clause) → k + length cs ≤ 100000000
+    → (grouped (map pad (lines-of k cs) ++ end) .pending ≡ []) × (read-clauses (grouped (map pad (lines-of k cs) ++ end) .clauses) ≡ some (flat (map clause-words cs))) × (length (grouped (map pad (lines-of k cs) ++ end) .clauses) ≡ length cs)
+clauses-grouped k [] h = unfold grouped goes-on line-tokens tokens split read-clauses in (refl, refl, refl)
+clauses-grouped k (c ∷ cs) h =
+    let r = clause-read k (omega arith) c in
+    let q = clauses-grouped (suc k) cs (omega arith) in
+    let rest : List (List ℕ) = map pad (lines-of (suc k) cs) ++ end in
+    let e : grouped (map pad (page-lines k c ++ lines-of (suc k) cs) ++ end) ≡ record { pending = []; clauses = toks (page-lines k c) ∷ grouped rest .clauses } =
+    ap grouped (ap (λ (x : List (List ℕ)). x ++ end) (map-append pad (page-lines k c) (lines-of (suc k) cs)) ∙ append-assoc (map pad (page-lines k c)) (map pad (lines-of (suc k) cs)) end) ∙ clause-grouped (page-lines k c) rest (r .leads) (r .sounds) (q .0) in
+    (ap (λ (g : Grouped). g .pending) e, ap (λ (g : Grouped). read-clauses (g .clauses)) e ∙ read-more (toks (page-lines k c)) (grouped rest .clauses) (clause-words c) (flat (map clause-words cs)) (r .items) (q .1), ap (λ (g : Grouped). length (g .clauses)) e ∙ ap suc (q .2))
+
+pub clauses-sheet-back : (cs : List Clause) → length cs < 100000000 → read-sheet (print-sheet (counted clause-words cs)) ≡ some (counted clause-words cs)
+unfolding read-sheet print-sheet
+clauses-sheet-back cs h =
+    let ws : List ℤ = flat (map clause-words cs) in
+    let l : sheet-lines 1 (length cs) ws ≡ lines-of 1 cs = ap (sheet-lines 1 (length cs)) (sym (append-nil ws)) ∙ lines-shown 1 cs [] in
+    let q = clauses-grouped 1 cs (omega arith) in
+    rw (l, lines-split (lines-of 1 cs) (lines-sound 1 cs (omega arith)), q .1, q .2) refl

@@ -15,7 +15,7 @@ use Rattle.readback.specs.Split.{avoids, split-end}
 use Rattle.page.specs.Sheet.{space, spaces}
 use Rattle.sheetback.specs.ReadSheet.{tokens, ends-open, glued, first-onto}
 
-filter-append : {A : Type 0} (f : A → Bool) (xs ys : List A) → filter f (xs ++ ys) ≡ filter f xs ++ filter f ys
+pub filter-append : {A : Type 0} (f : A → Bool) (xs ys : List A) → filter f (xs ++ ys) ≡ filter f xs ++ filter f ys
 filter-append f [] ys = refl
 filter-append f (x ∷ xs) ys = go (f x) (filter-append f xs ys)
   where
