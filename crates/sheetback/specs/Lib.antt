@@ -3,3 +3,5 @@ pub mod Cases
 pub mod Tokens
 pub mod Placed
 pub mod SheetBack
+pub mod Sheeted
+pub mod CallBack
