@@ -125,8 +125,10 @@ state-turn {Q} {T} {c} s = record {
 
 glues-piece : {T : List (List ℕ)} {pre c : List ℕ} {done : List (List ℕ)} → Glues T pre done → Piece c → Glues (T ++ tokens c) (pre ++ c) done
 glues-piece {T} {pre} {done = done} g none = record { next = λ us ws y e. ap (λ (x : List (List ℕ)). glued (x ++ us)) (ap (λ x. T ++ x) tokens-none ∙ append-nil T) ∙ g .next us ws y e ∙ ap (λ (x : List ℕ). done ++ ((x ++ y) ∷ ws)) (sym (append-nil pre)) }
-glues-piece {T} {pre} {c} {done} g (some h k o) = record { next = λ us ws y e.
-    ap (λ (x : List (List ℕ)). glued ((T ++ x) ++ us)) (tokens-one c h k) ∙ ap glued (append-assoc T (c ∷ []) us) ∙ g .next (c ∷ us) ws (c ++ y) (glued-open c us ws y o e) ∙ ap (λ (x : List ℕ). done ++ (x ∷ ws)) (sym (append-assoc pre c y)) }
+glues-piece {T} {pre} {c} {done} g (some h k o) = record {
+  next = λ us ws y e.
+      ap (λ (x : List (List ℕ)). glued ((T ++ x) ++ us)) (tokens-one c h k) ∙ ap glued (append-assoc T (c ∷ []) us) ∙ g .next (c ∷ us) ws (c ++ y) (glued-open c us ws y o e) ∙ ap (λ (x : List ℕ). done ++ (x ∷ ws)) (sym (append-assoc pre c y));
+}
 
 -- the last piece
 state-done : {Q : Page} {T : List (List ℕ)} {pre c : List ℕ} {done : List (List ℕ)} → State Q T c → Glues T pre done → is-empty c ≡ false → avoids space c ≡ true → ends-open c ≡ false → Q .bare ≡ false → Read Q (done ++ ((pre ++ c) ∷ []))

@@ -67,12 +67,7 @@ fn finish(set: &[i32], output: &mut [i32], n: usize, sheet: &mut [u8]) -> Sheete
 }
 
 // As `compile`, with the sheet of the answer, zero behind it. After a contradiction or a refusal output and sheet are zero.
-pub fn compile_sheet(
-    set: &[i32],
-    output: &mut [i32],
-    work: &mut [i32],
-    sheet: &mut [u8],
-) -> Sheeted
+pub fn compile_sheet(set: &[i32], output: &mut [i32], work: &mut [i32], sheet: &mut [u8]) -> Sheeted
     ensures { λ r. ⌜ Sheets (now (set .entry)) (now (output .entry)) (now (work .entry)) (now (output .exit)) (now (work .exit)) (now (sheet .entry)) (now (sheet .exit)) r ⌝ }
 {
     clear_bytes(sheet);
