@@ -2,7 +2,7 @@
 fn main() {
     let root = std::path::Path::new(env!("CARGO_MANIFEST_DIR")).join("../../target/staticlib");
     for (program, library) in
-        [("refusals", "refuse"), ("settled", "remaining"), ("calls", "station"), ("bench", "station")]
+        [("refusals", "refuse"), ("settled", "remaining"), ("calls", "station"), ("bench", "station"), ("sheets", "sheetwords")]
     {
         let file = root.join(format!("lib{library}.a"));
         println!("cargo:rustc-link-arg-bin={program}={}", file.display());

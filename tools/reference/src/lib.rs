@@ -28,6 +28,7 @@ pub mod record;
 pub mod refuse;
 mod rust;
 pub mod set;
+pub mod sheet;
 pub mod settled;
 mod size;
 
