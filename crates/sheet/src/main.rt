@@ -18,7 +18,13 @@ fn sheet_of_set(set: &[i32], output: &mut [i32], work: &mut [i32], out: &mut [u8
     }
 }
 
-fn sheet_of_text(text: &[u8], words: &mut [i32], output: &mut [i32], work: &mut [i32], out: &mut [u8]) -> usize
+fn sheet_of_text(
+    text: &[u8],
+    words: &mut [i32],
+    output: &mut [i32],
+    work: &mut [i32],
+    out: &mut [u8],
+) -> usize
     requires { ⌜ 32768 ≤ length (now words) ⌝ }
     ensures { λ r. ⌜ r ≤ length (now (out .exit)) ⌝ }
 {

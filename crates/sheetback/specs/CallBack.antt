@@ -58,7 +58,7 @@ clauses-few : (cs : List Clause) → length cs ≤ length (flat (map clause-word
 clauses-few [] = omega arith
 clauses-few (c ∷ cs) = omega (arith, clauses-few cs, clause-filled c, length-append (clause-words c) (flat (map clause-words cs)))
 
-layout-few : (a : Answer) → length (a .clauses) < length (layout a)
+pub layout-few : (a : Answer) → length (a .clauses) < length (layout a)
 unfolding layout
 layout-few a =
     let ds : List ℤ = counted domain-words (a .emitted-ints) in
@@ -73,7 +73,7 @@ unfoldable pub answer-clauses : List ℤ → List ℤ → List Clause
 answer-clauses set ws = decode (count-word set) (count-word (drop 1 set)) ws .clauses
 
 module _ {set ws : List ℤ} (l : Laid set ws) where
-  decoded : answer-clauses set ws ≡ l .it .clauses
+  pub decoded : answer-clauses set ws ≡ l .it .clauses
   unfolding answer-clauses
   decoded =
       ap (λ (x : List ℤ). decode (count-word set) (count-word (drop 1 set)) x .clauses) (l .words)

@@ -5,3 +5,4 @@ pub mod Placed
 pub mod SheetBack
 pub mod Sheeted
 pub mod CallBack
+pub mod Short

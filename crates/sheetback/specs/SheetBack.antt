@@ -88,7 +88,7 @@ unfolding in-front
 front-good {h} c (Good.last {t} p o) = Good.last (plain-after c p) (open-append h t (p .filled) ∙ o)
 front-good {h} c (Good.more {t} {ts} p o g) = Good.more (plain-after c p) (open-append h t (p .filled) ∙ o) g
 
-abbrev head : ℤ → ℤ → List ℕ
+abbrev pub head : ℤ → ℤ → List ℕ
 head o c = print-numbers (o ∷ []) ++ (colon ∷ (print-numbers (c ∷ []) ++ (colon ∷ [])))
 
 head-clear : (o c : ℤ) → Clear (head o c)
@@ -104,7 +104,7 @@ head-closed : (o c : ℤ) → ends-open (head o c) ≡ false
 unfolding ends-open
 head-closed o c = open-append (print-numbers (o ∷ [])) (colon ∷ (print-numbers (c ∷ []) ++ (colon ∷ []))) refl ∙ open-append (colon ∷ print-numbers (c ∷ [])) (colon ∷ []) refl
 
-pub linear-item : LinearLit → Item
+unfoldable pub linear-item : LinearLit → Item
 linear-item (linear o (linear-sum c ts)) = in-front (head (encode-op o) c) (pair-parts (terms-words ts))
 
 head-plain : (o c : ℤ) → Plain (head o c)
@@ -119,7 +119,7 @@ unfolding linear-item
 linear-good (linear o (linear-sum c ts)) = terms-good (encode-op o) c (terms-words ts)
 
 -- its text is the listing's
-linear-flat : (k : LinearLit) → flat (linear-item k) ≡ linear-body k
+pub linear-flat : (k : LinearLit) → flat (linear-item k) ≡ linear-body k
 unfolding linear-item
 linear-flat (linear o (linear-sum c ts)) =
     flat-front (head (encode-op o) c) (pair-parts (terms-words ts)) ∙ ap (λ (x : List ℕ). head (encode-op o) c ++ x) (flat-pairs (terms-words ts))
@@ -152,7 +152,7 @@ linears-shown (k ∷ ks) r =
     ∙ items-suc (length ks) (linear-words k ++ rest) (omega (arith, linear-filled k, length-append (linear-words k) rest))
     ∙ rw (linear-shown k rest .0, linear-shown k rest .1, linears-shown ks r) refl
 
-pub items-of : Clause → List Item
+unfoldable pub items-of : Clause → List Item
 items-of (clause ls ks) = map literal-item (lits-words ls) ++ map linear-item ks
 
 clause-shown-items : (c : Clause) (r : List ℤ) → clause-items (clause-words c ++ r) ≡ items-of c
@@ -299,7 +299,7 @@ flats-are ls ks = map-append flat (map literal-item (lits-words ls)) (map linear
     linears [] = refl
     linears (k ∷ ks) = rw (linear-flat k, linears ks) refl
 
-abbrev page-lines : ℕ → Clause → List (List ℕ)
+abbrev pub page-lines : ℕ → Clause → List (List ℕ)
 page-lines k c = all-lines (place-items (items-of c) (numbered k))
 
 pub record ClauseRead (c : Clause) (ls : List (List ℕ)) : Type 0 where
@@ -375,7 +375,7 @@ clause-grouped (l ∷ ls) rest h k p =
 
 -- ---- the sheet
 
-abbrev lines-of : ℕ → List Clause → List (List ℕ)
+abbrev pub lines-of : ℕ → List Clause → List (List ℕ)
 lines-of k [] = []
 lines-of k (c ∷ cs) = page-lines k c ++ lines-of (suc k) cs
 
@@ -388,7 +388,7 @@ unfolding sheet-lines
 sheet-suc k n [] h = absurd (omega arith)
 sheet-suc k n (w ∷ ws) h = refl
 
-lines-shown : (k : ℕ) (cs : List Clause) (r : List ℤ) → sheet-lines k (length cs) (flat (map clause-words cs) ++ r) ≡ lines-of k cs
+pub lines-shown : (k : ℕ) (cs : List Clause) (r : List ℤ) → sheet-lines k (length cs) (flat (map clause-words cs) ++ r) ≡ lines-of k cs
 lines-shown k [] r = unfold sheet-lines in refl
 lines-shown k (c ∷ cs) r =
     let rest : List ℤ = flat (map clause-words cs) ++ r in
