@@ -7,6 +7,7 @@ fn main() {
         ("calls", "station"),
         ("joins", "station"),
         ("rosters", "station"),
+        ("sheets", "sheetwords"),
         ("bench", "station"),
     ] {
         let file = root.join(format!("lib{library}.a"));

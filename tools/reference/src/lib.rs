@@ -30,6 +30,7 @@ pub mod refuse;
 pub mod roster;
 mod rust;
 pub mod set;
+pub mod sheet;
 pub mod settled;
 mod size;
 

@@ -3,7 +3,7 @@ use reference::call::counted;
 use reference::generate::{case, limits, FAMILIES};
 use reference::meaning::{check, Verdict};
 use reference::record::{commas, inputs, record, result};
-use reference::{call, cases, listing::listing, Outcome};
+use reference::{call, cases, listing::listing, sheet::sheet_listing, Outcome};
 use std::collections::BTreeMap;
 use std::io::{Read, Write};
 use std::process::ExitCode;
@@ -17,6 +17,7 @@ fn main() -> ExitCode {
     let done = match arguments[..] {
         ["p1"] => show(&listing(P1.as_bytes())),
         ["listing"] => show(&listing(&input())),
+        ["sheet"] => show(&sheet_listing(&input())),
         ["words"] => words(SLICE),
         ["words", length] => length.parse().is_ok_and(words),
         ["cases"] => report(&cases::differences()),
@@ -35,7 +36,7 @@ fn main() -> ExitCode {
 }
 
 fn usage() -> bool {
-    eprintln!("p1 | listing | words [OUT] | cases | generate SEED FAMILY COUNT | record SEED FAMILY COUNT");
+    eprintln!("p1 | listing | sheet | words [OUT] | cases | generate SEED FAMILY COUNT | record SEED FAMILY COUNT");
     eprintln!("meaning SEED FAMILY COUNT | sizes SEED FAMILY COUNT | refusals SEED COUNT");
     eprintln!("families: {}, text (generate and record only); meaning and sizes also take all", FAMILIES.join(", "));
     false

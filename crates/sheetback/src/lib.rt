@@ -1,0 +1,1 @@
+// Reading a sheet back: definitions and theorems in specs/; the code is in page.
