@@ -8,6 +8,7 @@ fn main() {
         ("joins", "station"),
         ("rosters", "station"),
         ("sheets", "sheetwords"),
+        ("sheetcalls", "station"),
         ("bench", "station"),
     ] {
         let file = root.join(format!("lib{library}.a"));

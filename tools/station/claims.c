@@ -82,6 +82,31 @@ static void rosters(void) {
     claim(check_roster(p6, 3, NULL, 0, work, all) == 0, "no variables, no values, NULL", 0);
 }
 
+/* The sheet of "v0 or not v1", one line of 81 bytes, in a slice of so many. */
+static int64_t paper(size_t sheet_len, size_t out_len, size_t *bytes, size_t lent) {
+    const int32_t set[] = {2, 0, 1, 1, 13, 2, 11, 0, 14, 11, 1};
+    static uint8_t sheet[82];
+    memset(sheet, '#', sizeof sheet);
+    int64_t n = compile_sheet(set, sizeof set / sizeof *set, out, out_len, work, PLANNER_WORK_WORDS, sheet, sheet_len, bytes, lent);
+    if (n > 0) {
+        claim(!memcmp(sheet, "       1  1 -2 ", 15) && sheet[80] == '\n', "the sheet's line", (long)n);
+        claim(sheet_len < 82 || sheet[81] == 0, "the sheet is zero behind its lines", (long)n);
+    } else {
+        for (size_t i = 0; i < sheet_len; i++) claim(sheet[i] == 0, "the sheet is zero after a refusal", (long)i);
+    }
+    claim(sheet_len == 82 || sheet[sheet_len] == '#', "nothing is written behind sheet", (long)n);
+    return n;
+}
+
+static void sheets(void) {
+    size_t bytes[2] = {7, 7};
+    claim(paper(81, OUT, bytes, 2) == 11 && bytes[0] == 81 && bytes[1] == 7, "a sheet of 81 bytes", (long)bytes[0]);
+    claim(paper(82, OUT, bytes, 1) == 11 && bytes[0] == 81, "a sheet in a longer slice", (long)bytes[0]);
+    claim(paper(80, OUT, bytes, 1) == PLANNER_SHORT_SHEET && bytes[0] == 0, "PLANNER_SHORT_SHEET", (long)bytes[0]);
+    claim(paper(0, 2, bytes, 1) == PLANNER_SHORT_OUTPUT, "PLANNER_SHORT_OUTPUT before PLANNER_SHORT_SHEET", 0);
+    claim(paper(81, OUT, NULL, 0) == 11, "no word for the bytes", 0);
+}
+
 /* Sets that want some writing: 65 levels; 65 variables in one comparison. */
 static void deep_and_many(void) {
     int32_t set[400] = {1, 0, 1, 1};
@@ -132,6 +157,7 @@ static void growing(void) {
 int main(void) {
     numbers();
     rosters();
+    sheets();
     deep_and_many();
     null_with_length_0();
     growing();

@@ -46,6 +46,7 @@ enum {
     PLANNER_MANY_VARIABLES = -10,      /* over 64 different integer variables in one comparison, or over 63 in one column */
     PLANNER_WIDE_COLUMN = -11,         /* a column's span is over 4096 */
     PLANNER_SHORT_OUTPUT = -12,        /* the answer is longer than the output slice, or than 16777216 words */
+    PLANNER_SHORT_SHEET = -13,         /* compile_sheet: the sheet slice is shorter than the finished sheet */
     PLANNER_OTHER_COUNT = -14,         /* check_roster: the number of values is not that of the declared variables */
     PLANNER_OUTSIDE_DOMAIN = -15,      /* check_roster: a value is outside its domain, a Boolean's neither 0 nor 1 */
     PLANNER_DECLARATIONS_DIFFER = -16, /* of a join: the declarations differ word by word */
@@ -87,6 +88,14 @@ int64_t find_statement(const int32_t *first, size_t first_len, const int32_t *se
    for the rosters that pass its answer; where it returns PLANNER_CONTRADICTION, for none.
    set, values  are only read. One value for every declared variable, the Booleans first, as 0 or 1. */
 int64_t check_roster(const int32_t *set, size_t set_len, const int32_t *values, size_t values_len, int32_t *work, size_t work_len);
+
+/* compile_sheet: compile_set, and the clauses for paper: lines of 80 characters and a line feed (docs/FORMAT.md, The sheet).
+
+   Returns what compile_set does, or PLANNER_SHORT_SHEET, which is tested last.
+   sheet    is zero behind the sheet, and wholly so after a contradiction or a refusal. What it held does not matter.
+            A sheet has at most 81 bytes for every two words of the answer: 81 * out_len / 2 bytes are enough.
+   bytes    receives how many bytes the sheet has in its first word, 0 without an answer; lend one word. Nothing behind it is touched. */
+int64_t compile_sheet(const int32_t *set, size_t set_len, int32_t *out, size_t out_len, int32_t *work, size_t work_len, uint8_t *sheet, size_t sheet_len, size_t *bytes, size_t bytes_len);
 
 #ifdef __cplusplus
 }

@@ -35,7 +35,7 @@ minus-fits (suc k) h = record { sfits = omega arith }
 pub minus-small-fits : (k : ℕ) → k ≤ 17 → SFits w64 (pos 0 -ℤ toZ w64 k)
 minus-small-fits k h = rw (small-is k (omega arith), +ℤ-idl (negℤ (pos k))) (minus-fits k h)
 
-minus-small-is : (k : ℕ) → k ≤ 17 → toZ w64 (ofZ w64 (pos 0 -ℤ toZ w64 k)) ≡ negℤ (pos k)
+pub minus-small-is : (k : ℕ) → k ≤ 17 → toZ w64 (ofZ w64 (pos 0 -ℤ toZ w64 k)) ≡ negℤ (pos k)
 minus-small-is k h = toZ-ofZ (minus-small-fits k h) ∙ ap (λ (z : ℤ). pos 0 -ℤ z) (small-is k (omega arith)) ∙ +ℤ-idl (negℤ (pos k))
 
 -- ---- `join_sets`

@@ -1,3 +1,4 @@
 pub mod Numbers
 pub mod JoinNumbers
 pub mod RosterNumbers
+pub mod SheetNumbers

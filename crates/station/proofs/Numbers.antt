@@ -22,7 +22,7 @@ use Rattle.station.specs.Returned.{Returns}
 pub number-fits : (n : ℕ) → n ≤ max-answer-words → SFits w64 (pos n)
 number-fits n h = record { sfits = omega arith }
 
-number-is : (n : ℕ) → n ≤ max-answer-words → toZ w64 n ≡ pos n
+pub number-is : (n : ℕ) → n ≤ max-answer-words → toZ w64 n ≡ pos n
 number-is n h = toZ-ofZ (number-fits n h)
 
 minus-is : (k : ℕ) → pos 0 -ℤ pos k ≡ negℤ (pos k)

@@ -2,6 +2,7 @@
 use evaluate::Checked;
 use join::Joined;
 use planner::Answer;
+use sheetcall::Sheeted;
 ghost use mathlib.Core.Path.{_≡_};
 ghost use Prim.Native.Nat.{_<_};
 ghost use lib.IntN.{pos};
@@ -9,6 +10,7 @@ ghost use lib.ListN.{set};
 ghost use Rattle.station.specs.Returned.{Returns};
 ghost use Rattle.station.specs.Joined.{Join-returns, Find-returns};
 ghost use Rattle.station.specs.Rosters.{Judges};
+ghost use Rattle.station.specs.Sheets.{Sheet-returns};
 
 // The number of words written, the refusal's number negated, or -100 for a contradiction.
 #[no_mangle]
@@ -79,5 +81,41 @@ pub extern "C" fn check_roster(set: &[i32], values: &[i32], work: &mut [i32]) ->
         Checked::Yes => 0,
         Checked::Broken(k) => k as i64,
         Checked::Refused(k) => 0 - (k as i64),
+    }
+}
+
+// A number stored in the first word, where there is one.
+fn put_count(counts: &mut [usize], n: usize)
+    ensures { λ _. ⌜ now (counts .exit) ≡ set (now (counts .entry)) 0 n ⌝ }
+{
+    if 0 < counts.len() {
+        counts[0] = n;
+    }
+}
+
+// As `compile_set`, with the sheet of the answer: its bytes' number goes into the word lent, 0 after a contradiction or a refusal.
+#[no_mangle]
+pub extern "C" fn compile_sheet(
+    words: &[i32],
+    output: &mut [i32],
+    work: &mut [i32],
+    sheet: &mut [u8],
+    bytes: &mut [usize],
+) -> i64
+    ensures { λ r. ⌜ Sheet-returns (now (words .entry)) (now (output .entry)) (now (work .entry)) (now (output .exit)) (now (work .exit)) (now (sheet .entry)) (now (sheet .exit)) (now (bytes .entry)) (now (bytes .exit)) r ⌝ }
+{
+    match sheetcall::compile_sheet(words, output, work, sheet) {
+        Sheeted::Compiled(n, m) => {
+            put_count(bytes, m);
+            n as i64
+        }
+        Sheeted::Contradiction => {
+            put_count(bytes, 0);
+            -100
+        }
+        Sheeted::Refused(k) => {
+            put_count(bytes, 0);
+            0 - (k as i64)
+        }
     }
 }

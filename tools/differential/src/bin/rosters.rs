@@ -59,7 +59,10 @@ impl Run {
         };
         *self.answers.entry(kind).or_insert(0) += 1;
         if got != number(want) {
-            return Err(format!("work {work_len}: answer {got}, the reference gives {}; values {values:?}", number(want)));
+            return Err(format!(
+                "work {work_len}: answer {got}, the reference gives {}; values {values:?}",
+                number(want)
+            ));
         }
         if self.work.iter().any(|word| *word != 0) {
             return Err(format!("the work slice is not zero; values {values:?}"));
@@ -149,7 +152,8 @@ fn wrong(set: &Set, numbers: &mut Numbers) -> Vec<Vec<i32>> {
             Some(i) => {
                 let (low, high) = (set.domains[i].lowest(), set.domains[i].highest());
                 let inner = (low as i64 + numbers.below((high as i64 - low as i64 + 1) as u64) as i64) as i32;
-                [low.saturating_sub(1), high.saturating_add(1), inner, i32::MIN, i32::MAX, -inner][numbers.below(6) as usize]
+                [low.saturating_sub(1), high.saturating_add(1), inner, i32::MIN, i32::MAX, -inner]
+                    [numbers.below(6) as usize]
             }
         };
         all.push(values);
@@ -215,7 +219,8 @@ fn run(seed: u64, count: u64, families: &[&str]) -> Result<(), String> {
             one(&mut run, &case, index, &mut numbers)
                 .map_err(|e| format!("{family} seed {seed} index {index}: {e}\nset {:?}", case.set))?;
         }
-        let checks: u64 = run.answers.iter().filter(|(kind, _)| **kind != "compared with passing").map(|(_, n)| n).sum();
+        let checks: u64 =
+            run.answers.iter().filter(|(kind, _)| **kind != "compared with passing").map(|(_, n)| n).sum();
         total += checks;
         println!("{family} seed {seed}: {count} sets, {checks} checks {:?}, no difference", run.answers);
     }
@@ -235,7 +240,11 @@ fn time(name: &str, set: &[i32], values: &[i32]) {
         time
     };
     let least = (0..20000).map(|_| once(&mut work)).fold(f64::INFINITY, f64::min);
-    println!("{name:44} {:5} words  answer {want:5}  {least:9.0} ns  {:6.2} ns a word", set.len(), least / set.len() as f64);
+    println!(
+        "{name:44} {:5} words  answer {want:5}  {least:9.0} ns  {:6.2} ns a word",
+        set.len(),
+        least / set.len() as f64
+    );
 }
 
 /// What the check costs besides evaluating: clearing the work slice, reading and refusals 1 to 11, each by itself in `refusals`.
@@ -292,10 +301,13 @@ fn text_of(words: &[i32], values: &[i32]) -> String {
     text += &line("bools", take(0, 1));
     text += &line("ints", take(1, 2));
     let domains = refuse::accept(words, WORK).map_or(0, |set| {
-        set.domains.iter().map(|domain| match domain {
-            reference::set::Domain::Range(..) => 3,
-            reference::set::Domain::Values(values) => 2 + values.len(),
-        }).sum()
+        set.domains
+            .iter()
+            .map(|domain| match domain {
+                reference::set::Domain::Range(..) => 3,
+                reference::set::Domain::Values(values) => 2 + values.len(),
+            })
+            .sum()
     });
     if domains > 0 {
         text += &line("int", take(2, 2 + domains));
@@ -353,7 +365,11 @@ fn texts(seed: u64, count: u64) -> Result<(), String> {
             };
             let whole = text_of(&words, &values);
             let text = if index % 3 == 2 { spoilt(&whole, &mut numbers) } else { whole };
-            let mut child = Command::new(program).stdin(Stdio::piped()).stdout(Stdio::piped()).spawn().map_err(|e| e.to_string())?;
+            let mut child = Command::new(program)
+                .stdin(Stdio::piped())
+                .stdout(Stdio::piped())
+                .spawn()
+                .map_err(|e| e.to_string())?;
             child.stdin.take().ok_or("no input")?.write_all(text.as_bytes()).map_err(|e| e.to_string())?;
             let got = String::from_utf8_lossy(&child.wait_with_output().map_err(|e| e.to_string())?.stdout).to_string();
             let want = told(&text);

@@ -99,16 +99,31 @@ fn compare(clauses: &[Clause]) -> Result<usize, String> {
         let got = port(&words, &mut out);
         let kept = want.len().min(length);
         if got != want.len() || out[..kept] != want.as_bytes()[..kept] || out[kept..].iter().any(|b| *b != b'#') {
-            return Err(format!("{words:?}\nslice {length}: {got} bytes\n{}\nwanted {}\n{want}", String::from_utf8_lossy(&out), want.len()));
+            return Err(format!(
+                "{words:?}\nslice {length}: {got} bytes\n{}\nwanted {}\n{want}",
+                String::from_utf8_lossy(&out),
+                want.len()
+            ));
         }
     }
     Ok(want.len() / 81)
 }
 
 fn speed() {
-    let literals: Vec<Clause> = (0..16777216 / 12).map(|i| Clause { literals: (0..10).map(|j| i * 5 + j + 1).collect(), comparisons: vec![] }).collect();
+    let literals: Vec<Clause> = (0..16777216 / 12)
+        .map(|i| Clause { literals: (0..10).map(|j| i * 5 + j + 1).collect(), comparisons: vec![] })
+        .collect();
     let empty: Vec<Clause> = (0..8388607).map(|_| Clause { literals: vec![], comparisons: vec![] }).collect();
-    let long: Vec<Clause> = (0..16777216 / 133).map(|i| Clause { literals: vec![], comparisons: vec![Comparison { op: 2, constant: -i, terms: (0..64).map(|v| (v, 1 - 2 * (v % 2))).collect() }] }).collect();
+    let long: Vec<Clause> = (0..16777216 / 133)
+        .map(|i| Clause {
+            literals: vec![],
+            comparisons: vec![Comparison {
+                op: 2,
+                constant: -i,
+                terms: (0..64).map(|v| (v, 1 - 2 * (v % 2))).collect(),
+            }],
+        })
+        .collect();
     for (name, clauses) in [("literals", literals), ("empty", empty), ("long comparisons", long)] {
         let words = words(&clauses);
         let words = &words[..words.len().min(16777216)];
