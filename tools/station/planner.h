@@ -8,7 +8,7 @@
    Memory      No heap, no globals, no files: an entry uses the lent slices and the stack, nothing else. So calls on different
                slices may run at once in any number of threads. Every call ends.
    Stack       Lend a thread 512 KiB. The most that compile_set was seen to use is 232,392 bytes: stack.c beside this paints a
-               thread's stack, calls with the deepest and widest sets (22,022 of them), and looks how far down the paint is
+               thread's stack, calls with the deepest and widest sets (2,022 of them), and looks how far down the paint is
                gone. This is measured, not proved.
    Work slice  PLANNER_WORK_WORDS words or more, else PLANNER_SHORT_WORK. What is in it does not matter; it is zero after
                every call.
