@@ -4,7 +4,7 @@
    For every entry below, whatever is lent:
 
    Slices      A slice is a pointer and a length in elements, lent for the time of the call. Any contents and any lengths may
-               be lent, 0 included; NULL only with length 0. The slices of one call do not overlap, and int32_t are aligned.
+               be lent, 0 included; NULL only with length 0. The slices of one call do not overlap, and int32_t and size_t are aligned.
    Memory      No heap, no globals, no files: an entry uses the lent slices and the stack, nothing else. So calls on different
                slices may run at once in any number of threads. Every call ends.
    Stack       Lend a thread 512 KiB. The most that compile_set was seen to use is 232,392 bytes: stack.c beside this paints a
@@ -14,8 +14,8 @@
                every call.
    Words       of a set and of an answer: docs/FORMAT.md.
 
-   What an entry returns and what it leaves in the slices is proved (crates/station/specs/Returned.antt, Joined.antt); tools/station/claims.c
-   tries what is said here by calls from C. */
+   What an entry returns and what it leaves in the slices is proved (crates/station/specs: Returned, Joined, Rosters,
+   Sheets); tools/station/claims.c tries what is said here by calls from C. */
 #ifndef PLANNER_H
 #define PLANNER_H
 #include <stddef.h>
@@ -31,7 +31,7 @@ enum {
     PLANNER_ANSWER_WORDS = 16777216    /* the longest answer: an output slice needs no more */
 };
 
-/* What an entry returns for a contradiction, and its refusals: the number of document 01's table (16, 17: document 02), negated. */
+/* What an entry returns for a contradiction, and its refusals: the number of document 01's table (13 to 17: document 02), negated. */
 enum {
     PLANNER_CONTRADICTION = -100,      /* no assignment satisfies the set: folding alone shows it */
     PLANNER_SHORT_WORK = -1,           /* the work slice has fewer than 16384 words */
