@@ -31,9 +31,9 @@ use Rattle.answer.specs.Answer.{linear-words}
 use Rattle.walk.specs.Item.{nat, int-number}
 use Rattle.walk.specs.Decode.{word, read-part}
 use Rattle.walk.specs.NumberingSteps.{part-short}
-use Rattle.writer.specs.Suffix.{Open}
-use Rattle.writer.specs.Rules.{has-part}
-use Rattle.writer.proofs.Differences.{numbers, number-is}
+use Rattle.output.specs.Suffix.{Open}
+use Rattle.walk.specs.DecodeExact.{has-part}
+use Rattle.output.proofs.Differences.{numbers, number-is}
 use Rattle.rows.specs.Emit.{Clauses, Behind}
 use Rattle.rows.proofs.Looping.{clauses-none, clauses-one, clauses-then, clauses-to, clauses-stop}
 use Rattle.statements.specs.Columns.{column-map, column-number, equality, column-clause, columns-clauses}

@@ -9,7 +9,7 @@ ghost use Rattle.rows.specs.Emit.{Behind};
 ghost use Rattle.syntax.specs.Syntax.{Domain, domain-of, IntExpr};
 ghost use Rattle.statements.specs.Columns.{column-number};
 ghost use Rattle.walk.specs.Item.{nat};
-ghost use Rattle.writer.specs.Suffix.{Open};
+ghost use Rattle.output.specs.Suffix.{Open};
 ghost use Rattle.columns.specs.Describing.{At, SomeAt, Declared, SomeDeclared, Describes, Told, SomeTold, Storable, StoredColumn, SomeDescribable, Described};
 ghost use Rattle.columns.specs.Equalities.{Column, Equality, EquatedOne, Equatable, Equated};
 use rows::Written;
@@ -51,9 +51,9 @@ fn put_equality(work: &[i32], p: usize, out: &mut [i32], o: usize) -> Passed
     let s = a.sum;
     let n = number_at(work, 7424 + p);
     let d = nest::less_variable(s, n);
-    let b = writer::put(out, o, 0);
-    let c = writer::put(out, b, 1);
-    let q = writer::put_linear(0, false, d, out, c);
+    let b = output::put(out, o, 0);
+    let c = output::put(out, b, 1);
+    let q = output::put_linear(0, false, d, out, c);
     Passed { next: next, at: q }
 }
 
@@ -68,7 +68,7 @@ fn put_column(work: &[i32], p: usize, out: &mut [i32], o: usize, k: usize) -> St
     requires { ⌜ Column (now work) p × Behind (now out) o k × (o < cap) ⌝ }
     ensures { λ r. ⌜ EquatedOne (now (work .entry)) p (r .next) (now (out .entry)) o k (now (out .exit)) (r .at) (r .clauses) ⌝ }
 {
-    if number::word(work, p) == 21 {
+    if survey::word(work, p) == 21 {
         return Step {
             next: p + 2,
             at: o,
@@ -119,8 +119,8 @@ fn column_number(work: &[i32], p: usize) -> usize
     requires { ⌜ SomeAt (now work) p ⌝ }
     ensures { λ r. ⌜ ((e : IntExpr) → At (now (work .entry)) p e → r ≡ column-number (now (work .entry)) p e) × (r < 2147483648) ⌝ }
 {
-    if number::word(work, p) == 21 {
-        let v = number::word(work, p + 1);
+    if survey::word(work, p) == 21 {
+        let v = survey::word(work, p + 1);
         return number_at(work, 5120 + v);
     }
     number_at(work, 7424 + p)
@@ -164,8 +164,8 @@ fn describe(
     requires { ⌜ SomeTold (now set) (now work) p n (now out) triples ⌝ }
     ensures { λ r. ⌜ ((ds : List Domain) (dom : ℕ → Domain) (e : IntExpr) → Told (now (set .entry)) (now (work .entry)) p n (now (out .entry)) triples ds dom e → Describes (now (set .entry)) (dom n) (r .count) (r .from)) ⌝ }
 {
-    if number::word(work, p) == 21 {
-        return describe_declared(set, number::word(work, p + 1));
+    if survey::word(work, p) == 21 {
+        return describe_declared(set, survey::word(work, p + 1));
     }
     let i = triples + 3 * n;
     let low = out[i];
@@ -190,7 +190,7 @@ fn describe_column(
 {
     let n = column_number(work, p);
     let d = describe(set, work, p, n, out, triples);
-    let next = number::int_end(work, p, 64);
+    let next = survey::int_end(work, p, 64);
     let c = d.count;
     let from = d.from;
     work[to] = n as i32;

@@ -11,4 +11,3 @@ pub mod Shape
 pub mod Meaning
 pub mod Table
 pub mod Forms
-pub mod Steps

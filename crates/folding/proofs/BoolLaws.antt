@@ -19,7 +19,7 @@ use Rattle.fold.specs.Table.{op-num, action-num, bit, state-num, op-small, bit-
 use Rattle.fold.specs.Forms.{list-of, fold-list, list-folding, binary-folding, list-words, binary-words, bit-word, op-word, op-word-is, Declared, declared-list, declared-binary, bool-long, members-long}
 use Rattle.fold.specs.Kept.{fold-int-size, fold-size, fold-members-size, fold-every, kept-size, fold-list-size, not-size, binary-size}
 use Rattle.domains.specs.Declared.{Plain}
-use Rattle.fold.specs.Steps.{state-of, fixed-of, fixed-in, var-step, not-step, not-state, list-step, list-state, binary-step, binary-state, Reads-int, Ready-int, Int-post, Reads, Reads-members, Ready, Ready-members, Fold-post, Members-post, var-words, not-words, not-state-is, bit-state, fold-list-words, fold-list-state, act-words, fold-binary-state, hit-one, count-one, kept-fewer, members-count}
+use Rattle.folding.specs.Steps.{state-of, fixed-of, fixed-in, var-step, not-step, not-state, list-step, list-state, binary-step, binary-state, Reads-int, Ready-int, Int-post, Reads, Reads-members, Ready, Ready-members, Fold-post, Members-post, var-words, not-words, not-state-is, bit-state, fold-list-words, fold-list-state, act-words, fold-binary-state, hit-one, count-one, kept-fewer, members-count}
 
 -- ---- the form, from the first word
 

@@ -8,7 +8,7 @@ use lib.ListN.{length, getD, set}
 use Rattle.laws.specs.Slices.{Has, Stored, stored-two}
 use Rattle.syntax.specs.Syntax.{Domain, as-constant, domain-of, encode-domain, encode-int}
 use Rattle.domains.specs.Declared.{Domain-at, Domain-below, Domain-post, One-value}
-use Rattle.fold.specs.Steps.{Int-var-post}
+use Rattle.folding.specs.Steps.{Int-var-post}
 
 -- ---- `put_int_var`
 

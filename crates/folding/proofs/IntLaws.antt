@@ -18,7 +18,7 @@ use Rattle.syntax.specs.Written.{EveryInt}
 use Rattle.fold.specs.Fold.{fold-int-var, fold-sum, constant-folding-int, constant-folding-terms}
 use Rattle.fold.specs.Kept.{fold-int-size}
 use Rattle.domains.specs.Declared.{Plain, Domain-below}
-use Rattle.fold.specs.Steps.{single-of, Int-var-post, Reads-int, Reads-terms, Ready-int, Ready-terms, Folds-int, Int-post, Terms-post}
+use Rattle.folding.specs.Steps.{single-of, Int-var-post, Reads-int, Reads-terms, Ready-int, Ready-terms, Folds-int, Int-post, Terms-post}
 
 -- ---- the form, from the first word
 

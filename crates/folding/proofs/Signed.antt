@@ -8,7 +8,7 @@ use mathlib.Core.Bool.{true, false}
 use borrow.Author.Tests.{ne-eqb}
 use Rattle.laws.specs.Ints.{eqZ}
 use Rattle.laws.specs.Signed.{value-is}
-use Rattle.fold.specs.Steps.{state-of}
+use Rattle.folding.specs.Steps.{state-of}
 use Rattle.fold.specs.Table.{state-num}
 
 pub state-else : (z : ℤ) → (ofZ w32 z ≡ 0 → ⊥) → (ofZ w32 z ≡ 1 → ⊥) → 2 ≡ state-num (state-of z)

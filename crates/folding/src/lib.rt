@@ -13,7 +13,7 @@ ghost use Rattle.laws.specs.Slices.{Stored};
 ghost use Rattle.fold.specs.Fold.{Op, action as action-of};
 ghost use Rattle.fold.specs.Table.{op-num, action-num, state-num};
 ghost use Rattle.domains.specs.Declared.{Domain-below};
-ghost use Rattle.fold.specs.Steps.{state-of, var-step, not-step, not-state, list-step, list-state, binary-step, binary-state, single-of, Int-var-post, Ready-int, Ready-terms, Int-post, Terms-post, Ready, Ready-members, Fold-post, Members-post};
+ghost use Rattle.folding.specs.Steps.{state-of, var-step, not-step, not-state, list-step, list-state, binary-step, binary-state, single-of, Int-var-post, Ready-int, Ready-terms, Int-post, Terms-post, Ready, Ready-members, Fold-post, Members-post};
 
 pub struct Span {
     pub next: usize,

@@ -28,7 +28,7 @@ use Rattle.nest.specs.Column.{Same-bounds, column-bounded, column-domain}
 use Rattle.walk.specs.Item.{int-map, int-entry, int-number}
 use Rattle.statements.specs.NumberedKeeps.{free-from}
 use Rattle.header.specs.Emitted.{Column, SomeColumn, ColumnDomain}
-use Rattle.writer.proofs.Differences.{count-nat}
+use Rattle.output.proofs.Differences.{count-nat}
 
 -- ---- the parts of the work slice that are lent
 

@@ -17,8 +17,8 @@ use Rattle.fold.specs.Fold.{Fixed}
 use Rattle.tables.specs.Emitted.{length-emitted}
 use Rattle.answer.specs.Answer.{domain-words}
 use Rattle.walk.specs.declared.Counters.{Counters}
-use Rattle.writer.specs.Suffix.{Open}
-use Rattle.writer.proofs.Laws.{open-next}
+use Rattle.output.specs.Suffix.{Open}
+use Rattle.output.proofs.Laws.{open-next}
 use Rattle.statements.specs.Stages.{log-of, NumberedSet}
 use Rattle.statements.specs.NumberedKeeps.{free-from, ready-keeps}
 use Rattle.header.specs.Emitted.{emitted, Pairs, IsDomain, Emits, SomeEmits, EmittedDomain, Put, SomeNumbered, PutAll}

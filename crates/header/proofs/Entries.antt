@@ -24,7 +24,7 @@ use Rattle.domains.specs.Declared.{Domain-at, Sized-at, Domains, Domain-post}
 use Rattle.walk.specs.Item.{emitted-ints, int-number}
 use Rattle.walk.specs.Decode.{read-part}
 use Rattle.walk.specs.declared.Counters.{Counters}
-use Rattle.writer.specs.Rules.{has-part}
+use Rattle.walk.specs.DecodeExact.{has-part}
 use Rattle.statements.specs.Records.{Entry, of-declared, of-column, ColumnEntry}
 use Rattle.statements.specs.Stages.{log-of}
 use Rattle.statements.specs.NumberedEntry.{settled-emitted, ready-entry}

@@ -18,7 +18,7 @@ use Rattle.tables.specs.Emitted.{length-emitted}
 use Rattle.answer.specs.Answer.{fixed-word, map-word, domain-words}
 use Rattle.walk.specs.Item.{limit, nat, bool-map, int-map, bool-entry, int-entry}
 use Rattle.walk.specs.declared.Counters.{Counters}
-use Rattle.number.proofs.Leaves.{pos-is}
+use Rattle.survey.proofs.Leaves.{pos-is}
 use Rattle.statements.specs.Whole.{entries}
 use Rattle.statements.specs.Stages.{log-of, NumberedSet, head-words, SomeReady}
 use Rattle.statements.specs.NumberedEntry.{settled-emitted, settled-low}

@@ -5,7 +5,7 @@ ghost use lib.IntN.{pos};
 ghost use lib.ListN.{length, getD};
 ghost use Rattle.laws.specs.Writes.{cap, Wrote};
 ghost use Rattle.walk.specs.Item.{nat};
-ghost use Rattle.writer.specs.Suffix.{Open};
+ghost use Rattle.output.specs.Suffix.{Open};
 ghost use Rattle.statements.specs.Stages.{SomeReady};
 ghost use Rattle.header.specs.Emitted.{naturals, maps-words, SomeColumn, ColumnDomain, SomeDeclared, DeclaredDomain, SomeEmits, EmittedDomain, Put, SomeNumbered, PutAll};
 ghost use Rattle.header.specs.Headed.{Headed};
@@ -32,7 +32,7 @@ fn put_words(work: &[i32], from: usize, n: usize, out: &mut [i32], o: usize) -> 
     let mut rest = n;
     let mut p = o;
     while rest != 0 {
-        p = writer::put(out, p, natural(work, i));
+        p = output::put(out, p, natural(work, i));
         i += 1;
         rest -= 1;
     }
@@ -106,9 +106,9 @@ fn put_domain(set: &[i32], work: &mut [i32], n: usize, out: &mut [i32], o: usize
     let at = 12032 + 2 * n;
     work[at] = low;
     work[at + 1] = high;
-    let a = writer::put(out, o, low);
-    let b = writer::put(out, a, high);
-    writer::put(out, b, size)
+    let a = output::put(out, o, low);
+    let b = output::put(out, a, high);
+    output::put(out, b, size)
 }
 
 // Those of all numbers below count.
@@ -152,7 +152,7 @@ pub fn write_header(
     let x = c.bools;
     let y = c.ints;
     let a = put_maps(work, bools, ints, out);
-    let b = writer::put(out, a, x as i32);
-    let d = writer::put(out, b, y as i32);
+    let b = output::put(out, a, x as i32);
+    let d = output::put(out, b, y as i32);
     put_domains(set, work, y, out, d)
 }

@@ -1,4 +1,2 @@
-pub mod Leaves
 mod Members
 mod Terms
-mod SkipLaws

@@ -12,7 +12,7 @@ use Rattle.walk.specs.NumberingSteps.{Met, MembersSofar, members-start, members
 use Rattle.walk.specs.declared.Surveyed.{Surveyed}
 use Rattle.walk.specs.declared.Counters.{Counters}
 use Rattle.number.specs.Sized.{Sized, SizedAll, survey-of, SizedSofar, sized-start, sized-more, sized-done}
-use Rattle.number.proofs.Leaves.{at-in}
+use Rattle.survey.proofs.Leaves.{at-in}
 
 pub met-as : {f : State → State} {w w' : List ℤ} {c r d : Counters} → r ≡ d → Met f w c w' d → Met f w c w' r
 met-as {f} {w} {w'} {c} e = subst (λ (d : Counters). Met f w c w' d) (sym e)

@@ -8,7 +8,7 @@ use Rattle.walk.specs.Item.{limit, meet-int, meet-terms}
 use Rattle.walk.specs.Decode.{past, terms, int-at, int-end, read-part}
 use Rattle.walk.specs.NumberingSteps.{state-of, Met, met-to, met-after, TermsSofar, terms-start, terms-again, terms-done}
 use Rattle.walk.specs.declared.Counters.{Counters}
-use Rattle.number.proofs.Leaves.{past-is, terms-more, terms-none}
+use Rattle.survey.proofs.Leaves.{past-is, terms-more, terms-none}
 
 -- an end, in words that are the same
 pub end-in : (l at r : ℕ) (ws us : List ℤ) → us ≡ ws → r ≡ int-end ws l at → r ≡ int-end us l at

@@ -1,2 +1,1 @@
-pub mod Skip
 pub mod Sized

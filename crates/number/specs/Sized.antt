@@ -13,7 +13,7 @@ use Rattle.walk.specs.Decode.{word, node-of, many, decode, read-part, surveyed,
 use Rattle.walk.specs.Steps.{survey-none, survey-var, survey-cmp, survey-not, survey-conj, survey-disj, survey-cross, Sofar, sofar-none, sofar-more, sofar-done}
 use Rattle.walk.specs.declared.Node.the-variants.{Var, Cmp, Not, Join, Cross}
 use Rattle.walk.specs.declared.Surveyed.{Surveyed}
-use Rattle.number.specs.Skip.{SkipsAll, survey-skipped}
+use Rattle.survey.specs.Skip.{SkipsAll, survey-skipped}
 
 -- ws: the words that are read
 abbrev pub Sized : List ℤ → ℕ → Bool → Bool → ℕ → ℕ → Surveyed → Type 0

@@ -17,7 +17,7 @@ use Rattle.walk.specs.NumberingSteps.{state-of, Met, part-short}
 use Rattle.walk.specs.MeetColumns.{meet-columns-at}
 use Rattle.walk.specs.declared.Counters.{Counters}
 use Rattle.rows.specs.Stands.{cells-words, length-cells}
-use Rattle.writer.specs.Rules.{has-part}
+use Rattle.walk.specs.DecodeExact.{has-part}
 use Rattle.statements.specs.NumberColumns.{columns-end, columns-are, columns-stop}
 use Rattle.statements.specs.Table.{table-fresh, meet-table}
 use Rattle.statements.specs.Columns.{meet-columns}

@@ -20,7 +20,7 @@ pub fn columns_end(work: &[i32], at: usize, count: usize) -> usize
     let mut rest = count;
     while rest != 0 {
         let p = q;
-        q = number::int_end(work, p, 64);
+        q = survey::int_end(work, p, 64);
         rest = rest - 1;
     }
     q
@@ -36,7 +36,7 @@ pub fn table_fresh(work: &[i32], at: usize, n: usize, k: usize) -> usize
         if s.free != 0 {
             return 0;
         }
-        return number::fresh(s.longer, 0, s.single);
+        return survey::fresh(s.longer, 0, s.single);
     }
     0
 }
@@ -46,13 +46,13 @@ fn number_table(work: &mut [i32], at: usize, c: Counters) -> Counters
     requires { ⌜ SomeTable (now work) at (c .bools) × ((4608 ≤ length (now work)) × ((c .bools ≤ limit) × (c .ints ≤ limit))) ⌝ }
     ensures { λ r. ⌜ TableMet (now (work .entry)) at c (now (work .exit)) r ⌝ }
 {
-    let n = number::word(work, at + 1);
-    let k = number::word(work, at + 2);
+    let n = survey::word(work, at + 1);
+    let k = survey::word(work, at + 2);
     let d = number::number_columns(work, at + 3, n, c);
     let p = columns_end(work, at + 3, n);
     let f = table_fresh(work, p, n, k);
     Counters {
-        bools: number::bump(d.bools, f),
+        bools: survey::bump(d.bools, f),
         ints: d.ints,
     }
 }
@@ -62,7 +62,7 @@ fn number_statement(work: &mut [i32], at: usize, c: Counters) -> Counters
     requires { ⌜ SomeStmt (now work) at (c .bools) × ((4608 ≤ length (now work)) × ((c .bools ≤ limit) × (c .ints ≤ limit))) ⌝ }
     ensures { λ r. ⌜ StmtMet (now (work .entry)) at c (now (work .exit)) r ⌝ }
 {
-    if number::word(work, at) == 1 {
+    if survey::word(work, at) == 1 {
         return number::number_rule(work, at + 1, c);
     }
     number_table(work, at, c)
@@ -73,12 +73,12 @@ fn statement_end(work: &[i32], at: usize) -> usize
     requires { ⌜ SomeStmt (now work) at 0 × (4608 ≤ length (now work)) ⌝ }
     ensures { λ r. ⌜ StmtEnds (now (work .entry)) at r ⌝ }
 {
-    if number::word(work, at) == 1 {
-        let s = number::survey(work, at + 1, 64, false, 0, false, 0);
+    if survey::word(work, at) == 1 {
+        let s = survey::survey(work, at + 1, 64, false, 0, false, 0);
         return s.at;
     }
-    let n = number::word(work, at + 1);
-    let k = number::word(work, at + 2);
+    let n = survey::word(work, at + 1);
+    let k = survey::word(work, at + 2);
     let p = columns_end(work, at + 3, n);
     let cells = k * n;
     p + cells

@@ -20,7 +20,7 @@ use Rattle.fold.specs.Optimize.{Status, unsatisfiable, updated, fix, worst, and
 use Rattle.fold.specs.Table.{op-num, bit, state-num}
 use Rattle.fold.specs.Forms.{list-of, list-words, binary-words}
 use Rattle.domains.specs.Declared.{Plain}
-use Rattle.fold.specs.Steps.{state-of, Reads, Reads-members}
+use Rattle.folding.specs.Steps.{state-of, Reads, Reads-members}
 use Rattle.folding.proofs.BoolLaws.{tag, const-inv, var-inv, cmp-inv, not-inv, list-inv, binary-inv, first-word, second, second-word, tag-low, inside, reads-long, reads-not, reads-list, reads-left, reads-right, reads-first, reads-rest, reads-sides}
 use Rattle.passes.specs.Want.{prop-want, members-want, flip, pass-list, left-want, right-want, want-not, want-list, want-binary, want-more, status-num, worst-num, clash-num, set-status, set-words, flip-num, pass-num, left-num, right-num, flip-is, pass-is, left-is, right-is, status-small, worst-two, worst-is, Values, Propagates}
 use Rattle.passes.specs.Contracts.{Some-int, Skip-post, Stands, Stand-members, Comparison-post, Prop-post, Members-post}

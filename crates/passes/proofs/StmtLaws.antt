@@ -18,7 +18,7 @@ use Rattle.fold.specs.Fold.{constant-folding-int, constant-folding-bool, consta
 use Rattle.fold.specs.Forms.{bool-long}
 use Rattle.fold.specs.Kept.{fold-columns-size, fold-stmt-size, fold-int-size}
 use Rattle.domains.specs.Declared.{Plain}
-use Rattle.fold.specs.Steps.{fixed-in, Reads-int, Ready-int, Int-post, Reads, Ready, Fold-post}
+use Rattle.folding.specs.Steps.{fixed-in, Reads-int, Ready-int, Int-post, Reads, Ready, Fold-post}
 use Rattle.folding.proofs.BoolLaws.{same-fixed}
 use Rattle.passes.specs.Statements.{Declared-stmt, Declared-stmts, Reads-columns, Ready-columns, Columns-post, Reads-stmt, Reads-stmts, Ready-stmt, Ready-stmts, Stmt-post, Stmts-post}
 

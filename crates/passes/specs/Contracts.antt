@@ -11,7 +11,7 @@ use Rattle.syntax.specs.Words.{max-bools}
 use Rattle.syntax.specs.Syntax.{IntExpr, IConst, IVar, Linear, Terms, tnil, BoolExpr, Members, count-terms, encode-int, encode-terms, encode-bool, encode-members}
 use Rattle.fold.specs.Fold.{Fixed}
 use Rattle.fold.specs.Table.{state-num}
-use Rattle.fold.specs.Steps.{Reads, Reads-members}
+use Rattle.folding.specs.Steps.{Reads, Reads-members}
 use Rattle.passes.specs.Want.{prop-want, members-want, Values, Propagates}
 
 -- ---- passing over integer expressions

@@ -15,7 +15,7 @@ use Rattle.fold.specs.Optimize.{constant-prop-stmts}
 use Rattle.fold.specs.Ahead.{prop-stmt}
 use Rattle.fold.specs.Forms.{Declared}
 use Rattle.domains.specs.Declared.{Domains}
-use Rattle.fold.specs.Steps.{fixed-in}
+use Rattle.folding.specs.Steps.{fixed-in}
 use Rattle.passes.specs.Want.{Values, Propagates}
 
 -- ---- declared, and every row as wide as its table

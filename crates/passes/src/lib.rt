@@ -6,7 +6,7 @@ ghost use lib.IntN.{pos};
 ghost use lib.ListN.{length, take, drop, getD};
 ghost use Rattle.laws.specs.Slices.{Stored};
 ghost use Rattle.fold.specs.Table.{state-num};
-ghost use Rattle.fold.specs.Steps.{state-of};
+ghost use Rattle.folding.specs.Steps.{state-of};
 ghost use Rattle.passes.specs.Want.{worst-num, clash-num, set-status, set-words, flip-num, pass-num, left-num, right-num};
 ghost use Rattle.passes.specs.Contracts.{Some-int, Some-terms, Count-post, Skip-post, Skip-terms-post, Stands, Stand-members, Comparison-post, Prop-post, Members-post};
 ghost use Rattle.passes.specs.Statements.{Ready-columns, Columns-post, Ready-stmt, Stmt-post, Ready-stmts, Stmts-post, Stands-stmt, Prop-stmt-post, Stand-stmts, Prop-stmts-post, Some-columns, Skip-columns-post, Skip-table-post};

@@ -22,7 +22,7 @@ use Rattle.fold.specs.Refold.{Extends}
 use Rattle.fold.specs.Ahead.{prop-stmt, Below, NoRest, step-below, step-none, passes-ahead, passes-none}
 use Rattle.fold.specs.Ends.{opens-extends}
 use Rattle.fold.specs.Kept.{fold-stmt-size}
-use Rattle.fold.specs.Steps.{fixed-in}
+use Rattle.folding.specs.Steps.{fixed-in}
 use Rattle.domains.specs.Declared.{Domains}
 use Rattle.passes.specs.Want.{status-num, Values, Propagates}
 use Rattle.passes.specs.Statements.{Declared-stmts, Reads-stmt, Reads-stmts, Stmt-post, Stands-stmt, Prop-stmt-post}

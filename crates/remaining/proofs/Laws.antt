@@ -23,7 +23,7 @@ use Rattle.fold.specs.Optimize.{Outcome, inconsistent, settled, optimize}
 use Rattle.answer.specs.Answer.{fixed-word}
 use Rattle.call.specs.Call.{zeros}
 use Rattle.statements.specs.Stages.{stmts-words, Folded, settled-short}
-use Rattle.writer.specs.Rules.{has-part}
+use Rattle.walk.specs.DecodeExact.{has-part}
 use Rattle.settle.specs.Settle.{settling-of, settling-checked, settling-read, settling, Holds, Left, Settle-post}
 use Rattle.settle.specs.declared.Places.{Places}
 use Rattle.settle.specs.declared.Settling.{Settling}

@@ -26,7 +26,7 @@ use Rattle.walk.specs.declared.Mode.the-variants.{Pool, Pass, Two, Each as Ever
 use Rattle.rows.specs.Emit.{clauses-words, Clauses}
 use Rattle.rows.specs.Stars.{is-value, values-in, is-single, is-longer, count-rows}
 use Rattle.statements.specs.Star.{no-equality, any-free}
-use Rattle.writer.proofs.Laws.{block-length}
+use Rattle.output.proofs.Laws.{block-length}
 use Rattle.stars.specs.Lines.{row-linears, row-lines, equality, long-lines, single-linears, pool-line, pool-lines, lines-in-mode, star-lines, Lines}
 
 -- ---- one row

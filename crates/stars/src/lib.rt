@@ -21,15 +21,15 @@ fn put_literal(mode: Mode, m: usize, j: usize, out: &mut [i32], o: usize) -> usi
     ensures { λ r. ⌜ Wrote (now (out .entry)) o (counted-lits (extra mode m [] j)) (now (out .exit)) r ⌝ }
 {
     match mode {
-        Mode::Pool => writer::put(out, o, 0),
-        Mode::Pass => writer::put(out, o, 0),
+        Mode::Pool => output::put(out, o, 0),
+        Mode::Pass => output::put(out, o, 0),
         Mode::Two => {
-            let a = writer::put(out, o, 1);
-            writer::put(out, a, writer::word_of(m + 1, j == 0))
+            let a = output::put(out, o, 1);
+            output::put(out, a, output::word_of(m + 1, j == 0))
         }
         Mode::Each => {
-            let a = writer::put(out, o, 1);
-            writer::put(out, a, writer::word_of(m + j + 1, true))
+            let a = output::put(out, o, 1);
+            output::put(out, a, output::word_of(m + j + 1, true))
         }
     }
 }
@@ -55,7 +55,7 @@ fn put_equality(
         return Written { at: o, clauses: c };
     }
     let a = put_literal(mode, m, j, out, o);
-    let b = writer::put(out, a, 1);
+    let b = output::put(out, a, 1);
     let d = rows::put_cmp(out, b, 0, v, x);
     Written {
         at: d,
@@ -213,9 +213,9 @@ fn put_pool(
     if o == 16777217 {
         return Written { at: o, clauses: c };
     }
-    let a = writer::put(out, o, x as i32);
-    let b = writer::put_block(m, x, out, a);
-    let d = writer::put(out, b, y as i32);
+    let a = output::put(out, o, x as i32);
+    let b = output::put_block(m, x, out, a);
+    let d = output::put(out, b, y as i32);
     let e = put_single_rows(work, at, n, k, cols, out, d);
     Written {
         at: e,
@@ -243,7 +243,7 @@ pub fn put_stars(
     let s = rows::count_stars(work, at, n, k);
     let x = s.longer;
     let y = s.single;
-    let mode = number::mode_of(x, 0, y);
+    let mode = survey::mode_of(x, 0, y);
     let w = put_long_rows(work, at, n, k, cols, mode, m, out, o, c);
     match mode {
         Mode::Pool => put_pool(work, at, n, k, cols, m, x, y, out, w.at, w.clauses),

@@ -24,7 +24,7 @@ use Rattle.answer.specs.Answer.{normalize-stmt}
 use Rattle.walk.specs.Item.{limit, bool-map}
 use Rattle.walk.specs.Grow.{Grows, Fit, then, back}
 use Rattle.walk.specs.Decode.{read-part}
-use Rattle.writer.specs.Rules.{has-part}
+use Rattle.walk.specs.DecodeExact.{has-part}
 use Rattle.rows.specs.Rows.{rows-of, row-at}
 use Rattle.rows.specs.Columns.{vars-of, domains-of}
 use Rattle.rows.specs.Stands.{cells-words, length-cells, rows-stand, starless-stand}

@@ -25,8 +25,8 @@ fn put_empty(out: &mut [i32], o: usize, k: usize) -> Written
     if o == 16777217 {
         return Written { at: o, clauses: k };
     }
-    let a = writer::put(out, o, 0);
-    let b = writer::put(out, a, 0);
+    let a = output::put(out, o, 0);
+    let b = output::put(out, a, 0);
     Written {
         at: b,
         clauses: k + 1,
@@ -95,15 +95,15 @@ pub fn write_table(
     requires { ⌜ SomeTable (now set) (now work) at triples m (now out) o × Behind (now out) o k ⌝ }
     ensures { λ r. ⌜ ((x : Place) (es : List IntExpr) (rows : List (List Cell)) → At x (Table es rows) (now (set .entry)) (now (work .entry)) at triples m (now (out .entry)) o → Did x (Table es rows) (now (work .entry)) at (now (out .entry)) o k (now (work .exit)) (now (out .exit)) (r .next) (r .bools) (r .at) (r .clauses)) ⌝ }
 {
-    let n = number::word(work, at + 1);
-    let rows = number::word(work, at + 2);
+    let n = survey::word(work, at + 1);
+    let rows = survey::word(work, at + 2);
     let e = columns::put_equalities(work, at + 3, n, out, o, k);
     let p = numbered::columns_end(work, at + 3, n);
     let f = numbered::table_fresh(work, p, n, rows);
     let r = write_rows(set, work, at, p, n, rows, triples, m, out, e.at, e.clauses);
     Step {
         next: p + rows * n,
-        bools: number::bump(m, f),
+        bools: survey::bump(m, f),
         at: r.at,
         clauses: r.clauses,
     }

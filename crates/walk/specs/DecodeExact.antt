@@ -8,7 +8,8 @@ use native.Mathlib.Omega.{arith}
 use native.Mathlib.Numerals.{sub-one, add-one}
 use lib.IntN.{ℤ, pos}
 use borrow.Author.Tests.{lt-ltb}
-use lib.ListN.{length, getD, length-append}
+use lib.ListN.{length, getD, take, drop, take-append-drop, length-append, length-drop}
+use lib.Seq.{drop-append-le, take-append-le}
 use Rattle.laws.specs.Slices.{Has, has-fits, has-front, has-back, has-word, has-rest}
 use Rattle.syntax.specs.Syntax.{CmpOp, Eq, Ne, Le, Lt, Ge, Gt, op-at, encode-op, IntExpr, IConst, IVar, Linear, Terms, tnil, tmore, count-terms, encode-int, encode-terms, BoolExpr, Const, Var, NVar, And, Or, Not, Xor, Iff, Imp, Cmp, Members, none, more, count-members, encode-bool, encode-members}
 use Rattle.walk.specs.Tree.{Tree, num, tied, Trees, nil, cons, pair, append, splits, splits-members, crossed, resolve, resolves, both-tied, ties, ties-members}
@@ -16,7 +17,19 @@ use Rattle.walk.specs.Item.{limit, bump, nat}
 use Rattle.walk.specs.Legal.{LegalInt, LegalTerms, Legal, LegalMembers}
 use Rattle.walk.specs.Resolve.{rule-trees}
 use Rattle.walk.specs.Rule.{LegalRule, true-rule, legal-rule}
-use Rattle.walk.specs.Decode.{word, past, terms, int-step, int-at, node-of, Read, Reads, many, cross-step, step, decode, many-ties, tie-at, cross-ties, ties-step, ties-at}
+use Rattle.walk.specs.Decode.{word, past, terms, int-step, int-at, node-of, Read, Reads, many, cross-step, step, decode, many-ties, tie-at, cross-ties, ties-step, ties-at, read-part}
+
+-- ---- words of a part are words of the whole
+
+has-wider : (xs ys : List ℤ) (at : ℕ) (us : List ℤ) → 0 < length us → Has xs at us → Has (xs ++ ys) at us
+has-wider xs ys at us z h =
+    let i : at + length us ≤ length xs = has-fits xs at us h z in
+    ap (take (length us)) (drop-append-le at xs ys (omega arith)) ∙ take-append-le (length us) (drop at xs) ys (omega (arith, length-drop at xs)) ∙ h
+
+pub has-part : (w : List ℤ) (at : ℕ) (us : List ℤ) → Has (read-part w) at us → Has w at us
+unfolding read-part
+has-part w at [] h = refl
+has-part w at (u ∷ us) h = subst (λ (l : List ℤ). Has l at (u ∷ us)) (take-append-drop 4608 w) (has-wider (take 4608 w) (drop 4608 w) at (u ∷ us) (omega arith) h)
 
 -- ---- words at a place
 

@@ -18,10 +18,10 @@ use Rattle.walk.specs.declared.Surveyed.{Surveyed}
 use Rattle.walk.specs.Steps.{lines-all-low, many-more}
 use Rattle.walk.specs.MeetTies.{Reaches, ReachesAll}
 use Rattle.walk.specs.NoTies.{no-ties}
-use Rattle.writer.specs.Suffix.{Open}
-use Rattle.writer.specs.ComparisonsFit.{ComparisonsFit, Fines}
+use Rattle.output.specs.Suffix.{Open}
+use Rattle.output.specs.ComparisonsFit.{ComparisonsFit, Fines}
 use Rattle.writer.specs.Placed.{Placed, Listed, RuleWrote}
-use Rattle.writer.proofs.Laws.{open-next}
+use Rattle.output.proofs.Laws.{open-next}
 use Rattle.writer.proofs.Steps.{part-length}
 
 -- ---- one list after another

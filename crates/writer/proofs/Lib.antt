@@ -1,5 +1,3 @@
-pub mod Laws
-pub mod Differences
 pub mod Steps
 pub mod PoolLaws
 pub mod Written

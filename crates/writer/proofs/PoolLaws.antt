@@ -12,11 +12,11 @@ use Rattle.walk.specs.Item.{nat, is-none, Tally, closed, long, disj-lines, word
 use Rattle.walk.specs.Decode.{word, Read, many, step, cross-step, decode, read-part, item-at, items-at, Surveys}
 use Rattle.walk.specs.declared.Node.the-variants.{Var, Cmp, Not, Join, Cross}
 use Rattle.walk.specs.declared.Surveyed.{Surveyed}
-use Rattle.writer.specs.declared.Suffix.{Suffix}
-use Rattle.writer.specs.Suffix.{Stacked, suffix, Open}
-use Rattle.writer.specs.ComparisonsFit.{Compared, ComparisonsFit}
+use Rattle.output.specs.declared.Suffix.{Suffix}
+use Rattle.output.specs.Suffix.{Stacked, suffix, Open}
+use Rattle.output.specs.ComparisonsFit.{Compared, ComparisonsFit}
 use Rattle.writer.specs.Placed.{share}
-use Rattle.writer.proofs.Laws.{word-pos, then-low, suffix-length, block-length}
+use Rattle.output.proofs.Laws.{word-pos, then-low, suffix-length, block-length}
 use Rattle.writer.proofs.Steps.{Is, down, up, fine-cmp, items-is}
 
 -- ---- counts and lists

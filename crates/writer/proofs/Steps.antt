@@ -15,11 +15,11 @@ use Rattle.walk.specs.Steps.{Okay, okay-at, decode-level, many-more}
 use Rattle.walk.specs.declared.Node.{Node}
 use Rattle.walk.specs.declared.Node.the-variants.{Cmp, Not, Join, Cross}
 use Rattle.walk.specs.declared.Surveyed.{Surveyed}
-use Rattle.number.specs.Skip.{Skips}
-use Rattle.writer.specs.Suffix.{Open}
-use Rattle.writer.specs.ComparisonsFit.{Sides, Compares, ComparisonsFit, Fines}
+use Rattle.survey.specs.Skip.{Skips}
+use Rattle.output.specs.Suffix.{Open}
+use Rattle.output.specs.ComparisonsFit.{Sides, Compares, ComparisonsFit, Fines}
 use Rattle.writer.specs.Placed.{Placed}
-use Rattle.writer.proofs.Laws.{open-next}
+use Rattle.output.proofs.Laws.{open-next}
 
 pub part-length : (w : List ℤ) → 5120 ≤ length w → length (read-part w) ≡ 4608
 unfolding read-part

@@ -14,8 +14,8 @@ use Rattle.walk.specs.declared.Mode.{Mode}
 use Rattle.walk.specs.declared.Mode.the-variants.{Pool, Pass, Two, Each}
 use Rattle.walk.specs.declared.Node.the-variants.{Var, Cmp, Not, Join, Cross}
 use Rattle.walk.specs.declared.Surveyed.{Surveyed}
-use Rattle.writer.specs.Suffix.{Open}
-use Rattle.writer.specs.ComparisonsFit.{Compared, ComparisonsFit}
+use Rattle.output.specs.Suffix.{Open}
+use Rattle.output.specs.ComparisonsFit.{Compared, ComparisonsFit}
 use Rattle.writer.specs.Placed.{Tallied}
 use Rattle.writer.proofs.Steps.{part-length, Is, up, fine-cmp, items-is}
 

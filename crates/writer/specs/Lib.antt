@@ -1,4 +1,2 @@
-pub mod Suffix
-pub mod ComparisonsFit
 pub mod Placed
 pub mod Rules

@@ -1,15 +1,14 @@
 -- A legal folded rule, within refusals 9 and 10, stands at a place: its comparisons may be written, and what is written are its clauses.
-use mathlib.Core.Path.{_≡_, refl, sym, ap, _∙_, subst}
+use mathlib.Core.Path.{_≡_, sym, ap, _∙_, subst}
 use mathlib.Core.Bool.{Bool, true, false, not, _||_}
 use mathlib.Core.List.{List, [], _∷_, _++_, map}
-use Prim.Native.Nat.{ℕ, suc, _+_, _≤_, _<_, min}
+use Prim.Native.Nat.{ℕ, suc, _+_, _≤_, min}
 use native.Mathlib.Omega.{arith}
 use lib.IntN.{ℤ}
-use lib.ListN.{length, take, drop, take-append-drop, length-drop}
-use lib.Seq.{drop-append-le, take-append-le}
+use lib.ListN.{length}
 use Rattle.laws.specs.Bools.{or-no-l, or-no-r}
 use Rattle.laws.specs.Lists.{flat}
-use Rattle.laws.specs.Slices.{Has, has-fits, has-front, has-back, has-rest}
+use Rattle.laws.specs.Slices.{Has, has-front, has-back, has-rest}
 use Rattle.laws.specs.Writes.{Wrote, wrote-to}
 use Rattle.syntax.specs.Syntax.{Domain, IntExpr, encode-int, BoolExpr, Const, Var, NVar, And, Or, Not, Xor, Iff, Imp, Cmp, Members, none, more, encode-bool, encode-members}
 use Rattle.limits.specs.Limits.{heavy-comparison, many-comparison, any-comparison, any-comparison-members}
@@ -26,21 +25,9 @@ use Rattle.walk.specs.Num.{Numbered}
 use Rattle.walk.specs.TwoWalks.{Low}
 use Rattle.walk.specs.Rule.{LegalRule, rule-walks}
 use Rattle.walk.specs.Decode.{decode, read-part}
-use Rattle.walk.specs.DecodeExact.{rule-at, rule-stands}
-use Rattle.writer.specs.ComparisonsFit.{ComparisonsFit, Fines}
+use Rattle.walk.specs.DecodeExact.{has-part, rule-at, rule-stands}
+use Rattle.output.specs.ComparisonsFit.{ComparisonsFit, Fines}
 use Rattle.writer.specs.Placed.{RuleWrote}
-
--- ---- words of a part are words of the whole
-
-has-wider : (xs ys : List ℤ) (at : ℕ) (us : List ℤ) → 0 < length us → Has xs at us → Has (xs ++ ys) at us
-has-wider xs ys at us z h =
-    let i : at + length us ≤ length xs = has-fits xs at us h z in
-    ap (take (length us)) (drop-append-le at xs ys (omega arith)) ∙ take-append-le (length us) (drop at xs) ys (omega (arith, length-drop at xs)) ∙ h
-
-pub has-part : (w : List ℤ) (at : ℕ) (us : List ℤ) → Has (read-part w) at us → Has w at us
-unfolding read-part
-has-part w at [] h = refl
-has-part w at (u ∷ us) h = subst (λ (l : List ℤ). Has l at (u ∷ us)) (take-append-drop 4608 w) (has-wider (take 4608 w) (drop 4608 w) at (u ∷ us) (omega arith) h)
 
 has-two : (w : List ℤ) (at : ℕ) (u v : ℤ) (us : List ℤ) → Has w at (u ∷ v ∷ us) → Has w (at + 2) us
 has-two w at u v us h =

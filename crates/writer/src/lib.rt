@@ -1,256 +1,33 @@
 // The words of a rule's clauses, written straight into the output in their final form.
 ghost use mathlib.Core.Path.{_≡_};
 ghost use mathlib.Core.Bool.{true, false, not, cond};
-ghost use mathlib.Core.List.{[], _∷_, _++_, map};
-ghost use Prim.Native.Nat.{_+_, _*_, _-_, _≤_, _<_, min};
+ghost use mathlib.Core.List.{[], _∷_, _++_};
+ghost use Prim.Native.Nat.{_+_, _≤_, _<_, min};
 ghost use lib.ListN.{length};
-ghost use Rattle.laws.specs.Lists.{flat};
 ghost use Rattle.laws.specs.Writes.{Wrote};
-ghost use Rattle.syntax.specs.Syntax.{op-at, encode-op};
-ghost use Rattle.sums.specs.Rising.{Each};
-ghost use Rattle.sums.specs.Struct.{terms, sum-of};
-ghost use Rattle.nest.specs.Nest.{Word};
-ghost use Rattle.clauses.specs.Clause.{linear};
-ghost use Rattle.clauses.specs.Normalize.{negate-op-if};
-ghost use Rattle.answer.specs.Answer.{term-words, linear-words};
-ghost use Rattle.walk.specs.Item.{limit, bump as bump-of, word-of, clause-text, extra, block as block-of, var-item, tallies, pools as pools-of, texts, long-texts, disj-text, items};
+ghost use Rattle.walk.specs.Item.{limit, bump as bump-of, word-of, clause-text, block as block-of, var-item, tallies, pools as pools-of, texts, long-texts, disj-text, items};
 ghost use Rattle.walk.specs.Tree.{cons, nil};
 ghost use Rattle.walk.specs.Decode.{word as word-in, many, decode, tie-at, many-ties, cross-ties, ties-at, read-part, item-at, items-at, surveyed, Surveys, SurveysAll};
 ghost use Rattle.walk.specs.MeetTies.{Reaches, ReachesAll};
-ghost use Rattle.writer.specs.Suffix.{suffix, Stacked, extra-lits, Open};
-ghost use Rattle.writer.specs.ComparisonsFit.{Compares, Subtracted, Compared, ComparisonsFit, Fines};
+ghost use Rattle.output.specs.Suffix.{suffix, Stacked, extra-lits, Open};
+ghost use Rattle.output.specs.ComparisonsFit.{Compares, Compared, ComparisonsFit, Fines};
 ghost use Rattle.writer.specs.Placed.{Placed, Tallied, share, Probed, ProbedAll, Listed, no-extras, RuleWrote};
 ghost use Rattle.writer.specs.Rules.{Writable};
-use sums::LinearSum;
+use output::Extra;
+use output::Suffix;
+use output::push;
+use output::pushed;
+use output::put;
+use output::put_block;
+use output::put_cmp;
+use output::put_comparison;
+use output::put_lit;
+use output::put_suffix;
+use output::put_two;
+use output::word_of;
 use walk::Mode;
 use walk::Node;
 use walk::Surveyed;
-
-// The word of the literal whose number plus 1 is x.
-pub fn word_of(x: usize, g: bool) -> i32
-    ensures { λ r. ⌜ r ≡ word-of x g ⌝ }
-{
-    if x <= 1073741824 {
-        let w = x as i32;
-        if g {
-            return 0 - w;
-        }
-        return w;
-    }
-    0
-}
-
-// A word written at o; one past the end is only counted.
-pub fn put(out: &mut [i32], o: usize, w: i32) -> usize
-    requires { ⌜ Open (now out) o ⌝ }
-    ensures { λ r. ⌜ Wrote (now (out .entry)) o (w ∷ []) (now (out .exit)) r ⌝ }
-{
-    if o < out.len() {
-        out[o] = w;
-        return o + 1;
-    }
-    if o < 16777217 {
-        return o + 1;
-    }
-    o
-}
-
-// The literals that the enclosing disjunctions append, from `from` on, the innermost first.
-pub struct Suffix {
-    pub words: [i32; 64],
-    pub from: usize,
-}
-
-fn push(s: Suffix, w: i32) -> Suffix
-    requires { ⌜ Stacked s 1 ⌝ }
-    ensures { λ r. ⌜ (suffix r ≡ w ∷ suffix s) × (r .from ≡ s .from - 1) × (length (r .words) ≡ 64) ⌝ }
-{
-    let mut a = s.words;
-    let i = s.from - 1;
-    a[i] = w;
-    Suffix { words: a, from: i }
-}
-
-fn put_suffix(s: Suffix, out: &mut [i32], o: usize) -> usize
-    requires { ⌜ Stacked s 0 × Open (now out) o ⌝ }
-    ensures { λ r. ⌜ Wrote (now (out .entry)) o (suffix s) (now (out .exit)) r ⌝ }
-{
-    let a = s.words;
-    let mut i = s.from;
-    let mut p = o;
-    while i < 64 {
-        let w = a[i];
-        p = put(out, p, w);
-        i += 1;
-    }
-    p
-}
-
-// The literals of k numbers from b on.
-pub fn put_block(b: usize, k: usize, out: &mut [i32], o: usize) -> usize
-    requires { ⌜ (b + k ≤ 2 * limit) × Open (now out) o ⌝ }
-    ensures { λ r. ⌜ Wrote (now (out .entry)) o (block-of b k) (now (out .exit)) r ⌝ }
-{
-    let mut n = b;
-    let mut rest = k;
-    let mut p = o;
-    while rest != 0 {
-        p = put(out, p, word_of(n + 1, false));
-        n += 1;
-        rest -= 1;
-    }
-    p
-}
-
-// The clause of one literal, whose number plus 1 is x.
-fn put_lit(x: usize, g: bool, s: Suffix, out: &mut [i32], o: usize) -> usize
-    requires { ⌜ Stacked s 0 × Open (now out) o ⌝ }
-    ensures { λ r. ⌜ Wrote (now (out .entry)) o (clause-text (word-of x g ∷ []) (suffix s) 0 []) (now (out .exit)) r ⌝ }
-{
-    let n = 64 - s.from;
-    let a = put(out, o, word_of(n + 1, false));
-    let b = put(out, a, word_of(x, g));
-    let c = put_suffix(s, out, b);
-    put(out, c, 0)
-}
-
-// The word of the operator k, negated if g.
-fn op_word(k: usize, g: bool) -> i32
-    ensures { λ r. ⌜ r ≡ encode-op (negate-op-if g (op-at k)) ⌝ }
-{
-    if g {
-        return match k {
-            0 => 1,
-            1 => 0,
-            2 => 5,
-            3 => 4,
-            4 => 3,
-            _ => 2,
-        };
-    }
-    match k {
-        0 => 0,
-        1 => 1,
-        2 => 2,
-        3 => 3,
-        4 => 4,
-        _ => 5,
-    }
-}
-
-// The terms of a sum: variable and coefficient of each.
-fn put_terms(s: LinearSum, out: &mut [i32], o: usize) -> usize
-    requires { ⌜ (s .count ≤ 64) × Each Word (terms s) × Open (now out) o ⌝ }
-    ensures { λ r. ⌜ Wrote (now (out .entry)) o (flat (map term-words (terms s))) (now (out .exit)) r ⌝ }
-{
-    let n = s.count;
-    let mut i: usize = 0;
-    let mut p = o;
-    while i < n {
-        let v = s.vars[i];
-        let k = s.coefs[i];
-        let q = put(out, p, v as i32);
-        p = put(out, q, k);
-        i += 1;
-    }
-    p
-}
-
-// A comparison of a sum with 0, its operator k negated if g.
-pub fn put_linear(k: usize, g: bool, s: LinearSum, out: &mut [i32], o: usize) -> usize
-    requires { ⌜ (s .count ≤ 64) × Each Word (terms s) × Open (now out) o ⌝ }
-    ensures { λ r. ⌜ Wrote (now (out .entry)) o (linear-words (linear (negate-op-if g (op-at k)) (sum-of s))) (now (out .exit)) r ⌝ }
-{
-    let c = s.constant;
-    let n = s.count;
-    let a = put(out, o, op_word(k, g));
-    let b = put(out, a, c);
-    let d = put(out, b, n as i32);
-    put_terms(s, out, d)
-}
-
-// The left side minus the right one, which stand at a place of the work slice, with the final integer map.
-fn difference(work: &[i32], at: usize) -> LinearSum
-    requires { ⌜ (5120 ≤ length (now work)) × Compares (now work) at ⌝ }
-    ensures { λ r. ⌜ Subtracted (now (work .entry)) at r ⌝ }
-{
-    let e = work.len();
-    let numbers = &work[5120..e];
-    let a = nest::linear_of(work, at, numbers);
-    let p = a.next;
-    let b = nest::linear_of(work, p, numbers);
-    let s = a.sum;
-    let t = b.sum;
-    sums::sub_sum(s, t)
-}
-
-// The words of a comparison: its operator k, negated if g, and where its sides stand.
-fn put_comparison(work: &[i32], at: usize, k: usize, g: bool, out: &mut [i32], o: usize) -> usize
-    requires { ⌜ (5120 ≤ length (now work)) × Compares (now work) at × Open (now out) o ⌝ }
-    ensures { λ r. ⌜ Compared (now (work .entry)) at k g (λ ws. ws) (now (out .entry)) o (now (out .exit)) r ⌝ }
-{
-    let s = difference(work, at);
-    put_linear(k, g, s, out, o)
-}
-
-// The clause of a comparison alone.
-fn put_cmp(
-    work: &[i32],
-    at: usize,
-    k: usize,
-    g: bool,
-    s: Suffix,
-    out: &mut [i32],
-    o: usize,
-) -> usize
-    requires { ⌜ (5120 ≤ length (now work)) × Compares (now work) at × Stacked s 0 × Open (now out) o ⌝ }
-    ensures { λ r. ⌜ Compared (now (work .entry)) at k g (clause-text [] (suffix s) 1) (now (out .entry)) o (now (out .exit)) r ⌝ }
-{
-    let n = 64 - s.from;
-    let a = put(out, o, word_of(n, false));
-    let b = put_suffix(s, out, a);
-    let c = put(out, b, 1);
-    put_comparison(work, at, k, g, out, c)
-}
-
-// The clause of two emitted numbers, each negated if so.
-fn put_two(m: usize, g: bool, n: usize, h: bool, s: Suffix, out: &mut [i32], o: usize) -> usize
-    requires { ⌜ (m ≤ limit) × (n ≤ limit + 1) × Stacked s 0 × Open (now out) o ⌝ }
-    ensures { λ r. ⌜ Wrote (now (out .entry)) o (clause-text (word-of (m + 1) g ∷ word-of (n + 1) h ∷ []) (suffix s) 0 []) (now (out .exit)) r ⌝ }
-{
-    let k = 64 - s.from;
-    let a = put(out, o, word_of(k + 2, false));
-    let b = put(out, a, word_of(m + 1, g));
-    let c = put(out, b, word_of(n + 1, h));
-    let d = put_suffix(s, out, c);
-    put(out, d, 0)
-}
-
-// What a longer member's clauses get: the mode, the block's first number, and whether there is a pool literal, and its word.
-pub struct Extra {
-    pub mode: Mode,
-    pub base: usize,
-    pub some: bool,
-    pub lit: i32,
-}
-
-fn pushed(s: Suffix, x: Extra, k: usize) -> Suffix
-    requires { ⌜ Stacked s 1 × (x .base ≤ limit) × (k ≤ limit) ⌝ }
-    ensures { λ r. ⌜ (suffix r ≡ extra (x .mode) (x .base) (extra-lits x) k ++ suffix s) × (s .from ≤ r .from + 1) × Stacked r 0 ⌝ }
-{
-    let mode = x.mode;
-    match mode {
-        Mode::Pool => s,
-        Mode::Pass => {
-            if x.some {
-                return push(s, x.lit);
-            }
-            s
-        }
-        Mode::Two => push(s, word_of(x.base + 1, k == 0)),
-        Mode::Each => push(s, word_of(x.base + k + 1, true)),
-    }
-}
 
 // ---- longer or single
 
@@ -293,7 +70,7 @@ fn probes(
         if s.longs != 0 {
             return s;
         }
-        r = number::add_member(r, s);
+        r = survey::add_member(r, s);
         rest = rest - 1;
         f = h;
     }
@@ -306,21 +83,21 @@ fn probe(work: &[i32], at: usize, left: usize, t: bool, base: usize, g: bool, n:
     ensures { λ r. ⌜ Probed (now (work .entry)) left t g at base n r ⌝ }
 {
     if left == 0 {
-        return number::single(at, base, n, 0, 0);
+        return survey::single(at, base, n, 0, 0);
     }
     let under = left - 1;
-    match number::node_at(work, under, g, at) {
-        Node::Var(v, q) => number::single(q, base, number::met(work, v, n), 1, 0),
-        Node::Cmp(_, q) => number::single(q, base, n, 0, 1),
+    match survey::node_at(work, under, g, at) {
+        Node::Var(v, q) => survey::single(q, base, survey::met(work, v, n), 1, 0),
+        Node::Cmp(_, q) => survey::single(q, base, n, 0, 1),
         Node::Not(q) => probe(work, q, under, t, base, !g, n),
         Node::Join(d, k, a, b, q) => {
             if d {
                 let x = probes(work, q, under, t, k, base, a, b, n);
-                return number::close_disj(x);
+                return survey::close_disj(x);
             }
-            number::longer(at, base, n, 0)
+            survey::longer(at, base, n, 0)
         }
-        Node::Cross(_, _) => number::longer(at, base, n, 0),
+        Node::Cross(_, _) => survey::longer(at, base, n, 0),
     }
 }
 
@@ -332,7 +109,7 @@ fn pool_var(work: &[i32], v: usize, g: bool, b: bool, out: &mut [i32], o: usize)
     ensures { λ r. ⌜ Wrote (now (out .entry)) o (var-item v g .pool b (now (work .entry))) (now (out .exit)) r ⌝ }
 {
     if b {
-        return put(out, o, word_of(number::entry(work, 4608 + v), g));
+        return put(out, o, word_of(survey::entry(work, 4608 + v), g));
     }
     o
 }
@@ -392,7 +169,7 @@ fn pools(
             f = h;
             continue;
         }
-        let y = number::skip(work, q, left, t, c);
+        let y = survey::skip(work, q, left, t, c);
         q = y.at;
         c = y.base;
         rest = rest - 1;
@@ -422,9 +199,9 @@ fn pool(
         return o;
     }
     let under = left - 1;
-    match number::node_at(work, under, g, at) {
+    match survey::node_at(work, under, g, at) {
         Node::Var(v, _) => pool_var(work, v, g, b, out, o),
-        Node::Cmp(_, _) => pool_cmp(work, at + 2, number::word(work, at + 1), g, b, out, o),
+        Node::Cmp(_, _) => pool_cmp(work, at + 2, survey::word(work, at + 1), g, b, out, o),
         Node::Not(q) => pool(work, q, under, t, base, !g, b, m, out, o),
         Node::Join(d, k, x, y, q) => {
             if d {
@@ -500,7 +277,7 @@ fn write_none(at: usize, base: usize, n: usize, s: Suffix, out: &mut [i32], o: u
     ensures { λ r. ⌜ (r .seen ≡ surveyed at base n 0 0 0 0 1) × Wrote (now (out .entry)) o (clause-text [] (suffix s) 0 []) (now (out .exit)) (r .o) ⌝ }
 {
     let p = put_none(s, out, o);
-    let x = number::single(at, base, n, 0, 0);
+    let x = survey::single(at, base, n, 0, 0);
     Walked { seen: x, o: p }
 }
 
@@ -519,8 +296,8 @@ fn write_var(
     requires { ⌜ (v < 512) × (n ≤ limit) × Stacked s 0 × Open (now out) o ⌝ }
     ensures { λ r. ⌜ (r .seen ≡ surveyed q base (var-item v true .count (now (work .entry)) n) 0 1 0 0 1) × Wrote (now (out .entry)) o (var-item v g .text (now (work .entry)) n (suffix s)) (now (out .exit)) (r .o) ⌝ }
 {
-    let p = put_lit(number::entry(work, 4608 + v), g, s, out, o);
-    let x = number::single(q, base, number::met(work, v, n), 1, 0);
+    let p = put_lit(survey::entry(work, 4608 + v), g, s, out, o);
+    let x = survey::single(q, base, survey::met(work, v, n), 1, 0);
     Walked { seen: x, o: p }
 }
 
@@ -539,8 +316,8 @@ fn write_cmp(
     requires { ⌜ (5120 ≤ length (now work)) × (at ≤ 4608) × Compares (now work) (at + 2) × Stacked s 0 × Open (now out) o ⌝ }
     ensures { λ r. ⌜ (r .seen ≡ surveyed q base n 0 0 1 0 1) × Compared (now (work .entry)) (at + 2) (word-in (read-part (now (work .entry))) (at + 1)) g (clause-text [] (suffix s) 1) (now (out .entry)) o (now (out .exit)) (r .o) ⌝ }
 {
-    let p = put_cmp(work, at + 2, number::word(work, at + 1), g, s, out, o);
-    let x = number::single(q, base, n, 0, 1);
+    let p = put_cmp(work, at + 2, survey::word(work, at + 1), g, s, out, o);
+    let x = survey::single(q, base, n, 0, 1);
     Walked { seen: x, o: p }
 }
 
@@ -572,7 +349,7 @@ fn write_all(
     while rest != 0 {
         let y = write(work, r.at, left, t, r.base, f, r.n, s, out, p);
         let x = y.seen;
-        r = number::add_member(r, x);
+        r = survey::add_member(r, x);
         p = y.o;
         rest = rest - 1;
         f = h;
@@ -651,7 +428,7 @@ fn write_disj(
     requires { ⌜ Tallied (now work) left t count g h at base x × Stacked s (left + min count 1) × (block ≤ limit) ⌝ }
     ensures { λ r. ⌜ Wrote (now (out .entry)) o (disj-text (items-at (read-part (now (work .entry))) left t count g h at base) (now (work .entry)) n block (suffix s)) (now (out .exit)) r ⌝ }
 {
-    match number::mode_of(x.longs, x.lits, x.cmps) {
+    match survey::mode_of(x.longs, x.lits, x.cmps) {
         Mode::Pool => put_pool(work, at, left, t, count, base, g, h, block, x, s, out, o),
         Mode::Pass => {
             let mut one = [0i32; 1];
@@ -708,38 +485,38 @@ fn write(
         return write_none(at, base, n, s, out, o);
     }
     let under = left - 1;
-    match number::node_at(work, under, g, at) {
+    match survey::node_at(work, under, g, at) {
         Node::Var(v, q) => write_var(work, v, q, base, g, n, s, out, o),
         Node::Cmp(_, q) => write_cmp(work, at, q, base, g, n, s, out, o),
         Node::Not(q) => write(work, q, under, t, base, !g, n, s, out, o),
         Node::Join(d, k, a, b, q) => {
             if d {
-                let x = number::surveys(work, q, under, t, k, base, a, b, n);
+                let x = survey::surveys(work, q, under, t, k, base, a, b, n);
                 let p = write_disj(work, q, under, t, k, base, a, b, n, x.n, x, s, out, o);
-                let y = number::close_disj(x);
+                let y = survey::close_disj(x);
                 return Walked { seen: y, o: p };
             }
             let z = write_all(work, q, under, t, k, base, a, b, n, s, out, o);
             let x = z.seen;
-            let y = number::longer(x.at, x.base, x.n, x.all);
+            let y = survey::longer(x.at, x.base, x.n, x.all);
             Walked { seen: y, o: z.o }
         }
         Node::Cross(h, q) => {
             if t {
-                let c = number::bump(base, 2);
-                let x = number::skips(work, q, under, true, 2, c);
+                let c = survey::bump(base, 2);
+                let x = survey::skips(work, q, under, true, 2, c);
                 let p = put_split(base, h, s, out, o);
-                let y = number::longer(x.at, x.base, n, 2);
+                let y = survey::longer(x.at, x.base, n, 2);
                 return Walked { seen: y, o: p };
             }
-            let x = number::surveys(work, q, under, true, 2, base, false, h, n);
+            let x = survey::surveys(work, q, under, true, 2, base, false, h, n);
             let p = x.n;
-            let u = number::surveys(work, q, under, true, 2, base, true, !h, p);
+            let u = survey::surveys(work, q, under, true, 2, base, true, !h, p);
             let b = u.n;
             let r = write_disj(work, q, under, true, 2, base, false, h, n, b, x, s, out, o);
-            let e = number::bump(b, number::fresh(x.longs, x.lits, x.cmps));
+            let e = survey::bump(b, survey::fresh(x.longs, x.lits, x.cmps));
             let z = write_disj(work, q, under, true, 2, base, true, !h, p, e, u, s, out, r);
-            let y = number::close_cross(x, u);
+            let y = survey::close_cross(x, u);
             Walked { seen: y, o: z }
         }
     }
@@ -829,7 +606,7 @@ fn put_tie(
         at: x.at,
         base: x.base,
         n: y.n,
-        lines: number::bump(x.all, y.all),
+        lines: survey::bump(x.all, y.all),
         o: b.o,
     }
 }
@@ -861,7 +638,7 @@ fn ties_of(
         q = x.at;
         c = x.base;
         e = x.n;
-        k = number::bump(k, x.lines);
+        k = survey::bump(k, x.lines);
         p = x.o;
         rest = rest - 1;
     }
@@ -888,14 +665,14 @@ fn split_ties(
     requires { ⌜ left ≤ 63 ⌝ }
     ensures { λ r. ⌜ Listed (now (work .entry)) (items (cross-ties (decode (read-part (now (work .entry))) left) (ties-at (read-part (now (work .entry))) left) true at base)) n (now (out .entry)) o (now (out .exit)) (r .n) (r .lines) (r .o) × ReachesAll (read-part (now (work .entry))) left true 2 at (bump-of base 2) (r .at) (r .base) ⌝ }
 {
-    let c = number::bump(base, 2);
+    let c = survey::bump(base, 2);
     let a = write_ties(work, at, left, true, c, n, out, o);
     let b = put_tie(work, base, at, left, c, a.n, out, a.o);
     let d = write_ties(work, b.at, left, true, b.base, b.n, out, b.o);
     let e = put_tie(work, base + 1, b.at, left, b.base, d.n, out, d.o);
-    let k = number::bump(
-        number::bump(a.lines, b.lines),
-        number::bump(d.lines, e.lines),
+    let k = survey::bump(
+        survey::bump(a.lines, b.lines),
+        survey::bump(d.lines, e.lines),
     );
     Tied {
         at: e.at,
@@ -925,7 +702,7 @@ fn write_ties(
         return no_ties(at, base, n, o);
     }
     let under = left - 1;
-    match number::node_at(work, under, false, at) {
+    match survey::node_at(work, under, false, at) {
         Node::Var(_, q) => no_ties(q, base, n, o),
         Node::Cmp(_, q) => no_ties(q, base, n, o),
         Node::Not(q) => write_ties(work, q, under, t, base, n, out, o),
@@ -954,7 +731,7 @@ pub fn write_rule(work: &[i32], at: usize, n: usize, out: &mut [i32], o: usize) 
     requires { ⌜ Placed (now work) at n n × Open (now out) o × Writable (now work) at n ⌝ }
     ensures { λ r. ⌜ RuleWrote (now (work .entry)) at n (now (out .entry)) o (now (out .exit)) (r .at) (r .n) (r .lines) (r .o) ⌝ }
 {
-    let x = number::skip(work, at, 64, false, n);
+    let x = survey::skip(work, at, 64, false, n);
     let m = x.base;
     if m == n {
         if n < 1073741824 {
@@ -976,7 +753,7 @@ pub fn write_rule(work: &[i32], at: usize, n: usize, out: &mut [i32], o: usize) 
     Ruled {
         at: y.at,
         n: y.n,
-        lines: number::bump(a.lines, y.all),
+        lines: survey::bump(a.lines, y.all),
         o: q.o,
     }
 }

@@ -16,7 +16,7 @@ fn write_rule(work: &[i32], at: usize, m: usize, out: &mut [i32], o: usize, k: u
 {
     let r = writer::write_rule(work, at + 1, m, out, o);
     let p = r.o;
-    let mut c = number::bump(k, r.lines);
+    let mut c = survey::bump(k, r.lines);
     if p < c {
         c = p;
     }
@@ -42,7 +42,7 @@ fn write_statement(
     requires { ⌜ SomeAt (now set) (now work) at triples m (now out) o × Behind (now out) o k ⌝ }
     ensures { λ r. ⌜ ((x : Place) (t : Stmt) → At x t (now (set .entry)) (now (work .entry)) at triples m (now (out .entry)) o → Did x t (now (work .entry)) at (now (out .entry)) o k (now (work .exit)) (now (out .exit)) (r .next) (r .bools) (r .at) (r .clauses)) ⌝ }
 {
-    if number::word(work, at) == 1 {
+    if survey::word(work, at) == 1 {
         return write_rule(work, at, m, out, o, k);
     }
     tabling::write_table(set, work, at, triples, m, out, o, k)

@@ -8,7 +8,7 @@ use mir.Val.{SFits, ofZ, toZ}
 use mir.Facts.{toZ-ofZ}
 use borrow.Author.Needs.{needs}
 use Rattle.domains.proofs.Laws.{kind-plain}
-use Rattle.number.proofs.Leaves.{pos-is}
+use Rattle.survey.proofs.Leaves.{pos-is}
 use Rattle.columns.proofs.Descriptions.{domain-below, domain-at, sized-at, place-small, many-small, range-told, list-told, minus-fits}
 use Rattle.columns.proofs.describe_declared.Statement.{statement}
 use Rattle.columns.proofs.describe_declared.Tie as tie

@@ -12,7 +12,7 @@ use mir.Facts.{toZ-ofZ, fits-natAbs}
 use borrow.Author.Needs.{needs, sfits-of}
 use Rattle.laws.specs.Signed.{test-of, not-neg}
 use Rattle.walk.specs.Item.{nat}
-use Rattle.number.proofs.Leaves.{is-negative, is-number, no-entry}
+use Rattle.survey.proofs.Leaves.{is-negative, is-number, no-entry}
 use Rattle.nest.proofs.Steps.{plain-word}
 use borrow.Author.Needs.{needs}
 use Rattle.columns.proofs.number_at.Statement.{statement}

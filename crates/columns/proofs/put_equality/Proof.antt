@@ -2,7 +2,7 @@
 use mathlib.Core.Path.{_∙_}
 use native.Mathlib.Omega.{arith}
 use Rattle.laws.specs.Writes.{wrote-length}
-use Rattle.writer.proofs.Laws.{open-next}
+use Rattle.output.proofs.Laws.{open-next}
 use Rattle.columns.proofs.Equations.{ready, inside, less-asked, linear-asked, equality-wrote}
 use borrow.Author.Needs.{needs}
 use Rattle.columns.proofs.put_equality.Statement.{statement}

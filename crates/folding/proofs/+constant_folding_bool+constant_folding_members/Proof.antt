@@ -28,7 +28,7 @@ use lib.Dec.{eqb}
 use lib.IntN.{ℤ}
 use lib.ListN.{length}
 use borrow.Author.Needs.{needs}
-use Rattle.fold.specs.Steps.{Ready-members, Members-post}
+use Rattle.folding.specs.Steps.{Ready-members, Members-post}
 use Rattle.folding.proofs.BoolLaws.{ready-inside, ready-first, ready-second, not-ready, not-closes, not-folds, list-ready, list-closes, list-folds, left-ready, right-ready, binary-closes, binary-folds, members-none, first-ready, rest-ready, members-more, members-sum, binary-low, members-fit, members-start, members-end, kept-room}
 
 abbrev μ-constant-folding-bool : Measures 2 constant-folding-bool-kinds.ps ℕ

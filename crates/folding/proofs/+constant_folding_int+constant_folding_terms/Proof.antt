@@ -22,7 +22,7 @@ use mathlib.Core.List.{List}
 use lib.IntN.{ℤ}
 use lib.ListN.{length}
 use borrow.Author.Needs.{needs}
-use Rattle.fold.specs.Steps.{Ready-terms, Terms-post}
+use Rattle.folding.specs.Steps.{Ready-terms, Terms-post}
 use Rattle.folding.proofs.IntLaws.{int-inside, int-first, int-second, const-folds, var-below, var-folds, empty-folds, single-inside, single-ready, single-folds, many-ready, many-folds, terms-none, term-inside, term-ready, rest-ready, terms-more}
 
 abbrev μ-constant-folding-int : Measures 2 constant-folding-int-kinds.ps ℕ

@@ -4,7 +4,7 @@ use Rattle.folding.proofs.binary_state.Reads as reads
 use Rattle.folding.proofs.binary_state.Lts as lts
 use borrow.Author.Tests.{lt-ltb, le-ltb}
 use mathlib.Core.Path.{refl}
-use Rattle.fold.specs.Steps.{binary-state}
+use Rattle.folding.specs.Steps.{binary-state}
 
 returns : tie.Need-returns
 unfolding binary-state

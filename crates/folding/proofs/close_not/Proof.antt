@@ -8,7 +8,7 @@ use Rattle.folding.proofs.put_two.Reads as put-two-reads
 use mathlib.Core.Path.{refl}
 use native.Mathlib.Omega.{arith}
 use borrow.Author.Tests.{eq-eqb, ne-eqb}
-use Rattle.fold.specs.Steps.{not-step, not-state}
+use Rattle.folding.specs.Steps.{not-step, not-state}
 use Rattle.laws.specs.Slices.{heads-one}
 
 put-requires : tie.Need-put-requires

@@ -10,7 +10,7 @@ use Rattle.folding.proofs.state_at.Reads as state-at-reads
 use native.Mathlib.Omega.{arith}
 use lib.IntN.{pos}
 use lib.ListN.{getD}
-use Rattle.fold.specs.Steps.{state-of}
+use Rattle.folding.specs.Steps.{state-of}
 use Rattle.fold.specs.Table.{state-small}
 use Rattle.folding.proofs.BoolLaws.{ready-inside, ready-second, const-folds, var-below, var-folds}
 

@@ -10,7 +10,7 @@ use mir.Val.{SFits}
 use mathlib.Core.Path.{sym}
 use borrow.Author.Needs.{needs, sfits-of}
 use borrow.Author.Tests.{eq-eqb, ne-eqb}
-use Rattle.fold.specs.Steps.{single-of}
+use Rattle.folding.specs.Steps.{single-of}
 use Rattle.folding.proofs.Signed.{one-is, one-not}
 
 mul-w : tie.Need-mul-w

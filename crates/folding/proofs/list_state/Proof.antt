@@ -5,7 +5,7 @@ use Rattle.folding.proofs.list_state.Reads as reads
 use Rattle.folding.proofs.list_state.Lts as lts
 use borrow.Author.Tests.{eq-eqb, ne-eqb}
 use mathlib.Core.Path.{refl}
-use Rattle.fold.specs.Steps.{list-state}
+use Rattle.folding.specs.Steps.{list-state}
 
 returns : tie.Need-returns
 unfolding list-state

@@ -11,7 +11,7 @@ use Prim.Native.Nat.{_+_}
 use lib.IntN.{pos}
 use borrow.Author.Tests.{eq-eqb, ne-eqb, lt-ltb, le-ltb}
 use Rattle.laws.specs.Slices.{heads-one, slice-join, moved-behind}
-use Rattle.fold.specs.Steps.{binary-step}
+use Rattle.folding.specs.Steps.{binary-step}
 
 put-two-requires : tie.Need-put-two-requires
 put-two-requires c κs = search needs

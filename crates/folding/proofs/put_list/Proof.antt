@@ -8,7 +8,7 @@ use Rattle.folding.proofs.put_two.Reads as put-two-reads
 use Rattle.folding.proofs.shift.Reads as shift-reads
 use borrow.Author.Tests.{eq-eqb, ne-eqb}
 use Rattle.laws.specs.Slices.{heads-two}
-use Rattle.fold.specs.Steps.{list-step}
+use Rattle.folding.specs.Steps.{list-step}
 
 put-two-requires : tie.Need-put-two-requires
 put-two-requires c κs = search needs

@@ -5,7 +5,7 @@ use Rattle.folding.proofs.put_var.Reads as reads
 use Rattle.folding.proofs.put_var.Lts as lts
 use Rattle.folding.proofs.put_two.Reads as put-two-reads
 use borrow.Author.Tests.{eq-eqb, ne-eqb}
-use Rattle.fold.specs.Steps.{var-step}
+use Rattle.folding.specs.Steps.{var-step}
 
 put-two-requires : tie.Need-put-two-requires
 put-two-requires c κs = search needs

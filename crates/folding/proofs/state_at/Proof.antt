@@ -9,7 +9,7 @@ use lib.ListN.{getD}
 use mir.Syntax.{w32}
 use mir.Val.{SFits}
 use borrow.Author.Needs.{needs, sfits-of}
-use Rattle.fold.specs.Steps.{state-of}
+use Rattle.folding.specs.Steps.{state-of}
 use Rattle.fold.specs.Table.{state-num}
 use Rattle.laws.specs.Signed.{value-is}
 use Rattle.folding.proofs.Signed.{state-else}

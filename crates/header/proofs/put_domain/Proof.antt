@@ -8,7 +8,7 @@ use Rattle.header.proofs.put_domain.Tie as tie
 use Rattle.header.proofs.put_domain.Reads as reads
 use Rattle.header.proofs.put_domain.Lts as lts
 use Rattle.header.proofs.emitted_domain.Reads as emitted-domain-reads
-use Rattle.writer.proofs.put.Reads as put-reads
+use Rattle.output.proofs.put.Reads as put-reads
 
 emitted-domain-requires : tie.Need-emitted-domain-requires
 emitted-domain-requires c κs = c .before .pre .0

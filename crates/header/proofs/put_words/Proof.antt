@@ -7,8 +7,8 @@ use lib.ListN.{length}
 use mir.Syntax.{w32}
 use mir.Val.{SFits}
 use Rattle.laws.specs.Writes.{Wrote, wrote-length}
-use Rattle.writer.specs.Suffix.{Open}
-use Rattle.writer.proofs.Laws.{open-next, put-word}
+use Rattle.output.specs.Suffix.{Open}
+use Rattle.output.proofs.Laws.{open-next, put-word}
 use Rattle.header.specs.Emitted.{naturals}
 use Rattle.header.proofs.Words.{naturals-none, naturals-more}
 use borrow.Author.Needs.{needs}
@@ -17,7 +17,7 @@ use Rattle.header.proofs.put_words.Tie as tie
 use Rattle.header.proofs.put_words.Reads as reads
 use Rattle.header.proofs.put_words.Lts as lts
 use Rattle.header.proofs.natural.Reads as natural-reads
-use Rattle.writer.proofs.put.Reads as put-reads
+use Rattle.output.proofs.put.Reads as put-reads
 
 abbrev Inv-loop : tie.InvT-loop
 Inv-loop work from n out₀ o i₀ rest₀ p₀ out i rest p = (i + rest ≡ from + n) × Open out p × (length out ≡ length out₀) × ((c : List ℤ) (q : ℕ) → Wrote out p (naturals work i rest) c q → Wrote out₀ o (naturals work from n) c q)

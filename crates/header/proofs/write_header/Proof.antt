@@ -6,7 +6,7 @@ use Rattle.header.proofs.write_header.Reads as reads
 use Rattle.header.proofs.write_header.Lts as lts
 use Rattle.header.proofs.put_domains.Reads as put-domains-reads
 use Rattle.header.proofs.put_maps.Reads as put-maps-reads
-use Rattle.writer.proofs.put.Reads as put-reads
+use Rattle.output.proofs.put.Reads as put-reads
 
 put-maps-requires : tie.Need-put-maps-requires
 put-maps-requires c κs = let k = few-declared (c .before .before .pre .0) in (k .0, k .1, k .2, c .before .before .pre .1)

@@ -8,17 +8,17 @@ use Rattle.number.proofs.+number+numbers.Lts-number as number-lts
 use Rattle.number.proofs.numbers.Reads as numbers
 use Rattle.number.proofs.numbers.Kinds as numbers-kinds
 use Rattle.number.proofs.+number+numbers.Lts-numbers as numbers-lts
-use Rattle.number.proofs.add_member.Reads as add-member-reads
-use Rattle.number.proofs.bump.Reads as bump-reads
+use Rattle.survey.proofs.add_member.Reads as add-member-reads
+use Rattle.survey.proofs.bump.Reads as bump-reads
 use Rattle.number.proofs.declare.Reads as declare-reads
 use Rattle.number.proofs.found.Reads as found-reads
-use Rattle.number.proofs.longer.Reads as longer-reads
-use Rattle.number.proofs.node_at.Reads as node-at-reads
+use Rattle.survey.proofs.longer.Reads as longer-reads
+use Rattle.survey.proofs.node_at.Reads as node-at-reads
 use Rattle.number.proofs.number_comparison.Reads as number-comparison-reads
 use Rattle.number.proofs.number_cross.Reads as number-cross-reads
 use Rattle.number.proofs.number_disj.Reads as number-disj-reads
-use Rattle.number.proofs.single.Reads as single-reads
-use Rattle.number.proofs.skips.Reads as skips-reads
+use Rattle.survey.proofs.single.Reads as single-reads
+use Rattle.survey.proofs.skips.Reads as skips-reads
 use Rattle.number.proofs.+number+numbers.{statement}
 use Rattle.number.proofs.+number+numbers.Tie.{close}
 use mathlib.Core.Path.{refl, sym, _∙_}
@@ -27,7 +27,7 @@ use native.Mathlib.Omega.{arith}
 use Rattle.walk.specs.Steps.{okay-at}
 use Rattle.walk.specs.NumberingSteps.{met-to, number-cmp, met-zero, met-var, met-not, met-conj, met-disj, met-split, met-cross}
 use Rattle.number.specs.Sized.{sized-none, sized-var, sized-cmp, sized-not, sized-conj, sized-disj, sized-split, sized-cross}
-use Rattle.number.proofs.Leaves.{read-length, join-is, at-in}
+use Rattle.survey.proofs.Leaves.{read-length, join-is, at-in}
 use Rattle.number.proofs.Members.{met-as, sized-all-in, NumbersSofar, numbers-start, numbers-again, numbers-done, inside-short, passed-by}
 
 abbrev μ-number : Measures 1 number-kinds.ps ℕ

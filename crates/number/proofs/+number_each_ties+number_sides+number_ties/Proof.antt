@@ -11,9 +11,9 @@ use Rattle.number.proofs.+number_each_ties+number_sides+number_ties.Lts
 use Rattle.number.proofs.number_ties.Reads as number-ties
 use Rattle.number.proofs.number_ties.Kinds as number-ties-kinds
 use Rattle.number.proofs.+number_each_ties+number_sides+number_ties.Lts-number_ties as number-ties-lts
-use Rattle.number.proofs.bump.Reads as bump-reads
+use Rattle.survey.proofs.bump.Reads as bump-reads
 use Rattle.number.proofs.no_ties.Reads as no-ties-reads
-use Rattle.number.proofs.node_at.Reads as node-at-reads
+use Rattle.survey.proofs.node_at.Reads as node-at-reads
 use Rattle.number.proofs.number_tie.Reads as number-tie-reads
 use Rattle.number.proofs.+number_each_ties+number_sides+number_ties.{statement}
 use Rattle.number.proofs.+number_each_ties+number_sides+number_ties.Tie.{close}
@@ -22,7 +22,7 @@ use Prim.Native.Nat.{ℕ, _<_, _+_, _-_, _*_, min}
 use native.Mathlib.Omega.{arith}
 use Rattle.walk.specs.Steps.{okay-at}
 use Rattle.walk.specs.MeetTies.{reaches-sides, reaches-none, reaches-var, reaches-cmp, reaches-not, reaches-join, reaches-cross, reaches-split, TiesSofar, ties-start, ties-again, ties-done, ties-zero, ties-var, ties-cmp, ties-not, ties-join, ties-cross, ties-split, met-sides}
-use Rattle.number.proofs.Leaves.{read-length, at-in}
+use Rattle.survey.proofs.Leaves.{read-length, at-in}
 use Rattle.number.proofs.Members.{met-as}
 
 abbrev μ-number-each-ties : Measures 1 number-each-ties-kinds.ps ℕ

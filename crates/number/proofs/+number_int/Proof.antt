@@ -5,11 +5,11 @@ use borrow.Fn.PlainCycle.{Measures, is, falls, and}
 use Rattle.number.proofs.number_int.Reads as number-int
 use Rattle.number.proofs.number_int.Kinds as number-int-kinds
 use Rattle.number.proofs.+number_int.Lts-number_int as number-int-lts
-use Rattle.number.proofs.below.Reads as below-reads
+use Rattle.survey.proofs.below.Reads as below-reads
 use Rattle.number.proofs.declare_int.Reads as declare-int-reads
 use Rattle.number.proofs.ended.Reads as ended-reads
-use Rattle.number.proofs.within.Reads as within-reads
-use Rattle.number.proofs.word.Reads as word-reads
+use Rattle.survey.proofs.within.Reads as within-reads
+use Rattle.survey.proofs.word.Reads as word-reads
 use Rattle.number.proofs.+number_int.{statement}
 use Rattle.number.proofs.+number_int.Tie.{close}
 use mathlib.Core.Path.{refl, _∙_}
@@ -17,7 +17,7 @@ use Prim.Native.Nat.{ℕ, _<_, _-_}
 use native.Mathlib.Omega.{arith}
 use Rattle.walk.specs.NumberingSteps.{met-none, met-to, int-none, int-var, int-const, int-sum}
 use Rattle.walk.specs.Steps.{below-lt}
-use Rattle.number.proofs.Leaves.{past-is, end-none, end-leaf, end-sum}
+use Rattle.survey.proofs.Leaves.{past-is, end-none, end-leaf, end-sum}
 use Rattle.number.proofs.Members.{met-as}
 use Rattle.number.proofs.Terms.{IntSofar, int-start, int-again, int-done}
 

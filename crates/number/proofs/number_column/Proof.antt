@@ -6,7 +6,7 @@ use Rattle.number.proofs.number_column.Lts as lts
 use Rattle.number.proofs.ended.Reads as ended-reads
 use Rattle.number.proofs.number_int.Reads as number-int-reads
 use Rattle.number.proofs.number_new.Reads as number-new-reads
-use Rattle.number.proofs.word.Reads as word-reads
+use Rattle.survey.proofs.word.Reads as word-reads
 use mathlib.Core.Path.{_∙_}
 use native.Mathlib.Omega.{arith}
 use Rattle.walk.specs.MeetColumns.{column-old, column-new}

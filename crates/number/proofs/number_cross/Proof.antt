@@ -3,8 +3,8 @@ use Rattle.number.proofs.number_cross.Statement.{statement}
 use Rattle.number.proofs.number_cross.Tie as tie
 use Rattle.number.proofs.number_cross.Reads as reads
 use Rattle.number.proofs.number_cross.Lts as lts
-use Rattle.number.proofs.close_cross.Reads as close-cross-reads
-use Rattle.number.proofs.fresh.Reads as fresh-reads
+use Rattle.survey.proofs.close_cross.Reads as close-cross-reads
+use Rattle.survey.proofs.fresh.Reads as fresh-reads
 use Rattle.number.proofs.pass.Reads as pass-reads
 use mathlib.Core.Path.{_∙_}
 

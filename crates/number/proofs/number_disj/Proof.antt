@@ -3,8 +3,8 @@ use Rattle.number.proofs.number_disj.Statement.{statement}
 use Rattle.number.proofs.number_disj.Tie as tie
 use Rattle.number.proofs.number_disj.Reads as reads
 use Rattle.number.proofs.number_disj.Lts as lts
-use Rattle.number.proofs.close_disj.Reads as close-disj-reads
-use Rattle.number.proofs.fresh.Reads as fresh-reads
+use Rattle.survey.proofs.close_disj.Reads as close-disj-reads
+use Rattle.survey.proofs.fresh.Reads as fresh-reads
 use Rattle.number.proofs.pass.Reads as pass-reads
 use mathlib.Core.Path.{_∙_}
 

@@ -3,7 +3,7 @@ use Rattle.number.proofs.number_new.Statement.{statement}
 use Rattle.number.proofs.number_new.Tie as tie
 use Rattle.number.proofs.number_new.Reads as reads
 use Rattle.number.proofs.number_new.Lts as lts
-use Rattle.number.proofs.bump.Reads as bump-reads
+use Rattle.survey.proofs.bump.Reads as bump-reads
 use Rattle.number.proofs.store.Reads as store-reads
 use Rattle.number.proofs.store_place.Reads as store-place-reads
 use mathlib.Core.Path.{refl, _∙_}

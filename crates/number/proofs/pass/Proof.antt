@@ -3,7 +3,7 @@ use Rattle.number.proofs.pass.Statement.{statement}
 use Rattle.number.proofs.pass.Tie as tie
 use Rattle.number.proofs.pass.Reads as reads
 use Rattle.number.proofs.pass.Lts as lts
-use Rattle.number.proofs.bump.Reads as bump-reads
+use Rattle.survey.proofs.bump.Reads as bump-reads
 
 bump-requires : tie.Need-bump-requires
 bump-requires c κs = search needs

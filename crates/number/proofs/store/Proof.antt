@@ -6,7 +6,7 @@ use Rattle.number.proofs.store.Lts as lts
 use mathlib.Core.Path.{refl, sym, ap}
 use lib.Seq.{set-out}
 use lib.ListN.{set, length-set}
-use Rattle.number.proofs.Leaves.{pos-is}
+use Rattle.survey.proofs.Leaves.{pos-is}
 
 cast-work : tie.Need-cast-work
 cast-work c = search needs

@@ -6,7 +6,7 @@ use Rattle.number.proofs.store_place.Lts as lts
 use mathlib.Core.Path.{refl, sym, ap}
 use lib.Seq.{set-out}
 use lib.ListN.{set, length-set}
-use Rattle.number.proofs.Leaves.{place-fits, place-is}
+use Rattle.survey.proofs.Leaves.{place-fits, place-is}
 
 add-w : tie.Need-add-w
 add-w c = search needs

@@ -8,7 +8,7 @@ use Rattle.numbered.proofs.columns_end.Statement.{statement}
 use Rattle.numbered.proofs.columns_end.Tie as tie
 use Rattle.numbered.proofs.columns_end.Reads as reads
 use Rattle.numbered.proofs.columns_end.Lts as lts
-use Rattle.number.proofs.int_end.Reads as int-end-reads
+use Rattle.survey.proofs.int_end.Reads as int-end-reads
 
 abbrev Inv-loop : tie.InvT-loop
 Inv-loop work at count q₀ rest₀ q rest = (q ≤ 4608) × (columns-end (read-part work) rest q ≡ columns-end (read-part work) rest₀ q₀)

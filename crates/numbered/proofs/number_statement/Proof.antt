@@ -6,7 +6,7 @@ use Rattle.numbered.proofs.number_statement.Tie as tie
 use Rattle.numbered.proofs.number_statement.Reads as reads
 use Rattle.numbered.proofs.number_statement.Lts as lts
 use Rattle.number.proofs.number_rule.Reads as number-rule-reads
-use Rattle.number.proofs.word.Reads as word-reads
+use Rattle.survey.proofs.word.Reads as word-reads
 use Rattle.numbered.proofs.number_table.Reads as number-table-reads
 
 word-requires : tie.Need-word-requires

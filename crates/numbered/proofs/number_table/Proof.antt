@@ -6,9 +6,9 @@ use Rattle.numbered.proofs.number_table.Statement.{statement}
 use Rattle.numbered.proofs.number_table.Tie as tie
 use Rattle.numbered.proofs.number_table.Reads as reads
 use Rattle.numbered.proofs.number_table.Lts as lts
-use Rattle.number.proofs.bump.Reads as bump-reads
+use Rattle.survey.proofs.bump.Reads as bump-reads
 use Rattle.number.proofs.number_columns.Reads as number-columns-reads
-use Rattle.number.proofs.word.Reads as word-reads
+use Rattle.survey.proofs.word.Reads as word-reads
 use Rattle.numbered.proofs.columns_end.Reads as columns-end-reads
 use Rattle.numbered.proofs.table_fresh.Reads as table-fresh-reads
 

@@ -8,8 +8,8 @@ use Rattle.numbered.proofs.statement_end.Statement.{statement}
 use Rattle.numbered.proofs.statement_end.Tie as tie
 use Rattle.numbered.proofs.statement_end.Reads as reads
 use Rattle.numbered.proofs.statement_end.Lts as lts
-use Rattle.number.proofs.survey.Reads as survey-reads
-use Rattle.number.proofs.word.Reads as word-reads
+use Rattle.survey.proofs.survey.Reads as survey-reads
+use Rattle.survey.proofs.word.Reads as word-reads
 use Rattle.numbered.proofs.columns_end.Reads as columns-end-reads
 
 word-requires : tie.Need-word-requires

@@ -5,7 +5,7 @@ use Rattle.numbered.proofs.table_fresh.Statement.{statement}
 use Rattle.numbered.proofs.table_fresh.Tie as tie
 use Rattle.numbered.proofs.table_fresh.Reads as reads
 use Rattle.numbered.proofs.table_fresh.Lts as lts
-use Rattle.number.proofs.fresh.Reads as fresh-reads
+use Rattle.survey.proofs.fresh.Reads as fresh-reads
 use Rattle.rows.proofs.count_stars.Reads as count-stars-reads
 use Rattle.rows.proofs.has_star.Reads as has-star-reads
 

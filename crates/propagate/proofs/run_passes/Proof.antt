@@ -10,7 +10,7 @@ use borrow.Author.Needs.{needs}
 use mathlib.Core.Bool.{cond}
 use Prim.Native.Nat.{_+_}
 use lib.Dec.{eqb}
-use Rattle.fold.specs.Steps.{fixed-in}
+use Rattle.folding.specs.Steps.{fixed-in}
 use Rattle.propagate.specs.Passes.{open-count}
 use Rattle.propagate.proofs.PassLaws.{Between, between-first, between-next, stand-folded, values-now, falls, less}
 use Rattle.propagate.proofs.WorklistLaws.{falls-after, between-after}

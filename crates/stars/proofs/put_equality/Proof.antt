@@ -11,7 +11,7 @@ use Rattle.stars.proofs.put_equality.Reads as reads
 use Rattle.stars.proofs.put_equality.Lts as lts
 use Rattle.rows.proofs.put_cmp.Reads as put-cmp-reads
 use Rattle.stars.proofs.put_literal.Reads as put-literal-reads
-use Rattle.writer.proofs.put.Reads as put-reads
+use Rattle.output.proofs.put.Reads as put-reads
 
 returns : tie.Need-returns
 returns c =

@@ -3,15 +3,15 @@ use Prim.Native.Nat.{_+_}
 use mir.Syntax.{w32}
 use mir.Val.{SFits}
 use Rattle.walk.specs.Item.{word-of}
-use Rattle.writer.proofs.Laws.{put-word, eqb-zero}
+use Rattle.output.proofs.Laws.{put-word, eqb-zero}
 use Rattle.stars.proofs.Laws.{literal-pool, literal-pass, literal-two, literal-each}
 use borrow.Author.Needs.{needs}
 use Rattle.stars.proofs.put_literal.Statement.{statement}
 use Rattle.stars.proofs.put_literal.Tie as tie
 use Rattle.stars.proofs.put_literal.Reads as reads
 use Rattle.stars.proofs.put_literal.Lts as lts
-use Rattle.writer.proofs.put.Reads as put-reads
-use Rattle.writer.proofs.word_of.Reads as word-of-reads
+use Rattle.output.proofs.put.Reads as put-reads
+use Rattle.output.proofs.word_of.Reads as word-of-reads
 
 enum-told : tie.Need-enum-told
 enum-told c = search needs

@@ -12,8 +12,8 @@ use Rattle.stars.proofs.put_pool.Tie as tie
 use Rattle.stars.proofs.put_pool.Reads as reads
 use Rattle.stars.proofs.put_pool.Lts as lts
 use Rattle.stars.proofs.put_single_rows.Reads as put-single-rows-reads
-use Rattle.writer.proofs.put.Reads as put-reads
-use Rattle.writer.proofs.put_block.Reads as put-block-reads
+use Rattle.output.proofs.put.Reads as put-reads
+use Rattle.output.proofs.put_block.Reads as put-block-reads
 
 returns : tie.Need-returns
 returns c = lines-stop (c .before .pre .4) (c .if1 .taken) _

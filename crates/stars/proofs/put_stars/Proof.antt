@@ -9,7 +9,7 @@ use Rattle.stars.proofs.put_stars.Statement.{statement}
 use Rattle.stars.proofs.put_stars.Tie as tie
 use Rattle.stars.proofs.put_stars.Reads as reads
 use Rattle.stars.proofs.put_stars.Lts as lts
-use Rattle.number.proofs.mode_of.Reads as mode-of-reads
+use Rattle.survey.proofs.mode_of.Reads as mode-of-reads
 use Rattle.rows.proofs.count_stars.Reads as count-stars-reads
 use Rattle.stars.proofs.put_long_rows.Reads as put-long-rows-reads
 use Rattle.stars.proofs.put_pool.Reads as put-pool-reads

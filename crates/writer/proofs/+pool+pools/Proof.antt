@@ -2,7 +2,7 @@ use borrow.Author.Needs.{needs}
 use Prim.Native.Nat.{ℕ, _<_}
 use borrow.Fn.Kinds.{In}
 use borrow.Fn.PlainCycle.{Measures, is, falls, and}
-use Rattle.number.proofs.skip.Reads as skip-reads
+use Rattle.survey.proofs.skip.Reads as skip-reads
 use Rattle.writer.proofs.found.Reads as found-reads
 use Rattle.writer.proofs.probe.Reads as probe-reads
 use Rattle.writer.proofs.pool.Reads as pool
@@ -11,11 +11,11 @@ use Rattle.writer.proofs.+pool+pools.Lts-pool as pool-lts
 use Rattle.writer.proofs.pools.Reads as pools
 use Rattle.writer.proofs.pools.Kinds as pools-kinds
 use Rattle.writer.proofs.+pool+pools.Lts-pools as pools-lts
-use Rattle.number.proofs.node_at.Reads as node-at-reads
+use Rattle.survey.proofs.node_at.Reads as node-at-reads
 use Rattle.writer.proofs.pool_var.Reads as pool-var-reads
-use Rattle.number.proofs.word.Reads as word-reads
+use Rattle.survey.proofs.word.Reads as word-reads
 use Rattle.writer.proofs.pool_cmp.Reads as pool-cmp-reads
-use Rattle.number.proofs.Leaves.{join-is}
+use Rattle.survey.proofs.Leaves.{join-is}
 use Rattle.writer.proofs.+pool+pools.{statement}
 use Rattle.writer.proofs.+pool+pools.Tie.{close}
 use mathlib.Core.Path.{_≡_, refl, sym, ap, _∙_}
@@ -27,7 +27,7 @@ use Rattle.laws.specs.Writes.{Wrote, wrote-length}
 use Rattle.walk.specs.Item.{Tally, tallies, pools as pools-of}
 use Rattle.walk.specs.Decode.{read-part, items-at}
 use Rattle.writer.specs.Placed.{share}
-use Rattle.writer.proofs.Laws.{compared-length}
+use Rattle.output.proofs.Laws.{compared-length}
 use Rattle.writer.proofs.Steps.{part-length, okay, placed-at, compares, fine-cmp, fine-not, fine-join, Sofar, sofar-none, sofar-more, sofar-with, sofar-past, sofar-head}
 use Rattle.writer.proofs.PoolLaws.{pool-none, single-not, pool-var, pool-cmp, pool-not, pool-disj, pool-conj, pool-cross, pools-none, pools-more, some-left, share-not, share-disj, share-rest, share-long, share-found, pool-skip}
 

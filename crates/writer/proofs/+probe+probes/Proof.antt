@@ -1,12 +1,12 @@
 use borrow.Author.Needs.{needs}
 use borrow.Fn.Kinds.{In}
 use borrow.Fn.PlainCycle.{Measures, is, falls, and}
-use Rattle.number.proofs.longer.Reads as longer-reads
-use Rattle.number.proofs.close_disj.Reads as close-disj-reads
-use Rattle.number.proofs.met.Reads as met-reads
-use Rattle.number.proofs.node_at.Reads as node-at-reads
-use Rattle.number.proofs.single.Reads as single-reads
-use Rattle.number.proofs.add_member.Reads as add-member-reads
+use Rattle.survey.proofs.longer.Reads as longer-reads
+use Rattle.survey.proofs.close_disj.Reads as close-disj-reads
+use Rattle.survey.proofs.met.Reads as met-reads
+use Rattle.survey.proofs.node_at.Reads as node-at-reads
+use Rattle.survey.proofs.single.Reads as single-reads
+use Rattle.survey.proofs.add_member.Reads as add-member-reads
 use Rattle.writer.proofs.no_members.Reads as no-members-reads
 use Rattle.writer.proofs.probe.Reads as probe
 use Rattle.writer.proofs.probe.Kinds as probe-kinds
@@ -21,7 +21,7 @@ use Prim.Native.Nat.{ℕ, _<_, _+_, _-_, _*_, min}
 use native.Mathlib.Omega.{arith}
 use Rattle.walk.specs.Decode.{added}
 use Rattle.walk.specs.Steps.{survey-none, survey-var, survey-cmp, Sofar as Seen, sofar-none as seen-none, sofar-more as seen-more}
-use Rattle.number.proofs.Leaves.{join-is}
+use Rattle.survey.proofs.Leaves.{join-is}
 use Rattle.writer.proofs.Steps.{part-length, okay, placed-in, placed-at}
 use Rattle.writer.proofs.Longer.{probed-found, probed-not, probed-conj, probed-cross, probed-disj, probed-stop, probed-end}
 

@@ -11,8 +11,8 @@ use Rattle.writer.proofs.+split_ties+ties_of+write_ties.Lts-ties_of as 
 use Rattle.writer.proofs.write_ties.Reads as write-ties
 use Rattle.writer.proofs.write_ties.Kinds as write-ties-kinds
 use Rattle.writer.proofs.+split_ties+ties_of+write_ties.Lts-write_ties as write-ties-lts
-use Rattle.number.proofs.bump.Reads as bump-reads
-use Rattle.number.proofs.node_at.Reads as node-at-reads
+use Rattle.survey.proofs.bump.Reads as bump-reads
+use Rattle.survey.proofs.node_at.Reads as node-at-reads
 use Rattle.writer.proofs.put_tie.Reads as put-tie-reads
 use Rattle.writer.proofs.+split_ties+ties_of+write_ties.{statement}
 use Rattle.writer.proofs.+split_ties+ties_of+write_ties.Tie.{close}

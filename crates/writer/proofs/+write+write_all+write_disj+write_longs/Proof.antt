@@ -3,13 +3,13 @@ use Prim.Native.Nat.{ℕ, _<_}
 use borrow.Fn.Kinds.{In}
 use borrow.Fn.PlainCycle.{Measures, is, falls, and}
 use Rattle.writer.proofs.probe.Reads as probe-reads
-use Rattle.number.proofs.close_cross.Reads as close-cross-reads
-use Rattle.number.proofs.longer.Reads as longer-reads
-use Rattle.number.proofs.close_disj.Reads as close-disj-reads
+use Rattle.survey.proofs.close_cross.Reads as close-cross-reads
+use Rattle.survey.proofs.longer.Reads as longer-reads
+use Rattle.survey.proofs.close_disj.Reads as close-disj-reads
 use Rattle.writer.proofs.write_cmp.Reads as write-cmp-reads
 use Rattle.writer.proofs.write_var.Reads as write-var-reads
 use Rattle.writer.proofs.write_none.Reads as write-none-reads
-use Rattle.number.proofs.add_member.Reads as add-member-reads
+use Rattle.survey.proofs.add_member.Reads as add-member-reads
 use Rattle.writer.proofs.no_members.Reads as no-members-reads
 use Rattle.writer.proofs.write.Reads as write
 use Rattle.writer.proofs.write.Kinds as write-kinds
@@ -23,18 +23,18 @@ use Rattle.writer.proofs.+write+write_all+write_disj+write_longs.Lts-wr
 use Rattle.writer.proofs.write_longs.Reads as write-longs
 use Rattle.writer.proofs.write_longs.Kinds as write-longs-kinds
 use Rattle.writer.proofs.+write+write_all+write_disj+write_longs.Lts-write_longs as write-longs-lts
-use Rattle.number.proofs.node_at.Reads as node-at-reads
-use Rattle.number.proofs.surveys.Reads as surveys-reads
-use Rattle.number.proofs.skips.Reads as skips-reads
-use Rattle.number.specs.Skip.{survey-skipped}
+use Rattle.survey.proofs.node_at.Reads as node-at-reads
+use Rattle.survey.proofs.surveys.Reads as surveys-reads
+use Rattle.survey.proofs.skips.Reads as skips-reads
+use Rattle.survey.specs.Skip.{survey-skipped}
 use Rattle.writer.proofs.put_split.Reads as put-split-reads
-use Rattle.number.proofs.fresh.Reads as fresh-reads
-use Rattle.number.proofs.bump.Reads as bump-reads
-use Rattle.number.proofs.mode_of.Reads as mode-of-reads
-use Rattle.number.proofs.Leaves.{join-is}
+use Rattle.survey.proofs.fresh.Reads as fresh-reads
+use Rattle.survey.proofs.bump.Reads as bump-reads
+use Rattle.survey.proofs.mode_of.Reads as mode-of-reads
+use Rattle.survey.proofs.Leaves.{join-is}
 use Rattle.writer.proofs.put_pool.Reads as put-pool-reads
 use Rattle.writer.proofs.pools.Reads as pools-reads
-use Rattle.writer.proofs.pushed.Reads as pushed-reads
+use Rattle.output.proofs.pushed.Reads as pushed-reads
 use Rattle.writer.proofs.+write+write_all+write_disj+write_longs.{statement}
 use Rattle.writer.proofs.+write+write_all+write_disj+write_longs.Tie.{close}
 use mathlib.Core.Path.{_≡_, refl, sym, ap, _∙_}
@@ -51,8 +51,8 @@ use lib.ListN.{length, getD}
 use Rattle.laws.specs.Writes.{Wrote, wrote-length}
 use Rattle.walk.specs.Item.{Tally, pools, texts, long-texts}
 use Rattle.walk.specs.Decode.{many, decode, read-part, items-at, added}
-use Rattle.writer.specs.Suffix.{suffix, extra-lits}
-use Rattle.writer.proofs.Laws.{open-next, stack-down, compared-length}
+use Rattle.output.specs.Suffix.{suffix, extra-lits}
+use Rattle.output.proofs.Laws.{open-next, stack-down, compared-length}
 use Rattle.walk.specs.Steps.{survey-none, survey-var, survey-cmp, survey-not, survey-conj, survey-disj, survey-cross, Sofar as Seen, sofar-none as seen-none, sofar-more as seen-more, sofar-done as seen-done}
 use Rattle.writer.proofs.Steps.{part-length, okay, placed-in, sofar-head, placed-at, placed-with, compares, fine-cmp, fine-not, fine-join, fine-cross, Sofar, sofar-none, sofar-more, sofar-skip}
 use Rattle.writer.proofs.PoolLaws.{items-lits}

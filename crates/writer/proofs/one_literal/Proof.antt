@@ -2,7 +2,7 @@ use native.Mathlib.Omega.{arith}
 use mir.Facts.{toZ-ofZ}
 use mir.Syntax.{w32}
 use mir.Val.{SFits}
-use Rattle.writer.proofs.Laws.{stack-down, one-stacked}
+use Rattle.output.proofs.Laws.{stack-down, one-stacked}
 use borrow.Author.Needs.{needs}
 use Rattle.writer.proofs.one_literal.Statement.{statement}
 use Rattle.writer.proofs.one_literal.Tie as tie

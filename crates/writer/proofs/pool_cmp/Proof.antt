@@ -1,4 +1,4 @@
-use Rattle.writer.proofs.Laws.{compared-length}
+use Rattle.output.proofs.Laws.{compared-length}
 use Rattle.writer.proofs.PoolLaws.{compared-plain, compared-none}
 use Rattle.writer.proofs.pool_cmp.Statement.{statement}
 use Rattle.writer.proofs.pool_cmp.Tie as tie

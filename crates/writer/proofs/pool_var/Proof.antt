@@ -1,7 +1,7 @@
 use mir.Syntax.{w32}
 use mir.Val.{SFits}
 use Rattle.laws.specs.Writes.{wrote-length}
-use Rattle.writer.proofs.Laws.{put-word}
+use Rattle.output.proofs.Laws.{put-word}
 use Rattle.writer.proofs.PoolLaws.{pool-lit, pool-lit-none}
 use borrow.Author.Needs.{needs}
 use Rattle.writer.proofs.pool_var.Statement.{statement}

@@ -3,7 +3,7 @@ use native.Mathlib.Omega.{arith}
 use mir.Syntax.{w32}
 use mir.Val.{SFits}
 use Rattle.laws.specs.Writes.{wrote-length}
-use Rattle.writer.proofs.Laws.{open-next, put-word, none-clause}
+use Rattle.output.proofs.Laws.{open-next, put-word, none-clause}
 use borrow.Author.Needs.{needs}
 use Rattle.writer.proofs.put_none.Statement.{statement}
 use Rattle.writer.proofs.put_none.Tie as tie

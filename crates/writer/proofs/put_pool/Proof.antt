@@ -8,7 +8,7 @@ use lib.ListN.{length}
 use Rattle.laws.specs.Writes.{wrote-length}
 use Rattle.walk.specs.Item.{Tally, pools}
 use Rattle.walk.specs.Decode.{many, decode, read-part, items-at}
-use Rattle.writer.proofs.Laws.{open-next, put-word}
+use Rattle.output.proofs.Laws.{open-next, put-word}
 use Rattle.writer.proofs.PoolLaws.{items-lits, pool-clause}
 use borrow.Author.Needs.{needs}
 use Rattle.writer.proofs.put_pool.Statement.{statement}

@@ -1,7 +1,7 @@
 use mathlib.Core.Path.{_∙_}
 use native.Mathlib.Omega.{arith}
 use Rattle.laws.specs.Writes.{wrote-length, wrote-then}
-use Rattle.writer.proofs.Laws.{open-next}
+use Rattle.output.proofs.Laws.{open-next}
 use Rattle.writer.proofs.put_split.Statement.{statement}
 use Rattle.writer.proofs.put_split.Tie as tie
 

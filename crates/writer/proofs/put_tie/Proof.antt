@@ -2,7 +2,7 @@ use mathlib.Core.Path.{_∙_}
 use mathlib.Core.Bool.{true, false}
 use native.Mathlib.Omega.{arith}
 use Rattle.laws.specs.Writes.{wrote-length}
-use Rattle.writer.proofs.Laws.{open-next, stack-down}
+use Rattle.output.proofs.Laws.{open-next, stack-down}
 use Rattle.writer.proofs.Steps.{placed-with}
 use Rattle.writer.proofs.Extras.{fine-tie, tie-listed, reaches-seen}
 use borrow.Author.Needs.{needs}

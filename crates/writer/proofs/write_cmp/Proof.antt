@@ -1,5 +1,5 @@
 use native.Mathlib.Omega.{arith}
-use Rattle.writer.proofs.Laws.{compared-length, compared-op}
+use Rattle.output.proofs.Laws.{compared-length, compared-op}
 use borrow.Author.Needs.{needs}
 use Rattle.writer.proofs.write_cmp.Statement.{statement}
 use Rattle.writer.proofs.write_cmp.Tie as tie

@@ -3,7 +3,7 @@ use mathlib.Core.Bool.{false}
 use native.Mathlib.Omega.{arith}
 use Rattle.laws.specs.Writes.{wrote-length}
 use Rattle.writer.specs.Rules.{writable-fine}
-use Rattle.writer.proofs.Laws.{open-next}
+use Rattle.output.proofs.Laws.{open-next}
 use Rattle.writer.proofs.Steps.{placed-with}
 use Rattle.writer.proofs.Extras.{rule-ties-fine, rule-tree-fine, rule-wrote, bare-rule-wrote}
 use borrow.Author.Needs.{needs}

@@ -1,0 +1,2 @@
+pub mod Leaves
+mod SkipLaws
