@@ -50,7 +50,7 @@ fn put_equality(work: &[i32], p: usize, out: &mut [i32], o: usize) -> Passed
     let next = a.next;
     let s = a.sum;
     let n = number_at(work, 7424 + p);
-    let d = nest::less_variable(s, n);
+    let d = nest::less_variable(s, n as u32);
     let b = output::put(out, o, 0);
     let c = output::put(out, b, 1);
     let q = output::put_linear(0, false, d, out, c);

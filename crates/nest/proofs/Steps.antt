@@ -9,10 +9,11 @@ use lib.Dec.{T, ltb}
 use lib.IntN.{ℤ, pos, negsuc, natAbs}
 use lib.Signed.{ltZ, nonNeg}
 use lib.ListN.{length, getD, length-append}
-use borrow.Author.Tests.{ltb-true, ltb-false}
+use borrow.Author.Tests.{ltb-true, ltb-false, ne-eqb}
 use mir.Syntax.{w32}
 use mir.Val.{SFits, ofZ}
 use Rattle.laws.specs.Bools.{or-no-l, or-no-r}
+use Rattle.laws.specs.Ints.{eqZ}
 use Rattle.laws.specs.Lists.{different}
 use Rattle.laws.specs.Slices.{Has, has-front, has-back, has-word, has-rest}
 use Rattle.syntax.specs.Words.{max-weight}
@@ -29,7 +30,7 @@ use Rattle.sums.specs.Rising.{different-map}
 use Rattle.sums.specs.Struct.{terms, sum-of, Stands}
 use Rattle.sums.specs.declared.LinearSum.{LinearSum as Sum}
 use Rattle.sums.proofs.Laws.{is-own, stands-sum, stands-to}
-use Rattle.nest.specs.Numbers.{count-of, number-at}
+use Rattle.nest.specs.Numbers.{count-of, number-at, leaf-of}
 use Rattle.nest.specs.Nest.{Ready, Word, Linear, Ready-comparison, Difference, Going}
 
 -- ---- counts
@@ -67,6 +68,10 @@ number-some numbers v k e = rw e refl
 pub bits-not : (z : ℤ) (n : ℕ) → (ofZ w32 z ≡ n → ⊥) → z ≡ pos n → ⊥
 bits-not z n h e = h (ap (ofZ w32) e)
 
+not-equal : (z : ℤ) (n : ℕ) → (z ≡ pos n → ⊥) → eqZ z (pos n) ≡ false
+not-equal (pos m) n h = ne-eqb m n (λ e. h (ap pos e))
+not-equal (negsuc m) n h = refl
+
 -- ---- the words of an expression
 
 pub ready-long : (ws : List ℤ) (at : ℕ) → Ready ws at → at + 2 ≤ length ws
@@ -101,6 +106,23 @@ module _ (ws numbers : List ℤ) (at : ℕ) (s : Sum) (r : Ready ws at) where
 
   pub leaf-var : (n : ℕ) → (getD ws at (pos 0) ≡ pos 20 → ⊥) → (getD ws at (pos 0) ≡ pos 22 → ⊥) → n ≡ number-at numbers (count-of (getD ws (at + 1) (pos 0))) → n < 2147483648 → Stands s (singleton n) → Linear ws numbers at (at + 2) s
   leaf-var n h g q l o = record { right = var-right n h g q o; words = rw (o .same) (singleton-each Word n l); inside = ready-long ws at r }
+
+-- as a member of a sum
+module _ (ws numbers : List ℤ) (at : ℕ) where
+  pub constant-is : getD ws at (pos 0) ≡ pos 20 → leaf-of ws numbers at ≡ constant (getD ws (at + 1) (pos 0))
+  unfolding leaf-of
+  constant-is h = rw h refl
+
+  pub variable-is : (getD ws at (pos 0) ≡ pos 20 → ⊥) → leaf-of ws numbers at ≡ singleton (number-at numbers (count-of (getD ws (at + 1) (pos 0))))
+  unfolding leaf-of
+  variable-is h = rw (not-equal (getD ws at (pos 0)) 20 h) refl
+
+  leaf-right : (getD ws at (pos 0) ≡ pos 22 → ⊥) → (e : IntExpr) → Has ws at (encode-int e) → (leaf-of ws numbers at ≡ linear-of (number-at numbers) e) × (length (encode-int e) ≡ 2)
+  unfolding encode-int linear-of
+  leaf-right g (IConst c) k = (constant-is (has-word ws at _ _ (pos 0) k) ∙ ap constant (second ws at (pos 20) c [] k), refl)
+  leaf-right g (IVar v) k =
+      (variable-is (λ h. differ (getD ws at (pos 0)) 20 21 h (has-word ws at _ _ (pos 0) k) (λ q. omega arith)) ∙ ap (λ (z : ℤ). singleton (number-at numbers (count-of z))) (second ws at (pos 21) (pos v) [] k), refl)
+  leaf-right g (Total ts) k = absurd (g (has-word ws at _ _ (pos 0) k))
 
 -- ---- the loop's start and end
 
@@ -206,41 +228,31 @@ module _ (ws numbers : List ℤ) (at rest p : ℕ) (s : Sum) (g : Going ws numbe
   pub turn-ready : Ready ws (p + 1)
   turn-ready = record { tree = t .expr; has = t .has-expr; domains = g .domains; light = t .light-expr; vars = g .vars; few = g .few; among = t .among-expr }
 
-  -- what the call gives
-  module _ (q : ℕ) (u : Sum) (o : Linear ws numbers (p + 1) q u) where
+  -- what is added: the member's sum
+  module _ (l : LinearSum) (l-is : l ≡ linear-of (number-at numbers) (t .expr)) where
     abbrev K : ℤ
     K = getD ws p (pos 0)
 
-    abbrev L : LinearSum
-    L = linear-of (number-at numbers) (t .expr)
+    product-load : natAbs K * size l ≤ natAbs (t .coef) * weight (g .domains) (t .expr)
+    product-load = rw (l-is, t .word) (mul-le-mul-left (natAbs (t .coef)) (linear-of-size (g .domains) (number-at numbers) (t .expr)))
 
-    u-is : sum-of u ≡ L
-    u-is = stands-sum u L (o .right (t .expr) (t .has-expr) .0)
+    numbered-product : Each (Among (map (number-at numbers) (g .vars))) (terms-of (mul-sum K l))
+    numbered-product = mul-sum-each (Among (map (number-at numbers) (g .vars))) K l (rw l-is (linear-of-among (number-at numbers) (g .vars) (t .expr) (t .among-expr)))
 
-    product-load : natAbs K * size (sum-of u) ≤ natAbs (t .coef) * weight (g .domains) (t .expr)
-    product-load = rw (u-is, t .word) (mul-le-mul-left (natAbs (t .coef)) (linear-of-size (g .domains) (number-at numbers) (t .expr)))
-
-    numbered-product : Each (Among (map (number-at numbers) (g .vars))) (terms-of (mul-sum K (sum-of u)))
-    numbered-product = mul-sum-each (Among (map (number-at numbers) (g .vars))) K (sum-of u) (rw (o .right (t .expr) (t .has-expr) .0 .same) (linear-of-among (number-at numbers) (g .vars) (t .expr) (t .among-expr)))
-
-    pub turn-asks : (s .count ≤ 64) × (u .count ≤ 64) × (size (sum-of s) + natAbs K * size (sum-of u) < 2 ^ 31) × Room (terms s) (terms-of (mul-sum K (sum-of u)))
+    pub turn-asks : (s .count ≤ 64) × (size (sum-of s) + natAbs K * size l < 2 ^ 31) × Room (terms s) (terms-of (mul-sum K l))
     turn-asks = (
       g .own .room,
-      o .right (t .expr) (t .has-expr) .0 .room,
       omega (arith, product-load, t .load),
-      room-among (map (number-at numbers) (g .vars)) (omega (arith, different-map (number-at numbers) (g .vars), g .few)) (terms s) (terms-of (mul-sum K (sum-of u))) (g .rises) (g .numbered) numbered-product,
+      room-among (map (number-at numbers) (g .vars)) (omega (arith, different-map (number-at numbers) (g .vars), g .few)) (terms s) (terms-of (mul-sum K l)) (g .rises) (g .numbered) numbered-product,
     )
 
     -- what is left after the turn
-    module _ (a : Sum) (i : Stands a (add-sum (sum-of s) (mul-sum K (sum-of u)))) where
-      a-is : sum-of a ≡ add-sum (sum-of s) (mul-sum K (sum-of u))
+    module _ (q : ℕ) (q-is : q ≡ p + 1 + length (encode-int (t .expr))) (w : Each Word (terms-of l)) (a : Sum) (i : Stands a (add-sum (sum-of s) (mul-sum K l))) where
+      a-is : sum-of a ≡ add-sum (sum-of s) (mul-sum K l)
       a-is = stands-sum a _ i
 
       next-load : size (sum-of a) + terms-weight (g .domains) (t .others) ≤ max-weight
-      next-load = rw a-is (omega (arith, add-sum-load (λ v. 1) (sum-of s) (mul-sum K (sum-of u)), mul-sum-load (λ v. 1) K (sum-of u), product-load, t .load))
-
-      q-is : q ≡ p + 1 + length (encode-int (t .expr))
-      q-is = o .right (t .expr) (t .has-expr) .1
+      next-load = rw a-is (omega (arith, add-sum-load (λ v. 1) (sum-of s) (mul-sum K l), mul-sum-load (λ v. 1) K l, product-load, t .load))
 
       pub turn-next : (n : ℕ) → suc n ≡ rest → Going ws numbers at n q a
       turn-next n e = record {
@@ -256,14 +268,30 @@ module _ (ws numbers : List ℤ) (at rest p : ℕ) (s : Sum) (g : Going ws numbe
         few = g .few;
         among = t .among-others;
         own = is-own i (sym (i .const));
-        rises = rw (i .same) (add-sum-proper (sum-of s) (mul-sum K (sum-of u)) (g .rises));
-        numbered = rw (i .same) (add-sum-each (Among (map (number-at numbers) (g .vars))) (sum-of s) (mul-sum K (sum-of u)) (g .numbered) numbered-product);
-        words = rw (i .same) (add-sum-each Word (sum-of s) (mul-sum K (sum-of u)) (g .words) (mul-sum-each Word K (sum-of u) (o .words)));
+        rises = rw (i .same) (add-sum-proper (sum-of s) (mul-sum K l) (g .rises));
+        numbered = rw (i .same) (add-sum-each (Among (map (number-at numbers) (g .vars))) (sum-of s) (mul-sum K l) (g .numbered) numbered-product);
+        words = rw (i .same) (add-sum-each Word (sum-of s) (mul-sum K l) (g .words) (mul-sum-each Word K l w));
         low = omega (arith, q-is, g .low);
-        high = o .inside;
-        same = ap (linear-terms (number-at numbers) (t .others)) (a-is ∙ ap (λ (l : LinearSum). add-sum (sum-of s) (mul-sum K l)) u-is ∙ ap (λ (z : ℤ). add-sum (sum-of s) (mul-sum z L)) (t .word)) ∙ t .same;
+        high = omega (arith, q-is, int-fits ws (p + 1) (t .expr) (t .has-expr));
+        same = ap (linear-terms (number-at numbers) (t .others)) (a-is ∙ ap (λ (m : LinearSum). add-sum (sum-of s) (mul-sum K m)) l-is ∙ ap (λ (z : ℤ). add-sum (sum-of s) (mul-sum z (linear-of (number-at numbers) (t .expr)))) (t .word)) ∙ t .same;
         end = omega (arith, q-is, t .end);
       }
+
+  -- a nested sum, as the call gives it
+  module _ (q : ℕ) (u : Sum) (o : Linear ws numbers (p + 1) q u) where
+    pub nested-is : sum-of u ≡ linear-of (number-at numbers) (t .expr)
+    nested-is = stands-sum u (linear-of (number-at numbers) (t .expr)) (o .right (t .expr) (t .has-expr) .0)
+
+    pub nested-end : (u .count ≤ 64) × (q ≡ p + 1 + length (encode-int (t .expr)))
+    nested-end = (o .right (t .expr) (t .has-expr) .0 .room, o .right (t .expr) (t .has-expr) .1)
+
+  -- a constant or a variable
+  module _ (h : getD ws (p + 1) (pos 0) ≡ pos 22 → ⊥) where
+    pub member-is : leaf-of ws numbers (p + 1) ≡ linear-of (number-at numbers) (t .expr)
+    member-is = leaf-right ws numbers (p + 1) h (t .expr) (t .has-expr) .0
+
+    pub member-end : p + 3 ≡ p + 1 + length (encode-int (t .expr))
+    member-end = omega (arith, leaf-right ws numbers (p + 1) h (t .expr) (t .has-expr) .1)
 
 -- ---- the two sides of a comparison
 

@@ -3,14 +3,14 @@ use sums::LinearSum;
 ghost use mathlib.Core.Path.{_≡_};
 ghost use Prim.Native.Nat.{_+_, _*_, _<_, _≤_, _^_};
 ghost use lib.IntN.{pos, negsuc, natAbs};
-ghost use lib.ListN.{getD};
+ghost use lib.ListN.{length, getD};
 ghost use Rattle.laws.specs.Ints.{times-low};
 ghost use Rattle.syntax.specs.Syntax.{Range, lower-bound, upper-bound};
-ghost use Rattle.sums.specs.LinearSum.{singleton, mul-sum, sub-sum, lowest, get-domain-linear-sum};
-ghost use Rattle.sums.specs.Rising.{terms-of};
+ghost use Rattle.sums.specs.LinearSum.{singleton, add-sum, mul-sum, sub-sum, lowest, get-domain-linear-sum};
+ghost use Rattle.sums.specs.Rising.{terms-of, Each};
 ghost use Rattle.sums.specs.Bounds.{size, Room, reach};
 ghost use Rattle.sums.specs.Struct.{terms, sum-of, Stands};
-ghost use Rattle.nest.specs.Numbers.{count-of, number-at};
+ghost use Rattle.nest.specs.Numbers.{count-of, number-at, leaf-of};
 ghost use Rattle.nest.specs.Nest.{Ready, Word, Linear, Ready-comparison, Difference};
 ghost use Rattle.nest.specs.Ranges.{domain-at, Bounded};
 
@@ -30,7 +30,7 @@ fn count_of(x: i32) -> usize
 }
 
 // The emitted number of a declared variable, from the map's words.
-fn number_at(numbers: &[i32], v: usize) -> usize
+fn number_at(numbers: &[i32], v: usize) -> u32
     ensures { λ r. ⌜ (r ≡ number-at (now (numbers .entry)) v) × (r < 2147483648) ⌝ }
 {
     let n = numbers.len();
@@ -42,7 +42,21 @@ fn number_at(numbers: &[i32], v: usize) -> usize
     if k == 0 {
         return 0;
     }
-    k - 1
+    (k - 1) as u32
+}
+
+// k times a constant or a variable is added.
+fn add_leaf(s: LinearSum, ws: &[i32], at: usize, numbers: &[i32], k: i32) -> LinearSum
+    requires { ⌜ (at + 2 ≤ length (now ws)) × (s .count ≤ 64) × (size (sum-of s) + natAbs k * size (leaf-of (now ws) (now numbers) at) < 2 ^ 31) × Room (terms s) (terms-of (mul-sum k (leaf-of (now ws) (now numbers) at))) ⌝ }
+    ensures { λ r. ⌜ Stands r (add-sum (sum-of s) (mul-sum k (leaf-of (now (ws .entry)) (now (numbers .entry)) at))) × Each Word (terms-of (leaf-of (now (ws .entry)) (now (numbers .entry)) at)) ⌝ }
+{
+    let code = ws[at];
+    let x = ws[at + 1];
+    if code == 20 {
+        return sums::add_constant(s, x, k);
+    }
+    let v = count_of(x);
+    sums::add_variable(s, number_at(numbers, v), k)
 }
 
 // A constant or a variable.
@@ -80,11 +94,17 @@ pub fn linear_of(ws: &[i32], at: usize, numbers: &[i32]) -> Nested
     let mut sum = sums::constant(0);
     while rest != 0 {
         let k = ws[p];
+        let inner = ws[p + 1];
+        rest -= 1;
+        if inner != 22 {
+            sum = add_leaf(sum, ws, p + 1, numbers, k);
+            p += 3;
+            continue;
+        }
         let o = linear_of(ws, p + 1, numbers);
         let s = o.sum;
         sum = sums::add_product(sum, s, k);
         p = o.next;
-        rest -= 1;
     }
     Nested { sum: sum, next: p }
 }
@@ -105,7 +125,7 @@ pub fn difference_of(ws: &[i32], at: usize, numbers: &[i32]) -> Nested
 }
 
 // A column's sum minus its new variable.
-pub fn less_variable(s: LinearSum, n: usize) -> LinearSum
+pub fn less_variable(s: LinearSum, n: u32) -> LinearSum
     requires { ⌜ (s .count ≤ 64) × Room (terms s) (terms-of (mul-sum (negsuc 0) (singleton n))) × (size (sum-of s) + 1 < 2 ^ 31) ⌝ }
     ensures { λ r. ⌜ Stands r (sub-sum (sum-of s) (singleton n)) ⌝ }
 {
@@ -158,7 +178,7 @@ fn lowest(s: LinearSum, bounds: &[i32], a: usize, b: usize) -> i32
     while i < n {
         let v = s.vars[i];
         let k = s.coefs[i];
-        let t = term_low(bounds, v, k, a, b);
+        let t = term_low(bounds, v as usize, k, a, b);
         sum = sum + t;
         i += 1;
     }

@@ -26,6 +26,9 @@ add-number-at c = omega (arith, inside (c .before .before .before .args .work .n
 number-at-requires : tie.Need-number-at-requires
 number-at-requires c κs = search needs
 
+cast-less-variable : tie.Need-cast-less-variable
+cast-less-variable c = omega (arith, c .number-at .ensures .1)
+
 less-variable-requires : tie.Need-less-variable-requires
 less-variable-requires c κs = less-asked (c .before .before .before .before .args .work .now) (c .before .before .before .before .args .p) (c .before .before .before .before .pre .0) _ _ (c .before .before .linear-of .ensures) (c .number-at .result)
 
@@ -54,6 +57,7 @@ put-equality-spec =
     linear-of-requires
     add-number-at
     number-at-requires
+    cast-less-variable
     less-variable-requires
     put-requires
     put-requires-2

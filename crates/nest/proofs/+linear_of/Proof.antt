@@ -1,9 +1,10 @@
 -- The loop's invariant is `Going`; the words left fall at each call.
 use mathlib.Core.Path.{_≡_, ap, _∙_}
+use mathlib.Core.List.{List}
 use Prim.Native.Nat.{ℕ, _+_, _-_, _<_, _≤_}
 use borrow.Author.Needs.{needs}
 use native.Mathlib.Omega.{arith}
-use lib.IntN.{pos}
+use lib.IntN.{ℤ, pos}
 use lib.ListN.{length, getD}
 use mir.Syntax.{w32}
 use mir.Val.{toZ, ofZ}
@@ -12,15 +13,17 @@ use denote.Ref.{now}
 use borrow.Fn.Kinds.{In}
 use borrow.Fn.PlainCycle.{Measures, is, falls, and}
 use Rattle.laws.specs.Signed.{value-is}
-use Rattle.nest.specs.Numbers.{count-of}
+use Rattle.sums.specs.Linear.{linear-of as linear-of-words}
+use Rattle.nest.specs.Numbers.{count-of, number-at, leaf-of}
 use Rattle.nest.specs.Nest.{Going}
-use Rattle.nest.proofs.Steps.{bits-not, ready-long, going-start, going-end, turn, turn-long, turn-ready, turn-asks, turn-next}
+use Rattle.nest.proofs.Steps.{Turn, bits-not, ready-long, going-start, going-end, turn, turn-long, turn-ready, turn-asks, turn-next, nested-is, nested-end, member-is, member-end}
 use Rattle.nest.proofs.linear_of.Reads as linear-of
 use Rattle.nest.proofs.linear_of.Kinds as linear-of-kinds
 use Rattle.nest.proofs.+linear_of.Lts-linear_of as linear-of-lts
 use Rattle.sums.proofs.add_product.Reads as add-product-reads
 use Rattle.nest.proofs.count_of.Reads as count-of-reads
 use Rattle.nest.proofs.leaf.Reads as leaf-reads
+use Rattle.nest.proofs.add_leaf.Reads as add-leaf-reads
 use Rattle.sums.proofs.constant.Reads as constant-reads
 use Rattle.nest.proofs.+linear_of.{statement}
 use Rattle.nest.proofs.+linear_of.Tie.{close}
@@ -41,7 +44,7 @@ abbrev μ-loop : linear-of-lts.MeasureT-loop
 μ-loop ws at numbers code rest₀ p₀ sum₀ rest p sum = rest
 
 abbrev claims : ℕ → linear-of-lts.Claims
-claims t = (leaf-reads.Asked, leaf-reads.Learnt, count-of-reads.Asked, count-of-reads.Learnt, constant-reads.Asked, constant-reads.Learnt, linear-of-below t, linear-of.Post, add-product-reads.Asked, add-product-reads.Learnt)
+claims t = (leaf-reads.Asked, leaf-reads.Learnt, count-of-reads.Asked, count-of-reads.Learnt, constant-reads.Asked, constant-reads.Learnt, add-leaf-reads.Asked, add-leaf-reads.Learnt, linear-of-below t, linear-of.Post, add-product-reads.Asked, add-product-reads.Learnt)
 
 -- at the start: two words stand there
 long : (t : ℕ) (c : linear-of-lts.Start (claims t) (linear-of-at t) linear-of.Post Inv-loop μ-loop) → c .args .at + 2 ≤ length (now (c .args .ws))
@@ -89,34 +92,101 @@ copy-k t c =
     let g = c .before .loop .inv in
     omega (arith, turn-long _ _ _ _ _ _ g (turn _ _ _ _ _ _ g (c .loop-test .taken)))
 
-add-linear-of : (t : ℕ) → linear-of-lts.Need-add-linear-of (claims t) (linear-of-at t) linear-of.Post Inv-loop μ-loop
-add-linear-of t c =
-    let g = c .before .before .loop .inv in
-    omega (arith, turn-long _ _ _ _ _ _ g (turn _ _ _ _ _ _ g (c .before .loop-test .taken)), c .before .before .before .before .before .before .before .before .good .0)
+-- the second word of the turn's member
+turn-inside : (t : ℕ) (c : linear-of-lts.In-loop (claims t) (linear-of-at t) linear-of.Post Inv-loop μ-loop) → c .before .loop .p + 3 ≤ length (now (c .before .before .before .before .before .before .before .args .ws))
+turn-inside t c =
+    let g = c .before .loop .inv in
+    turn-long _ _ _ _ _ _ g (turn _ _ _ _ _ _ g (c .loop-test .taken))
 
-linear-of-requires : (t : ℕ) → linear-of-lts.Need-linear-of-requires (claims t) (linear-of-at t) linear-of.Post Inv-loop μ-loop
-linear-of-requires t c κs =
-    let g = c .before .before .loop .inv in
-    let u = turn _ _ _ _ _ _ g (c .before .loop-test .taken) in
-    (omega (arith, turn-long _ _ _ _ _ _ g u, g .low, c .before .before .before .before .before .before .before .before .pre .0), turn-ready _ _ _ _ _ _ g u)
+add-inner : (t : ℕ) → linear-of-lts.Need-add-inner (claims t) (linear-of-at t) linear-of.Post Inv-loop μ-loop
+add-inner t c = omega (arith, turn-inside t (c .before), c .before .before .before .before .before .before .before .before .good .0)
 
-add-product-requires : (t : ℕ) → linear-of-lts.Need-add-product-requires (claims t) (linear-of-at t) linear-of.Post Inv-loop μ-loop
-add-product-requires t c κs =
-    let g = c .before .before .before .before .loop .inv in
-    let k : toZ w32 (ofZ w32 (getD (now (c .before .before .before .before .before .before .before .before .before .before .args .ws)) (c .before .before .before .before .loop .p) (pos 0))) ≡ getD (now (c .before .before .before .before .before .before .before .before .before .before .args .ws)) (c .before .before .before .before .loop .p) (pos 0) = toZ-ofZ {w = w32} {z = getD (now (c .before .before .before .before .before .before .before .before .before .before .args .ws)) (c .before .before .before .before .loop .p) (pos 0)} (record { sfits = c .before .before .k .given }) in
-    rw k (turn-asks _ _ _ _ _ _ g (turn _ _ _ _ _ _ g (c .before .before .before .loop-test .taken)) _ _ (c .before .linear-of .ensures))
+mul-inner : (t : ℕ) → linear-of-lts.Need-mul-inner (claims t) (linear-of-at t) linear-of.Post Inv-loop μ-loop
+mul-inner t c = omega (arith, turn-inside t (c .before), c .before .before .before .before .before .before .before .before .good .0)
+
+copy-inner : (t : ℕ) → linear-of-lts.Need-shared-slice-copy-out-inner (claims t) (linear-of-at t) linear-of.Post Inv-loop μ-loop
+copy-inner t c = omega (arith, turn-inside t (c .before))
 
 sub-rest : (t : ℕ) → linear-of-lts.Need-sub-rest (claims t) (linear-of-at t) linear-of.Post Inv-loop μ-loop
-sub-rest t c = search needs
+sub-rest t c = omega (arith, c .before .before .loop-test .taken)
+
+-- in a turn: the words, the numbers, the member, its coefficient from its bits
+abbrev Ws : (t : ℕ) → linear-of-lts.After-inner (claims t) (linear-of-at t) linear-of.Post Inv-loop μ-loop → List ℤ
+Ws t c = now (c .before .before .before .before .before .before .before .before .before .args .ws)
+
+abbrev Numbers : (t : ℕ) → linear-of-lts.After-inner (claims t) (linear-of-at t) linear-of.Post Inv-loop μ-loop → List ℤ
+Numbers t c = now (c .before .before .before .before .before .before .before .before .before .args .numbers)
+
+abbrev P : (t : ℕ) → linear-of-lts.After-inner (claims t) (linear-of-at t) linear-of.Post Inv-loop μ-loop → ℕ
+P t c = c .before .before .before .loop .p
+
+abbrev At : (t : ℕ) → linear-of-lts.After-inner (claims t) (linear-of-at t) linear-of.Post Inv-loop μ-loop → ℕ
+At t c = c .before .before .before .before .before .before .before .before .before .args .at
+
+member : (t : ℕ) (c : linear-of-lts.After-inner (claims t) (linear-of-at t) linear-of.Post Inv-loop μ-loop) → Turn (Ws t c) (Numbers t c) (At t c) (c .before .before .before .loop .rest) (P t c) (c .before .before .before .loop .sum) (c .before .before .before .loop .inv)
+member t c = turn _ _ _ _ _ _ (c .before .before .before .loop .inv) (c .before .before .loop-test .taken)
+
+coef-is : (t : ℕ) (c : linear-of-lts.After-inner (claims t) (linear-of-at t) linear-of.Post Inv-loop μ-loop) → toZ w32 (ofZ w32 (getD (Ws t c) (P t c) (pos 0))) ≡ getD (Ws t c) (P t c) (pos 0)
+coef-is t c = toZ-ofZ {w = w32} {z = getD (Ws t c) (P t c) (pos 0)} (record { sfits = c .before .k .given })
+
+-- a constant or a variable
+
+no-sum : (t : ℕ) (c : linear-of-lts.Then2 (claims t) (linear-of-at t) linear-of.Post Inv-loop μ-loop) → getD (Ws t (c .before)) (P t (c .before) + 1) (pos 0) ≡ pos 22 → ⊥
+no-sum t c = bits-not (getD (Ws t (c .before)) (P t (c .before) + 1) (pos 0)) 22 (c .if2 .taken)
+
+leaf-is : (t : ℕ) (c : linear-of-lts.Then2 (claims t) (linear-of-at t) linear-of.Post Inv-loop μ-loop) → leaf-of (Ws t (c .before)) (Numbers t (c .before)) (P t (c .before) + 1) ≡ linear-of-words (number-at (Numbers t (c .before))) (member t (c .before) .expr)
+leaf-is t c = member-is _ _ _ _ _ _ (c .before .before .before .before .loop .inv) (member t (c .before)) (no-sum t c)
+
+add-add-leaf : (t : ℕ) → linear-of-lts.Need-add-add-leaf (claims t) (linear-of-at t) linear-of.Post Inv-loop μ-loop
+add-add-leaf t c = omega (arith, turn-inside t (c .before .before .before), c .before .before .before .before .before .before .before .before .before .before .good .0)
+
+add-leaf-requires : (t : ℕ) → linear-of-lts.Need-add-leaf-requires (claims t) (linear-of-at t) linear-of.Post Inv-loop μ-loop
+add-leaf-requires t c κs =
+    let d = c .before in
+    let q = turn-asks _ _ _ _ _ _ (d .before .before .before .loop .inv) (member t d) _ (leaf-is t c) in
+    rw (coef-is t d) (omega (arith, turn-inside t (d .before .before)), q .0, q .1, q .2)
+
+add-p-2 : (t : ℕ) → linear-of-lts.Need-add-p-2 (claims t) (linear-of-at t) linear-of.Post Inv-loop μ-loop
+add-p-2 t c = omega (arith, turn-inside t (c .before .before .before .before), c .before .before .before .before .before .before .before .before .before .before .before .good .0)
 
 loop-less : (t : ℕ) → linear-of-lts.Need-loop-less (claims t) (linear-of-at t) linear-of.Post Inv-loop μ-loop
-loop-less t c = search needs
+loop-less t c = omega (arith, c .before .before .before .before .loop-test .taken)
 
 loop-again : (t : ℕ) → linear-of-lts.Need-loop-again (claims t) (linear-of-at t) linear-of.Post Inv-loop μ-loop
 loop-again t c =
-    let g = c .before .before .before .before .before .loop .inv in
-    let k : toZ w32 (ofZ w32 (getD (now (c .before .before .before .before .before .before .before .before .before .before .before .args .ws)) (c .before .before .before .before .before .loop .p) (pos 0))) ≡ getD (now (c .before .before .before .before .before .before .before .before .before .before .before .args .ws)) (c .before .before .before .before .before .loop .p) (pos 0) = toZ-ofZ {w = w32} {z = getD (now (c .before .before .before .before .before .before .before .before .before .before .before .args .ws)) (c .before .before .before .before .before .loop .p) (pos 0)} (record { sfits = c .before .before .before .k .given }) in
-    turn-next _ _ _ _ _ _ g (turn _ _ _ _ _ _ g (c .before .before .before .before .loop-test .taken)) _ _ (c .before .before .linear-of .ensures) (c .add-product .result) (rw k at (c .add-product .ensures)) _ (omega (arith, c .before .before .before .before .loop-test .taken))
+    let e = c .before in
+    let d = e .before in
+    let g = d .before .before .before .loop .inv in
+    turn-next _ _ _ _ _ _ g (member t d) _ (leaf-is t e) _ (member-end _ _ _ _ _ _ g (member t d) (no-sum t e)) (c .add-leaf .ensures .1) (c .add-leaf .result) (rw (coef-is t d) at (c .add-leaf .ensures .0)) _ (omega (arith, d .before .before .loop-test .taken))
+
+-- a nested sum
+
+add-linear-of : (t : ℕ) → linear-of-lts.Need-add-linear-of (claims t) (linear-of-at t) linear-of.Post Inv-loop μ-loop
+add-linear-of t c = omega (arith, turn-inside t (c .before .before .before), c .before .before .before .before .before .before .before .before .before .before .good .0)
+
+linear-of-requires : (t : ℕ) → linear-of-lts.Need-linear-of-requires (claims t) (linear-of-at t) linear-of.Post Inv-loop μ-loop
+linear-of-requires t c κs =
+    let d = c .before in
+    let g = d .before .before .before .loop .inv in
+    (omega (arith, turn-inside t (d .before .before), g .low, c .before .before .before .before .before .before .before .before .before .before .pre .0), turn-ready _ _ _ _ _ _ g (member t d))
+
+add-product-requires : (t : ℕ) → linear-of-lts.Need-add-product-requires (claims t) (linear-of-at t) linear-of.Post Inv-loop μ-loop
+add-product-requires t c κs =
+    let o = c .before .linear-of in
+    let d = c .before .before .before in
+    let g = d .before .before .before .loop .inv in
+    let q = turn-asks _ _ _ _ _ _ g (member t d) _ (nested-is _ _ _ _ _ _ g (member t d) (o .result .next) (o .result .sum) (o .ensures)) in
+    rw (coef-is t d) (q .0, nested-end _ _ _ _ _ _ g (member t d) (o .result .next) (o .result .sum) (o .ensures) .0, q .1, q .2)
+
+loop-less-2 : (t : ℕ) → linear-of-lts.Need-loop-less-2 (claims t) (linear-of-at t) linear-of.Post Inv-loop μ-loop
+loop-less-2 t c = omega (arith, c .before .before .before .before .before .before .loop-test .taken)
+
+loop-again-2 : (t : ℕ) → linear-of-lts.Need-loop-again-2 (claims t) (linear-of-at t) linear-of.Post Inv-loop μ-loop
+loop-again-2 t c =
+    let o = c .before .before .linear-of in
+    let d = c .before .before .before .before in
+    let g = d .before .before .before .loop .inv in
+    turn-next _ _ _ _ _ _ g (member t d) _ (nested-is _ _ _ _ _ _ g (member t d) (o .result .next) (o .result .sum) (o .ensures)) _ (nested-end _ _ _ _ _ _ g (member t d) (o .result .next) (o .result .sum) (o .ensures) .1) (o .ensures .words) (c .add-product .result) (rw (coef-is t d) at (c .add-product .ensures)) _ (omega (arith, d .before .before .loop-test .taken))
 
 returns-2 : (t : ℕ) → linear-of-lts.Need-returns-2 (claims t) (linear-of-at t) linear-of.Post Inv-loop μ-loop
 returns-2 t c = going-end _ _ _ _ _ _ (c .before .loop .inv) (c .loop-test .left)
@@ -136,10 +206,18 @@ pub +linear-of-spec : {M : Type 1} → statement M
     (loop-holds t)
     (mul-k t)
     (copy-k t)
+    (add-inner t)
+    (mul-inner t)
+    (copy-inner t)
+    (sub-rest t)
+    (add-add-leaf t)
+    (add-leaf-requires t)
+    (add-p-2 t)
+    (loop-less t)
+    (loop-again t)
     (add-linear-of t)
     (linear-of-requires t)
     (add-product-requires t)
-    (sub-rest t)
-    (loop-less t)
-    (loop-again t)
+    (loop-less-2 t)
+    (loop-again-2 t)
     (returns-2 t)

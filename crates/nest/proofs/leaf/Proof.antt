@@ -70,8 +70,8 @@ number-at-requires c κs = search needs
 singleton-requires : tie.Need-singleton-requires
 singleton-requires c κs = search needs
 
-add-t12 : tie.Need-add-t12
-add-t12 c = omega (arith, long (c .before .before .before .before .before .before), c .before .before .before .before .before .before .good .0)
+add-t9 : tie.Need-add-t9
+add-t9 c = omega (arith, long (c .before .before .before .before .before .before), c .before .before .before .before .before .before .good .0)
 
 returns-2 : tie.Need-returns-2
 returns-2 c =
@@ -86,4 +86,4 @@ returns-2 c =
     (n .number-at .ensures .1) (c .singleton .ensures)
 
 pub leaf-spec : {M : Type 1} → statement M
-leaf-spec = tie.close (tie.spec mul-code shared-slice-copy-out-code add-x mul-x shared-slice-copy-out-x constant-requires add-t15 returns count-of-requires number-at-requires singleton-requires add-t12 returns-2)
+leaf-spec = tie.close (tie.spec mul-code shared-slice-copy-out-code add-x mul-x shared-slice-copy-out-x constant-requires add-t15 returns count-of-requires number-at-requires singleton-requires add-t9 returns-2)

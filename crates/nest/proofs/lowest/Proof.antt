@@ -81,6 +81,9 @@ mul-k c = omega arith
 element-copy-out-k : tie.Need-element-copy-out-k Inv-loop μ-loop
 element-copy-out-k c = omega arith
 
+cast-term-low : tie.Need-cast-term-low Inv-loop μ-loop
+cast-term-low c = search needs
+
 term-low-requires : tie.Need-term-low-requires Inv-loop μ-loop
 term-low-requires c κs =
     let d = c .before .before in
@@ -131,4 +134,4 @@ returns c =
     low-end (domain-at (s .args .a) (s .args .b) (now (s .args .bounds))) (toZ w32 (b .loop .sum)) _ (terms (s .args .t1)) (b .loop .i) (omega (arith, own s .size)) (b .loop .inv .1)
 
 pub lowest-spec : {M : Type 1} → statement M
-lowest-spec = tie.close (tie.spec Inv-loop μ-loop loop-holds mul-v element-copy-out-v mul-k element-copy-out-k term-low-requires add-sum add-i loop-less loop-again returns)
+lowest-spec = tie.close (tie.spec Inv-loop μ-loop loop-holds mul-v element-copy-out-v mul-k element-copy-out-k cast-term-low term-low-requires add-sum add-i loop-less loop-again returns)

@@ -34,8 +34,11 @@ returns-2 c = (number-none (now (c .before .before .before .before .args .number
 sub-result : tie.Need-sub-result
 sub-result c = search needs
 
+cast-result : tie.Need-cast-result
+cast-result c = omega (arith, c .before .count-of .ensures .1)
+
 returns-3 : tie.Need-returns-3
 returns-3 c = (number-some (now (c .before .before .before .before .args .numbers)) (c .before .before .before .before .args .v) (c .before .count-of .result) (count-is (c .before)), omega (arith, c .before .count-of .ensures .1))
 
 pub number-at-spec : {M : Type 1} → statement M
-number-at-spec = tie.close (tie.spec returns mul-w shared-slice-copy-out-w count-of-requires returns-2 sub-result returns-3)
+number-at-spec = tie.close (tie.spec returns mul-w shared-slice-copy-out-w count-of-requires returns-2 sub-result cast-result returns-3)
