@@ -23,16 +23,19 @@ def result(text):
 
 def main(records, crate):
     out = ["-- Recorded answers, computed by the definition of the call.",
-           "use mathlib.Core.Path.{_≡_, refl}", "use mathlib.Core.Bool.{true}", "use mathlib.Core.List.{List, [], _∷_}",
+           "use mathlib.Core.Path.{_≡_, refl}", "use mathlib.Core.Bool.{true, false}", "use mathlib.Core.List.{List, [], _∷_}",
            "use lib.IntN.{ℤ, pos, negsuc}", "use Rattle.call.specs.Call.{compiled, contradiction, refused}",
-           "use Rattle.call.specs.Compute.{case, agrees}", ""]
+           "use Rattle.call.specs.Compute.{case, agrees}", "use Rattle.call.specs.declared.Choices.{Choices}", "",
+           "abbrev chosen-0 : Choices", "chosen-0 = record { merge = false }", "",
+           "abbrev chosen-1 : Choices", "chosen-1 = record { merge = true }", ""]
     count = 0
     for line in open(records):
         fields = dict(f.partition("=")[::2] for f in line.split())
         if "set" not in fields or fields["set"].count(",") >= LIMIT or len(fields["result"]) > 6000:
             continue
         count += 1
-        out += [f"case-{count} : agrees (case ({words(fields['set'])}) {fields['out']} {fields['work']} {result(fields['result'])}) ≡ true",
+        chosen = fields.get("choices", "0")
+        out += [f"case-{count} : agrees chosen-{chosen} (case ({words(fields['set'])}) {fields['out']} {fields['work']} {result(fields['result'])}) ≡ true",
                 "unfolding agrees", f"case-{count} = refl", ""]
     open(f"{crate}/specs/Cases.antt", "w").write("\n".join(out))
     open(f"{crate}/specs/Lib.antt", "w").write("pub mod Cases\n")

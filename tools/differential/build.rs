@@ -5,6 +5,7 @@ fn main() {
         ("refusals", "refuse"),
         ("settled", "remaining"),
         ("calls", "station"),
+        ("merges", "station"),
         ("joins", "station"),
         ("rosters", "station"),
         ("sheets", "sheetwords"),

@@ -10,7 +10,8 @@ from .errors import Failed
 ROOT = os.path.dirname(os.path.dirname(os.path.dirname(os.path.realpath(__file__))))
 PROGRAM = os.path.join(ROOT, "target", "bin", "listing")
 
-# answer: compiled, contradiction, unread or a refusal's number. fixed, bools, ints: a word for each declared variable.
+# answer: compiled, contradiction, unread or a refusal's number. fixed, bools, ints: a word for each declared variable, in bools
+# negative for the negation of an emitted one (of merged answers; several variables may then have the same number).
 # emitted: how many Booleans are emitted. domains: (lowest, highest) of each emitted integer.
 # clauses: (literals, comparisons), a comparison being (operator, constant, [(variable, coefficient), ..]).
 Listing = namedtuple("Listing", "answer fixed bools ints emitted domains clauses")
@@ -114,6 +115,8 @@ def compiled(lines):
     lines.end()
     if len(emitted) != 2 or len(domains) != emitted[1] or any(len(domain) != 3 for domain in domains):
         raise cut_off("its domains are not those that emitted= counts")
+    if any(abs(word) > emitted[0] for word in bools) or any(not 0 <= word <= emitted[1] for word in ints):
+        raise cut_off("its maps name variables that emitted= does not count")
     if count != [len(clauses)]:
         raise cut_off("it has %d clauses, and clauses= says %s" % (len(clauses), count))
     parts = sum(len(literals) + len(comparisons) for literals, comparisons in clauses)

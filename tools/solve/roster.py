@@ -16,12 +16,15 @@ Roster = namedtuple("Roster", "bools ints free")
 
 
 def of_values(listing, problem, found):
-    """The roster of a solver's values: fixed Booleans as `fixed=` has them, numbered variables as found, others free."""
+    """The roster of a solver's values: fixed Booleans as `fixed=` has them, numbered variables as found, others free.
+
+    A Boolean whose number is negative has the opposite of that emitted one's value (request 2.7).
+    """
     bools, ints, free = [], [], ([], [])
     for index, (fixed, mapped) in enumerate(zip(listing.fixed, listing.bools, strict=True)):
         if fixed == OPEN and not mapped:
             free[0].append(index)
-        bools.append(fixed == 1 if fixed != OPEN else found["b%d" % mapped] if mapped else False)
+        bools.append(fixed == 1 if fixed != OPEN else found["b%d" % abs(mapped)] == (mapped > 0) if mapped else False)
     for index, (mapped, domain) in enumerate(zip(listing.ints, problem.domains, strict=True)):
         if not mapped and len(sets.values_of(domain)) > 1:
             free[1].append(index)

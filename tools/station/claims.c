@@ -57,6 +57,38 @@ static void numbers(void) {
     claim(call(longest, PLANNER_SET_WORDS + 1, OUT, PLANNER_WORK_WORDS) == PLANNER_LONG_SET, "PLANNER_LONG_SET", 0);
 }
 
+/* The answer's words with these choices, noise in both slices. */
+static void answers(uint32_t choices, const int32_t *set, size_t words, const int32_t *expected, size_t count, const char *what) {
+    for (size_t i = 0; i < OUT; i++) out[i] = NOISE;
+    for (size_t i = 0; i < PLANNER_WORK_WORDS; i++) work[i] = NOISE;
+    int64_t n = compile_set_with(set, words, out, OUT, work, PLANNER_WORK_WORDS, choices);
+    claim(n == (int64_t)count && !memcmp(out, expected, count * sizeof *out), what, (long)n);
+    claim(zeros(out, count, OUT), "out is zero behind the answer", (long)n);
+    claim(zeros(work, 0, PLANNER_WORK_WORDS), "work is zero after compile_set_with", (long)n);
+}
+
+#define COUNTED(words) words, sizeof words / sizeof *words
+
+static void choices(void) {
+    const int32_t xor_tie[] = {2, 0, 1, 1, 15, 11, 0, 11, 1};
+    const int32_t plain[] = {2, 2, 1, 2, 2, 0, 2, 2, 1, 2, 0, 2, -1, -2, 0};
+    const int32_t merged[] = {2, 2, 1, -1, 1, 0, 2, 2, 1, -1, 0, 2, -1, 1, 0};
+    answers(PLANNER_MERGE, COUNTED(xor_tie), COUNTED(merged), "a negated tie shows negative");
+    answers(~(uint32_t)0, COUNTED(xor_tie), COUNTED(merged), "every other bit beside PLANNER_MERGE");
+    answers(0, COUNTED(xor_tie), COUNTED(plain), "no choice");
+    answers(~(uint32_t)PLANNER_MERGE, COUNTED(xor_tie), COUNTED(plain), "every other bit alone");
+    const int32_t iff_self[] = {1, 0, 1, 1, 16, 11, 0, 11, 0}, iff_stays[] = {2, 1, 1, 0, 2, 2, 1, -1, 0, 2, -1, 1, 0};
+    answers(PLANNER_MERGE, COUNTED(iff_self), COUNTED(iff_stays), "a variable tied to itself is passed over");
+    const int32_t xor_self[] = {1, 0, 1, 1, 15, 11, 0, 11, 0}, xor_stays[] = {2, 1, 1, 0, 2, 2, 1, 1, 0, 2, -1, -1, 0};
+    answers(PLANNER_MERGE, COUNTED(xor_self), COUNTED(xor_stays), "a variable tied to its negation is passed over");
+    const int32_t classes[] = {4, 0, 3, 1, 16, 11, 0, 11, 1, 1, 16, 11, 2, 11, 3, 1, 16, 11, 1, 11, 2};
+    const int32_t joined[] = {2, 2, 2, 2, 1, 1, 2, 2, 2, 0, 6, 2, 1, -1, 0, 2, -1, 1, 0, 2, 2, -2, 0, 2, -2, 2, 0, 2, 1, -2, 0, 2, -1, 2, 0};
+    answers(PLANNER_MERGE, COUNTED(classes), COUNTED(joined), "two classes tied keep their numbers");
+    const size_t all = PLANNER_WORK_WORDS;
+    claim(compile_set_with(COUNTED(xor_tie), out, 14, work, all, PLANNER_MERGE) == PLANNER_SHORT_OUTPUT && zeros(out, 0, 14), "one word short, merged", 14);
+    claim(compile_set_with(NULL, 0, NULL, 0, NULL, 0, PLANNER_MERGE) == PLANNER_SHORT_WORK, "all three NULL, merged", 0);
+}
+
 /* A roster of the set "v0 or v1; x is not 1", x among 0, 1 and 3. */
 static int64_t check(size_t count, int32_t v0, int32_t v1, int32_t x, size_t work_len) {
     const int32_t set[] = {2, 1, 1, 3, 0, 1, 3, 2, 1, 13, 2, 11, 0, 11, 1, 1, 18, 1, 21, 0, 20, 1};
@@ -156,6 +188,7 @@ static void growing(void) {
 
 int main(void) {
     numbers();
+    choices();
     rosters();
     sheets();
     deep_and_many();

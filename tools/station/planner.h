@@ -7,8 +7,8 @@
                be lent, 0 included; NULL only with length 0. The slices of one call do not overlap, and int32_t and size_t are aligned.
    Memory      No heap, no globals, no files: an entry uses the lent slices and the stack, nothing else. So calls on different
                slices may run at once in any number of threads. Every call ends.
-   Stack       Lend a thread 512 KiB. The most that compile_set was seen to use is 232,392 bytes: stack.c beside this paints a
-               thread's stack, calls with the deepest and widest sets (2,022 of them), and looks how far down the paint is
+   Stack       Lend a thread 512 KiB. The most that compile_set or compile_set_with was seen to use is 228,888 bytes: stack.c beside this paints a
+               thread's stack, calls with the deepest and widest sets (2,023 of them), and looks how far down the paint is
                gone. This is measured, not proved.
    Work slice  PLANNER_WORK_WORDS words or more, else PLANNER_SHORT_WORK. What is in it does not matter; it is zero after
                every call.
@@ -64,6 +64,22 @@ enum {
             long, up to PLANNER_ANSWER_WORDS (64 MiB). If that is refused too, the rules have to be written in a shorter way.
             An output of 0 words tests a set: whatever is returned but PLANNER_SHORT_OUTPUT, any other output gives too. */
 int64_t compile_set(const int32_t *set, size_t set_len, int32_t *out, size_t out_len, int32_t *work, size_t work_len);
+
+/* The choices of compile_set_with: bits, to be added up. Every other bit is ignored. */
+enum {
+    PLANNER_MERGE = 1                  /* tied Booleans share one emitted number */
+};
+
+/* compile_set_with: compile_set with the caller's choices; with none of them it is compile_set.
+
+   Returns what compile_set does, and leaves the slices as it does.
+   choices  With PLANNER_MERGE a rule that is, after folding, Iff or Xor of two Boolean variables gives them one emitted number
+            (docs/FORMAT.md, Choices). The rules are gone through in their order before any clause is made: of two variables
+            without a number the left one gets the next, and the right one shares it; a variable with a number shares it with one
+            that has none; where both have one, the clauses alone carry the tie. A variable tied to itself is passed over. A tie's
+            own clauses stay. A word of the Boolean map may then be negative: the variable is that number's negation.
+            The rosters that pass the answer are those that pass compile_set's. */
+int64_t compile_set_with(const int32_t *set, size_t set_len, int32_t *out, size_t out_len, int32_t *work, size_t work_len, uint32_t choices);
 
 /* join_sets: two sets with identical declarations as one: the declarations, the first set's statements, the second's.
 

@@ -1,4 +1,4 @@
-/* How much stack a call takes: paints a thread's stack, calls compile_set on it, and looks how far the paint is gone.
+/* How much stack a call takes: paints a thread's stack, calls compile_set on it, then compile_set_with, and looks how far the paint is gone.
    stack [SETS] [SEED]: nested expressions of 64 levels, SETS random ones beside the regular ones. Prints the most that was seen.
    An empty thread's own use is taken off. Status 1 if LIMIT is passed, the figure that planner.h tells stations to lend. */
 #define _DEFAULT_SOURCE
@@ -24,6 +24,11 @@ static void put(int32_t word) {
 
 static void *call(void *nothing) {
     answer = compile_set(set, words, out, OUT, work, PLANNER_WORK_WORDS);
+    return nothing;
+}
+
+static void *merge(void *nothing) {
+    answer = compile_set_with(set, words, out, OUT, work, PLANNER_WORK_WORDS, PLANNER_MERGE);
     return nothing;
 }
 
@@ -103,7 +108,9 @@ static size_t most, least, used;
 static long counted, compiled;
 
 static void measure(const char *name) {
+    size_t merged = used_by(merge) - least;
     used = used_by(call) - least;
+    if (merged > used) used = merged;
     counted++, compiled += answer >= 0;
     if (used > most) {
         most = used;
@@ -175,6 +182,10 @@ static void measure_wide(void) {
     for (int i = 299; i > 0; i--) put(1), put(IMP), put(VAR), put(i - 1), put(VAR), put(i);
     put(1), put(VAR), put(0);
     measure("a chain of 300 passes");
+    words = 0;
+    put(512), put(0), put(682);
+    for (int i = 0; i < 682; i++) put(1), put(XOR + i % 2), put(VAR), put(i % 512), put(VAR), put((i * 7 + 1) % 512);
+    measure("682 ties");
     put_head();
     put(1), put(OR), put(1900);
     for (int i = 0; i < 1900; i++) put(VAR), put(i % 64);

@@ -1,5 +1,5 @@
 -- The answer to a set: what is fixed, the maps, the emitted integers, the clauses; and its words.
-use mathlib.Core.Bool.{Bool, true, false}
+use mathlib.Core.Bool.{Bool, true, false, cond}
 use mathlib.Core.Option.{Option, none as nothing, some}
 use mathlib.Core.List.{List, [], _∷_, _++_, map}
 use Prim.Native.Nat.{ℕ, suc}
@@ -10,7 +10,8 @@ use Rattle.syntax.specs.Syntax.{Domain, lower-bound, upper-bound, num-candidate
 use Rattle.fold.specs.Fold.{Fixed}
 use Rattle.sums.specs.LinearSum.{Term, term, linear-sum}
 use Rattle.clauses.specs.Clause.{BoolLit, lit, LinearLit, linear, Clause, clause}
-use Rattle.clauses.specs.Log.{next-bool, get-bool-var, get-int-var}
+use Rattle.clauses.specs.Merge.{merge-stmts}
+use Rattle.clauses.specs.Log.{Log, next-bool, get-bool-var, get-int-var}
 use Rattle.clauses.specs.Disjunction.{Out}
 use Rattle.clauses.specs.Normalize.{Run}
 use Rattle.clauses.specs.Split.{normalize-and-register-expr}
@@ -30,9 +31,9 @@ normalize-stmts ds (t ∷ ts) s =
     (a .0 ++ b .0, b .1)
 
 pub record Answer : Type 0 where
-  -- of each declared Boolean: its value if fixed; its emitted number if any
+  -- of each declared Boolean: its value if fixed; its literal if any
   pub fixed : List (Option Bool)
-  pub bool-map : List (Option ℕ)
+  pub bool-map : List (Option BoolLit)
   -- of each declared integer
   pub int-map : List (Option ℕ)
   pub emitted-bools : ℕ
@@ -49,9 +50,13 @@ answer-of p f out = record {
   clauses = out .0;
 }
 
+-- the log from which clauses are made; merge: the caller's choice
+unfoldable pub start-log : Bool → List Stmt → Log
+start-log merge ss = cond merge (merge-stmts ss []) []
+
 -- f and ss: what the passes left
-unfoldable pub normalize : Problem → Fixed → List Stmt → Answer
-normalize p f ss = answer-of p f (normalize-stmts (p .domains) ss [])
+unfoldable pub normalize : Bool → Problem → Fixed → List Stmt → Answer
+normalize merge p f ss = answer-of p f (normalize-stmts (p .domains) ss (start-log merge ss))
 
 -- ---- the words
 
@@ -64,6 +69,11 @@ fixed-word nothing = pos 2
 abbrev pub map-word : Option ℕ → ℤ
 map-word (some n) = pos (suc n)
 map-word nothing = pos 0
+
+abbrev pub bool-word : Option BoolLit → ℤ
+bool-word (some (lit n false)) = pos (suc n)
+bool-word (some (lit n true)) = negsuc n
+bool-word nothing = pos 0
 
 abbrev pub domain-words : Domain → List ℤ
 domain-words d = lower-bound d ∷ upper-bound d ∷ num-candidates d ∷ []
@@ -85,6 +95,6 @@ clause-words (clause ls ks) = counted lit-words ls ++ counted linear-words ks
 unfoldable pub layout : Answer → List ℤ
 layout a =
     map fixed-word (a .fixed)
-    ++ (map map-word (a .bool-map)
+    ++ (map bool-word (a .bool-map)
     ++ (map map-word (a .int-map)
     ++ (pos (a .emitted-bools) ∷ (counted domain-words (a .emitted-ints) ++ counted clause-words (a .clauses)))))

@@ -17,15 +17,16 @@ use Rattle.syntax.specs.Syntax.{Domain, Range, lower-bound, upper-bound, in-dom
 use Rattle.syntax.specs.Satisfies.{Val, IVal}
 use Rattle.fold.specs.Fold.{Fixed}
 use Rattle.sums.specs.LinearSum.{Term, term, linear-sum}
-use Rattle.clauses.specs.Clause.{BoolLit, lit, LinearLit, linear, Clause, clause, clause-true}
-use Rattle.clauses.specs.Log.{declared, aux, side, declared-int, column, Log, next-bool, next-int, get-bool-var, get-int-var}
+use Rattle.clauses.specs.Clause.{BoolLit, lit, LinearLit, linear, Clause, clause, clause-true, lit-true}
+use Rattle.clauses.specs.Log.{declared, aux, side, declared-int, column, Log, next-bool, next-int, get-bool-var, get-int-var, merged}
+use Rattle.clauses.specs.Merge.{WellMerged, merged-agree, merged-ints}
 use Rattle.clauses.specs.Disjunction.{Out}
 use Rattle.clauses.specs.Bounds.{lits-bound, clauses-bound, terms-bound, linears-bound, ints-bound}
 use Rattle.clauses.specs.Valuation.{AgreesInts, Agrees}
-use Rattle.clauses.specs.Grow.{Grows, get-bool-below, get-int-below, agrees-bool, agrees-int, InColumns, bools-agree, ints-agree}
+use Rattle.clauses.specs.Grow.{number-of, Grows, get-bool-below, get-int-below, agrees-bool, agrees-int, InColumns, bools-agree, ints-agree}
 use Rattle.tables.specs.Tables.{newest, emitted-domains}
 use Rattle.tables.specs.Emitted.{length-emitted, domain-step, new-int-domain, new-column-domain}
-use Rattle.answer.specs.Answer.{answer-of, fixed-word, map-word}
+use Rattle.answer.specs.Answer.{answer-of, fixed-word, map-word, bool-word}
 use Rattle.answer.specs.Passes.{word-of, fixed-agrees, carries-bool, carries-int, between, lit-emitted, term-emitted, linear-emitted, clause-emitted, passes-decoded}
 use Rattle.answer.specs.ReadBack.{hull, view-of}
 use Rattle.answer.specs.Declared.{Declared}
@@ -57,12 +58,22 @@ is-fixed (some true) x h = h true refl
 is-fixed (some false) x h = ap not (h false refl)
 is-fixed nothing x h = refl
 
-carries-is : (k : ℕ) (o : Option ℕ) (x : Bool) (ρ : Val) (n : ℕ) → carries-bool k (map-word o) x ρ ≡ true → o ≡ some n → ρ n ≡ x
-carries-is k (some m) x ρ n h e = let z : m ≡ n = cc in rw (← z) (beq-eq (ρ m) x (and-r (ltb m k) _ h))
-carries-is k nothing x ρ n h e = let z : _≡_ {A = ℕ} 0 1 = cc in absurd (omega arith)
+not-turn : (a b : Bool) → a ≡ not b → not a ≡ b
+not-turn a true h = ap not h
+not-turn a false h = ap not h
 
-is-carried : (k : ℕ) (o : Option ℕ) (x : Bool) (ρ : Val) → ((n : ℕ) → o ≡ some n → (n < k) × (ρ n ≡ x)) → carries-bool k (map-word o) x ρ ≡ true
-is-carried k (some m) x ρ h = rw (lt-ltb m k (h m refl .0), h m refl .1) (beq-same x)
+turn-not : (a b : Bool) → not a ≡ b → a ≡ not b
+turn-not true b h = ap not h
+turn-not false b h = ap not h
+
+carries-is : (k : ℕ) (o : Option BoolLit) (x : Bool) (ρ : Val) (l : BoolLit) → carries-bool k (bool-word o) x ρ ≡ true → o ≡ some l → lit-true ρ l ≡ x
+carries-is k (some (lit m false)) x ρ l h e = let z : lit m false ≡ l = cc in rw (← z) (beq-eq (ρ m) x (and-r (ltb m k) _ h))
+carries-is k (some (lit m true)) x ρ l h e = let z : lit m true ≡ l = cc in rw (← z) (not-turn (ρ m) x (beq-eq (ρ m) (not x) (and-r (ltb m k) _ h)))
+carries-is k nothing x ρ l h e = let z : _≡_ {A = ℕ} 0 1 = cc in absurd (omega arith)
+
+is-carried : (k : ℕ) (o : Option BoolLit) (x : Bool) (ρ : Val) → ((l : BoolLit) → o ≡ some l → (number-of l < k) × (lit-true ρ l ≡ x)) → carries-bool k (bool-word o) x ρ ≡ true
+is-carried k (some (lit m false)) x ρ h = rw (lt-ltb m k (h (lit m false) refl .0), h (lit m false) refl .1) (beq-same x)
+is-carried k (some (lit m true)) x ρ h = rw (lt-ltb m k (h (lit m true) refl .0), turn-not (ρ m) x (h (lit m true) refl .1)) (beq-same (not x))
 is-carried k nothing x ρ h = refl
 
 carries-int-is : (k : ℕ) (o : Option ℕ) (x : ℤ) (ι : IVal) (n : ℕ) → carries-int k (map-word o) x ι ≡ true → o ≡ some n → ι n ≡ x
@@ -104,6 +115,7 @@ module _ (ds : List Domain) (b i : ℕ) (ε ι : IVal) where
   unfolding emitted-domains newest
   in-columns [] d h = tt
   in-columns (declared v ∷ s) d h = in-columns s (d .1) h
+  in-columns (merged q r z ∷ s) d h = in-columns s (d .1) h
   in-columns (aux cs ∷ s) d h = in-columns s d h
   in-columns (side e ∷ s) d h = in-columns s d h
   in-columns (declared-int w ∷ s) d h = in-columns s (d .1) (λ j k. rw (domain-step ds (declared-int w) s j k) at (h j (omega arith)))
@@ -117,6 +129,7 @@ module _ (ds : List Domain) (b i : ℕ) (ε ι : IVal) where
     unfolding emitted-domains newest
     agrees-bounded [] d a j k = absurd (omega arith)
     agrees-bounded (declared v ∷ s) d a j k = agrees-bounded s (d .1) a j k
+    agrees-bounded (merged q r z ∷ s) d a j k = agrees-bounded s (d .1) a j k
     agrees-bounded (aux cs ∷ s) d a j k = agrees-bounded s d a j k
     agrees-bounded (side e ∷ s) d a j k = agrees-bounded s d a j k
     agrees-bounded (declared-int w ∷ s) d a j k =
@@ -130,14 +143,15 @@ module _ (ds : List Domain) (b i : ℕ) (ε ι : IVal) where
 
 -- ---- only declared variables have numbers
 
-lookup-known : (k v n w m : ℕ) (o : Option ℕ) → w < m → (o ≡ some n → v < m) → (t : Bool) → eqb v w ≡ t → cond t (some k) o ≡ some n → v < m
-lookup-known k v n w m o h old true e q = let z : v ≡ w = eqb-true v w e in omega arith
-lookup-known k v n w m o h old false e q = old q
+lookup-known : {X : Type 0} (n : X) (v w m : ℕ) (k o : Option X) → w < m → (o ≡ some n → v < m) → (t : Bool) → eqb v w ≡ t → cond t k o ≡ some n → v < m
+lookup-known n v w m k o h old true e q = let z : v ≡ w = eqb-true v w e in omega arith
+lookup-known n v w m k o h old false e q = old q
 
-bool-known : (b i : ℕ) (s : Log) → Declared b i s → (v n : ℕ) → get-bool-var v s ≡ some n → v < b
+bool-known : (b i : ℕ) (s : Log) → Declared b i s → (v : ℕ) (n : BoolLit) → get-bool-var v s ≡ some n → v < b
 unfolding get-bool-var
 bool-known b i [] d v n h = let z : _≡_ {A = ℕ} 0 1 = cc in absurd (omega arith)
-bool-known b i (declared w ∷ s) d v n h = lookup-known (next-bool s) v n w b (get-bool-var v s) (d .0) (bool-known b i s (d .1) v n) (eqb v w) refl h
+bool-known b i (declared w ∷ s) d v n h = lookup-known n v w b _ (get-bool-var v s) (d .0) (bool-known b i s (d .1) v n) (eqb v w) refl h
+bool-known b i (merged q r z ∷ s) d v n h = lookup-known n v q b _ (get-bool-var v s) (d .0) (bool-known b i s (d .1) v n) (eqb v q) refl h
 bool-known b i (aux cs ∷ s) d v n h = bool-known b i s d v n h
 bool-known b i (side e ∷ s) d v n h = bool-known b i s d v n h
 bool-known b i (declared-int w ∷ s) d v n h = bool-known b i s (d .1) v n h
@@ -147,9 +161,10 @@ int-known : (b i : ℕ) (s : Log) → Declared b i s → (v n : ℕ) → get-int
 unfolding get-int-var
 int-known b i [] d v n h = let z : _≡_ {A = ℕ} 0 1 = cc in absurd (omega arith)
 int-known b i (declared w ∷ s) d v n h = int-known b i s (d .1) v n h
+int-known b i (merged q r z ∷ s) d v n h = int-known b i s (d .1) v n h
 int-known b i (aux cs ∷ s) d v n h = int-known b i s d v n h
 int-known b i (side e ∷ s) d v n h = int-known b i s d v n h
-int-known b i (declared-int w ∷ s) d v n h = lookup-known (next-int s) v n w i (get-int-var v s) (d .0) (int-known b i s (d .1) v n) (eqb v w) refl h
+int-known b i (declared-int w ∷ s) d v n h = lookup-known n v w i _ (get-int-var v s) (d .0) (int-known b i s (d .1) v n) (eqb v w) refl h
 int-known b i (column l e ∷ s) d v n h = int-known b i s (d .1) v n h
 
 hull-at : (ds : List Domain) (j : ℕ) → j < length ds → getD (map hull ds) j (pos 0, pos 0) ≡ hull (domain-of ds j)
@@ -183,7 +198,7 @@ module _ (p : Problem) (f : Fixed) (out : Out) (δ : Val) (ε : IVal) (ρ : Val)
   bounds = map hull (emitted-domains (p .domains) s)
 
   abbrev bool-test : ℕ → Bool
-  bool-test v = carries-bool (next-bool s) (word-of (map map-word (map (λ v. get-bool-var v s) (below b))) v) (δ v) ρ
+  bool-test v = carries-bool (next-bool s) (word-of (map bool-word (map (λ v. get-bool-var v s) (below b))) v) (δ v) ρ
 
   abbrev int-test : ℕ → Bool
   int-test v = carries-int (length bounds) (word-of (map map-word (map (λ v. get-int-var v s) (below i))) v) (ε v) ι
@@ -200,7 +215,7 @@ module _ (p : Problem) (f : Fixed) (out : Out) (δ : Val) (ε : IVal) (ρ : Val)
   bounds-at-hull : (j : ℕ) → j < next-int s → getD bounds j (pos 0, pos 0) ≡ hull (domain-of (emitted-domains (p .domains) s) j)
   bounds-at-hull j k = hull-at (emitted-domains (p .domains) s) j (omega (arith, length-emitted (p .domains) s))
 
-  module _ (grown : Grows ε [] s) (known : Declared b i s) where
+  module _ (s0 : Log) (well : WellMerged s0) (grown : Grows ε s0 s) (known : Declared b i s) where
     bounded : all bounds-test (below (length bounds)) ≡ true → Bounded (p .domains) b i ε ι s
     bounded h j k = rw (bounds-at-hull j k) at (all-below bounds-test (length bounds) j h (omega (arith, as-many)))
 
@@ -214,8 +229,8 @@ module _ (p : Problem) (f : Fixed) (out : Out) (δ : Val) (ε : IVal) (ρ : Val)
         record {
           fixed = λ v x k e. fixed-is (f v) (δ v) x (rw (getD-below fixed-word f b v (pos 0) k) at (all-below fixed-test b v (and-l (all fixed-test (below b)) _ h) k)) e;
           agrees = record {
-            bools = bools-agree δ ρ grown (λ v n e. let k : v < b = bool-known b i s known v n e in carries-is (next-bool s) (get-bool-var v s) (δ v) ρ n (rw (getD-below map-word (λ v. get-bool-var v s) b v (pos 0) k) at (all-below bool-test b v (and-l (all bool-test (below b)) _ h2) k)) e);
-            ints = ints-agree ι grown (λ v n e. let k : v < i = int-known b i s known v n e in carries-int-is (length bounds) (get-int-var v s) (ε v) ι n (rw (getD-below map-word (λ v. get-int-var v s) i v (pos 0) k) at (all-below int-test i v (and-l (all int-test (below i)) _ h3) k)) e) (in-columns (p .domains) b i ε ι s known (bounded (and-l (all bounds-test (below (length bounds))) _ h4)));
+            bools = bools-agree δ ρ grown (merged-agree δ ρ s0 well) (λ v n e. let k : v < b = bool-known b i s known v n e in carries-is (next-bool s) (get-bool-var v s) (δ v) ρ n (rw (getD-below bool-word (λ v. get-bool-var v s) b v (pos 0) k) at (all-below bool-test b v (and-l (all bool-test (below b)) _ h2) k)) e);
+            ints = ints-agree ι grown (merged-ints ε ι s0 well) (λ v n e. let k : v < i = int-known b i s known v n e in carries-int-is (length bounds) (get-int-var v s) (ε v) ι n (rw (getD-below map-word (λ v. get-int-var v s) i v (pos 0) k) at (all-below int-test i v (and-l (all int-test (below i)) _ h3) k)) e) (in-columns (p .domains) b i ε ι s known (bounded (and-l (all bounds-test (below (length bounds))) _ h4)));
           };
           clauses = and-r (all emitted-test (out .0)) _ h5;
         }
@@ -226,7 +241,7 @@ module _ (p : Problem) (f : Fixed) (out : Out) (δ : Val) (ε : IVal) (ρ : Val)
     unfolding passes-decoded answer-of
     carries named numbered inside c =
         let t1 : all fixed-test (below b) ≡ true = below-all fixed-test b (λ v k. rw (getD-below fixed-word f b v (pos 0) k) (is-fixed (f v) (δ v) (λ x q. c .fixed v x k q))) in
-        let t2 : all bool-test (below b) ≡ true = below-all bool-test b (λ v k. rw (getD-below map-word (λ v. get-bool-var v s) b v (pos 0) k) (is-carried (next-bool s) (get-bool-var v s) (δ v) ρ (λ n q. (get-bool-below s v n q, agrees-bool δ ρ s (c .agrees .bools) v n q)))) in
+        let t2 : all bool-test (below b) ≡ true = below-all bool-test b (λ v k. rw (getD-below bool-word (λ v. get-bool-var v s) b v (pos 0) k) (is-carried (next-bool s) (get-bool-var v s) (δ v) ρ (λ n q. (get-bool-below s v n q, agrees-bool δ ρ s (c .agrees .bools) v n q)))) in
         let t3 : all int-test (below i) ≡ true = below-all int-test i (λ v k. rw (getD-below map-word (λ v. get-int-var v s) i v (pos 0) k) (is-carried-int (length bounds) (get-int-var v s) (ε v) ι (λ n q. (omega (arith, get-int-below s v n q, as-many), agrees-int ε ι s (c .agrees .ints) v n q)))) in
         let t4 : all bounds-test (below (length bounds)) ≡ true = below-all bounds-test (length bounds) (λ j k. let l : j < next-int s = omega (arith, as-many) in rw (bounds-at-hull j l) (agrees-bounded (p .domains) b i ε ι inside s known (c .agrees .ints) j l)) in
         let t5 : all emitted-test (out .0) ≡ true = clauses-emitted (next-bool s) (length bounds) (out .0) named (omega (arith, as-many)) in

@@ -4,12 +4,14 @@ use mathlib.Core.Bool.{Bool, true, false, not, cond}
 use mathlib.Core.Option.{Option, none as nothing, some}
 use mathlib.Core.List.{List, [], _∷_, _++_}
 use Prim.Native.Nat.{ℕ, suc, _<_}
+use lib.Dec.{eqb}
 use Rattle.laws.specs.Lists.{any}
 use Rattle.syntax.specs.Syntax.{Domain, Range, lower-bound, upper-bound, IntExpr, IConst, IVar, Linear, Terms, tnil, tmore, BoolExpr, Const, Var, NVar, And, Or, Not, Xor, Iff, Imp, Cmp, Members, none, more, Cell, Stmt, Rule, Table}
 use Rattle.syntax.specs.Written.{EveryInt, EveryTerm, EveryColumn, Every, EveryMember, EveryStmt, EveryStmts, EveryOf}
 use Rattle.sums.specs.LinearSum.{LinearSum, linear-sum, get-domain-linear-sum}
 use Rattle.clauses.specs.Clause.{BoolLit, LinearLit, Clause}
-use Rattle.clauses.specs.Log.{declared, aux, side, declared-int, column, Log, next-bool, get-bool-var, get-int-var, bool-var-at, convert-bool-var, int-var-at, convert-int-var}
+use Rattle.clauses.specs.Merge.{as-var, tie-found, tie, merge-rule, merge-stmts}
+use Rattle.clauses.specs.Log.{merged, declared, aux, side, declared-int, column, Log, next-bool, get-bool-var, get-int-var, bool-var-at, convert-bool-var, int-var-at, convert-int-var}
 use Rattle.clauses.specs.Disjunction.{Sorted, satisfied, pool, sorted, Out, each-longer, finish-disjunction, finish-sorted, normalize-disjunction}
 use Rattle.clauses.specs.Normalize.{normalize-int-var, normalize-term, normalize-int-expr, normalize-terms, Run, Runs, no-run, run-then, normalize-conjunction, disjunction-of, cross, normalize-var, normalize-comparison, normalize-bool-expr, normalize-members}
 use Rattle.clauses.specs.Split.{Split, Splits, unsplit, split-not, split-members, split-two, split-sides, split-more, tseitin-transformation-bool, tseitin-transformation-members, normalize-each, normalize-and-register-expr}
@@ -25,6 +27,7 @@ module _ (b i : ℕ) where
   abbrev pub Declared : Log → Type 0
   Declared [] = Unit {0}
   Declared (declared v ∷ s) = (v < b) × Declared s
+  Declared (merged q r z ∷ s) = (q < b) × Declared s
   Declared (aux cs ∷ s) = Declared s
   Declared (side e ∷ s) = Declared s
   Declared (declared-int v ∷ s) = (v < i) × Declared s
@@ -41,7 +44,7 @@ module _ (b i : ℕ) where
 
   -- ---- declared variables
 
-  bool-var-declared : (o : Option ℕ) (v : ℕ) (s : Log) → v < b → Declared s → Declared (bool-var-at o v s .1)
+  bool-var-declared : (o : Option BoolLit) (v : ℕ) (s : Log) → v < b → Declared s → Declared (bool-var-at o v s .1)
   bool-var-declared (some n) v s h k = k
   bool-var-declared nothing v s h k = (h, k)
 
@@ -267,3 +270,57 @@ module _ (b i : ℕ) where
   unfolding normalize-stmts EveryStmts
   stmts-declared ds [] h s k = k
   stmts-declared ds (t ∷ ts) h s k = stmts-declared ds ts (h .1) _ (stmt-declared ds t (h .0) s k)
+
+  -- ---- merging
+
+  found-declared : (o p : Option BoolLit) (x y : ℕ) (g : Bool) (s : Log) → x < b → y < b → Declared s → Declared (tie-found o p x y g s)
+  found-declared (some l) (some m) x y g s h k d = d
+  found-declared (some l) nothing x y g s h k d = (k, d)
+  found-declared nothing (some m) x y g s h k d = (h, d)
+  found-declared nothing nothing x y g s h k d = (k, (h, d))
+
+  apart-declared : (t : Bool) (s r : Log) → Declared s → Declared r → Declared (cond t s r)
+  apart-declared true s r h k = h
+  apart-declared false s r h k = k
+
+  abbrev DeclaredVar : Option ℕ → Type 0
+  DeclaredVar nothing = Unit {0}
+  DeclaredVar (some v) = v < b
+
+  tie-declared : (x y : Option ℕ) (g : Bool) (s : Log) → DeclaredVar x → DeclaredVar y → Declared s → Declared (tie x y g s)
+  unfolding tie
+  tie-declared nothing y g s h k d = d
+  tie-declared (some x) nothing g s h k d = d
+  tie-declared (some x) (some y) g s h k d = apart-declared (eqb x y) s _ d (found-declared (get-bool-var x s) (get-bool-var y s) x y g s h k d)
+
+  var-declared : (e : BoolExpr) → DeclaredExpr e → DeclaredVar (as-var e)
+  unfolding EveryOf
+  var-declared (Const c) h = tt
+  var-declared (Var v) h = h
+  var-declared (NVar n) h = tt
+  var-declared (And ms) h = tt
+  var-declared (Or ms) h = tt
+  var-declared (Not e) h = tt
+  var-declared (Xor x y) h = tt
+  var-declared (Iff x y) h = tt
+  var-declared (Imp x y) h = tt
+  var-declared (Cmp o x y) h = tt
+
+  merge-rule-declared : (e : BoolExpr) (s : Log) → DeclaredExpr e → Declared s → Declared (merge-rule e s)
+  unfolding merge-rule EveryOf
+  merge-rule-declared (Const c) s h d = d
+  merge-rule-declared (Var v) s h d = d
+  merge-rule-declared (NVar n) s h d = d
+  merge-rule-declared (And ms) s h d = d
+  merge-rule-declared (Or ms) s h d = d
+  merge-rule-declared (Not e) s h d = d
+  merge-rule-declared (Xor x y) s h d = tie-declared (as-var x) (as-var y) true s (var-declared x (h .0)) (var-declared y (h .1)) d
+  merge-rule-declared (Iff x y) s h d = tie-declared (as-var x) (as-var y) false s (var-declared x (h .0)) (var-declared y (h .1)) d
+  merge-rule-declared (Imp x y) s h d = d
+  merge-rule-declared (Cmp o x y) s h d = d
+
+  pub merge-declared : (ts : List Stmt) (s : Log) → EveryStmts (λ v. v < b) (λ v. v < i) ts → Declared s → Declared (merge-stmts ts s)
+  unfolding merge-stmts EveryStmts EveryStmt
+  merge-declared [] s h d = d
+  merge-declared (Rule e ∷ ts) s h d = merge-declared ts (merge-rule e s) (h .1) (merge-rule-declared e s (h .0) d)
+  merge-declared (Table es rows ∷ ts) s h d = merge-declared ts s (h .1) d

@@ -4,3 +4,4 @@ pub mod Beyond
 pub mod ReadBack
 pub mod Declared
 pub mod Carried
+pub mod Start

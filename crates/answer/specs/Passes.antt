@@ -92,11 +92,11 @@ word-of ws v = getD ws v (pos 0)
 abbrev pub fixed-agrees : ℤ → Bool → Bool
 fixed-agrees w x = cond (eqZ w (pos 0)) (not x) (cond (eqZ w (pos 1)) x true)
 
--- an emitted declared variable carries its value; the first argument: how many numbers are emitted
+-- an emitted declared variable carries its value, a negated tie the opposite; the first argument: how many numbers are emitted
 abbrev pub carries-bool : ℕ → ℤ → Bool → Val → Bool
 carries-bool bools (pos zero) x ρ = true
 carries-bool bools (pos (suc n)) x ρ = ltb n bools && Bool·beq (ρ n) x
-carries-bool bools (negsuc n) x ρ = true
+carries-bool bools (negsuc n) x ρ = ltb n bools && Bool·beq (ρ n) (not x)
 
 abbrev pub carries-int : ℕ → ℤ → ℤ → IVal → Bool
 carries-int ints (pos zero) x ι = true

@@ -8,7 +8,7 @@ use Rattle.laws.specs.Lists.{flat, counted}
 use Rattle.syntax.specs.Syntax.{Domain, lower-bound, upper-bound, Eq, Ne, Le, Lt, Ge, Gt}
 use Rattle.sums.specs.LinearSum.{Term, term, linear-sum}
 use Rattle.clauses.specs.Clause.{BoolLit, lit, LinearLit, linear, Clause, clause}
-use Rattle.answer.specs.Answer.{Answer, layout, fixed-word, map-word, domain-words, lit-words, term-words, linear-words, clause-words}
+use Rattle.answer.specs.Answer.{Answer, layout, fixed-word, map-word, bool-word, domain-words, lit-words, term-words, linear-words, clause-words}
 use Rattle.answer.specs.Passes.{Decoded, decode, decode-word, decode-bounds, decode-times, decode-counted, decode-lit, decode-term, decode-linear, decode-clause}
 
 module _ {A : Type 0} (f : List ℤ → A × List ℤ) (code : A → List ℤ) (h : (a : A) (r : List ℤ) → f (code a ++ r) ≡ (a, r)) where
@@ -71,7 +71,7 @@ bounds-back ds r = bounds-times ds r
 
 -- what an answer says, as its words are decoded
 abbrev pub view-of : Answer → Decoded
-view-of a = record { fixed = map fixed-word (a .fixed); bool-map = map map-word (a .bool-map); int-map = map map-word (a .int-map); emitted-bools = a .emitted-bools; bounds = map hull (a .emitted-ints); clauses = a .clauses }
+view-of a = record { fixed = map fixed-word (a .fixed); bool-map = map bool-word (a .bool-map); int-map = map map-word (a .int-map); emitted-bools = a .emitted-bools; bounds = map hull (a .emitted-ints); clauses = a .clauses }
 
 abbrev tail-of : Answer → List ℤ
 tail-of a = counted domain-words (a .emitted-ints) ++ counted clause-words (a .clauses)
@@ -80,8 +80,8 @@ pub answer-back : (a : Answer) → length (a .bool-map) ≡ length (a .fixed) �
 unfolding decode layout
 answer-back a h =
     let rest : List ℤ = (pos (a .emitted-bools) ∷ []) ++ tail-of a in
-    let e1 = words-back fixed-word (a .fixed) (map map-word (a .bool-map) ++ (map map-word (a .int-map) ++ rest)) in
-    let e2 : decode-times decode-word (length (a .fixed)) (map map-word (a .bool-map) ++ (map map-word (a .int-map) ++ rest)) ≡ (map map-word (a .bool-map), map map-word (a .int-map) ++ rest) = rw (← h) (words-back map-word (a .bool-map) (map map-word (a .int-map) ++ rest)) in
+    let e1 = words-back fixed-word (a .fixed) (map bool-word (a .bool-map) ++ (map map-word (a .int-map) ++ rest)) in
+    let e2 : decode-times decode-word (length (a .fixed)) (map bool-word (a .bool-map) ++ (map map-word (a .int-map) ++ rest)) ≡ (map bool-word (a .bool-map), map map-word (a .int-map) ++ rest) = rw (← h) (words-back bool-word (a .bool-map) (map map-word (a .int-map) ++ rest)) in
     let e3 = words-back map-word (a .int-map) rest in
     let e4 = one-word (pos (a .emitted-bools)) (tail-of a) in
     let e5 = bounds-back (a .emitted-ints) (counted clause-words (a .clauses)) in

@@ -12,6 +12,7 @@ use Rattle.read.specs.Read.{Parsed, ok, refuse, read-set}
 use Rattle.limits.specs.Limits.{check}
 use Rattle.fold.specs.Optimize.{Outcome, inconsistent, settled, optimize}
 use Rattle.answer.specs.Answer.{layout, normalize}
+use Rattle.call.specs.declared.Choices.{Choices}
 
 pub data Result : Type 0 where
   compiled : List ℤ → Result
@@ -34,24 +35,32 @@ pub record Accepted (set : List ℤ) (p : Problem) : Type 0 where
 unfoldable pub measured : ℕ → List ℤ → Result
 measured out-length ws = cond (ltb out-length (length ws) || ltb max-answer-words (length ws)) (refused 12) (compiled ws)
 
-unfoldable pub answered : ℕ → Problem → Outcome → Result
-answered out-length p inconsistent = contradiction
-answered out-length p (settled f ss) = measured out-length (layout (normalize p f ss))
+-- c: what the caller chose
+unfoldable pub answered : Choices → ℕ → Problem → Outcome → Result
+answered c out-length p inconsistent = contradiction
+answered c out-length p (settled f ss) = measured out-length (layout (normalize (c .merge) p f ss))
 
 -- the refusal that `check` gives, if any
-unfoldable pub checked : ℕ → Problem → ℕ → Result
-checked out-length p zero = answered out-length p (optimize p)
-checked out-length p (suc k) = refused (suc k)
+unfoldable pub checked : Choices → ℕ → Problem → ℕ → Result
+checked c out-length p zero = answered c out-length p (optimize p)
+checked c out-length p (suc k) = refused (suc k)
 
-unfoldable pub when-read : ℕ → Parsed Problem → Result
-when-read out-length (refuse k) = refused k
-when-read out-length (ok p r) = checked out-length p (check p)
+unfoldable pub when-read : Choices → ℕ → Parsed Problem → Result
+when-read c out-length (refuse k) = refused k
+when-read c out-length (ok p r) = checked c out-length p (check p)
 
-unfoldable pub call : (set : List ℤ) (out-length work-length : ℕ) → Result
-call set out-length work-length =
+unfoldable pub call-with : Choices → (set : List ℤ) (out-length work-length : ℕ) → Result
+call-with c set out-length work-length =
     cond (ltb work-length min-work-words) (refused 1)
     (cond (ltb max-set-words (length set)) (refused 2)
-    (when-read out-length (read-set set)))
+    (when-read c out-length (read-set set)))
+
+-- nothing chosen
+abbrev pub unchosen : Choices
+unchosen = record { merge = false }
+
+abbrev pub call : (set : List ℤ) (out-length work-length : ℕ) → Result
+call set out-length work-length = call-with unchosen set out-length work-length
 
 abbrev pub zeros : ℕ → List ℤ
 zeros n = replicate n (pos 0)

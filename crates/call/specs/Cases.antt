@@ -7,7 +7,7 @@ use Prim.Native.Nat.{ℕ}
 use lib.IntN.{ℤ, pos, negℤ}
 use lib.ListN.{length}
 use Rattle.laws.specs.Lists.{flat, counted}
-use Rattle.call.specs.Call.{Result, compiled, contradiction, refused}
+use Rattle.call.specs.Call.{Result, compiled, contradiction, refused, unchosen}
 use Rattle.call.specs.Compute.{Case, case, all-agree}
 
 -- ---- notation: words, negative numbers, a clause of literals alone, of comparisons alone
@@ -75,7 +75,7 @@ P1-to-P12 =
     (comparisons (unit-term 1 (pos 0) 0 ∷ unit-term 0 (pos 0) 1 ∷ []) ∷ comparisons (unit-term 1 (minus 1) 0 ∷ unit-term 0 (minus 1) 1 ∷ []) ∷ []))
     ∷ []
 
-pub P1-to-P12-hold : all-agree P1-to-P12 ≡ true
+pub P1-to-P12-hold : all-agree unchosen P1-to-P12 ≡ true
 unfolding all-agree
 P1-to-P12-hold = refl
 
@@ -96,6 +96,28 @@ also =
     ∷ case (words (0 ∷ 0 ∷ 1 ∷ 1 ∷ 13 ∷ 0 ∷ [])) 0 16384 contradiction
     ∷ []
 
-pub also-hold : all-agree also ≡ true
+pub also-hold : all-agree unchosen also ≡ true
 unfolding all-agree
 also-hold = refl
+
+-- ---- merging chosen (document 02, 2.7): the words of the Rust, but for a variable tied to itself before it has a number
+
+abbrev pub ties : List Case
+ties =
+    -- v0 is not v1: one number, the second's negated
+    given (2 ∷ 0 ∷ 1 ∷ 1 ∷ 15 ∷ 11 ∷ 0 ∷ 11 ∷ 1 ∷ [])
+    (compiled (words (2 ∷ 2 ∷ 1 ∷ []) ++ (minus 1 ∷ words (1 ∷ 0 ∷ 2 ∷ []) ++ literals (pos 1 ∷ minus 1 ∷ []) ++ literals (minus 1 ∷ pos 1 ∷ []))))
+    -- v0 or v1; v1 is v2: the pass comes first, so v1 and v2 have the number 0
+    ∷ given (3 ∷ 0 ∷ 2 ∷ 1 ∷ 13 ∷ 2 ∷ 11 ∷ 0 ∷ 11 ∷ 1 ∷ 1 ∷ 16 ∷ 11 ∷ 1 ∷ 11 ∷ 2 ∷ [])
+    (answers (2 ∷ 2 ∷ 2 ∷ 2 ∷ 1 ∷ 1 ∷ 2 ∷ 0 ∷ []) (literals (pos 2 ∷ pos 1 ∷ []) ∷ literals (pos 1 ∷ minus 1 ∷ []) ∷ literals (minus 1 ∷ pos 1 ∷ []) ∷ []))
+    -- v0 is v1; v2 is v3; v1 is v2: two numbers, tied by the last rule's clauses
+    ∷ given (4 ∷ 0 ∷ 3 ∷ 1 ∷ 16 ∷ 11 ∷ 0 ∷ 11 ∷ 1 ∷ 1 ∷ 16 ∷ 11 ∷ 2 ∷ 11 ∷ 3 ∷ 1 ∷ 16 ∷ 11 ∷ 1 ∷ 11 ∷ 2 ∷ [])
+    (answers (2 ∷ 2 ∷ 2 ∷ 2 ∷ 1 ∷ 1 ∷ 2 ∷ 2 ∷ 2 ∷ 0 ∷ [])
+    (literals (pos 1 ∷ minus 1 ∷ []) ∷ literals (minus 1 ∷ pos 1 ∷ []) ∷ literals (pos 2 ∷ minus 2 ∷ []) ∷ literals (minus 2 ∷ pos 2 ∷ []) ∷ literals (pos 1 ∷ minus 2 ∷ []) ∷ literals (minus 1 ∷ pos 2 ∷ []) ∷ []))
+    -- v0 is not v0: passed over
+    ∷ given (1 ∷ 0 ∷ 1 ∷ 1 ∷ 15 ∷ 11 ∷ 0 ∷ 11 ∷ 0 ∷ []) (answers (2 ∷ 1 ∷ 1 ∷ 0 ∷ []) (literals (pos 1 ∷ pos 1 ∷ []) ∷ literals (minus 1 ∷ minus 1 ∷ []) ∷ []))
+    ∷ []
+
+pub ties-hold : all-agree (record { merge = true }) ties ≡ true
+unfolding all-agree
+ties-hold = refl

@@ -11,7 +11,8 @@ use Rattle.syntax.specs.Satisfies.{Val, IVal, in-domains, satisfies}
 use Rattle.words.specs.Parse.{Parsed, ok, refuse}
 use Rattle.read.specs.Read.{read-set}
 use Rattle.answer.specs.Passes.{Passes}
-use Rattle.call.specs.Call.{Result, compiled, contradiction, refused, call}
+use Rattle.call.specs.Call.{Result, compiled, contradiction, refused, call-with}
+use Rattle.call.specs.declared.Choices.{Choices}
 
 -- ---- an assignment and a set's words
 
@@ -36,12 +37,12 @@ Passed set (refused k) δ ε = ⊥
 abbrev pub NotRefused : Result → Type 0
 NotRefused r = (k : ℕ) → r ≡ refused k → ⊥
 
--- ---- the claim: satisfying is passing. A contradiction is passed by none, so it is satisfied by none
+-- ---- the claim, whatever is chosen: satisfying is passing. A contradiction is passed by none, so it is satisfied by none
 
 abbrev pub Exact : Type 0
-Exact = (set : List ℤ) (out-length work-length : ℕ) → NotRefused (call set out-length work-length) → (δ : Val) (ε : IVal) → within set ε ≡ true → (satisfied set δ ε ≡ true) ↔ Passed set (call set out-length work-length) δ ε
+Exact = (c : Choices) (set : List ℤ) (out-length work-length : ℕ) → NotRefused (call-with c set out-length work-length) → (δ : Val) (ε : IVal) → within set ε ≡ true → (satisfied set δ ε ≡ true) ↔ Passed set (call-with c set out-length work-length) δ ε
 
--- ---- its consequences, for sets that declare the same variables, each with a call of its own
+-- ---- its consequences, for sets that declare the same variables, each with a call and choices of its own
 
 -- the same counts, and the same values in each domain, however it is written
 pub record SameVariables (p q : Problem) : Type 0 where
@@ -51,6 +52,7 @@ pub record SameVariables (p q : Problem) : Type 0 where
 
 -- a set with the variables of p and these statements, and a call of it that is not refused
 pub record Called (p : Problem) (stmts : List Stmt) : Type 0 where
+  pub choices : Choices
   pub set : List ℤ
   pub out-length : ℕ
   pub work-length : ℕ
@@ -58,10 +60,10 @@ pub record Called (p : Problem) (stmts : List Stmt) : Type 0 where
   pub read : read-set set ≡ ok says []
   pub same : SameVariables p says
   pub states : says .stmts ≡ stmts
-  pub answered : NotRefused (call set out-length work-length)
+  pub answered : NotRefused (call-with choices set out-length work-length)
 
 abbrev pub PassedBy : {p : Problem} {stmts : List Stmt} → Val → IVal → Called p stmts → Type 0
-PassedBy δ ε c = Passed (c .set) (call (c .set) (c .out-length) (c .work-length)) δ ε
+PassedBy δ ε c = Passed (c .set) (call-with (c .choices) (c .set) (c .out-length) (c .work-length)) δ ε
 
 -- a call for each member, as a rule of its own
 pub data CalledEach (p : Problem) : Members → Type 0 where

@@ -29,7 +29,7 @@ module _ (exact : Exact) (p : Problem) (δ : Val) (ε : IVal) (h : in-domains p 
   passed-holds ss c =
       let w : within (c .set) ε ≡ true = rw (c .read) (same-domains p (c .says) ε (c .same) h) in
       let e : satisfied (c .set) δ ε ≡ all-hold ss = rw (c .read, c .states) refl in
-      let x = exact (c .set) (c .out-length) (c .work-length) (c .answered) δ ε w in
+      let x = exact (c .choices) (c .set) (c .out-length) (c .work-length) (c .answered) δ ε w in
       (λ k. x .0 (e ∙ k), λ k. sym e ∙ x .1 k)
 
   both-pass : (ss ts : List Stmt) (a : Called p ss) (b : Called p ts) (c : Called p (ss ++ ts)) → PassedBy δ ε c ↔ (PassedBy δ ε a × PassedBy δ ε b)

@@ -36,13 +36,15 @@ use Rattle.clauses.specs.RuleMeaning.{read-rule-means}
 use Rattle.clauses.specs.Exist.{ints-of, bools-of, fitting-exists}
 use Rattle.tables.specs.ColumnMeaning.{WithinDomain}
 use Rattle.tables.specs.TableMeaning.{table-means}
-use Rattle.answer.specs.Answer.{Answer, layout, answer-of, normalize, normalize-stmt, normalize-stmts}
+use Rattle.answer.specs.Answer.{Answer, layout, answer-of, normalize-stmt, normalize-stmts, normalize, start-log}
 use Rattle.answer.specs.Passes.{Decoded, decode, between, passes-decoded, passes-with, Passes}
 use Rattle.answer.specs.ReadBack.{hull, view-of, answer-back}
 use Rattle.answer.specs.Declared.{stmts-declared}
+use Rattle.answer.specs.Start.{start-well, start-ints, start-declared, start-holds}
 use Rattle.answer.specs.Carried.{Carried, carried, carries}
-use Rattle.call.specs.Call.{Result, compiled, refused, measured, answered, checked, when-read, call}
+use Rattle.call.specs.Call.{Result, compiled, refused, measured, answered, checked, when-read, call-with}
 use Rattle.call.specs.Claim.{within, satisfied, Passed, NotRefused, Exact, Consequences}
+use Rattle.call.specs.declared.Choices.{Choices}
 use Rattle.call.specs.WellRead.{well-declared, Plain, folded-plain}
 use Rattle.call.specs.Known.{optimize-known}
 use Rattle.call.specs.Consequences.{consequences}
@@ -83,15 +85,18 @@ domains-ordered (d ∷ ds) h (suc v) k = domains-ordered ds (h .1) v (omega arit
 
 -- ---- a set that settles: satisfying is passing its answer
 
-module _ (p : Problem) (well : WellFormed p) (f : Fixed) (ss : List Stmt) (end : optimize p ≡ settled f ss) (δ : Val) (ε : IVal) (inside : in-domains p ε ≡ true) where
+module _ (m : Bool) (p : Problem) (well : WellFormed p) (f : Fixed) (ss : List Stmt) (end : optimize p ≡ settled f ss) (δ : Val) (ε : IVal) (inside : in-domains p ε ≡ true) where
   abbrev pub b : ℕ
   b = p .bools
 
   abbrev pub i : ℕ
   i = length (p .domains)
 
+  abbrev pub s0 : Log
+  s0 = start-log m ss
+
   abbrev pub out : Out
-  out = normalize-stmts (p .domains) ss []
+  out = normalize-stmts (p .domains) ss s0
 
   declared : EveryStmts (λ v. v < b) (λ v. v < i) (p .stmts)
   declared = well-declared p well
@@ -108,10 +113,10 @@ module _ (p : Problem) (well : WellFormed p) (f : Fixed) (ss : List Stmt) (end :
   ss-plain : Each Plain ss
   ss-plain = rw folded (folded-plain (p .domains) f b i (p .stmts) (well .stmts-well))
 
-  pub means : (ρ : Val) (ι : IVal) → Means δ ε ρ ι [] out (all (truth δ ε ρ ι (p .domains)) ss)
-  means ρ ι = stmts-mean δ ε ρ ι (p .domains) ss [] ss-plain ss-standing
+  pub means : (ρ : Val) (ι : IVal) → Means δ ε ρ ι s0 out (all (truth δ ε ρ ι (p .domains)) ss)
+  means ρ ι = stmts-mean δ ε ρ ι (p .domains) ss s0 ss-plain ss-standing
 
-  pub grown : Grows ε [] (out .1)
+  pub grown : Grows ε s0 (out .1)
   grown = means (λ n. false) ε .grows
 
   pub inside-bounds : (v : ℕ) → v < i → between (hull (domain-of (p .domains) v)) (ε v) ≡ true
@@ -139,7 +144,7 @@ module _ (p : Problem) (well : WellFormed p) (f : Fixed) (ss : List Stmt) (end :
 
   passing-satisfies : Passes b i words δ ε → satisfies p δ ε ≡ true
   passing-satisfies h =
-      let c = carried p f out δ ε (h .bools) (h .ints) grown (stmts-declared b i (p .domains) ss ss-declared [] tt) (sym (passes-is (h .bools) (h .ints)) ∙ h .passing) in
+      let c = carried p f out δ ε (h .bools) (h .ints) s0 (start-well m ss) grown (stmts-declared b i (p .domains) ss ss-declared s0 (start-declared b i m ss ss-declared)) (sym (passes-is (h .bools) (h .ints)) ∙ h .passing) in
       optimize-satisfies p declared δ ε inside f ss end .1 (
         λ v x e. c .fixed v x (optimize-known p (λ v. v < i) declared f ss end v x e) e,
         means (h .bools) (h .ints) .sound (c .agrees) (c .clauses),
@@ -150,10 +155,10 @@ module _ (p : Problem) (well : WellFormed p) (f : Fixed) (ss : List Stmt) (end :
       let s : Log = out .1 in
       let ι : IVal = ints-of ε s in
       let ρ : Val = bools-of δ ε ι s in
-      let fits : Fits δ ε ρ ι s = fitting-exists δ ε grown in
-      let m = optimize-satisfies p declared δ ε inside f ss end .0 h in
-      let c : Carried b f out δ ε ρ ι = record { fixed = λ v x k e. m .0 v x e; agrees = fits-agrees δ ε ρ ι s fits; clauses = means ρ ι .complete fits (m .1) } in
-      record { bools = ρ; ints = ι; passing = passes-is ρ ι ∙ carries p f out δ ε ρ ι grown (stmts-declared b i (p .domains) ss ss-declared [] tt) (means ρ ι .bounded) (means ρ ι .numbered) inside-bounds c }
+      let k = optimize-satisfies p declared δ ε inside f ss end .0 h in
+      let fits : Fits δ ε ρ ι s = fitting-exists δ ε (start-ints m ss) (start-holds δ ε m ss (k .1)) grown in
+      let c : Carried b f out δ ε ρ ι = record { fixed = λ v x j e. k .0 v x e; agrees = fits-agrees δ ε ρ ι s fits; clauses = means ρ ι .complete fits (k .1) } in
+      record { bools = ρ; ints = ι; passing = passes-is ρ ι ∙ carries p f out δ ε ρ ι s0 (start-well m ss) grown (stmts-declared b i (p .domains) ss ss-declared s0 (start-declared b i m ss ss-declared)) (means ρ ι .bounded) (means ρ ι .numbered) inside-bounds c }
 
 -- ---- the call
 
@@ -161,7 +166,7 @@ module _ (p : Problem) (well : WellFormed p) (f : Fixed) (ss : List Stmt) (end :
 abbrev Told : List ℤ → Result → Val → IVal → Type 0
 Told set r δ ε = (satisfied set δ ε ≡ true) ↔ Passed set r δ ε
 
-module _ (set : List ℤ) (p : Problem) (r : List ℤ) (read : read-set set ≡ ok p r) (δ : Val) (ε : IVal) (inside : in-domains p ε ≡ true) where
+module _ (c : Choices) (set : List ℤ) (p : Problem) (r : List ℤ) (read : read-set set ≡ ok p r) (δ : Val) (ε : IVal) (inside : in-domains p ε ≡ true) where
   well : WellFormed p
   well = set-sound set p r read .1
 
@@ -169,31 +174,31 @@ module _ (set : List ℤ) (p : Problem) (r : List ℤ) (read : read-set set ≡ 
   unfolding satisfied
   satisfied-is = rw read refl
 
-  settled-told : (f : Fixed) (ss : List Stmt) → optimize p ≡ settled f ss → Told set (compiled (layout (normalize p f ss))) δ ε
+  settled-told : (f : Fixed) (ss : List Stmt) → optimize p ≡ settled f ss → Told set (compiled (layout (normalize (c .merge) p f ss))) δ ε
   unfolding Passed normalize words
   settled-told f ss end = rw read (
-    λ h. satisfying-passes p well f ss end δ ε inside (sym satisfied-is ∙ h),
-    λ h. satisfied-is ∙ passing-satisfies p well f ss end δ ε inside h,
+    λ h. satisfying-passes (c .merge) p well f ss end δ ε inside (sym satisfied-is ∙ h),
+    λ h. satisfied-is ∙ passing-satisfies (c .merge) p well f ss end δ ε inside h,
   )
 
   measured-told : (t : Bool) (ws : List ℤ) → NotRefused (cond t (refused 12) (compiled ws)) → Told set (compiled ws) δ ε → Told set (cond t (refused 12) (compiled ws)) δ ε
   measured-told true ws n h = absurd (n 12 refl)
   measured-told false ws n h = h
 
-  answered-told : (o : ℕ) (x : Outcome) → optimize p ≡ x → NotRefused (answered o p x) → Told set (answered o p x) δ ε
+  answered-told : (o : ℕ) (x : Outcome) → optimize p ≡ x → NotRefused (answered c o p x) → Told set (answered c o p x) δ ε
   unfolding answered measured Passed
   answered-told o inconsistent e n = (λ h. false≢true (sym (optimize-inconsistent p (well-declared p well) δ ε inside e) ∙ sym satisfied-is ∙ h), λ h. absurd h)
-  answered-told o (settled f ss) e n = measured-told (ltb o (length (layout (normalize p f ss))) || ltb max-answer-words (length (layout (normalize p f ss)))) (layout (normalize p f ss)) n (settled-told f ss e)
+  answered-told o (settled f ss) e n = measured-told (ltb o (length (layout (normalize (c .merge) p f ss))) || ltb max-answer-words (length (layout (normalize (c .merge) p f ss)))) (layout (normalize (c .merge) p f ss)) n (settled-told f ss e)
 
-  checked-told : (o k : ℕ) → NotRefused (checked o p k) → Told set (checked o p k) δ ε
+  checked-told : (o k : ℕ) → NotRefused (checked c o p k) → Told set (checked c o p k) δ ε
   unfolding checked
   checked-told o zero n = answered-told o (optimize p) refl n
   checked-told o (suc k) n = absurd (n (suc k) refl)
 
-read-told : (set : List ℤ) (o : ℕ) (q : Parsed Problem) → read-set set ≡ q → NotRefused (when-read o q) → (δ : Val) (ε : IVal) → within set ε ≡ true → Told set (when-read o q) δ ε
+read-told : (c : Choices) (set : List ℤ) (o : ℕ) (q : Parsed Problem) → read-set set ≡ q → NotRefused (when-read c o q) → (δ : Val) (ε : IVal) → within set ε ≡ true → Told set (when-read c o q) δ ε
 unfolding when-read within
-read-told set o (ok p r) e n δ ε h = checked-told set p r e δ ε (rw e at h) o (check p) n
-read-told set o (refuse k) e n δ ε h = absurd (n k refl)
+read-told c set o (ok p r) e n δ ε h = checked-told c set p r e δ ε (rw e at h) o (check p) n
+read-told c set o (refuse k) e n δ ε h = absurd (n k refl)
 
 -- a refusal that was not given
 passed-by : (t : Bool) (k : ℕ) (x : Result) → NotRefused (cond t (refused k) x) → (NotRefused x × (cond t (refused k) x ≡ x))
@@ -201,13 +206,21 @@ passed-by true k x n = absurd (n k refl)
 passed-by false k x n = (n, refl)
 
 pub demand-3 : Exact
-unfolding call
-demand-3 set o w n δ ε h =
-    let y : Result = when-read o (read-set set) in
+unfolding call-with
+demand-3 c set o w n δ ε h =
+    let y : Result = when-read c o (read-set set) in
     let x : Result = cond (ltb max-set-words (length set)) (refused 2) y in
     let a = passed-by (ltb w min-work-words) 1 x n in
-    let c = passed-by (ltb max-set-words (length set)) 2 y (a .0) in
-    rw (a .1 ∙ c .1) (read-told set o (read-set set) refl (c .0) δ ε h)
+    let b = passed-by (ltb max-set-words (length set)) 2 y (a .0) in
+    rw (a .1 ∙ b .1) (read-told c set o (read-set set) refl (b .0) δ ε h)
+
+-- the same assignments pass, whatever is chosen
+pub chosen-same : (c d : Choices) (set : List ℤ) (o w o' w' : ℕ) → NotRefused (call-with c set o w) → NotRefused (call-with d set o' w') → (δ : Val) (ε : IVal) → within set ε ≡ true
+    → Passed set (call-with c set o w) δ ε ↔ Passed set (call-with d set o' w') δ ε
+chosen-same c d set o w o' w' n k δ ε h =
+    let a = demand-3 c set o w n δ ε h in
+    let b = demand-3 d set o' w' k δ ε h in
+    (λ x. b .0 (a .1 x), λ x. a .0 (b .1 x))
 
 -- joined lists pass exactly when both do; Not of a rule, exactly when the rule fails; Or of rules, exactly when one passes
 pub demand-3-consequences : Consequences

@@ -1,4 +1,4 @@
--- For every log that grew from nothing there are values of the emitted numbers that fit it: the integers first, then the Booleans, each in the order of the log.
+-- For every log that grew from what merging left there are values of the emitted numbers that fit it: the integers first, then the Booleans, each in the order of the log.
 use mathlib.Core.Path.{_≡_, refl, sym, _∙_}
 use mathlib.Core.Bool.{Bool, true, false, cond}
 use mathlib.Core.List.{[], _∷_}
@@ -11,8 +11,8 @@ use Rattle.laws.specs.Lists.{all}
 use Rattle.syntax.specs.Syntax.{in-domain}
 use Rattle.syntax.specs.Satisfies.{Val, IVal, holds}
 use Rattle.sums.specs.LinearSum.{sum-value}
-use Rattle.clauses.specs.Clause.{clause-true}
-use Rattle.clauses.specs.Log.{declared, aux, side, declared-int, column, Log, next-bool, next-int}
+use Rattle.clauses.specs.Clause.{negate-if, clause-true}
+use Rattle.clauses.specs.Log.{declared, merged, aux, side, declared-int, column, Log, next-bool, next-int}
 use Rattle.clauses.specs.Bounds.{Same, clauses-same, holds-same, sum-same}
 use Rattle.clauses.specs.Valuation.{AgreesInts, Fits}
 use Rattle.clauses.specs.Grow.{Grows, same, grow}
@@ -48,6 +48,7 @@ module _ (ε : IVal) where
   pub ints-of : Log → IVal
   ints-of [] = λ n. pos 0
   ints-of (declared v ∷ s) = ints-of s
+  ints-of (merged v w g ∷ s) = ints-of s
   ints-of (aux cs ∷ s) = ints-of s
   ints-of (side e ∷ s) = ints-of s
   ints-of (declared-int v ∷ s) = with-value (ints-of s) (next-int s) (ε v)
@@ -57,6 +58,7 @@ module _ (ε : IVal) where
     abbrev FitsInts : Log → Type 0
     FitsInts [] = Unit {0}
     FitsInts (declared v ∷ s) = FitsInts s
+    FitsInts (merged v w g ∷ s) = FitsInts s
     FitsInts (aux cs ∷ s) = FitsInts s
     FitsInts (side e ∷ s) = FitsInts s
     FitsInts (declared-int v ∷ s) = (ι (next-int s) ≡ ε v) × FitsInts s
@@ -65,23 +67,42 @@ module _ (ε : IVal) where
     fits-agrees-ints : (s : Log) → FitsInts s → AgreesInts ε ι s
     fits-agrees-ints [] f = tt
     fits-agrees-ints (declared v ∷ s) f = fits-agrees-ints s f
+    fits-agrees-ints (merged v w g ∷ s) f = fits-agrees-ints s f
     fits-agrees-ints (aux cs ∷ s) f = fits-agrees-ints s f
     fits-agrees-ints (side e ∷ s) f = fits-agrees-ints s f
     fits-agrees-ints (declared-int v ∷ s) f = (f .0, fits-agrees-ints s (f .1))
     fits-agrees-ints (column l d ∷ s) f = (f .0 .1, fits-agrees-ints s (f .1))
 
-    ints-fit : {s : Log} → Grows ε [] s → Same (next-int s) (ints-of s) ι → FitsInts s
+    ints-fit : {s0 s : Log} → Grows ε s0 s → (Same (next-int s0) (ints-of s0) ι → FitsInts s0) → Same (next-int s) (ints-of s) ι → FitsInts s
     unfolding ints-of
-    ints-fit same h = tt
-    ints-fit (grow (declared v) l g) h = ints-fit g h
-    ints-fit (grow (aux cs) l g) h = ints-fit g h
-    ints-fit (grow (side e) l g) h = ints-fit g h
-    ints-fit (grow {t} (declared-int v) l g) h = (same-there (ints-of t) ι (next-int t) (ε v) h, ints-fit g (same-below (ints-of t) ι (next-int t) (ε v) h))
-    ints-fit (grow {t} (column x d) l g) h =
+    ints-fit same z h = z h
+    ints-fit (grow (declared v) l g) z h = ints-fit g z h
+    ints-fit (grow (merged v w q) l g) z h = absurd l
+    ints-fit (grow (aux cs) l g) z h = ints-fit g z h
+    ints-fit (grow (side e) l g) z h = ints-fit g z h
+    ints-fit (grow {t} (declared-int v) l g) z h = (same-there (ints-of t) ι (next-int t) (ε v) h, ints-fit g z (same-below (ints-of t) ι (next-int t) (ε v) h))
+    ints-fit (grow {t} (column x d) l g) z h =
         let below : Same (next-int t) (ints-of t) ι = same-below (ints-of t) ι (next-int t) (sum-value (ints-of t) x) h in
-        let f : FitsInts t = ints-fit g below in
+        let f : FitsInts t = ints-fit g z below in
         let e : ι (next-int t) ≡ sum-value ι x = same-there (ints-of t) ι (next-int t) (sum-value (ints-of t) x) h ∙ sum-same (next-int t) (ints-of t) ι below x (l .0) in
         ((e, rw e (l .1 ι (fits-agrees-ints t f))), f)
+
+    -- a log without integers
+    none-fit : (s : Log) → next-int s ≡ 0 → FitsInts s
+    none-fit [] h = tt
+    none-fit (declared v ∷ s) h = none-fit s h
+    none-fit (merged v w g ∷ s) h = none-fit s h
+    none-fit (aux cs ∷ s) h = none-fit s h
+    none-fit (side e ∷ s) h = none-fit s h
+    none-fit (declared-int v ∷ s) h = absurd (omega arith)
+    none-fit (column l d ∷ s) h = absurd (omega arith)
+
+  integers-fit : {s0 s : Log} → next-int s0 ≡ 0 → Grows ε s0 s → FitsInts (ints-of s) s
+  integers-fit {s0} {s} z g = ints-fit (ints-of s) g (λ h. none-fit (ints-of s) s0 z) (λ m h. refl)
+
+  -- whatever the Booleans' values
+  pub integers-exist : {s0 s : Log} → next-int s0 ≡ 0 → Grows ε s0 s → AgreesInts ε (ints-of s) s
+  integers-exist {s0} {s} z g = fits-agrees-ints (ints-of s) s (integers-fit z g)
 
 -- ---- Booleans: a declared one's value, a member's, a side's
 
@@ -89,25 +110,51 @@ module _ (δ : Val) (ε : IVal) (ι : IVal) where
   pub bools-of : Log → Val
   bools-of [] = λ n. false
   bools-of (declared v ∷ s) = with-value (bools-of s) (next-bool s) (δ v)
+  bools-of (merged v w g ∷ s) = bools-of s
   bools-of (aux cs ∷ s) = with-value (bools-of s) (next-bool s) (all (clause-true (bools-of s) ι) cs)
   bools-of (side e ∷ s) = with-value (bools-of s) (next-bool s) (holds δ ε (bools-of s) e)
   bools-of (declared-int v ∷ s) = bools-of s
   bools-of (column l d ∷ s) = bools-of s
 
   module _ (ρ : Val) where
-    bools-fit : {s : Log} → Grows ε [] s → Same (next-bool s) (bools-of s) ρ → FitsInts ε ι s → Fits δ ε ρ ι s
+    bools-fit : {s0 s : Log} → Grows ε s0 s → (Same (next-bool s0) (bools-of s0) ρ → FitsInts ε ι s0 → Fits δ ε ρ ι s0) → Same (next-bool s) (bools-of s) ρ → FitsInts ε ι s → Fits δ ε ρ ι s
     unfolding bools-of
-    bools-fit same h f = tt
-    bools-fit (grow {t} (declared v) l g) h f = (same-there (bools-of t) ρ (next-bool t) (δ v) h, bools-fit g (same-below (bools-of t) ρ (next-bool t) (δ v) h) f)
-    bools-fit (grow {t} (aux cs) l g) h f =
+    bools-fit same z h f = z h f
+    bools-fit (grow {t} (declared v) l g) z h f = (same-there (bools-of t) ρ (next-bool t) (δ v) h, bools-fit g z (same-below (bools-of t) ρ (next-bool t) (δ v) h) f)
+    bools-fit (grow (merged v w q) l g) z h f = absurd l
+    bools-fit (grow {t} (aux cs) l g) z h f =
         let below : Same (next-bool t) (bools-of t) ρ = same-below (bools-of t) ρ (next-bool t) (all (clause-true (bools-of t) ι) cs) h in
-        (same-there (bools-of t) ρ (next-bool t) (all (clause-true (bools-of t) ι) cs) h ∙ clauses-same (next-bool t) (bools-of t) ρ below ι cs l, bools-fit g below f)
-    bools-fit (grow {t} (side e) l g) h f =
+        (same-there (bools-of t) ρ (next-bool t) (all (clause-true (bools-of t) ι) cs) h ∙ clauses-same (next-bool t) (bools-of t) ρ below ι cs l, bools-fit g z below f)
+    bools-fit (grow {t} (side e) l g) z h f =
         let below : Same (next-bool t) (bools-of t) ρ = same-below (bools-of t) ρ (next-bool t) (holds δ ε (bools-of t) e) h in
-        (same-there (bools-of t) ρ (next-bool t) (holds δ ε (bools-of t) e) h ∙ holds-same (next-bool t) (bools-of t) ρ below δ ε e l, bools-fit g below f)
-    bools-fit (grow (declared-int v) l g) h f = (f .0, bools-fit g h (f .1))
-    bools-fit (grow (column x d) l g) h f = (f .0, bools-fit g h (f .1))
+        (same-there (bools-of t) ρ (next-bool t) (holds δ ε (bools-of t) e) h ∙ holds-same (next-bool t) (bools-of t) ρ below δ ε e l, bools-fit g z below f)
+    bools-fit (grow (declared-int v) l g) z h f = (f .0, bools-fit g z h (f .1))
+    bools-fit (grow (column x d) l g) z h f = (f .0, bools-fit g z h (f .1))
 
--- the assignment's values of the emitted numbers
-pub fitting-exists : (δ : Val) (ε : IVal) {s : Log} → Grows ε [] s → Fits δ ε (bools-of δ ε (ints-of ε s) s) (ints-of ε s) s
-fitting-exists δ ε {s} g = bools-fit δ ε (ints-of ε s) (bools-of δ ε (ints-of ε s) s) g (λ m h. refl) (ints-fit ε (ints-of ε s) g (λ m h. refl))
+-- ---- the log of merging alone: declared variables and ties that the assignment keeps
+
+abbrev pub TiesHold : Val → Log → Type 0
+TiesHold δ [] = Unit {0}
+TiesHold δ (declared v ∷ s) = TiesHold δ s
+TiesHold δ (merged v w g ∷ s) = (δ v ≡ negate-if g (δ w)) × TiesHold δ s
+TiesHold δ (aux cs ∷ s) = ⊥
+TiesHold δ (side e ∷ s) = ⊥
+TiesHold δ (declared-int v ∷ s) = ⊥
+TiesHold δ (column l d ∷ s) = ⊥
+
+module _ (δ : Val) (ε : IVal) (ι : IVal) where
+  ties-fit : (ρ : Val) (s : Log) → TiesHold δ s → Same (next-bool s) (bools-of δ ε ι s) ρ → Fits δ ε ρ ι s
+  unfolding bools-of
+  ties-fit ρ [] h k = tt
+  ties-fit ρ (declared v ∷ s) h k = (same-there (bools-of δ ε ι s) ρ (next-bool s) (δ v) k, ties-fit ρ s h (same-below (bools-of δ ε ι s) ρ (next-bool s) (δ v) k))
+  ties-fit ρ (merged v w g ∷ s) h k = (h .0, ties-fit ρ s (h .1) k)
+  ties-fit ρ (aux cs ∷ s) h k = absurd h
+  ties-fit ρ (side e ∷ s) h k = absurd h
+  ties-fit ρ (declared-int v ∷ s) h k = absurd h
+  ties-fit ρ (column l d ∷ s) h k = absurd h
+
+-- the assignment's values of the emitted numbers; s0: what merging left
+pub fitting-exists : (δ : Val) (ε : IVal) {s0 s : Log} → next-int s0 ≡ 0 → TiesHold δ s0 → Grows ε s0 s → Fits δ ε (bools-of δ ε (ints-of ε s) s) (ints-of ε s) s
+fitting-exists δ ε {s0} {s} z t g =
+    let ι : IVal = ints-of ε s in
+    bools-fit δ ε ι (bools-of δ ε ι s) g (λ h f. ties-fit δ ε ι (bools-of δ ε ι s) s0 t h) (λ m h. refl) (integers-fit ε z g)

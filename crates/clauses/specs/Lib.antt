@@ -13,3 +13,4 @@ pub mod NormalizeMeaning
 pub mod SplitMeaning
 pub mod RuleMeaning
 pub mod Exist
+pub mod Merge

@@ -7,7 +7,7 @@ use Rattle.laws.specs.Lists.{flat}
 use Rattle.syntax.specs.Syntax.{CmpOp, Eq, Ne, Le, Lt, Ge, Gt, IntExpr, IConst, IVar, Linear, Terms, tnil, tmore, BoolExpr, Const, Var, NVar, And, Or, Not, Xor, Iff, Imp, Cmp, Members, none, more}
 use Rattle.sums.specs.LinearSum.{LinearSum, constant, singleton, add-sum, mul-sum, sub-sum}
 use Rattle.clauses.specs.Clause.{negate-if, Clause, lit, linear, clause}
-use Rattle.clauses.specs.Log.{Log, convert-bool-var, convert-int-var}
+use Rattle.clauses.specs.Log.{Log, negate-lit, convert-bool-var, convert-int-var}
 use Rattle.clauses.specs.Disjunction.{Out, Outs, normalize-disjunction}
 
 -- ---- normalize_int_expr
@@ -75,7 +75,7 @@ abbrev pub lit-clauses : ℕ → Bool → List Clause
 lit-clauses n g = clause (lit n g ∷ []) [] ∷ []
 
 unfoldable pub normalize-var : ℕ → Bool → Run
-normalize-var v g s = let d = convert-bool-var v s in (lit-clauses (d .0) g, d .1)
+normalize-var v g s = let d = convert-bool-var v s in (clause (negate-lit g (d .0) ∷ []) [] ∷ [], d .1)
 
 abbrev pub negate-op : CmpOp → CmpOp
 negate-op Eq = Ne

@@ -1,5 +1,5 @@
 -- The sum of an integer expression has the expression's value; the clauses of a Boolean expression, in either polarity, mean the expression.
-use mathlib.Core.Path.{_≡_, refl, sym, _∙_}
+use mathlib.Core.Path.{_≡_, refl, sym, ap, _∙_}
 use mathlib.Core.Bool.{Bool, true, false, not, _&&_, _||_, Bool·beq, Bool·not-not as not-not}
 use mathlib.Core.Option.{Option, none as nothing, some}
 use mathlib.Core.List.{[], _∷_, _++_}
@@ -12,8 +12,8 @@ use Rattle.syntax.specs.Syntax.{CmpOp, Eq, Ne, Le, Lt, Ge, Gt, IntExpr, IConst,
 use Rattle.syntax.specs.Satisfies.{Val, IVal, compare, int-value, terms-value, holds, holds-all, holds-any}
 use Rattle.sums.specs.LinearSum.{LinearSum, constant, singleton, add-sum, mul-sum, sub-sum, sum-value}
 use Rattle.sums.specs.Value.{constant-value, singleton-value, add-sum-value, mul-sum-value, compare-sum}
-use Rattle.clauses.specs.Clause.{negate-if, linear, clause}
-use Rattle.clauses.specs.Log.{declared, declared-int, Log, next-bool, next-int, get-bool-var, get-int-var, bool-var-at, int-var-at, convert-bool-var, convert-int-var}
+use Rattle.clauses.specs.Clause.{lit, BoolLit, negate-if, linear, clause}
+use Rattle.clauses.specs.Log.{negate-lit, declared, declared-int, Log, next-bool, next-int, get-bool-var, get-int-var, bool-var-at, int-var-at, convert-bool-var, convert-int-var}
 use Rattle.clauses.specs.Disjunction.{Out, Outs, normalize-disjunction}
 use Rattle.clauses.specs.Normalize.{IntOut, normalize-int-var, normalize-term, normalize-int-expr, normalize-terms, Run, Runs, no-run, run-then, two, normalize-conjunction, disjunction-of, cross, const-clauses, lit-clauses, normalize-var, negate-op-if, normalize-comparison, normalize-bool-expr, normalize-members}
 use Rattle.clauses.specs.Bounds.{expr-bound, members-bound, sum-bound, add-sum-bound, mul-sum-bound, sub-sum-bound}
@@ -135,9 +135,25 @@ module _ (δ : Val) (ε : IVal) (ρ : Val) (ι : IVal) where
     complete = λ f h. rw (one-lit (negate-if g (ρ n)), e (fits-agrees δ ε ρ ι t f)) h;
   }
 
-  var-at-means : (s : Log) (v : ℕ) (g : Bool) (w : Option ℕ) → get-bool-var v s ≡ w → M s (lit-clauses (bool-var-at w v s .0) g, bool-var-at w v s .1) (negate-if g (δ v))
-  var-at-means s v g (some n) e = lit-means s s n g (δ v) same (get-bool-below s v n e) (λ r. agrees-bool δ ρ s (r .bools) v n e)
-  var-at-means s v g nothing e = lit-means s (declared v ∷ s) (next-bool s) g (δ v) (grow (declared v) e same) (omega arith) (λ r. r .bools .0)
+  -- a negated literal under a sign
+  signs : (g h x y : Bool) → negate-if h x ≡ y → negate-if (negate-if g h) x ≡ negate-if g y
+  signs true true x y e = sym (not-not x) ∙ ap not e
+  signs true false x y e = ap not e
+  signs false h x y e = e
+
+  signed-means : (s : Log) (n : ℕ) (g h x : Bool) → n < next-bool s → (A s → negate-if h (ρ n) ≡ x) → M s (lit-clauses n (negate-if g h), s) (negate-if g x)
+  signed-means s n g h x hn e = record {
+    grows = same;
+    bounded = omega arith;
+    numbered = omega arith;
+    sound = λ r k. sym (signs g h (ρ n) x (e r)) ∙ (rw (one-lit (negate-if (negate-if g h) (ρ n))) at k);
+    complete = λ f k. rw (one-lit (negate-if (negate-if g h) (ρ n))) (signs g h (ρ n) x (e (fits-agrees δ ε ρ ι s f)) ∙ k);
+  }
+
+  var-at-means : (s : Log) (v : ℕ) (g : Bool) (w : Option BoolLit) → get-bool-var v s ≡ w → M s (clause (negate-lit g (bool-var-at w v s .0) ∷ []) [] ∷ [], bool-var-at w v s .1) (negate-if g (δ v))
+  var-at-means s v g (some (lit n h)) e = signed-means s n g h (δ v) (get-bool-below s v (lit n h) e) (λ r. agrees-bool δ ρ s (r .bools) v (lit n h) e)
+  var-at-means s v true nothing e = lit-means s (declared v ∷ s) (next-bool s) true (δ v) (grow (declared v) e same) (omega arith) (λ r. r .bools .0)
+  var-at-means s v false nothing e = lit-means s (declared v ∷ s) (next-bool s) false (δ v) (grow (declared v) e same) (omega arith) (λ r. r .bools .0)
 
   -- ---- runs, from every log that has the first k numbers
 

@@ -7,8 +7,8 @@ use Rattle.laws.specs.Lists.{all, any}
 use Rattle.syntax.specs.Syntax.{in-domain}
 use Rattle.syntax.specs.Satisfies.{Val, IVal, holds}
 use Rattle.sums.specs.LinearSum.{sum-value}
-use Rattle.clauses.specs.Clause.{Clause, clause-true}
-use Rattle.clauses.specs.Log.{declared, aux, side, declared-int, column, Log, next-bool, next-int}
+use Rattle.clauses.specs.Clause.{negate-if, Clause, clause-true}
+use Rattle.clauses.specs.Log.{declared, merged, aux, side, declared-int, column, Log, next-bool, next-int}
 
 module _ (ρ : Val) (ι : IVal) where
   abbrev pub all-true : List Clause → Bool
@@ -26,6 +26,7 @@ module _ (δ : Val) (ρ : Val) where
   abbrev pub AgreesBools : Log → Type 0
   AgreesBools [] = Unit {0}
   AgreesBools (declared v ∷ s) = (ρ (next-bool s) ≡ δ v) × AgreesBools s
+  AgreesBools (merged v w g ∷ s) = (δ v ≡ negate-if g (δ w)) × AgreesBools s
   AgreesBools (aux cs ∷ s) = AgreesBools s
   AgreesBools (side e ∷ s) = AgreesBools s
   AgreesBools (declared-int v ∷ s) = AgreesBools s
@@ -36,6 +37,7 @@ module _ (ε : IVal) (ι : IVal) where
   abbrev pub AgreesInts : Log → Type 0
   AgreesInts [] = Unit {0}
   AgreesInts (declared v ∷ s) = AgreesInts s
+  AgreesInts (merged v w g ∷ s) = AgreesInts s
   AgreesInts (aux cs ∷ s) = AgreesInts s
   AgreesInts (side e ∷ s) = AgreesInts s
   AgreesInts (declared-int v ∷ s) = (ι (next-int s) ≡ ε v) × AgreesInts s
@@ -50,6 +52,7 @@ module _ (δ : Val) (ε : IVal) (ρ : Val) (ι : IVal) where
   abbrev pub Fits : Log → Type 0
   Fits [] = Unit {0}
   Fits (declared v ∷ s) = (ρ (next-bool s) ≡ δ v) × Fits s
+  Fits (merged v w g ∷ s) = (δ v ≡ negate-if g (δ w)) × Fits s
   Fits (aux cs ∷ s) = (ρ (next-bool s) ≡ all (clause-true ρ ι) cs) × Fits s
   Fits (side e ∷ s) = (ρ (next-bool s) ≡ holds δ ε ρ e) × Fits s
   Fits (declared-int v ∷ s) = (ι (next-int s) ≡ ε v) × Fits s
@@ -58,6 +61,7 @@ module _ (δ : Val) (ε : IVal) (ρ : Val) (ι : IVal) where
   fits-bools : (s : Log) → Fits s → AgreesBools δ ρ s
   fits-bools [] f = tt
   fits-bools (declared v ∷ s) f = (f .0, fits-bools s (f .1))
+  fits-bools (merged v w g ∷ s) f = (f .0, fits-bools s (f .1))
   fits-bools (aux cs ∷ s) f = fits-bools s (f .1)
   fits-bools (side e ∷ s) f = fits-bools s (f .1)
   fits-bools (declared-int v ∷ s) f = fits-bools s (f .1)
@@ -66,6 +70,7 @@ module _ (δ : Val) (ε : IVal) (ρ : Val) (ι : IVal) where
   fits-ints : (s : Log) → Fits s → AgreesInts ε ι s
   fits-ints [] f = tt
   fits-ints (declared v ∷ s) f = fits-ints s (f .1)
+  fits-ints (merged v w g ∷ s) f = fits-ints s (f .1)
   fits-ints (aux cs ∷ s) f = fits-ints s (f .1)
   fits-ints (side e ∷ s) f = fits-ints s (f .1)
   fits-ints (declared-int v ∷ s) f = (f .0, fits-ints s (f .1))

@@ -10,12 +10,12 @@ use Rattle.syntax.specs.Satisfies.{Val, IVal, stmt-holds}
 use Rattle.syntax.specs.Written.{EveryStmts}
 use Rattle.words.specs.Exact.{Each}
 use Rattle.clauses.specs.Clause.{Clause, clause-true}
-use Rattle.clauses.specs.Log.{Log}
+use Rattle.clauses.specs.Log.{Log, next-int}
 use Rattle.clauses.specs.Disjunction.{Out}
 use Rattle.clauses.specs.Valuation.{Agrees, Fits, fits-agrees}
 use Rattle.clauses.specs.Grow.{Grows, agrees-back, fits-back}
 use Rattle.clauses.specs.Means.{Means}
-use Rattle.clauses.specs.Exist.{ints-of, bools-of, fitting-exists}
+use Rattle.clauses.specs.Exist.{TiesHold, ints-of, bools-of, fitting-exists}
 use Rattle.tables.specs.ColumnMeaning.{WithinDomain}
 use Rattle.answer.specs.Answer.{normalize-stmt, normalize-stmts}
 use Rattle.call.specs.WellRead.{Plain}
@@ -60,8 +60,9 @@ module _ (δ : Val) (ε : IVal) (ds : List Domain) where
         from-here ts (a .1) whole ρ ι (p .1) (k .1) e f,
       )
 
-  pub each-exact : (ts : List Stmt) → Each Plain ts → EveryStmts (λ v. Unit {0}) (WithinDomain ds ε) ts → EachExact δ ε (normalize-stmts ds ts [] .1) ts (clauses-each ds ts [])
-  each-exact ts p k =
-      let whole : Log = normalize-stmts ds ts [] .1 in
+  -- s: the log from which clauses are made; the assignment keeps its ties
+  pub each-exact : (ts : List Stmt) (s : Log) → Each Plain ts → EveryStmts (λ v. Unit {0}) (WithinDomain ds ε) ts → next-int s ≡ 0 → TiesHold δ s → EachExact δ ε (normalize-stmts ds ts s .1) ts (clauses-each ds ts s)
+  each-exact ts s p k z t =
+      let whole : Log = normalize-stmts ds ts s .1 in
       let ι : IVal = ints-of ε whole in
-      from-here ts [] whole (bools-of δ ε ι whole) ι p k refl (fitting-exists δ ε (stmts-mean δ ε (λ n. false) ε ds ts [] p k .grows))
+      from-here ts s whole (bools-of δ ε ι whole) ι p k refl (fitting-exists δ ε z t (stmts-mean δ ε (λ n. false) ε ds ts s p k .grows))

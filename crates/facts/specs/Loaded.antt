@@ -5,7 +5,7 @@ use mathlib.Core.Option.{Option, none as nothing, some}
 use mathlib.Core.List.{List, [], _∷_, _++_, map, append-assoc, append-nil}
 use Prim.Native.Nat.{ℕ, zero, suc, _+_, _≤_, _<_, zero-le}
 use native.Mathlib.Omega.{arith}
-use lib.IntN.{ℤ, pos, negℤ, _-ℤ_, +ℤ-invr}
+use lib.IntN.{ℤ, pos, negℤ, _-ℤ_, +ℤ-invr, natAbs}
 use lib.Signed.{leZ}
 use lib.Dec.{leb, ltb, eqb·suc-zero}
 use lib.ListN.{length, getD, length-map}
@@ -31,15 +31,16 @@ use Rattle.clauses.specs.Clause.{BoolLit, lit, LinearLit, linear, Clause, claus
 use Rattle.clauses.specs.Log.{Log, next-bool, get-bool-var, get-int-var}
 use Rattle.clauses.specs.Disjunction.{Out}
 use Rattle.clauses.specs.Bounds.{lits-bound, clauses-bound, terms-bound, linears-bound, ints-bound}
-use Rattle.clauses.specs.Valuation.{fits-agrees}
-use Rattle.clauses.specs.Grow.{get-bool-below, get-int-below}
-use Rattle.clauses.specs.Exist.{ints-of, bools-of, fitting-exists}
+use Rattle.clauses.specs.Grow.{number-of, get-bool-below, get-int-below}
+use Rattle.clauses.specs.Exist.{ints-of, bools-of, integers-exist}
 use Rattle.tables.specs.Tables.{emitted-domains}
 use Rattle.tables.specs.Emitted.{length-emitted}
-use Rattle.answer.specs.Answer.{answer-of, normalize, normalize-stmts, layout, fixed-word, map-word, domain-words, lit-words, term-words, linear-words, clause-words}
+use Rattle.answer.specs.Answer.{answer-of, bool-word, start-log, normalize, normalize-stmts, layout, fixed-word, map-word, domain-words, lit-words, term-words, linear-words, clause-words}
 use Rattle.answer.specs.Declared.{stmts-declared}
+use Rattle.answer.specs.Start.{start-ints, start-declared}
 use Rattle.answer.specs.Carried.{agrees-bounded}
-use Rattle.call.specs.Call.{Result, compiled, refused, measured, answered, checked, when-read, call}
+use Rattle.call.specs.Call.{Result, compiled, refused, measured, answered, checked, when-read, call-with}
+use Rattle.call.specs.declared.Choices.{Choices}
 use Rattle.call.specs.Claim.{of-set}
 use Rattle.call.specs.Demand.{domains-ordered, ss-declared, means, grown, inside-bounds}
 use Rattle.facts.specs.Proper.{ProperLinears, ProperClauses, stmts-proper}
@@ -64,6 +65,11 @@ fixed-fine nothing = refl
 map-fine : (k : ℕ) (o : Option ℕ) → ((n : ℕ) → o ≡ some n → n < k) → from-to 0 k (map-word o) ≡ true
 map-fine k (some n) h = and-i (leb 0 (suc n)) (leb (suc n) k) (le-leb 0 (suc n) zero-le) (le-leb (suc n) k (h n refl))
 map-fine k nothing h = and-i (leb 0 0) (leb 0 k) (le-leb 0 0 zero-le) (le-leb 0 k zero-le)
+
+map-literal-fine : (k : ℕ) (o : Option BoolLit) → ((l : BoolLit) → o ≡ some l → number-of l < k) → leb (natAbs (bool-word o)) k ≡ true
+map-literal-fine k (some (lit n false)) h = le-leb (suc n) k (h (lit n false) refl)
+map-literal-fine k (some (lit n true)) h = le-leb (suc n) k (h (lit n true) refl)
+map-literal-fine k nothing h = le-leb 0 k zero-le
 
 -- ---- records
 
@@ -144,7 +150,7 @@ lowest-in (Range low high) h = and-i (leZ low low) (leZ low high) (leZ-refl low)
 lowest-in (Enumerative []) h = never h
 lowest-in (Enumerative (x ∷ xs)) h = or-l (eqZ x x) (any (eqZ x) xs) (eqZ-refl x)
 
-module _ (p : Problem) (well : WellFormed p) (f : Fixed) (ss : List Stmt) (end : optimize p ≡ settled f ss) where
+module _ (m : Bool) (p : Problem) (well : WellFormed p) (f : Fixed) (ss : List Stmt) (end : optimize p ≡ settled f ss) where
   abbrev b : ℕ
   b = p .bools
 
@@ -152,7 +158,7 @@ module _ (p : Problem) (well : WellFormed p) (f : Fixed) (ss : List Stmt) (end :
   i = length (p .domains)
 
   abbrev out : Out
-  out = normalize-stmts (p .domains) ss []
+  out = normalize-stmts (p .domains) ss (start-log m ss)
 
   abbrev s : Log
   s = out .1
@@ -177,15 +183,16 @@ module _ (p : Problem) (well : WellFormed p) (f : Fixed) (ss : List Stmt) (end :
   records-sound : all sound-bounds (emitted-domains (p .domains) s) ≡ true
   records-sound = all-at (emitted-domains (p .domains) s) (λ j k.
       let d : Domain = domain-of (emitted-domains (p .domains) s) j in
-      let fits = fits-agrees δ ε ρ ι s (fitting-exists δ ε (grown p well f ss end δ ε inside)) in
-      let x = agrees-bounded (p .domains) b i ε ι (inside-bounds p well f ss end δ ε inside) s (stmts-declared b i (p .domains) ss (ss-declared p well f ss end δ ε inside) [] tt) (fits .ints) j (omega (arith, length-emitted (p .domains) s)) in
+      let known = ss-declared m p well f ss end δ ε inside in
+      let fits = integers-exist ε (start-ints m ss) (grown m p well f ss end δ ε inside) in
+      let x = agrees-bounded (p .domains) b i ε ι (inside-bounds m p well f ss end δ ε inside) s (stmts-declared b i (p .domains) ss known (start-log m ss) (start-declared b i m ss known)) fits j (omega (arith, length-emitted (p .domains) s)) in
       leZ-trans (lower-bound d) (ι j) (upper-bound d) (and-l (leZ (lower-bound d) (ι j)) _ x) (and-r (leZ (lower-bound d) (ι j)) _ x))
 
   abbrev fixed-part : List ℤ
   fixed-part = map fixed-word (map f (below b))
 
   abbrev bool-part : List ℤ
-  bool-part = map map-word (map (λ v. get-bool-var v s) (below b))
+  bool-part = map bool-word (map (λ v. get-bool-var v s) (below b))
 
   abbrev int-part : List ℤ
   int-part = map map-word (map (λ v. get-int-var v s) (below i))
@@ -206,7 +213,7 @@ module _ (p : Problem) (well : WellFormed p) (f : Fixed) (ss : List Stmt) (end :
   word-at : (k n : ℕ) → n ≡ b + (b + i) + k → getD (fixed-part ++ (bool-part ++ (int-part ++ rest))) n (pos 0) ≡ getD rest k (pos 0)
   word-at k n e =
       let x = part-length fixed-word f b in
-      let y = part-length map-word (λ v. get-bool-var v s) b in
+      let y = part-length bool-word (λ v. get-bool-var v s) b in
       let z = part-length map-word (λ v. get-int-var v s) i in
       word-behind fixed-part (bool-part ++ (int-part ++ rest)) (b + i + k) n (omega (arith, x))
       ∙ word-behind bool-part (int-part ++ rest) (i + k) (b + i + k) (omega (arith, y))
@@ -215,17 +222,17 @@ module _ (p : Problem) (well : WellFormed p) (f : Fixed) (ss : List Stmt) (end :
   tests-pass : loads-with b i (next-bool s) (length domains) (fixed-part ++ (bool-part ++ (int-part ++ rest))) ≡ true
   unfolding loads-with take-word take-counted
   tests-pass =
-      let m = means p well f ss end δ ε inside ρ ι in
+      let k = means m p well f ss end δ ε inside ρ ι in
       let t1 = below-take (from-to 0 2) fixed-word f (λ v. fixed-fine (f v)) b (bool-part ++ (int-part ++ rest)) in
-      let t2 = below-take (from-to 0 (next-bool s)) map-word (λ v. get-bool-var v s) (λ v. map-fine (next-bool s) (get-bool-var v s) (get-bool-below s v)) b (int-part ++ rest) in
+      let t2 = below-take (λ w. leb (natAbs w) (next-bool s)) bool-word (λ v. get-bool-var v s) (λ v. map-literal-fine (next-bool s) (get-bool-var v s) (get-bool-below s v)) b (int-part ++ rest) in
       let t3 = below-take (from-to 0 (length domains)) map-word (λ v. get-int-var v s) (λ v. map-fine (length domains) (get-int-var v s) (λ n e. omega (arith, get-int-below s v n e, length-emitted (p .domains) s))) i rest in
       let t4 : leb 0 (next-bool s) ≡ true = le-leb 0 (next-bool s) zero-le in
       let t5 = records-take domains clause-part records-sound in
       let t6 : take-times (take-clause (next-bool s) (length domains)) (length (out .0)) (flat (map clause-words (out .0))) ≡ some [] =
-      rw (append-nil (flat (map clause-words (out .0)))) at (clauses-take (next-bool s) (length domains) (out .0) [] (m .bounded) (stmts-proper (p .domains) ss []) (omega (arith, m .numbered, length-emitted (p .domains) s))) in
+      rw (append-nil (flat (map clause-words (out .0)))) at (clauses-take (next-bool s) (length domains) (out .0) [] (k .bounded) (stmts-proper (p .domains) ss (start-log m ss)) (omega (arith, k .numbered, length-emitted (p .domains) s))) in
       rw (t1, t2, t3, t4, t5, t6) refl
 
-  pub layout-loads : loads b i (layout (normalize p f ss)) ≡ true
+  pub layout-loads : loads b i (layout (normalize m p f ss)) ≡ true
   unfolding loads layout normalize answer-of
   layout-loads =
       let bools : getD (fixed-part ++ (bool-part ++ (int-part ++ rest))) (b + (b + i)) (pos 0) ≡ pos (next-bool s) = word-at 0 (b + (b + i)) (omega arith) in
@@ -242,16 +249,16 @@ given-on : {X : Type 0} (t : Bool) (k : ℕ) (x : Result) (ws : List ℤ) → co
 given-on true k x ws e go = not-compiled k ws e
 given-on false k x ws e go = go e
 
-module _ (p : Problem) (well : WellFormed p) where
-  answered-loads : (o : ℕ) (x : Outcome) (ws : List ℤ) → optimize p ≡ x → answered o p x ≡ compiled ws → loads (p .bools) (length (p .domains)) ws ≡ true
+module _ (c : Choices) (p : Problem) (well : WellFormed p) where
+  answered-loads : (o : ℕ) (x : Outcome) (ws : List ℤ) → optimize p ≡ x → answered c o p x ≡ compiled ws → loads (p .bools) (length (p .domains)) ws ≡ true
   unfolding answered measured
   answered-loads o inconsistent ws q e = let z : _≡_ {A = ℕ} 0 1 = cc in absurd (omega arith)
   answered-loads o (settled f ss) ws q e =
-      let made : List ℤ = layout (normalize p f ss) in
+      let made : List ℤ = layout (normalize (c .merge) p f ss) in
       given-on (ltb o (length made) || ltb max-answer-words (length made)) 12 (compiled made) ws e
-      (λ c. let z : made ≡ ws = cc in rw (← z) (layout-loads p well f ss q))
+      (λ a. let z : made ≡ ws = cc in rw (← z) (layout-loads (c .merge) p well f ss q))
 
-  checked-loads : (o k : ℕ) (ws : List ℤ) → checked o p k ≡ compiled ws → loads (p .bools) (length (p .domains)) ws ≡ true
+  checked-loads : (o k : ℕ) (ws : List ℤ) → checked c o p k ≡ compiled ws → loads (p .bools) (length (p .domains)) ws ≡ true
   unfolding checked
   checked-loads o zero ws e = answered-loads o (optimize p) ws refl e
   checked-loads o (suc k) ws e = not-compiled (suc k) ws e
@@ -263,13 +270,13 @@ bools-of-set set = of-set 0 (λ p. p .bools) (read-set set)
 abbrev pub ints-of-set : List ℤ → ℕ
 ints-of-set set = of-set 0 (λ p. length (p .domains)) (read-set set)
 
-read-loads : (set : List ℤ) (o : ℕ) (q : Parsed Problem) (ws : List ℤ) → read-set set ≡ q → when-read o q ≡ compiled ws → loads (of-set 0 (λ p. p .bools) q) (of-set 0 (λ p. length (p .domains)) q) ws ≡ true
+read-loads : (c : Choices) (set : List ℤ) (o : ℕ) (q : Parsed Problem) (ws : List ℤ) → read-set set ≡ q → when-read c o q ≡ compiled ws → loads (of-set 0 (λ p. p .bools) q) (of-set 0 (λ p. length (p .domains)) q) ws ≡ true
 unfolding when-read
-read-loads set o (ok p r) ws q e = checked-loads p (set-sound set p r q .1) o (check p) ws e
-read-loads set o (refuse k) ws q e = not-compiled k ws e
+read-loads c set o (ok p r) ws q e = checked-loads c p (set-sound set p r q .1) o (check p) ws e
+read-loads c set o (refuse k) ws q e = not-compiled k ws e
 
-pub answer-loads : (set : List ℤ) (out-length work-length : ℕ) (ws : List ℤ) → call set out-length work-length ≡ compiled ws → loads (bools-of-set set) (ints-of-set set) ws ≡ true
-unfolding call
-answer-loads set o w ws e =
+pub answer-loads : (c : Choices) (set : List ℤ) (out-length work-length : ℕ) (ws : List ℤ) → call-with c set out-length work-length ≡ compiled ws → loads (bools-of-set set) (ints-of-set set) ws ≡ true
+unfolding call-with
+answer-loads c set o w ws e =
     given-on (ltb w min-work-words) 1 _ ws e
-    (λ c. given-on (ltb max-set-words (length set)) 2 (when-read o (read-set set)) ws c (λ d. read-loads set o (read-set set) ws refl d))
+    (λ a. given-on (ltb max-set-words (length set)) 2 (when-read c o (read-set set)) ws a (λ d. read-loads c set o (read-set set) ws refl d))

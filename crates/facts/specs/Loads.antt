@@ -72,9 +72,9 @@ at-end (some (w ∷ ws)) = false
 -- b, i: how many variables are declared; bools, ints: how many are emitted
 unfoldable pub loads-with : ℕ → ℕ → ℕ → ℕ → List ℤ → Bool
 loads-with b i bools ints ws =
-    -- fixed values; numbers plus 1, or 0
+    -- fixed values; literals or 0; numbers plus 1, or 0
     at-end (then-take (take-times (take-word (from-to 0 2)) b ws) (λ (r : List ℤ).
-    then-take (take-times (take-word (from-to 0 bools)) b r) (λ (r : List ℤ).
+    then-take (take-times (take-word (λ w. leb (natAbs w) bools)) b r) (λ (r : List ℤ).
     then-take (take-times (take-word (from-to 0 ints)) i r) (λ (r : List ℤ).
     -- the count of emitted Booleans, the records of emitted integers, the clauses, and nothing else
     then-take (take-word (leZ (pos 0)) r) (λ (r : List ℤ).

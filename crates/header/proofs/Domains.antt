@@ -71,8 +71,8 @@ module _ {set w : List ℤ} {n : ℕ} (x : SomeEmits set w n) where
   pub put-done : {out a b out' : List ℤ} {o p q r : ℕ} {low high size y z k : ℤ} → y ≡ low → z ≡ high → k ≡ size → EmittedDomain set w n low high size → length out ≤ cap
       → Wrote out o (y ∷ []) a p → Wrote a p (z ∷ []) b q → Wrote b q (k ∷ []) out' r → Put set w n out o (stored w n y z pair-room) out' r
   put-done {out} {a} {b} {out'} {o} {p} {q} {r} {low} {high} {size} {y} {z} {k} i j m d l u v t = record {
-    wrote = λ p f ss c e. let h = d p f ss c e in three-words (domain-of (emitted p ss) n) l (record { low-is = i ∙ h .low-is; high-is = j ∙ h .high-is; size-is = m ∙ h .size-is }) u v t;
-    pairs = λ p f ss c e. let h = d p f ss c e in stored-pairs w n y z pair-room (emitted p ss) (i ∙ h .low-is) (j ∙ h .high-is) (e .pairs);
+    wrote = λ merge p f ss c e. let h = d merge p f ss c e in three-words (domain-of (emitted merge p ss) n) l (record { low-is = i ∙ h .low-is; high-is = j ∙ h .high-is; size-is = m ∙ h .size-is }) u v t;
+    pairs = λ merge p f ss c e. let h = d merge p f ss c e in stored-pairs w n y z pair-room (emitted merge p ss) (i ∙ h .low-is) (j ∙ h .high-is) (e .pairs);
     below = stored-below w n y z pair-room;
     above = λ k g. other w n y z pair-room k (λ e. omega arith) (λ e. omega arith);
     size = stored-size w n y z pair-room;
@@ -89,8 +89,8 @@ pub record Going (set w₀ : List ℤ) (count : ℕ) (out₀ : List ℤ) (o : �
   pub above : (k : ℕ) → free-from + 2 * n ≤ k → getD w k (pos 0) ≡ getD w₀ k (pos 0)
   pub size : length w ≡ length w₀
   pub size-out : length out ≡ length out₀
-  pub pairs : (p : Problem) (f : Fixed) (ss : List Stmt) (c : Counters) → set ≡ encode p → NumberedSet p f ss w₀ c → count ≡ c .ints → Pairs (emitted p ss) w n
-  pub wrote : (p : Problem) (f : Fixed) (ss : List Stmt) (c : Counters) → set ≡ encode p → NumberedSet p f ss w₀ c → count ≡ c .ints → Wrote out₀ o (flat (map domain-words (take n (emitted p ss)))) out at
+  pub pairs : (merge : Bool) (p : Problem) (f : Fixed) (ss : List Stmt) (c : Counters) → set ≡ encode p → NumberedSet merge p f ss w₀ c → count ≡ c .ints → Pairs (emitted merge p ss) w n
+  pub wrote : (merge : Bool) (p : Problem) (f : Fixed) (ss : List Stmt) (c : Counters) → set ≡ encode p → NumberedSet merge p f ss w₀ c → count ≡ c .ints → Wrote out₀ o (flat (map domain-words (take n (emitted merge p ss)))) out at
 
 pub going-start : {set w : List ℤ} {count : ℕ} {out : List ℤ} {o : ℕ} → SomeNumbered set w count → Open out o → Going set w count out o w out 0 o
 going-start {set} {w} {count} {out} {o} s h = record {
@@ -102,18 +102,18 @@ going-start {set} {w} {count} {out} {o} s h = record {
   above = λ k h. refl;
   size = refl;
   size-out = refl;
-  pairs = λ p f ss c e r a k l. absurd (omega arith);
-  wrote = λ p f ss c e r a. wrote-none out o (h .low);
+  pairs = λ merge p f ss c e r a k l. absurd (omega arith);
+  wrote = λ merge p f ss c e r a. wrote-none out o (h .low);
 }
 
 module _ {set w₀ : List ℤ} {count : ℕ} {out₀ : List ℤ} {o : ℕ} {w out : List ℤ} {n at : ℕ} (g : Going set w₀ count out₀ o w out n at) where
-  emits : n < count → (p : Problem) (f : Fixed) (ss : List Stmt) (c : Counters) → set ≡ encode p → NumberedSet p f ss w₀ c → count ≡ c .ints → Emits set w n p f ss c
-  emits l p f ss c e r a = record { words = e; ready = ready-keeps (g .below) (g .size) r; below = omega (arith, a); pairs = g .pairs p f ss c e r a }
+  emits : n < count → (merge : Bool) (p : Problem) (f : Fixed) (ss : List Stmt) (c : Counters) → set ≡ encode p → NumberedSet merge p f ss w₀ c → count ≡ c .ints → Emits set w n merge p f ss c
+  emits l merge p f ss c e r a = record { words = e; ready = ready-keeps (g .below) (g .size) r; below = omega (arith, a); pairs = g .pairs merge p f ss c e r a }
 
   pub going-asks : n < count → SomeEmits set w n
   going-asks l =
       let s = g .some in
-      record { it = s .it; fixed = s .fixed; stmts = s .stmts; counters = s .counters; emits = emits l (s .it) (s .fixed) (s .stmts) (s .counters) (s .words) (s .ready) (s .all) }
+      record { merge = s .merge; it = s .it; fixed = s .fixed; stmts = s .stmts; counters = s .counters; emits = emits l (s .merge) (s .it) (s .fixed) (s .stmts) (s .counters) (s .words) (s .ready) (s .all) }
 
   next-words : (ds : List Domain) → n < length ds → flat (map domain-words (take n ds)) ++ domain-words (domain-of ds n) ≡ flat (map domain-words (take (n + 1) ds))
   next-words ds l =
@@ -125,8 +125,8 @@ module _ {set w₀ : List ℤ} {count : ℕ} {out₀ : List ℤ} {o : ℕ} {w ou
       go (d ∷ es) = ap (λ (l : List ℤ). lower-bound d ∷ upper-bound d ∷ num-candidates d ∷ l) (go es)
 
   -- the words of the set that is given
-  here : {w' out' : List ℤ} {at' : ℕ} → n < count → Put set w n out at w' out' at' → Wrote out at (domain-words (domain-of (emitted (g .some .it) (g .some .stmts)) n)) out' at'
-  here l x = let s = g .some in x .wrote (s .it) (s .fixed) (s .stmts) (s .counters) (emits l (s .it) (s .fixed) (s .stmts) (s .counters) (s .words) (s .ready) (s .all))
+  here : {w' out' : List ℤ} {at' : ℕ} → n < count → Put set w n out at w' out' at' → Wrote out at (domain-words (domain-of (emitted (g .some .merge) (g .some .it) (g .some .stmts)) n)) out' at'
+  here l x = let s = g .some in x .wrote (s .merge) (s .it) (s .fixed) (s .stmts) (s .counters) (emits l (s .merge) (s .it) (s .fixed) (s .stmts) (s .counters) (s .words) (s .ready) (s .all))
 
   pub going-next : {w' out' : List ℤ} {at' : ℕ} → n < count → Put set w n out at w' out' at' → Going set w₀ count out₀ o w' out' (n + 1) at'
   going-next {w'} {out'} {at'} l x = record {
@@ -138,18 +138,18 @@ module _ {set w₀ : List ℤ} {count : ℕ} {out₀ : List ℤ} {o : ℕ} {w ou
     above = λ k h. x .above k (omega arith) ∙ g .above k (omega arith);
     size = x .size ∙ g .size;
     size-out = wrote-length (here l x) ∙ g .size-out;
-    pairs = λ p f ss c e r a. x .pairs p f ss c (emits l p f ss c e r a);
-    wrote = λ p f ss c e r a.
-        let m : n < length (emitted p ss) = omega (arith, length-emitted (p .domains) (log-of p ss), r .numbered .ints, a) in
-        wrote-to (next-words (emitted p ss) m) (wrote-then (g .cap₀) (g .wrote p f ss c e r a) (x .wrote p f ss c (emits l p f ss c e r a)));
+    pairs = λ merge p f ss c e r a. x .pairs merge p f ss c (emits l merge p f ss c e r a);
+    wrote = λ merge p f ss c e r a.
+        let m : n < length (emitted merge p ss) = omega (arith, length-emitted (p .domains) (log-of merge p ss), r .numbered .ints, a) in
+        wrote-to (next-words (emitted merge p ss) m) (wrote-then (g .cap₀) (g .wrote merge p f ss c e r a) (x .wrote merge p f ss c (emits l merge p f ss c e r a)));
   }
 
   pub going-end : count ≤ n → PutAll set w₀ count out₀ o w out at
   going-end l = record {
-    wrote = λ p f ss c e r a.
-        let m : length (emitted p ss) ≤ n = omega (arith, length-emitted (p .domains) (log-of p ss), r .numbered .ints, a) in
-        wrote-to (ap (λ (ds : List Domain). flat (map domain-words ds)) (take-all n (emitted p ss) m)) (g .wrote p f ss c e r a);
-    pairs = λ p f ss c e r a k h. g .pairs p f ss c e r a k (omega arith);
+    wrote = λ merge p f ss c e r a.
+        let m : length (emitted merge p ss) ≤ n = omega (arith, length-emitted (p .domains) (log-of merge p ss), r .numbered .ints, a) in
+        wrote-to (ap (λ (ds : List Domain). flat (map domain-words ds)) (take-all n (emitted merge p ss) m)) (g .wrote merge p f ss c e r a);
+    pairs = λ merge p f ss c e r a k h. g .pairs merge p f ss c e r a k (omega arith);
     below = g .below;
     above = λ k h. g .above k (omega (arith, g .low));
     size = g .size;

@@ -1,6 +1,6 @@
 -- An emitted integer's record tells which domain it has: a declared variable's, or that of the column at its place.
 use mathlib.Core.Path.{_≡_, refl, sym, ap, _∙_, subst}
-use mathlib.Core.Bool.{true, false}
+use mathlib.Core.Bool.{Bool, true, false}
 use mathlib.Core.List.{List, [], _∷_}
 use Prim.Native.Nat.{ℕ, zero, suc, _+_, _*_, _≤_, _<_}
 use native.Mathlib.Omega.{arith}
@@ -103,22 +103,22 @@ module _ (z : ℤ) (f : SFits w32 z) (h : ltZ z (pos 0) ≡ true) (y : ℤ) (a :
 isDomain-to : {d e : Domain} {low high size : ℤ} → e ≡ d → IsDomain d low high size → IsDomain e low high size
 isDomain-to {d} {e} {low} {high} {size} q h = subst (λ (x : Domain). IsDomain x low high size) (sym q) h
 
-module _ {set w : List ℤ} {n : ℕ} {p : Problem} {f : Fixed} {ss : List Stmt} {c : Counters} (x : Emits set w n p f ss c) where
+module _ {set w : List ℤ} {n : ℕ} {merge : Bool} {p : Problem} {f : Fixed} {ss : List Stmt} {c : Counters} (x : Emits set w n merge p f ss c) where
   abbrev dom : ℕ → Domain
-  dom = domain-of (emitted p ss)
+  dom = domain-of (emitted merge p ss)
 
   abbrev word : ℤ
   word = getD w (emitted-ints + n) (pos 0)
 
   -- its record, and its pair of bounds, lie in the slice
   pub emits-few : 2 * n + 2 ≤ 4093
-  emits-few = omega (arith, x .below, x .ready .numbered .ints, settled-emitted (x .ready .set))
+  emits-few = omega (arith, x .below, x .ready .numbered .ints, settled-emitted merge (x .ready .set))
 
   pub emits-long : 16384 ≤ length w
   emits-long = x .ready .numbered .size
 
   abbrev ColumnOf : Type 0
-  ColumnOf = ColumnEntry (read-part w) (p .domains) (p .bools) (length (p .domains)) w (log-of p ss) n
+  ColumnOf = ColumnEntry (read-part w) (p .domains) (p .bools) (length (p .domains)) w (log-of merge p ss) n
 
   record DeclaredOf : Type 0 where
     pub index : ℕ
@@ -129,14 +129,14 @@ module _ {set w : List ℤ} {n : ℕ} {p : Problem} {f : Fixed} {ss : List Stmt}
   a-column : ltZ word (pos 0) ≡ true → ColumnOf
   a-column h = go (ready-entry (x .ready) n (x .below))
     where
-      go : Entry (read-part w) (p .domains) (p .bools) (length (p .domains)) w (log-of p ss) n → ColumnOf
+      go : Entry (read-part w) (p .domains) (p .bools) (length (p .domains)) w (log-of merge p ss) n → ColumnOf
       go (of-declared v e l d) = absurd (let q = ltb-true v 0 (sym (ap (λ (z : ℤ). ltZ z (pos 0)) e) ∙ h) in omega arith)
       go (of-column k) = k
 
   a-declared : ltZ word (pos 0) ≡ false → DeclaredOf
   a-declared h = go (ready-entry (x .ready) n (x .below))
     where
-      go : Entry (read-part w) (p .domains) (p .bools) (length (p .domains)) w (log-of p ss) n → DeclaredOf
+      go : Entry (read-part w) (p .domains) (p .bools) (length (p .domains)) w (log-of merge p ss) n → DeclaredOf
       go (of-declared v e l d) = record { index = v; word-is = e; below = l; domain = d }
       go (of-column k) = never (sym h ∙ ap (λ (z : ℤ). ltZ z (pos 0)) (k .word))
 

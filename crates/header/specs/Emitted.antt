@@ -1,7 +1,7 @@
 -- The emitted integers while the answer's header is written: their bounds are stored in the work slice, pair by pair, so that a column's
 -- bounds are worked out from those of the numbers before it.
 use mathlib.Core.Path.{_≡_}
-use mathlib.Core.Bool.{false}
+use mathlib.Core.Bool.{Bool, false}
 use mathlib.Core.List.{List, [], _∷_, _++_, map}
 use Prim.Native.Nat.{ℕ, zero, suc, _+_, _*_, _≤_, _<_}
 use lib.IntN.{ℤ, pos}
@@ -30,12 +30,17 @@ unfoldable pub naturals : List ℤ → ℕ → ℕ → List ℤ
 naturals w from zero = []
 naturals w from (suc n) = pos (nat (getD w from (pos 0))) ∷ naturals w (suc from) n
 
+-- n words from a place on, as they are
+unfoldable pub copied : List ℤ → ℕ → ℕ → List ℤ
+copied w from zero = []
+copied w from (suc n) = getD w from (pos 0) ∷ copied w (suc from) n
+
 -- the fixed values and the two maps
 abbrev pub maps-words : List ℤ → ℕ → ℕ → List ℤ
-maps-words w bools ints = naturals w 0 bools ++ (naturals w bool-map bools ++ naturals w int-map ints)
+maps-words w bools ints = copied w 0 bools ++ (copied w bool-map bools ++ naturals w int-map ints)
 
-abbrev pub emitted : Problem → List Stmt → List Domain
-emitted p ss = emitted-domains (p .domains) (log-of p ss)
+abbrev pub emitted : Bool → Problem → List Stmt → List Domain
+emitted merge p ss = emitted-domains (p .domains) (log-of merge p ss)
 
 -- lowest and highest value of the first n of these domains, from free-from on
 abbrev pub Pairs : List Domain → List ℤ → ℕ → Type 0
@@ -85,26 +90,27 @@ DeclaredDomain set v low high size = (ds : List Domain) → Domains set 2 ds →
 -- ---- one emitted integer
 
 -- the number n of some set, the bounds of those before it stored
-pub record Emits (set w : List ℤ) (n : ℕ) (p : Problem) (f : Fixed) (ss : List Stmt) (c : Counters) : Type 0 where
+pub record Emits (set w : List ℤ) (n : ℕ) (merge : Bool) (p : Problem) (f : Fixed) (ss : List Stmt) (c : Counters) : Type 0 where
   pub words : set ≡ encode p
-  pub ready : NumberedSet p f ss w c
+  pub ready : NumberedSet merge p f ss w c
   pub below : n < c .ints
-  pub pairs : Pairs (emitted p ss) w n
+  pub pairs : Pairs (emitted merge p ss) w n
 
 pub record SomeEmits (set w : List ℤ) (n : ℕ) : Type 0 where
+  pub merge : Bool
   pub it : Problem
   pub fixed : Fixed
   pub stmts : List Stmt
   pub counters : Counters
-  pub emits : Emits set w n it fixed stmts counters
+  pub emits : Emits set w n merge it fixed stmts counters
 
 abbrev pub EmittedDomain : List ℤ → List ℤ → ℕ → ℤ → ℤ → ℤ → Type 0
-EmittedDomain set w n low high size = (p : Problem) (f : Fixed) (ss : List Stmt) (c : Counters) → Emits set w n p f ss c → IsDomain (domain-of (emitted p ss) n) low high size
+EmittedDomain set w n low high size = (merge : Bool) (p : Problem) (f : Fixed) (ss : List Stmt) (c : Counters) → Emits set w n merge p f ss c → IsDomain (domain-of (emitted merge p ss) n) low high size
 
 -- its words are written and its bounds stored
 pub record Put (set w : List ℤ) (n : ℕ) (out : List ℤ) (o : ℕ) (w' out' : List ℤ) (o' : ℕ) : Type 0 where
-  pub wrote : (p : Problem) (f : Fixed) (ss : List Stmt) (c : Counters) → Emits set w n p f ss c → Wrote out o (domain-words (domain-of (emitted p ss) n)) out' o'
-  pub pairs : (p : Problem) (f : Fixed) (ss : List Stmt) (c : Counters) → Emits set w n p f ss c → Pairs (emitted p ss) w' (n + 1)
+  pub wrote : (merge : Bool) (p : Problem) (f : Fixed) (ss : List Stmt) (c : Counters) → Emits set w n merge p f ss c → Wrote out o (domain-words (domain-of (emitted merge p ss) n)) out' o'
+  pub pairs : (merge : Bool) (p : Problem) (f : Fixed) (ss : List Stmt) (c : Counters) → Emits set w n merge p f ss c → Pairs (emitted merge p ss) w' (n + 1)
   pub below : take free-from w' ≡ take free-from w
   pub above : (k : ℕ) → free-from + 2 * n + 2 ≤ k → getD w' k (pos 0) ≡ getD w k (pos 0)
   pub size : length w' ≡ length w
@@ -112,17 +118,18 @@ pub record Put (set w : List ℤ) (n : ℕ) (out : List ℤ) (o : ℕ) (w' out' 
 -- ---- all of them
 
 pub record SomeNumbered (set w : List ℤ) (count : ℕ) : Type 0 where
+  pub merge : Bool
   pub it : Problem
   pub fixed : Fixed
   pub stmts : List Stmt
   pub counters : Counters
   pub words : set ≡ encode it
-  pub ready : NumberedSet it fixed stmts w counters
+  pub ready : NumberedSet merge it fixed stmts w counters
   pub all : count ≡ counters .ints
 
 pub record PutAll (set w : List ℤ) (count : ℕ) (out : List ℤ) (o : ℕ) (w' out' : List ℤ) (o' : ℕ) : Type 0 where
-  pub wrote : (p : Problem) (f : Fixed) (ss : List Stmt) (c : Counters) → set ≡ encode p → NumberedSet p f ss w c → count ≡ c .ints → Wrote out o (flat (map domain-words (emitted p ss))) out' o'
-  pub pairs : (p : Problem) (f : Fixed) (ss : List Stmt) (c : Counters) → set ≡ encode p → NumberedSet p f ss w c → count ≡ c .ints → Pairs (emitted p ss) w' count
+  pub wrote : (merge : Bool) (p : Problem) (f : Fixed) (ss : List Stmt) (c : Counters) → set ≡ encode p → NumberedSet merge p f ss w c → count ≡ c .ints → Wrote out o (flat (map domain-words (emitted merge p ss))) out' o'
+  pub pairs : (merge : Bool) (p : Problem) (f : Fixed) (ss : List Stmt) (c : Counters) → set ≡ encode p → NumberedSet merge p f ss w c → count ≡ c .ints → Pairs (emitted merge p ss) w' count
   pub below : take free-from w' ≡ take free-from w
   pub above : (k : ℕ) → free-from + 2 * count ≤ k → getD w' k (pos 0) ≡ getD w k (pos 0)
   pub size : length w' ≡ length w

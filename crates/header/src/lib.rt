@@ -7,7 +7,7 @@ ghost use Rattle.laws.specs.Writes.{cap, Wrote};
 ghost use Rattle.walk.specs.Item.{nat};
 ghost use Rattle.output.specs.Suffix.{Open};
 ghost use Rattle.statements.specs.Stages.{SomeReady};
-ghost use Rattle.header.specs.Emitted.{naturals, maps-words, SomeColumn, ColumnDomain, SomeDeclared, DeclaredDomain, SomeEmits, EmittedDomain, Put, SomeNumbered, PutAll};
+ghost use Rattle.header.specs.Emitted.{naturals, copied, maps-words, SomeColumn, ColumnDomain, SomeDeclared, DeclaredDomain, SomeEmits, EmittedDomain, Put, SomeNumbered, PutAll};
 ghost use Rattle.header.specs.Headed.{Headed};
 use walk::Counters;
 
@@ -23,7 +23,24 @@ fn natural(work: &[i32], i: usize) -> i32
     w
 }
 
-// n of them from a place on.
+// n words of the work slice from a place on, as they are.
+fn copy_words(work: &[i32], from: usize, n: usize, out: &mut [i32], o: usize) -> usize
+    requires { ⌜ (from + n ≤ length (now work)) × Open (now out) o ⌝ }
+    ensures { λ r. ⌜ Wrote (now (out .entry)) o (copied (now (work .entry)) from n) (now (out .exit)) r ⌝ }
+{
+    let mut i = from;
+    let mut rest = n;
+    let mut p = o;
+    while rest != 0 {
+        let w = work[i];
+        p = output::put(out, p, w);
+        i += 1;
+        rest -= 1;
+    }
+    p
+}
+
+// The same, 0 for a negative one.
 fn put_words(work: &[i32], from: usize, n: usize, out: &mut [i32], o: usize) -> usize
     requires { ⌜ (from + n ≤ length (now work)) × Open (now out) o ⌝ }
     ensures { λ r. ⌜ Wrote (now (out .entry)) o (naturals (now (work .entry)) from n) (now (out .exit)) r ⌝ }
@@ -132,8 +149,8 @@ fn put_maps(work: &[i32], bools: usize, ints: usize, out: &mut [i32]) -> usize
     requires { ⌜ (bools ≤ 512) × (ints ≤ 256) × (5376 ≤ length (now work)) × (length (now out) ≤ cap) ⌝ }
     ensures { λ r. ⌜ Wrote (now (out .entry)) 0 (maps-words (now (work .entry)) bools ints) (now (out .exit)) r ⌝ }
 {
-    let a = put_words(work, 0, bools, out, 0);
-    let b = put_words(work, 4608, bools, out, a);
+    let a = copy_words(work, 0, bools, out, 0);
+    let b = copy_words(work, 4608, bools, out, a);
     put_words(work, 5120, ints, out, b)
 }
 

@@ -17,6 +17,7 @@ use survey::close_cross;
 use survey::close_disj;
 use survey::entry;
 use survey::fresh;
+use survey::literal;
 use survey::longer;
 use survey::node_at;
 use survey::single;
@@ -45,7 +46,7 @@ fn declare(work: &mut [i32], v: usize, c: Counters) -> Counters
     requires { ⌜ (v < 512) × ((c .bools ≤ limit) × (c .ints ≤ limit)) ⌝ }
     ensures { λ r. ⌜ Met (meet-bool v) (now (work .entry)) c (now (work .exit)) r ⌝ }
 {
-    if entry(work, 4608 + v) == 0 {
+    if literal(work, v) == 0 {
         let k = bump(c.bools, 1);
         store(work, 4608 + v, k);
         return Counters {

@@ -1,5 +1,5 @@
 -- Laws for the code of one statement: a rule or a table by its first word, its numbering and its end.
-use mathlib.Core.Path.{_≡_, refl, ap, _∙_}
+use mathlib.Core.Path.{_≡_, refl, sym, ap, _∙_}
 use mathlib.Core.Bool.{false}
 use mathlib.Core.List.{List}
 use Prim.Native.Nat.{ℕ, suc, _+_, _*_, _≤_, _<_}
@@ -10,16 +10,17 @@ use Rattle.laws.specs.Slices.{Has, has-fits, has-word, has-rest}
 use Rattle.syntax.specs.Syntax.{IntExpr, BoolExpr, encode-bool, Cell, Stmt, Rule, Table, encode-stmt}
 use Rattle.walk.specs.Tree.{splits}
 use Rattle.walk.specs.Resolve.{rule-trees}
-use Rattle.walk.specs.Item.{nat, State, walk-bools, mets, items}
-use Rattle.walk.specs.Decode.{word, read-part, Surveys}
+use Rattle.walk.specs.Item.{limit, nat, State, walk-bools, mets, items}
+use Rattle.walk.specs.Decode.{word, read-part}
 use Rattle.walk.specs.DecodeExact.{rule-stands}
-use Rattle.walk.specs.NumberingSteps.{state-of, Met, met-to, part-short}
+use Rattle.walk.specs.NumberingSteps.{state-of, Met, met-none, met-to, part-short}
 use Rattle.walk.specs.MeetTies.{meet-rule, meet-rule-is}
 use Rattle.walk.specs.declared.Counters.{Counters}
-use Rattle.walk.specs.declared.Surveyed.{Surveyed}
+use Rattle.survey.specs.Skip.{Skips}
 use Rattle.statements.specs.NumberColumns.{columns-end}
 use Rattle.statements.specs.Table.{meet-table}
 use Rattle.statements.specs.Statements.{meet-stmt}
+use Rattle.statements.specs.KnownTies.{KnownTie, known-stays}
 use Rattle.numbered.specs.Stands.{Stands, SomeStmt, SomeTable, StmtEnds, StmtMet, TableMet}
 use Rattle.numbered.proofs.Tables.{table-words, table-stop}
 
@@ -82,14 +83,23 @@ stmt-table-met w w' at k c r hk z x = record { met = go; size = x .size }
     go (Rule e) h = not-rule w at (c .bools) k hk e z h
     go (Table es rows) h = met-to (stmt-table at es rows (state-of w c)) (x .met es rows h)
 
+-- ---- a tie of variables that have literals
+
+pub known-met : (w : List ℤ) (at : ℕ) (c : Counters) → c .bools ≤ limit → c .ints ≤ limit → KnownTie (read-part w) w at → StmtMet w at c w c
+known-met w at c l i k = record { met = λ t h. met-to (go t h) (met-none w c l i); size = refl }
+  where
+    go : (t : Stmt) → Stands w at (c .bools) t → state-of w c ≡ meet-stmt at t (state-of w c)
+    go (Rule e) h = sym (known-stays (read-part w) at (state-of w c) l e (h .numerable .0) (h .words) (k .code) (k .sides))
+    go (Table es rows) h = not-table w at (c .bools) 1 (sym (k .rule)) es rows refl h
+
 -- ---- the end
 
-pub rule-ends : (w : List ℤ) (at k m : ℕ) (s : Surveyed) → k ≡ word (read-part w) at → k ≡ 1 → Surveys w 64 false false (at + 1) 0 m s → StmtEnds w at (s .at)
-rule-ends w at k m s hk z v (Rule e) h =
+pub rule-ends : (w : List ℤ) (at k q b : ℕ) → k ≡ word (read-part w) at → k ≡ 1 → Skips (read-part w) 64 false (at + 1) 0 q b → StmtEnds w at q
+rule-ends w at k q b hk z v (Rule e) h =
     let r = rule-stands e (read-part w) 64 (at + 1) 0 (h .numerable .0) (rule-words w at 0 e h) (h .numerable .1) in
     let l : length (encode-stmt (Rule e)) ≡ suc (length (encode-bool e)) = unfold encode-stmt in refl in
-    omega (arith, v .end, r .end, l)
-rule-ends w at k m s hk z v (Table es rows) h = not-table w at 0 k hk es rows z h
+    omega (arith, v .end false, r .end, l)
+rule-ends w at k q b hk z v (Table es rows) h = not-table w at 0 k hk es rows z h
 
 pub table-ends : (w : List ℤ) (at k n m p : ℕ) → k ≡ word (read-part w) at → (k ≡ 1 → ⊥) → n ≡ word (read-part w) (at + 1) → m ≡ word (read-part w) (at + 2) → p ≡ columns-end (read-part w) n (at + 3) → StmtEnds w at (p + m * n)
 table-ends w at k n m p hk z hn hm hp (Rule e) h = not-rule w at 0 k hk e z h

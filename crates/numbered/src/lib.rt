@@ -4,8 +4,10 @@ ghost use Prim.Native.Nat.{_+_, _*_, _≤_};
 ghost use lib.ListN.{length};
 ghost use Rattle.walk.specs.Item.{limit};
 ghost use Rattle.walk.specs.Decode.{read-part};
+ghost use mathlib.Core.Bool.{true};
 ghost use Rattle.statements.specs.NumberColumns.{columns-end};
-ghost use Rattle.statements.specs.Stages.{SomeFolded};
+ghost use Rattle.statements.specs.KnownTies.{KnownSides, KnownTie};
+ghost use Rattle.statements.specs.Stages.{SomeStarted};
 ghost use Rattle.numbered.specs.Fresh.{Freshens};
 ghost use Rattle.numbered.specs.Stands.{SomeStmt, SomeTable, StmtEnds, StmtMet, TableMet};
 ghost use Rattle.numbered.specs.Numbered.{NumberedAll};
@@ -57,11 +59,60 @@ fn number_table(work: &mut [i32], at: usize, c: Counters) -> Counters
     }
 }
 
+// Whether the two sides from a place on are variables that have literals.
+fn known_sides(work: &[i32], at: usize) -> bool
+    requires { ⌜ at ≤ 4610 ⌝ }
+    ensures { λ r. ⌜ (r ≡ true → KnownSides (read-part (now (work .entry))) (now (work .entry)) at) ⌝ }
+{
+    if survey::word(work, at) != 11 {
+        return false;
+    }
+    if survey::word(work, at + 2) != 11 {
+        return false;
+    }
+    let x = survey::word(work, at + 1);
+    if x >= 512 {
+        return false;
+    }
+    let y = survey::word(work, at + 3);
+    if y >= 512 {
+        return false;
+    }
+    if survey::literal(work, x) == 0 {
+        return false;
+    }
+    if survey::literal(work, y) == 0 {
+        return false;
+    }
+    true
+}
+
+// Whether the statement at a place ties two variables that have literals: then it takes no number.
+fn known_tie(work: &[i32], at: usize) -> bool
+    requires { ⌜ at ≤ 4608 ⌝ }
+    ensures { λ r. ⌜ (r ≡ true → KnownTie (read-part (now (work .entry))) (now (work .entry)) at) ⌝ }
+{
+    if survey::word(work, at) != 1 {
+        return false;
+    }
+    let code = survey::word(work, at + 1);
+    if code == 15 {
+        return known_sides(work, at + 2);
+    }
+    if code == 16 {
+        return known_sides(work, at + 2);
+    }
+    false
+}
+
 // The statement at a place.
 fn number_statement(work: &mut [i32], at: usize, c: Counters) -> Counters
     requires { ⌜ SomeStmt (now work) at (c .bools) × ((4608 ≤ length (now work)) × ((c .bools ≤ limit) × (c .ints ≤ limit))) ⌝ }
     ensures { λ r. ⌜ StmtMet (now (work .entry)) at c (now (work .exit)) r ⌝ }
 {
+    if known_tie(work, at) {
+        return c;
+    }
     if survey::word(work, at) == 1 {
         return number::number_rule(work, at + 1, c);
     }
@@ -69,12 +120,12 @@ fn number_statement(work: &mut [i32], at: usize, c: Counters) -> Counters
 }
 
 // Where the statement at a place ends.
-fn statement_end(work: &[i32], at: usize) -> usize
+pub fn statement_end(work: &[i32], at: usize) -> usize
     requires { ⌜ SomeStmt (now work) at 0 × (4608 ≤ length (now work)) ⌝ }
     ensures { λ r. ⌜ StmtEnds (now (work .entry)) at r ⌝ }
 {
     if survey::word(work, at) == 1 {
-        let s = survey::survey(work, at + 1, 64, false, 0, false, 0);
+        let s = survey::skip(work, at + 1, 64, false, 0);
         return s.at;
     }
     let n = survey::word(work, at + 1);
@@ -85,12 +136,13 @@ fn statement_end(work: &[i32], at: usize) -> usize
 }
 
 // All statements from 512 to `end`, in order: every emitted number, kept in the maps, the records and at the columns' places.
-pub fn number_statements(work: &mut [i32], end: usize) -> Counters
-    requires { ⌜ SomeFolded (now work) end ⌝ }
-    ensures { λ r. ⌜ NumberedAll (now (work .entry)) end (now (work .exit)) r ⌝ }
+// n: how many Booleans have one already.
+pub fn number_statements(work: &mut [i32], end: usize, n: usize) -> Counters
+    requires { ⌜ SomeStarted (now work) end n ⌝ }
+    ensures { λ r. ⌜ NumberedAll (now (work .entry)) end n (now (work .exit)) r ⌝ }
 {
     let mut q = 512;
-    let mut c = Counters { bools: 0, ints: 0 };
+    let mut c = Counters { bools: n, ints: 0 };
     while q < end {
         let next = statement_end(work, q);
         c = number_statement(work, q, c);

@@ -94,14 +94,14 @@ pub fn put_block(b: usize, k: usize, out: &mut [i32], o: usize) -> usize
     p
 }
 
-// The clause of one literal, whose number plus 1 is x.
-pub fn put_lit(x: usize, g: bool, s: Suffix, out: &mut [i32], o: usize) -> usize
+// The clause of one literal.
+pub fn put_lit(w: i32, s: Suffix, out: &mut [i32], o: usize) -> usize
     requires { ⌜ Stacked s 0 × Open (now out) o ⌝ }
-    ensures { λ r. ⌜ Wrote (now (out .entry)) o (clause-text (word-of x g ∷ []) (suffix s) 0 []) (now (out .exit)) r ⌝ }
+    ensures { λ r. ⌜ Wrote (now (out .entry)) o (clause-text (w ∷ []) (suffix s) 0 []) (now (out .exit)) r ⌝ }
 {
     let n = 64 - s.from;
     let a = put(out, o, word_of(n + 1, false));
-    let b = put(out, a, word_of(x, g));
+    let b = put(out, a, w);
     let c = put_suffix(s, out, b);
     put(out, c, 0)
 }

@@ -17,7 +17,8 @@ use Rattle.syntax.specs.Satisfies.{in-domains, satisfies}
 use Rattle.words.specs.Parse.{Parsed, ok, refuse}
 use Rattle.read.specs.Read.{read-set}
 use Rattle.limits.specs.Limits.{check}
-use Rattle.call.specs.Call.{Result, contradiction, refused, checked, when-read, call}
+use Rattle.call.specs.Call.{Result, contradiction, refused, checked, when-read, call-with}
+use Rattle.call.specs.declared.Choices.{Choices}
 use Rattle.call.specs.Claim.{of-set, within, satisfied as meets, Passed, NotRefused}
 use Rattle.call.specs.Demand.{demand-3}
 use Rattle.evaluate.specs.Roster.{bool-of, int-of, is-bit, right-count, all-inside, satisfied, refused as refuses, judged, rostered, unless-refused, when-read as judge-read, check-roster, judged-satisfied, satisfied-judged, Breaks, judged-breaks}
@@ -37,19 +38,19 @@ passed-by true k x n go = absurd (n k refl)
 passed-by false k x n go = go refl n
 
 -- what 2 to 11 let through
-module _ (set : List ℤ) (out-length work-length : ℕ) (n : NotRefused (call set out-length work-length)) where
+module _ (c : Choices) (set : List ℤ) (out-length work-length : ℕ) (n : NotRefused (call-with c set out-length work-length)) where
   unrefused : {X : Type 0} → ((p : Problem) (r : List ℤ) → ltb max-set-words (length set) ≡ false → read-set set ≡ ok p r → check p ≡ 0 → X) → X
-  unfolding call when-read checked
+  unfolding call-with when-read checked
   unrefused {X} go =
       passed-by (ltb work-length min-work-words) 1 _ n λ a n1.
       passed-by (ltb max-set-words (length set)) 2 _ n1 λ b n2.
       reads (read-set set) refl b n2
     where
-      limits : (p : Problem) (r : List ℤ) → ltb max-set-words (length set) ≡ false → read-set set ≡ ok p r → (k : ℕ) → check p ≡ k → NotRefused (checked out-length p k) → X
-      limits p r b e zero c n3 = go p r b e c
-      limits p r b e (suc k) c n3 = absurd (n3 (suc k) refl)
+      limits : (p : Problem) (r : List ℤ) → ltb max-set-words (length set) ≡ false → read-set set ≡ ok p r → (k : ℕ) → check p ≡ k → NotRefused (checked c out-length p k) → X
+      limits p r b e zero l n3 = go p r b e l
+      limits p r b e (suc k) l n3 = absurd (n3 (suc k) refl)
 
-      reads : (q : Parsed Problem) → read-set set ≡ q → ltb max-set-words (length set) ≡ false → NotRefused (when-read out-length q) → X
+      reads : (q : Parsed Problem) → read-set set ≡ q → ltb max-set-words (length set) ≡ false → NotRefused (when-read c out-length q) → X
       reads (refuse k) e b n3 = absurd (n3 k refl)
       reads (ok p r) e b n3 = limits p r b e (check p) refl n3
 
@@ -97,27 +98,27 @@ module _ (set values : List ℤ) (w : ℕ) (enough : ltb w min-work-words ≡ fa
 -- ---- the theorems
 
 -- yes: exactly to the rosters that pass the answer
-pub yes-passes : (set values : List ℤ) (out-length work-length w : ℕ) → ltb w min-work-words ≡ false → NotRefused (call set out-length work-length)
-    → (check-roster set values w ≡ satisfied) ↔ ((is-roster set values ≡ true) × Passed set (call set out-length work-length) (bool-of values) (int-of (declared-bools set) values))
-yes-passes set values o v w e n =
-    unrefused set o v n λ p r short read c. (
+pub yes-passes : (a : Choices) (set values : List ℤ) (out-length work-length w : ℕ) → ltb w min-work-words ≡ false → NotRefused (call-with a set out-length work-length)
+    → (check-roster set values w ≡ satisfied) ↔ ((is-roster set values ≡ true) × Passed set (call-with a set out-length work-length) (bool-of values) (int-of (declared-bools set) values))
+yes-passes a set values o v w e n =
+    unrefused a set o v n λ p r short read c. (
       λ y.
           let h = yes-roster set values w e p r short read c y in
           let s : satisfies p (bool-of values) (int-of (p .bools) values) ≡ true = satisfied-judged p values (sym (judges set values w e p r short read c h) ∙ y) in
-          (h, demand-3 set o v n (bool-of values) (int-of (declared-bools set) values) (stays set values w e p r short read c h) .0 (meets-is set values w e p r short read c h ∙ s)),
+          (h, demand-3 a set o v n (bool-of values) (int-of (declared-bools set) values) (stays set values w e p r short read c h) .0 (meets-is set values w e p r short read c h ∙ s)),
       λ y.
           let h = y .0 in
-          let s = demand-3 set o v n (bool-of values) (int-of (declared-bools set) values) (stays set values w e p r short read c h) .1 (y .1) in
+          let s = demand-3 a set o v n (bool-of values) (int-of (declared-bools set) values) (stays set values w e p r short read c h) .1 (y .1) in
           judges set values w e p r short read c h ∙ judged-satisfied p values (sym (meets-is set values w e p r short read c h) ∙ s),
     )
 
 -- a contradiction: every roster breaks a statement
-pub contradiction-breaks : (set values : List ℤ) (out-length work-length w : ℕ) → ltb w min-work-words ≡ false → call set out-length work-length ≡ contradiction → is-roster set values ≡ true → Breaks (check-roster set values w)
+pub contradiction-breaks : (a : Choices) (set values : List ℤ) (out-length work-length w : ℕ) → ltb w min-work-words ≡ false → call-with a set out-length work-length ≡ contradiction → is-roster set values ≡ true → Breaks (check-roster set values w)
 unfolding Passed
-contradiction-breaks set values o v w e k h =
-    let n : NotRefused (call set o v) = λ m q. apart (let z = sym k ∙ q in cc) in
-    unrefused set o v n λ p r short read c.
-    let f : satisfies p (bool-of values) (int-of (p .bools) values) ≡ true → ⊥ = λ s. rw k at (demand-3 set o v n (bool-of values) (int-of (declared-bools set) values) (stays set values w e p r short read c h) .0 (meets-is set values w e p r short read c h ∙ s)) in
+contradiction-breaks a set values o v w e k h =
+    let n : NotRefused (call-with a set o v) = λ m q. apart (let z = sym k ∙ q in cc) in
+    unrefused a set o v n λ p r short read c.
+    let f : satisfies p (bool-of values) (int-of (p .bools) values) ≡ true → ⊥ = λ s. rw k at (demand-3 a set o v n (bool-of values) (int-of (declared-bools set) values) (stays set values w e p r short read c h) .0 (meets-is set values w e p r short read c h ∙ s)) in
     rw (judges set values w e p r short read c h) (judged-breaks p values (go (satisfies p (bool-of values) (int-of (p .bools) values)) refl f))
   where
     go : (b : Bool) {c : Bool} → c ≡ b → (c ≡ true → ⊥) → c ≡ false

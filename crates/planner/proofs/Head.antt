@@ -1,5 +1,6 @@
 -- The words in front of the clauses: how many there are, where the emitted domains stand, and that the integers are few.
 use mathlib.Core.Path.{_≡_, refl, sym, ap, _∙_}
+use mathlib.Core.Bool.{Bool}
 use mathlib.Core.List.{List, [], _∷_, _++_, map, append-assoc}
 use Prim.Native.Nat.{_+_, _*_, _≤_}
 use native.Mathlib.Omega.{arith}
@@ -13,34 +14,34 @@ use Rattle.fold.specs.Fold.{Fixed}
 use Rattle.clauses.specs.Log.{next-bool, next-int, get-bool-var, get-int-var}
 use Rattle.tables.specs.Tables.{emitted-domains}
 use Rattle.tables.specs.Emitted.{length-emitted}
-use Rattle.answer.specs.Answer.{fixed-word, map-word, domain-words}
+use Rattle.answer.specs.Answer.{fixed-word, map-word, bool-word, domain-words}
 use Rattle.statements.specs.Stages.{log-of, head-words}
 
 triples-length : (ds : List Domain) → length (flat (map domain-words ds)) ≡ 3 * length ds
 triples-length [] = refl
 triples-length (d ∷ ds) = omega (arith, triples-length ds)
 
-module _ (p : Problem) (f : Fixed) (ss : List Stmt) where
+module _ (merge : Bool) (p : Problem) (f : Fixed) (ss : List Stmt) where
   abbrev pub triples : List ℤ
-  triples = flat (map domain-words (emitted-domains (p .domains) (log-of p ss)))
+  triples = flat (map domain-words (emitted-domains (p .domains) (log-of merge p ss)))
 
   abbrev fixed-words : List ℤ
   fixed-words = map fixed-word (map f (below (p .bools)))
 
   abbrev bool-words : List ℤ
-  bool-words = map map-word (map (λ v. get-bool-var v (log-of p ss)) (below (p .bools)))
+  bool-words = map bool-word (map (λ v. get-bool-var v (log-of merge p ss)) (below (p .bools)))
 
   abbrev int-words : List ℤ
-  int-words = map map-word (map (λ v. get-int-var v (log-of p ss)) (below (length (p .domains))))
+  int-words = map map-word (map (λ v. get-int-var v (log-of merge p ss)) (below (length (p .domains))))
 
   -- the words in front of the emitted domains
   abbrev front : List ℤ
-  front = fixed-words ++ (bool-words ++ (int-words ++ (pos (next-bool (log-of p ss)) ∷ pos (length (emitted-domains (p .domains) (log-of p ss))) ∷ [])))
+  front = fixed-words ++ (bool-words ++ (int-words ++ (pos (next-bool (log-of merge p ss)) ∷ pos (length (emitted-domains (p .domains) (log-of merge p ss))) ∷ [])))
 
-  head-front : head-words p f ss ≡ front ++ triples
+  head-front : head-words merge p f ss ≡ front ++ triples
   unfolding head-words
   head-front =
-      let z : List ℤ = pos (next-bool (log-of p ss)) ∷ pos (length (emitted-domains (p .domains) (log-of p ss))) ∷ [] in
+      let z : List ℤ = pos (next-bool (log-of merge p ss)) ∷ pos (length (emitted-domains (p .domains) (log-of merge p ss))) ∷ [] in
       sym (
       append-assoc fixed-words (bool-words ++ (int-words ++ z)) triples
       ∙ ap (λ (l : List ℤ). fixed-words ++ l) (append-assoc bool-words (int-words ++ z) triples ∙ ap (λ (l : List ℤ). bool-words ++ l) (append-assoc int-words z triples))
@@ -48,17 +49,17 @@ module _ (p : Problem) (f : Fixed) (ss : List Stmt) where
 
   front-length : length front ≡ 2 * p .bools + length (p .domains) + 2
   front-length =
-      let z : List ℤ = pos (next-bool (log-of p ss)) ∷ pos (length (emitted-domains (p .domains) (log-of p ss))) ∷ [] in
+      let z : List ℤ = pos (next-bool (log-of merge p ss)) ∷ pos (length (emitted-domains (p .domains) (log-of merge p ss))) ∷ [] in
       let a : length fixed-words ≡ p .bools = length-map (map f (below (p .bools))) fixed-word ∙ length-map (below (p .bools)) f ∙ length-from 0 (p .bools) in
-      let b : length bool-words ≡ p .bools = length-map (map (λ v. get-bool-var v (log-of p ss)) (below (p .bools))) map-word ∙ length-map (below (p .bools)) _ ∙ length-from 0 (p .bools) in
-      let c : length int-words ≡ length (p .domains) = length-map (map (λ v. get-int-var v (log-of p ss)) (below (length (p .domains)))) map-word ∙ length-map (below (length (p .domains))) _ ∙ length-from 0 (length (p .domains)) in
+      let b : length bool-words ≡ p .bools = length-map (map (λ v. get-bool-var v (log-of merge p ss)) (below (p .bools))) bool-word ∙ length-map (below (p .bools)) _ ∙ length-from 0 (p .bools) in
+      let c : length int-words ≡ length (p .domains) = length-map (map (λ v. get-int-var v (log-of merge p ss)) (below (length (p .domains)))) map-word ∙ length-map (below (length (p .domains))) _ ∙ length-from 0 (length (p .domains)) in
       omega (arith, a, b, c, length-append fixed-words (bool-words ++ (int-words ++ z)), length-append bool-words (int-words ++ z), length-append int-words z)
 
-  pub head-length : length (head-words p f ss) ≡ 2 * p .bools + length (p .domains) + 2 + 3 * next-int (log-of p ss)
-  head-length = ap length head-front ∙ omega (arith, length-append front triples, front-length, triples-length (emitted-domains (p .domains) (log-of p ss)), length-emitted (p .domains) (log-of p ss))
+  pub head-length : length (head-words merge p f ss) ≡ 2 * p .bools + length (p .domains) + 2 + 3 * next-int (log-of merge p ss)
+  head-length = ap length head-front ∙ omega (arith, length-append front triples, front-length, triples-length (emitted-domains (p .domains) (log-of merge p ss)), length-emitted (p .domains) (log-of merge p ss))
 
   -- written with room, the emitted domains stand behind the maps and the two counts
-  pub head-domains : (out : List ℤ) → length (head-words p f ss) ≤ length out → Has (sets out 0 (head-words p f ss)) (2 * p .bools + length (p .domains) + 2) triples
+  pub head-domains : (out : List ℤ) → length (head-words merge p f ss) ≤ length out → Has (sets out 0 (head-words merge p f ss)) (2 * p .bools + length (p .domains) + 2) triples
   head-domains out h =
       let s : Has (sets out 0 (front ++ triples)) 0 (front ++ triples) = has-sets out 0 (front ++ triples) (omega (arith, ap length head-front)) in
       let t : Has (sets out 0 (front ++ triples)) (0 + length front) triples = has-back (sets out 0 (front ++ triples)) 0 front triples s in

@@ -1,4 +1,4 @@
--- The contract of `compile`: its answer and every word of both slices are the definition's (call/Call), for all words and lengths;
+-- The contract of `compile` and `compile_with`: the answer and every word of both slices are the definition's (call/Call), for all words and lengths;
 -- and what the answer says of the set (demand 3, call/Claim), with its consequences.
 use mathlib.Core.Path.{_≡_}
 use mathlib.Core.Logic.{_↔_}
@@ -8,7 +8,8 @@ use Prim.Native.Nat.{ℕ}
 use lib.IntN.{ℤ}
 use lib.ListN.{length, take}
 use Rattle.syntax.specs.Satisfies.{Val, IVal}
-use Rattle.call.specs.Call.{Result, compiled, contradiction, refused, call, output-after, zeros}
+use Rattle.call.specs.Call.{Result, compiled, contradiction, refused, call-with, output-after, zeros}
+use Rattle.call.specs.declared.Choices.{Choices}
 use Rattle.call.specs.Claim.{within, satisfied, Passed, Consequences}
 use Rattle.planner.specs.declared.Answer.{Answer}
 use Rattle.planner.specs.declared.Answer.the-variants.{Compiled, Contradiction, Refused}
@@ -19,9 +20,10 @@ answer-of (compiled ws) = Compiled (length ws)
 answer-of contradiction = Contradiction
 answer-of (refused k) = Refused k
 
-pub record Compiles (set out work out' work' : List ℤ) (r : Answer) : Type 0 where
-  pub answer : r ≡ answer-of (call set (length out) (length work))
-  pub output : out' ≡ output-after (call set (length out) (length work)) (length out)
+-- c: what the caller chose
+pub record Compiles (c : Choices) (set out work out' work' : List ℤ) (r : Answer) : Type 0 where
+  pub answer : r ≡ answer-of (call-with c set (length out) (length work))
+  pub output : out' ≡ output-after (call-with c set (length out) (length work)) (length out)
   pub zeroed : work' ≡ zeros (length work)
   -- an assignment within the domains satisfies the set's words exactly when it passes the words written; a contradiction is satisfied by none
   pub exact : (n : ℕ) → r ≡ Compiled n → (δ : Val) (ε : IVal) → within set ε ≡ true → (satisfied set δ ε ≡ true) ↔ Passed set (compiled (take n out')) δ ε

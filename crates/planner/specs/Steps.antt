@@ -1,5 +1,6 @@
 -- What each step of the call is lent and ensures.
 use mathlib.Core.Path.{_≡_}
+use mathlib.Core.Bool.{Bool}
 use mathlib.Core.List.{List}
 use Prim.Native.Nat.{ℕ, _+_, _*_, _≤_, _<_, min}
 use lib.IntN.{ℤ}
@@ -9,7 +10,8 @@ use Rattle.laws.specs.Writes.{cap}
 use Rattle.syntax.specs.Words.{max-answer-words}
 use Rattle.syntax.specs.Syntax.{Stmt, Problem, encode}
 use Rattle.fold.specs.Fold.{Fixed}
-use Rattle.answer.specs.Answer.{layout, normalize}
+use Rattle.clauses.specs.Log.{next-bool}
+use Rattle.answer.specs.Answer.{start-log, layout, normalize}
 use Rattle.call.specs.Call.{Result, measured, output-after, zeros}
 use Rattle.walk.specs.declared.Counters.{Counters}
 use Rattle.statements.specs.Stages.{stmts-words, Folded, NumberedSet}
@@ -23,25 +25,28 @@ pub record Gives (x : Result) (n : ℕ) (out' : List ℤ) (r : Answer) : Type 0 
 
 -- ---- writing: a numbered set, and a part of the output that is longer than the words in front of the count of clauses
 
-pub record Writes (p : Problem) (f : Fixed) (ss : List Stmt) (c : Counters) (set w : List ℤ) (b i end : ℕ) (out : List ℤ) : Type 0 where
+-- from: how many numbers merging gave
+pub record Writes (merge : Bool) (p : Problem) (f : Fixed) (ss : List Stmt) (c : Counters) (set w : List ℤ) (b i end from : ℕ) (out : List ℤ) : Type 0 where
   pub words : set ≡ encode p
   pub bools : b ≡ p .bools
   pub ints : i ≡ length (p .domains)
-  pub ready : NumberedSet p f ss w c
+  pub ready : NumberedSet merge p f ss w c
   pub ends : end ≡ 512 + length (stmts-words ss)
+  pub first : from ≡ next-bool (start-log merge ss)
   pub fits : 2 * b + i + 2 + 3 * c .ints < length out
   pub part : length out ≤ max-answer-words
 
-pub record SomeWrites (set w : List ℤ) (b i end : ℕ) (c : Counters) (out : List ℤ) : Type 0 where
+pub record SomeWrites (set w : List ℤ) (b i end from : ℕ) (c : Counters) (out : List ℤ) : Type 0 where
+  pub merge : Bool
   pub it : Problem
   pub fixed : Fixed
   pub stmts : List Stmt
-  pub writes : Writes it fixed stmts c set w b i end out
+  pub writes : Writes merge it fixed stmts c set w b i end from out
 
 -- how long the answer is, up to the cap; and its words, where they fit
-pub record Written-answer (set w : List ℤ) (b i end : ℕ) (c : Counters) (out out' : List ℤ) (r : ℕ) : Type 0 where
-  pub long : (p : Problem) (f : Fixed) (ss : List Stmt) → Writes p f ss c set w b i end out → r ≡ min (length (layout (normalize p f ss))) cap
-  pub words : (p : Problem) (f : Fixed) (ss : List Stmt) → Writes p f ss c set w b i end out → r ≤ length out → out' ≡ sets out 0 (layout (normalize p f ss))
+pub record Written-answer (set w : List ℤ) (b i end from : ℕ) (c : Counters) (out out' : List ℤ) (r : ℕ) : Type 0 where
+  pub long : (merge : Bool) (p : Problem) (f : Fixed) (ss : List Stmt) → Writes merge p f ss c set w b i end from out → r ≡ min (length (layout (normalize merge p f ss))) cap
+  pub words : (merge : Bool) (p : Problem) (f : Fixed) (ss : List Stmt) → Writes merge p f ss c set w b i end from out → r ≤ length out → out' ≡ sets out 0 (layout (normalize merge p f ss))
 
 -- ---- a settled set
 
@@ -59,5 +64,6 @@ pub record SomeEmits (set w : List ℤ) (b i end : ℕ) (out : List ℤ) : Type 
   pub stmts : List Stmt
   pub emits : Emits it fixed stmts set w b i end out
 
-abbrev pub Emit-post : List ℤ → List ℤ → ℕ → ℕ → ℕ → List ℤ → List ℤ → Answer → Type 0
-Emit-post set w b i end out out' r = (p : Problem) (f : Fixed) (ss : List Stmt) → Emits p f ss set w b i end out → Gives (measured (length out) (layout (normalize p f ss))) (length out) out' r
+-- merge: what was chosen
+abbrev pub Emit-post : Bool → List ℤ → List ℤ → ℕ → ℕ → ℕ → List ℤ → List ℤ → Answer → Type 0
+Emit-post merge set w b i end out out' r = (p : Problem) (f : Fixed) (ss : List Stmt) → Emits p f ss set w b i end out → Gives (measured (length out) (layout (normalize merge p f ss))) (length out) out' r

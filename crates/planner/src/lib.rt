@@ -1,9 +1,11 @@
 // The call: a set's words are compiled into the output slice, or refused, or found contradictory.
+use call::Choices;
 use settle::Settling;
 use walk::Counters;
 ghost use mathlib.Core.Path.{_≡_};
 ghost use Prim.Native.Nat.{min};
 ghost use Rattle.syntax.specs.Words.{max-answer-words};
+ghost use Rattle.call.specs.Call.{unchosen};
 ghost use Rattle.planner.specs.Contract.{Compiles};
 ghost use Rattle.planner.specs.Steps.{SomeWrites, Written-answer, SomeEmits, Emit-post};
 
@@ -15,20 +17,22 @@ pub enum Answer {
 }
 
 // The answer's words into a part of the output: how many there are. Where they do not fit, the part's words say nothing.
+// from: how many Booleans merging gave a number.
 fn write_answer(
     set: &[i32],
     work: &mut [i32],
     bools: usize,
     ints: usize,
     end: usize,
+    from: usize,
     c: Counters,
     part: &mut [i32],
 ) -> usize
-    requires { ⌜ SomeWrites (now set) (now work) bools ints end c (now part) ⌝ }
-    ensures { λ r. ⌜ Written-answer (now (set .entry)) (now (work .entry)) bools ints end c (now (part .entry)) (now (part .exit)) r ⌝ }
+    requires { ⌜ SomeWrites (now set) (now work) bools ints end from c (now part) ⌝ }
+    ensures { λ r. ⌜ Written-answer (now (set .entry)) (now (work .entry)) bools ints end from c (now (part .entry)) (now (part .exit)) r ⌝ }
 {
     let count = header::write_header(set, work, bools, ints, c, part);
-    let w = writing::write_statements(set, work, end, 2 * bools + ints + 2, part, count + 1);
+    let w = writing::write_statements(set, work, end, from, 2 * bools + ints + 2, part, count + 1);
     let at = w.at;
     if at <= part.len() {
         folding::put(part, count, w.clauses);
@@ -54,16 +58,18 @@ fn emit(
     bools: usize,
     ints: usize,
     end: usize,
+    merge: bool,
 ) -> Answer
     requires { ⌜ SomeEmits (now set) (now work) bools ints end (now out) ⌝ }
-    ensures { λ r. ⌜ Emit-post (now (set .entry)) (now (work .entry)) bools ints end (now (out .entry)) (now (out .exit)) r ⌝ }
+    ensures { λ r. ⌜ Emit-post merge (now (set .entry)) (now (work .entry)) bools ints end (now (out .entry)) (now (out .exit)) r ⌝ }
 {
-    let c = numbered::number_statements(work, end);
+    let n = merging::merge_equivalent_variables(work, end, merge);
+    let c = numbered::number_statements(work, end, n);
     let room = lent(out.len());
     if room <= 2 * bools + ints + 2 + 3 * c.ints {
         return Answer::Refused(12);
     }
-    let words = write_answer(set, work, bools, ints, end, c, &mut out[..room]);
+    let words = write_answer(set, work, bools, ints, end, n, c, &mut out[..room]);
     if words <= room {
         return Answer::Compiled(words);
     }
@@ -71,18 +77,25 @@ fn emit(
     Answer::Refused(12)
 }
 
-// The call. The output is zero behind the words written, and wholly so after a contradiction or a refusal; the work slice is zero after every call.
-pub fn compile(set: &[i32], output: &mut [i32], work: &mut [i32]) -> Answer
-    ensures { λ r. ⌜ Compiles (now (set .entry)) (now (output .entry)) (now (work .entry)) (now (output .exit)) (now (work .exit)) r ⌝ }
+// The call with a caller's choices. The output is zero behind the words written, and wholly so after a contradiction or a refusal; the work slice is zero after every call.
+pub fn compile_with(set: &[i32], output: &mut [i32], work: &mut [i32], choices: Choices) -> Answer
+    ensures { λ r. ⌜ Compiles choices (now (set .entry)) (now (output .entry)) (now (work .entry)) (now (output .exit)) (now (work .exit)) r ⌝ }
 {
     refuse::clear(output);
     match settle::settle(set, work) {
         Settling::Refused(k) => Answer::Refused(k),
         Settling::Contradiction => Answer::Contradiction,
         Settling::Folded(p) => {
-            let r = emit(set, output, work, p.bools, p.ints, p.end);
+            let r = emit(set, output, work, p.bools, p.ints, p.end, choices.merge);
             refuse::clear(work);
             r
         }
     }
+}
+
+// The call with nothing chosen.
+pub fn compile(set: &[i32], output: &mut [i32], work: &mut [i32]) -> Answer
+    ensures { λ r. ⌜ Compiles unchosen (now (set .entry)) (now (output .entry)) (now (work .entry)) (now (output .exit)) (now (work .exit)) r ⌝ }
+{
+    compile_with(set, output, work, Choices { merge: false })
 }

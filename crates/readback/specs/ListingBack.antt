@@ -19,8 +19,9 @@ use Rattle.limits.specs.Limits.{check}
 use Rattle.fold.specs.Fold.{Fixed}
 use Rattle.fold.specs.Optimize.{Outcome, inconsistent, settled, optimize}
 use Rattle.clauses.specs.Clause.{Clause, clause}
-use Rattle.answer.specs.Answer.{Answer, layout, answer-of, normalize, fixed-word, map-word, domain-words, clause-words}
-use Rattle.call.specs.Call.{Result, compiled, contradiction, refused, measured, answered, checked, when-read, call}
+use Rattle.answer.specs.Answer.{Answer, layout, answer-of, normalize, fixed-word, map-word, bool-word, domain-words, clause-words}
+use Rattle.call.specs.Call.{Result, compiled, contradiction, refused, measured, answered, checked, when-read, call-with}
+use Rattle.call.specs.declared.Choices.{Choices}
 use Rattle.decimal.specs.Bytes.{line-feed, bools-key, ints-key, fixed-key, emitted-key, domain-key, compiled-line}
 use Rattle.decimal.specs.Decimal.{print-natural}
 use Rattle.input.specs.ReadText.{split, after, join, Reader}
@@ -137,7 +138,7 @@ module _ (fs ms is : List ℤ) (b i : ℕ) (fs-count : length fs ≡ b) (ms-coun
 pub layout-back : (a : Answer) (b i : ℕ) → length (a .fixed) ≡ b → length (a .bool-map) ≡ b → length (a .int-map) ≡ i → read-listing (print-compiled b i (layout a)) ≡ some (compiled (layout a))
 unfolding layout
 layout-back a b i f m n =
-    compiled-back (map fixed-word (a .fixed)) (map map-word (a .bool-map)) (map map-word (a .int-map)) b i (length-map (a .fixed) fixed-word ∙ f) (length-map (a .bool-map) map-word ∙ m) (length-map (a .int-map) map-word ∙ n) (a .emitted-bools) (a .emitted-ints) (a .clauses)
+    compiled-back (map fixed-word (a .fixed)) (map bool-word (a .bool-map)) (map map-word (a .int-map)) b i (length-map (a .fixed) fixed-word ∙ f) (length-map (a .bool-map) bool-word ∙ m) (length-map (a .int-map) map-word ∙ n) (a .emitted-bools) (a .emitted-ints) (a .clauses)
 
 module _ (set : List ℤ) where
   contradiction-back : read-listing (print-result set contradiction) ≡ some contradiction
@@ -167,10 +168,10 @@ module _ (set : List ℤ) (p : Problem) (r : List ℤ) (read : read-set set ≡ 
   unfolding encode
   ints-word = ap (λ (ws : List ℤ). count-word (drop 1 ws)) (set-sound set p r read .0)
 
-  settled-back : (f : Fixed) (ss : List Stmt) → Back set (compiled (layout (normalize p f ss)))
+  settled-back : (merge : Bool) (f : Fixed) (ss : List Stmt) → Back set (compiled (layout (normalize merge p f ss)))
   unfolding print-result print-answer normalize answer-of
-  settled-back f ss =
-      let a : Answer = normalize p f ss in
+  settled-back merge f ss =
+      let a : Answer = normalize merge p f ss in
       let n : ℕ = p .bools in
       let m : ℕ = length (p .domains) in
       layout-back a (count-word set) (count-word (drop 1 set))
@@ -182,28 +183,28 @@ module _ (set : List ℤ) (p : Problem) (r : List ℤ) (read : read-set set ≡ 
   measured-back true ws h = refused-back set 12
   measured-back false ws h = h
 
-  answered-back : (o : ℕ) (x : Outcome) → Back set (answered o p x)
+  answered-back : (c : Choices) (o : ℕ) (x : Outcome) → Back set (answered c o p x)
   unfolding answered measured
-  answered-back o inconsistent = contradiction-back set
-  answered-back o (settled f ss) = measured-back (ltb o (length (layout (normalize p f ss))) || ltb max-answer-words (length (layout (normalize p f ss)))) (layout (normalize p f ss)) (settled-back f ss)
+  answered-back c o inconsistent = contradiction-back set
+  answered-back c o (settled f ss) = let ws : List ℤ = layout (normalize (c .merge) p f ss) in measured-back (ltb o (length ws) || ltb max-answer-words (length ws)) ws (settled-back (c .merge) f ss)
 
-  checked-back : (o k : ℕ) → Back set (checked o p k)
+  checked-back : (c : Choices) (o k : ℕ) → Back set (checked c o p k)
   unfolding checked
-  checked-back o zero = answered-back o (optimize p)
-  checked-back o (suc k) = refused-back set (suc k)
+  checked-back c o zero = answered-back c o (optimize p)
+  checked-back c o (suc k) = refused-back set (suc k)
 
-read-back : (set : List ℤ) (o : ℕ) (q : Parsed Problem) → read-set set ≡ q → Back set (when-read o q)
+read-back : (c : Choices) (set : List ℤ) (o : ℕ) (q : Parsed Problem) → read-set set ≡ q → Back set (when-read c o q)
 unfolding when-read
-read-back set o (ok p r) e = checked-back set p r e o (check p)
-read-back set o (refuse k) e = refused-back set k
+read-back c set o (ok p r) e = checked-back set p r e c o (check p)
+read-back c set o (refuse k) e = refused-back set k
 
 either-back : (set : List ℤ) (t : Bool) (x y : Result) → Back set x → Back set y → Back set (cond t x y)
 either-back set true x y h k = h
 either-back set false x y h k = k
 
--- for all words and lengths: the listing of the call's result says the result
-pub listing-back : (set : List ℤ) (out-length work-length : ℕ) → read-listing (print-result set (call set out-length work-length)) ≡ some (call set out-length work-length)
-unfolding call
-listing-back set o w =
-    let q : Result = when-read o (read-set set) in
-    either-back set (ltb w min-work-words) (refused 1) (cond (ltb max-set-words (length set)) (refused 2) q) (refused-back set 1) (either-back set (ltb max-set-words (length set)) (refused 2) q (refused-back set 2) (read-back set o (read-set set) refl))
+-- for all words, lengths and choices: the listing of the call's result says the result
+pub listing-back : (c : Choices) (set : List ℤ) (out-length work-length : ℕ) → read-listing (print-result set (call-with c set out-length work-length)) ≡ some (call-with c set out-length work-length)
+unfolding call-with
+listing-back c set o w =
+    let q : Result = when-read c o (read-set set) in
+    either-back set (ltb w min-work-words) (refused 1) (cond (ltb max-set-words (length set)) (refused 2) q) (refused-back set 1) (either-back set (ltb max-set-words (length set)) (refused 2) q (refused-back set 2) (read-back c set o (read-set set) refl))

@@ -20,8 +20,9 @@ use Rattle.fold.specs.Fold.{Fixed}
 use Rattle.fold.specs.Optimize.{Outcome, inconsistent, settled, optimize}
 use Rattle.sums.specs.LinearSum.{linear-sum}
 use Rattle.clauses.specs.Clause.{LinearLit, linear, Clause, clause}
-use Rattle.answer.specs.Answer.{Answer, layout, answer-of, normalize, fixed-word, map-word, domain-words, lit-words, linear-words, clause-words}
-use Rattle.call.specs.Call.{Result, compiled, contradiction, refused, measured, answered, checked, when-read, call}
+use Rattle.answer.specs.Answer.{Answer, layout, answer-of, normalize, fixed-word, map-word, bool-word, domain-words, lit-words, linear-words, clause-words}
+use Rattle.call.specs.Call.{Result, compiled, contradiction, refused, measured, answered, checked, when-read, call-with}
+use Rattle.call.specs.declared.Choices.{Choices}
 use Rattle.decimal.specs.Bytes.{colon, line-feed, bools-key, ints-key, fixed-key, emitted-key, domain-key, clause-key, clauses-key, total-key, compiled-line}
 use Rattle.decimal.specs.Decimal.{digit, print-steps, print-natural, print-number}
 use Rattle.lines.specs.Lines.{count-word, print-more, print-numbers, print-line}
@@ -195,7 +196,7 @@ module _ (fs ms is : List ℤ) (b i : ℕ) (fs-count : length fs ≡ b) (ms-coun
 layout-short : (a : Answer) (b i : ℕ) → length (a .fixed) ≡ b → length (a .bool-map) ≡ b → length (a .int-map) ≡ i → length (layout a) ≤ 16384 → all fitting (layout a) ≡ true → length (print-compiled b i (layout a)) ≤ 262144
 unfolding layout
 layout-short a b i f m n h k =
-    answer-short (map fixed-word (a .fixed)) (map map-word (a .bool-map)) (map map-word (a .int-map)) b i (length-map (a .fixed) fixed-word ∙ f) (length-map (a .bool-map) map-word ∙ m) (length-map (a .int-map) map-word ∙ n) (a .emitted-bools) (a .emitted-ints) (a .clauses) h k
+    answer-short (map fixed-word (a .fixed)) (map bool-word (a .bool-map)) (map map-word (a .int-map)) b i (length-map (a .fixed) fixed-word ∙ f) (length-map (a .bool-map) bool-word ∙ m) (length-map (a .int-map) map-word ∙ n) (a .emitted-bools) (a .emitted-ints) (a .clauses) h k
 
 -- ---- the call
 
@@ -217,10 +218,10 @@ unfolding print-result print-answer print-natural
 refused-room set k q = omega (arith, length-append (print-steps (suc k) k) (line-feed ∷ []), steps-short (suc k) 19 k (omega (arith, q)))
 
 module _ (set : List ℤ) (p : Problem) (r : List ℤ) (read : read-set set ≡ ok p r) where
-  settled-room : (f : Fixed) (ss : List Stmt) → length (layout (normalize p f ss)) ≤ 16384 → Room set (compiled (layout (normalize p f ss)))
+  settled-room : (merge : Bool) (f : Fixed) (ss : List Stmt) → length (layout (normalize merge p f ss)) ≤ 16384 → Room set (compiled (layout (normalize merge p f ss)))
   unfolding print-result print-answer normalize answer-of
-  settled-room f ss h q =
-      let a : Answer = normalize p f ss in
+  settled-room merge f ss h q =
+      let a : Answer = normalize merge p f ss in
       let n : ℕ = p .bools in
       let m : ℕ = length (p .domains) in
       layout-short a (count-word set) (count-word (drop 1 set))
@@ -229,34 +230,34 @@ module _ (set : List ℤ) (p : Problem) (r : List ℤ) (read : read-set set ≡ 
       (length-map (below m) _ ∙ length-from 0 m ∙ sym (ints-word set p r read))
       h q
 
-  module _ (o : ℕ) (most : o ≤ 16384) where
+  module _ (c : Choices) (o : ℕ) (most : o ≤ 16384) where
     measured-room : (ws : List ℤ) (t u : Bool) → ltb o (length ws) ≡ t → (length ws ≤ 16384 → Room set (compiled ws)) → Room set (cond (t || u) (refused 12) (compiled ws))
     measured-room ws true u e h = refused-room set 12
     measured-room ws false true e h = refused-room set 12
     measured-room ws false false e h = let l = ltb-false o (length ws) e in h (omega arith)
 
-    answered-room : (x : Outcome) → Room set (answered o p x)
+    answered-room : (x : Outcome) → Room set (answered c o p x)
     unfolding answered measured
     answered-room inconsistent = contradiction-room set
-    answered-room (settled f ss) = let ws : List ℤ = layout (normalize p f ss) in measured-room ws (ltb o (length ws)) (ltb max-answer-words (length ws)) refl (λ h. settled-room f ss h)
+    answered-room (settled f ss) = let ws : List ℤ = layout (normalize (c .merge) p f ss) in measured-room ws (ltb o (length ws)) (ltb max-answer-words (length ws)) refl (λ h. settled-room (c .merge) f ss h)
 
-    checked-room : (k : ℕ) → Room set (checked o p k)
+    checked-room : (k : ℕ) → Room set (checked c o p k)
     unfolding checked
     checked-room zero = answered-room (optimize p)
     checked-room (suc k) = refused-room set (suc k)
 
-read-room : (set : List ℤ) (o : ℕ) → o ≤ 16384 → (q : Parsed Problem) → read-set set ≡ q → Room set (when-read o q)
+read-room : (c : Choices) (set : List ℤ) (o : ℕ) → o ≤ 16384 → (q : Parsed Problem) → read-set set ≡ q → Room set (when-read c o q)
 unfolding when-read
-read-room set o m (ok p r) e = checked-room set p r e o m (check p)
-read-room set o m (refuse k) e = refused-room set k
+read-room c set o m (ok p r) e = checked-room set p r e c o m (check p)
+read-room c set o m (refuse k) e = refused-room set k
 
 either-room : (set : List ℤ) (t : Bool) (x y : Result) → Room set x → Room set y → Room set (cond t x y)
 either-room set true x y h k = h
 either-room set false x y h k = k
 
 -- 262144 bytes have room for the listing of any call with at most 16384 output words
-pub listing-room : (set : List ℤ) (out-length work-length : ℕ) → out-length ≤ 16384 → Typed (call set out-length work-length) → length (print-result set (call set out-length work-length)) ≤ 262144
-unfolding call
-listing-room set o w m =
-    let q : Result = when-read o (read-set set) in
-    either-room set (ltb w min-work-words) (refused 1) (cond (ltb max-set-words (length set)) (refused 2) q) (refused-room set 1) (either-room set (ltb max-set-words (length set)) (refused 2) q (refused-room set 2) (read-room set o m (read-set set) refl))
+pub listing-room : (c : Choices) (set : List ℤ) (out-length work-length : ℕ) → out-length ≤ 16384 → Typed (call-with c set out-length work-length) → length (print-result set (call-with c set out-length work-length)) ≤ 262144
+unfolding call-with
+listing-room c set o w m =
+    let q : Result = when-read c o (read-set set) in
+    either-room set (ltb w min-work-words) (refused 1) (cond (ltb max-set-words (length set)) (refused 2) q) (refused-room set 1) (either-room set (ltb max-set-words (length set)) (refused 2) q (refused-room set 2) (read-room c set o m (read-set set) refl))

@@ -25,7 +25,7 @@ use Rattle.fold.specs.Optimize.{Outcome, inconsistent, settled, optimize}
 use Rattle.propagate.specs.Optimized.{Settles, outcome}
 use Rattle.answer.specs.Answer.{fixed-word}
 use Rattle.call.specs.Call.{zeros}
-use Rattle.walk.specs.Item.{nat, bool-entry, int-entry}
+use Rattle.walk.specs.Item.{nat, bool-at, int-entry}
 use Rattle.walk.specs.Decode.{read-part}
 use Rattle.statements.specs.Whole.{Empty}
 use Rattle.statements.specs.Stages.{stmts-words, Folded}
@@ -84,9 +84,9 @@ module _ (w : List ℤ) (h : 16384 ≤ length w) where
       ∙ getD-replicate 768 v (pos 0) (pos 0) k
 
   pub emptied : Empty (maps-empty w)
-  unfolding bool-entry int-entry nat
+  unfolding bool-at int-entry nat
   emptied = record {
-    bools = λ v k. ap nat (zero-at v (omega arith));
+    bools = λ v k. zero-at v (omega arith);
     ints = λ v k. let e : 5120 + v ≡ 4608 + (512 + v) = omega arith in ap nat (ap (λ (i : ℕ). getD (maps-empty w) i (pos 0)) e ∙ zero-at (512 + v) (omega arith));
     size = omega (arith, empty-length, h);
   }
@@ -178,13 +178,13 @@ module _ (p : Problem) (ws w w' : List ℤ) (b i : ℕ) (h : Taken-in p ws w b i
   kept-at v = sym (getD-drop 4608 w' v (pos 0)) ∙ ap (λ (l : List ℤ). getD l v (pos 0)) (s .above) ∙ getD-drop 4608 w v (pos 0)
 
   folded-is : (f : Fixed) (ss : List Stmt) → optimize p ≡ settled f ss → f ≡ s .fixed → ss ≡ s .folded → length w' ≡ length w → Folded p f ss w'
-  unfolding bool-entry int-entry
+  unfolding bool-at int-entry
   folded-is f ss o ef es l = record {
     set = record { well = h .well; unrefused = h .unrefused; short = omega (arith, ap length (h .words), h .short); ends = o };
     values = λ v k. s .values .cells v k ∙ word-of (s .fixed v) ∙ ap (λ (g : Fixed). fixed-word (g v)) (sym ef);
     stands = rw es (part-has w' 512 (stmts-words (s .folded)) (omega (arith, h .empty .size)) (omega (arith, s .ends, s .fits)) (s .words));
     empty = record {
-      bools = λ v k. ap nat (kept-at v) ∙ h .empty .bools v k;
+      bools = λ v k. kept-at v ∙ h .empty .bools v k;
       ints = λ v k. let e : 5120 + v ≡ 4608 + (512 + v) = omega arith in ap nat (rw e (kept-at (512 + v))) ∙ h .empty .ints v k;
       size = omega (arith, h .empty .size);
     };

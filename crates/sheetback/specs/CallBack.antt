@@ -19,10 +19,11 @@ use Rattle.limits.specs.Limits.{check}
 use Rattle.fold.specs.Fold.{Fixed}
 use Rattle.fold.specs.Optimize.{Outcome, inconsistent, settled, optimize}
 use Rattle.clauses.specs.Clause.{Clause}
-use Rattle.answer.specs.Answer.{Answer, layout, answer-of, normalize, fixed-word, map-word, domain-words, clause-words}
+use Rattle.answer.specs.Answer.{Answer, layout, answer-of, normalize, fixed-word, map-word, bool-word, domain-words, clause-words}
 use Rattle.answer.specs.Passes.{Decoded, decode}
 use Rattle.answer.specs.ReadBack.{answer-back}
-use Rattle.call.specs.Call.{Result, compiled, contradiction, refused, measured, answered, checked, when-read, call}
+use Rattle.call.specs.Call.{Result, compiled, contradiction, refused, measured, answered, checked, when-read, call-with}
+use Rattle.call.specs.declared.Choices.{Choices}
 use Rattle.lines.specs.Lines.{Shown, count-word, times, print-domain}
 use Rattle.readback.specs.Shown.{times-shown, domain-filled, domain-shown, clause-filled}
 use Rattle.readback.specs.ListingBack.{domain-text, bools-word, ints-word}
@@ -45,11 +46,11 @@ layout-clauses : (a : Answer) (b i : ℕ) → length (a .fixed) ≡ b → length
 unfolding from-clauses layout
 layout-clauses a b i f m n =
     let fs : List ℤ = map fixed-word (a .fixed) in
-    let ms : List ℤ = map map-word (a .bool-map) in
+    let ms : List ℤ = map bool-word (a .bool-map) in
     let is : List ℤ = map map-word (a .int-map) in
     let rest : List ℤ = pos (a .emitted-bools) ∷ (counted domain-words (a .emitted-ints) ++ counted clause-words (a .clauses)) in
     let d1 : drop b (fs ++ (ms ++ (is ++ rest))) ≡ ms ++ (is ++ rest) = rw (← f, ← length-map (a .fixed) fixed-word) (drop-append-seam fs (ms ++ (is ++ rest))) in
-    let d2 : drop b (ms ++ (is ++ rest)) ≡ is ++ rest = rw (← m, ← length-map (a .bool-map) map-word) (drop-append-seam ms (is ++ rest)) in
+    let d2 : drop b (ms ++ (is ++ rest)) ≡ is ++ rest = rw (← m, ← length-map (a .bool-map) bool-word) (drop-append-seam ms (is ++ rest)) in
     let d3 : drop i (is ++ rest) ≡ rest = rw (← n, ← length-map (a .int-map) map-word) (drop-append-seam is rest) in
     let d : drop i (drop b (drop b (fs ++ (ms ++ (is ++ rest))))) ≡ rest = ap (λ (x : List ℤ). drop i (drop b x)) d1 ∙ ap (drop i) d2 ∙ d3 in
     ap (λ (es : List ℤ). times print-domain (count-word (drop 1 es)) (drop 2 es) .rest) d ∙ ap (λ (x : Shown). x .rest) (times-shown print-domain domain-words domain-text domain-filled domain-shown (a .emitted-ints) (counted clause-words (a .clauses)))
@@ -64,7 +65,7 @@ layout-few a =
     let ds : List ℤ = counted domain-words (a .emitted-ints) in
     let cs : List ℤ = counted clause-words (a .clauses) in
     let is : List ℤ = map map-word (a .int-map) in
-    let ms : List ℤ = map map-word (a .bool-map) in
+    let ms : List ℤ = map bool-word (a .bool-map) in
     let fs : List ℤ = map fixed-word (a .fixed) in
     omega (arith, clauses-few (a .clauses), length-append ds cs, length-append is (pos (a .emitted-bools) ∷ (ds ++ cs)), length-append ms (is ++ (pos (a .emitted-bools) ∷ (ds ++ cs))), length-append fs (ms ++ (is ++ (pos (a .emitted-bools) ∷ (ds ++ cs)))))
 
@@ -96,14 +97,14 @@ If-compiled set (compiled ws) = Laid set ws
 If-compiled set contradiction = Unit {0}
 If-compiled set (refused k) = Unit {0}
 
-module _ (set : List ℤ) (p : Problem) (r : List ℤ) (read : read-set set ≡ ok p r) where
-  settled-laid : (f : Fixed) (ss : List Stmt) → length (layout (normalize p f ss)) ≤ max-answer-words → Laid set (layout (normalize p f ss))
+module _ (c : Choices) (set : List ℤ) (p : Problem) (r : List ℤ) (read : read-set set ≡ ok p r) where
+  settled-laid : (f : Fixed) (ss : List Stmt) → length (layout (normalize (c .merge) p f ss)) ≤ max-answer-words → Laid set (layout (normalize (c .merge) p f ss))
   unfolding normalize answer-of
   settled-laid f ss h =
       let n : ℕ = p .bools in
       let m : ℕ = length (p .domains) in
       record {
-        it = normalize p f ss;
+        it = normalize (c .merge) p f ss;
         words = refl;
         fixed = length-map (below n) f ∙ length-from 0 n ∙ sym (bools-word set p r read);
         bools = length-map (below n) _ ∙ length-from 0 n ∙ sym (bools-word set p r read);
@@ -116,35 +117,35 @@ module _ (set : List ℤ) (p : Problem) (r : List ℤ) (read : read-set set ≡ 
   measured-laid ws false true e h = tt
   measured-laid ws false false e h = h (ltb-false max-answer-words (length ws) e)
 
-  answered-laid : (o : ℕ) (x : Outcome) → If-compiled set (answered o p x)
+  answered-laid : (o : ℕ) (x : Outcome) → If-compiled set (answered c o p x)
   unfolding answered measured
   answered-laid o inconsistent = tt
-  answered-laid o (settled f ss) = let ws : List ℤ = layout (normalize p f ss) in measured-laid ws (ltb o (length ws)) (ltb max-answer-words (length ws)) refl (λ h. settled-laid f ss h)
+  answered-laid o (settled f ss) = let ws : List ℤ = layout (normalize (c .merge) p f ss) in measured-laid ws (ltb o (length ws)) (ltb max-answer-words (length ws)) refl (λ h. settled-laid f ss h)
 
-  checked-laid : (o k : ℕ) → If-compiled set (checked o p k)
+  checked-laid : (o k : ℕ) → If-compiled set (checked c o p k)
   unfolding checked
   checked-laid o zero = answered-laid o (optimize p)
   checked-laid o (suc k) = tt
 
-read-laid : (set : List ℤ) (o : ℕ) (q : Parsed Problem) → read-set set ≡ q → If-compiled set (when-read o q)
+read-laid : (c : Choices) (set : List ℤ) (o : ℕ) (q : Parsed Problem) → read-set set ≡ q → If-compiled set (when-read c o q)
 unfolding when-read
-read-laid set o (ok p r) e = checked-laid set p r e o (check p)
-read-laid set o (refuse k) e = tt
+read-laid c set o (ok p r) e = checked-laid c set p r e o (check p)
+read-laid c set o (refuse k) e = tt
 
 either-laid : (set : List ℤ) (t : Bool) (x y : Result) → If-compiled set x → If-compiled set y → If-compiled set (cond t x y)
 either-laid set true x y h k = h
 either-laid set false x y h k = k
 
-call-if : (set : List ℤ) (o w : ℕ) → If-compiled set (call set o w)
-unfolding call
-call-if set o w = either-laid set (ltb w min-work-words) (refused 1) _ tt (either-laid set (ltb max-set-words (length set)) (refused 2) _ tt (read-laid set o (read-set set) refl))
+call-if : (c : Choices) (set : List ℤ) (o w : ℕ) → If-compiled set (call-with c set o w)
+unfolding call-with
+call-if c set o w = either-laid set (ltb w min-work-words) (refused 1) _ tt (either-laid set (ltb max-set-words (length set)) (refused 2) _ tt (read-laid c set o (read-set set) refl))
 
-pub call-laid : (set : List ℤ) (o w : ℕ) (ws : List ℤ) → call set o w ≡ compiled ws → Laid set ws
-call-laid set o w ws e = go (call set o w) e (call-if set o w)
+pub call-laid : (c : Choices) (set : List ℤ) (o w : ℕ) (ws : List ℤ) → call-with c set o w ≡ compiled ws → Laid set ws
+call-laid c set o w ws e = go (call-with c set o w) e (call-if c set o w)
   where
     go : (x : Result) → x ≡ compiled ws → If-compiled set x → Laid set ws
     go x e l = rw e at l
 
--- for all words and lengths: the sheet of the call's answer, read, gives the words of the clauses that demand 3 reads in the answer
-pub sheet-back : (set : List ℤ) (out-length work-length : ℕ) (ws : List ℤ) → call set out-length work-length ≡ compiled ws → read-sheet (sheet-text set ws) ≡ some (counted clause-words (answer-clauses set ws))
-sheet-back set o w ws e = laid-back (call-laid set o w ws e)
+-- for all words, lengths and choices: the sheet of the call's answer, read, gives the words of the clauses that demand 3 reads in the answer
+pub sheet-back : (c : Choices) (set : List ℤ) (out-length work-length : ℕ) (ws : List ℤ) → call-with c set out-length work-length ≡ compiled ws → read-sheet (sheet-text set ws) ≡ some (counted clause-words (answer-clauses set ws))
+sheet-back c set o w ws e = laid-back (call-laid c set o w ws e)

@@ -13,8 +13,9 @@ use Rattle.laws.specs.Lists.{all, all-append, flat, counted}
 use Rattle.syntax.specs.Syntax.{encode-op}
 use Rattle.sums.specs.LinearSum.{linear-sum}
 use Rattle.clauses.specs.Clause.{LinearLit, linear, Clause, clause}
-use Rattle.answer.specs.Answer.{Answer, layout, fixed-word, map-word, domain-words, lit-words, linear-words, clause-words}
-use Rattle.call.specs.Call.{compiled, call}
+use Rattle.answer.specs.Answer.{Answer, layout, fixed-word, map-word, bool-word, domain-words, lit-words, linear-words, clause-words}
+use Rattle.call.specs.Call.{compiled, call-with}
+use Rattle.call.specs.declared.Choices.{Choices}
 use Rattle.decimal.specs.Bytes.{comma, colon, line-feed}
 use Rattle.decimal.specs.Decimal.{print-natural, print-number}
 use Rattle.lines.specs.Lines.{print-more, print-numbers}
@@ -332,17 +333,17 @@ unfolding layout
 clauses-fit a h =
     let ds : List ℤ = counted domain-words (a .emitted-ints) in
     let cs : List ℤ = counted clause-words (a .clauses) in
-    let e : all fitting (pos (a .emitted-bools) ∷ (ds ++ cs)) ≡ true = behind (map map-word (a .int-map)) _ (behind (map map-word (a .bool-map)) _ (behind (map fixed-word (a .fixed)) _ h)) in
+    let e : all fitting (pos (a .emitted-bools) ∷ (ds ++ cs)) ≡ true = behind (map map-word (a .int-map)) _ (behind (map bool-word (a .bool-map)) _ (behind (map fixed-word (a .fixed)) _ h)) in
     let f : all fitting cs ≡ true = behind ds cs (and-r (fitting (pos (a .emitted-bools))) (all fitting (ds ++ cs)) e) in
     and-r (fitting (pos (length (a .clauses)))) (all fitting (flat (map clause-words (a .clauses)))) f
 
-module _ (set : List ℤ) (out-length work-length : ℕ) (ws : List ℤ) (e : call set out-length work-length ≡ compiled ws) (f : all fitting ws ≡ true) where
+module _ (c : Choices) (set : List ℤ) (out-length work-length : ℕ) (ws : List ℤ) (e : call-with c set out-length work-length ≡ compiled ws) (f : all fitting ws ≡ true) where
   abbrev cs : List Clause
   cs = answer-clauses set ws
 
   clauses-within : (length cs < 100000000) × (all fitting (flat (map clause-words cs)) ≡ true)
   clauses-within =
-      let l = call-laid set out-length work-length ws e in
+      let l = call-laid c set out-length work-length ws e in
       let d = decoded l in
       let n = l .few in
       (omega (arith, layout-few (l .it), ap length (l .words), ap length d), ap (λ (x : List Clause). all fitting (flat (map clause-words x))) d ∙ clauses-fit (l .it) (ap (all fitting) (sym (l .words)) ∙ f))
@@ -350,9 +351,9 @@ module _ (set : List ℤ) (out-length work-length : ℕ) (ws : List ℤ) (e : ca
   -- every line of the sheet has 80 characters and a line feed
   pub sheet-lines-80 : Lined (sheet-text set ws)
   unfolding sheet-text
-  sheet-lines-80 = subst Lined (sym (ap print-sheet (part-is (call-laid set out-length work-length ws e)))) (clauses-lined cs (clauses-within .0) (clauses-within .1))
+  sheet-lines-80 = subst Lined (sym (ap print-sheet (part-is (call-laid c set out-length work-length ws e)))) (clauses-lined cs (clauses-within .0) (clauses-within .1))
 
   -- at most 81 bytes for every two words of the clauses
   pub sheet-short : 2 * length (sheet-text set ws) ≤ 81 * length (flat (map clause-words cs))
   unfolding sheet-text
-  sheet-short = let b = clauses-short cs (clauses-within .0) (clauses-within .1) in omega (arith, ap (λ (x : List ℤ). length (print-sheet x)) (part-is (call-laid set out-length work-length ws e)))
+  sheet-short = let b = clauses-short cs (clauses-within .0) (clauses-within .1) in omega (arith, ap (λ (x : List ℤ). length (print-sheet x)) (part-is (call-laid c set out-length work-length ws e)))

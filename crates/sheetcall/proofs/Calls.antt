@@ -12,7 +12,7 @@ use lib.ListN.{length, take}
 use lib.Seq.{take-append-seam}
 use Rattle.laws.specs.Lists.{counted}
 use Rattle.answer.specs.Answer.{clause-words}
-use Rattle.call.specs.Call.{Result, compiled, contradiction, refused, call, output-after, zeros}
+use Rattle.call.specs.Call.{Result, compiled, contradiction, refused, unchosen, call, output-after, zeros}
 use Rattle.call.specs.Claim.{satisfied, Passed}
 use Rattle.planner.specs.declared.Answer.{Answer}
 use Rattle.planner.specs.declared.Answer.the-variants as planned
@@ -41,7 +41,7 @@ pub record Gave (set out work out' : List ℤ) (n : ℕ) : Type 0 where
   pub count : n ≡ length words
   pub left : out' ≡ output-after (compiled words) (length out')
 
-module _ {set out work out' work' : List ℤ} {r : Answer} (c : Compiles set out work out' work' r) (same : length out' ≡ length out) where
+module _ {set out work out' work' : List ℤ} {r : Answer} (c : Compiles unchosen set out work out' work' r) (same : length out' ≡ length out) where
   gave : (n : ℕ) → r ≡ planned.Compiled n → Gave set out work out' n
   unfolding answer-of
   gave n e = go (call set (length out) (length work)) refl
@@ -54,7 +54,7 @@ module _ {set out work out' work' : List ℤ} {r : Answer} (c : Compiles set out
       go (refused k) q = let a : planned.Compiled n ≡ planned.Refused k = sym e ∙ c .answer ∙ ap answer-of q in differ (cc)
 
   answered : {sheet : List ℕ} (sheet₀ : List ℕ) (n : ℕ) (g : Gave set out work out' n) → sheet ≡ no-bytes (length sheet₀) → length sheet ≡ length sheet₀ → Answered set (g .words) out' n sheet
-  answered sheet₀ n g z s = record { count = g .count; left = g .left; few = call-laid set (length out) (length work) (g .words) (g .call-is) .few; cleared = z ∙ ap no-bytes (sym s) }
+  answered sheet₀ n g z s = record { count = g .count; left = g .left; few = call-laid unchosen set (length out) (length work) (g .words) (g .call-is) .few; cleared = z ∙ ap no-bytes (sym s) }
 
   pub some-answered : {sheet : List ℕ} (sheet₀ : List ℕ) (n : ℕ) → r ≡ planned.Compiled n → sheet ≡ no-bytes (length sheet₀) → length sheet ≡ length sheet₀ → SomeAnswered set out' n sheet
   some-answered sheet₀ n e z s = let g = gave n e in record { it = g .words; answered = answered sheet₀ n g z s }
@@ -89,7 +89,7 @@ module _ {set out work out' work' : List ℤ} {r : Answer} (c : Compiles set out
           unsatisfied = λ h. let p : sheeted.Compiled (length ws) (length t) ≡ sheeted.Contradiction = sym a ∙ h in differ (cc);
           back = λ k m h.
               let p : sheeted.Compiled k m ≡ sheeted.Compiled (length ws) (length t) = sym h ∙ a in
-              ap (λ (j : ℕ). read-sheet (take j sheet'')) (same-second p) ∙ ap read-sheet text-is ∙ sheet-back set (length out) (length work) ws (g .call-is)
+              ap (λ (j : ℕ). read-sheet (take j sheet'')) (same-second p) ∙ ap read-sheet text-is ∙ sheet-back unchosen set (length out) (length work) ws (g .call-is)
               ∙ ap (λ (l : List ℤ). some (counted clause-words (answer-clauses set l))) (sym (ap (λ (j : ℕ). take j out'') (same-first p) ∙ words-are));
         }
 

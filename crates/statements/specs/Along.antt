@@ -1,6 +1,7 @@
 -- The statements of a settled set taken one by one: what is known of the next one and of those behind it.
 -- F: the folded words as numbering left them; w: the work slice with the maps and the columns' numbers of the whole log.
 use mathlib.Core.Path.{_≡_, refl, sym, ap, _∙_, subst}
+use mathlib.Core.Bool.{Bool, true, false, cond}
 use mathlib.Core.List.{List, [], _∷_, _++_, append-assoc}
 use Prim.Native.Nat.{ℕ, _+_, _≤_, _<_}
 use native.Mathlib.Omega.{arith}
@@ -12,18 +13,21 @@ use Rattle.syntax.specs.Written.{EveryStmt, EveryStmts}
 use Rattle.words.specs.Exact.{Each}
 use Rattle.fold.specs.Fold.{Fixed}
 use Rattle.clauses.specs.Clause.{Clause}
-use Rattle.clauses.specs.Log.{Log, next-int}
+use Rattle.clauses.specs.Log.{Log, next-bool, next-int}
+use Rattle.clauses.specs.Merge.{merge-stmts}
 use Rattle.clauses.specs.Disjunction.{Out}
 use Rattle.tables.specs.Tables.{emitted-domains}
 use Rattle.tables.specs.ColumnMeaning.{WithinDomain}
-use Rattle.answer.specs.Answer.{normalize-stmt, normalize-stmts}
+use Rattle.answer.specs.Answer.{start-log, normalize-stmt, normalize-stmts}
 use Rattle.call.specs.WellRead.{Plain}
-use Rattle.walk.specs.Item.{bool-map, bool-entry, int-entry, nat, State}
+use Rattle.walk.specs.Item.{limit, bool-map, bool-at, int-entry, nat, State}
 use Rattle.walk.specs.Grow.{Grows}
 use Rattle.walk.specs.Num.{max-emitted, Numbered}
 use Rattle.walk.specs.TwoWalks.{low-back}
 use Rattle.statements.specs.Columns.{ColumnRecord}
 use Rattle.statements.specs.Statements.{LegalStmt, LegalStmts, Stable, InPlace, AllInPlace, meet-stmt, stmts-grow, stable-back, stmt-walks}
+use Rattle.statements.specs.Bounds.{start-low}
+use Rattle.statements.specs.Ties.{meet-ties, ties-num}
 use Rattle.statements.specs.Settled.{settled-legal, settled-plain}
 use Rattle.statements.specs.Whole.{Empty, start, start-numbered, lowest, log-standing}
 use Rattle.statements.specs.NumberedEntry.{settled-emitted, settled-low}
@@ -35,12 +39,16 @@ abbrev pub zeros : List ℤ
 zeros = replicate 16384 (pos 0)
 
 zeros-empty : Empty zeros
-unfolding bool-entry int-entry nat
+unfolding bool-at int-entry nat
 zeros-empty = record {
-  bools = λ v h. ap nat (getD-replicate 16384 (4608 + v) (pos 0) (pos 0) (omega arith));
+  bools = λ v h. getD-replicate 16384 (4608 + v) (pos 0) (pos 0) (omega arith);
   ints = λ v h. ap nat (getD-replicate 16384 (5120 + v) (pos 0) (pos 0) (omega arith));
   size = omega (arith, length-replicate 16384 (pos 0));
 }
+
+-- with the ties that merging leaves
+unfoldable pub begin : Bool → List ℤ → List Stmt → State
+begin m F ss = cond m (meet-ties F 512 ss (start zeros 0)) (start zeros 0)
 
 -- ---- one statement t at q, s the log before it, L the log of all
 
@@ -59,9 +67,10 @@ pub record StmtAt (ds : List Domain) (F w : List ℤ) (L : Log) (q : ℕ) (t : S
 
 -- ---- the statements that are left, behind clauses cs
 
-pub record Rest (p : Problem) (ss : List Stmt) (F w : List ℤ) (q : ℕ) (rest : List Stmt) (s : Log) (st : State) (cs : List Clause) : Type 0 where
-  pub joins : cs ++ normalize-stmts (p .domains) rest s .0 ≡ clauses-of p ss
-  pub ends : normalize-stmts (p .domains) rest s .1 ≡ log-of p ss
+-- m: merging chosen
+pub record Rest (m : Bool) (p : Problem) (ss : List Stmt) (F w : List ℤ) (q : ℕ) (rest : List Stmt) (s : Log) (st : State) (cs : List Clause) : Type 0 where
+  pub joins : cs ++ normalize-stmts (p .domains) rest s .0 ≡ clauses-of m p ss
+  pub ends : normalize-stmts (p .domains) rest s .1 ≡ log-of m p ss
   pub stands : Has F q (stmts-words rest)
   pub behind : 512 ≤ q
   pub place : q + length (stmts-words rest) ≡ 512 + length (stmts-words ss)
@@ -72,14 +81,25 @@ pub record Rest (p : Problem) (ss : List Stmt) (F w : List ℤ) (q : ℕ) (rest 
   pub numbered : Numbered (ColumnRecord F (p .domains)) st s
   pub placed : AllInPlace F (p .domains) w q rest s
 
-module _ {p : Problem} {f : Fixed} {ss : List Stmt} (set : Settled p f ss) where
+module _ (m : Bool) {p : Problem} {f : Fixed} {ss : List Stmt} (set : Settled p f ss) where
   abbrev ds : List Domain
   ds = p .domains
 
   short : length (stmts-words ss) ≤ 4096
   short = omega (arith, settled-short p f ss set)
 
-  pub rest-start : {F w : List ℤ} → Has F 512 (stmts-words ss) → AllInPlace F ds w 512 ss [] → Rest p ss F w 512 ss [] (start zeros) []
+  begin-numbered : (F : List ℤ) → Has F 512 (stmts-words ss) → Numbered (ColumnRecord F ds) (begin m F ss) (start-log m ss)
+  unfolding begin start-log
+  begin-numbered F h = go m (omega (arith, start-low m ss, short))
+    where
+      none : Numbered (ColumnRecord F ds) (start zeros 0) []
+      none = start-numbered F ds zeros zeros-empty
+
+      go : (t : Bool) → next-bool (cond t (merge-stmts ss []) []) ≤ limit → Numbered (ColumnRecord F ds) (cond t (meet-ties F 512 ss (start zeros 0)) (start zeros 0)) (cond t (merge-stmts ss []) [])
+      go false l = none
+      go true l = ties-num F (ColumnRecord F ds) ds 512 ss (start zeros 0) [] (settled-legal p (set .well) f ss (set .ends) (set .unrefused) F) h none l
+
+  pub rest-start : {F w : List ℤ} → Has F 512 (stmts-words ss) → AllInPlace F ds w 512 ss (start-log m ss) → Rest m p ss F w 512 ss (start-log m ss) (begin m F ss) []
   rest-start {F} stands h = record {
     joins = refl;
     ends = refl;
@@ -89,12 +109,12 @@ module _ {p : Problem} {f : Fixed} {ss : List Stmt} (set : Settled p f ss) where
     facts = settled-facts p f ss set;
     legal = settled-legal p (set .well) f ss (set .ends) (set .unrefused) F;
     plain = settled-plain p (set .well) f ss (set .ends);
-    standing = log-standing p (set .well) f ss (set .ends);
-    numbered = start-numbered F ds zeros zeros-empty;
+    standing = log-standing m p (set .well) f ss (set .ends);
+    numbered = begin-numbered F stands;
     placed = h;
   }
 
-  module _ {F w : List ℤ} {q : ℕ} {t : Stmt} {ts : List Stmt} {s : Log} {st : State} {cs : List Clause} (r : Rest p ss F w q (t ∷ ts) s st cs) where
+  module _ {F w : List ℤ} {q : ℕ} {t : Stmt} {ts : List Stmt} {s : Log} {st : State} {cs : List Clause} (r : Rest m p ss F w q (t ∷ ts) s st cs) where
     abbrev here : Out
     here = normalize-stmt ds t s
 
@@ -104,17 +124,17 @@ module _ {p : Problem} {f : Fixed} {ss : List Stmt} (set : Settled p f ss) where
     room : q + length (encode-stmt t) ≤ bool-map
     room = omega (arith, words, r .place, short)
 
-    later : normalize-stmts ds ts (here .1) .1 ≡ log-of p ss
+    later : normalize-stmts ds ts (here .1) .1 ≡ log-of m p ss
     unfolding normalize-stmts
     later = r .ends
 
-    grows : Grows (here .1) (log-of p ss)
+    grows : Grows (here .1) (log-of m p ss)
     grows = subst (λ (l : Log). Grows (here .1) l) later (stmts-grow F ds ts (here .1) (r .legal .1))
 
-    pub rest-first : StmtAt ds F w (log-of p ss) q t s st
+    pub rest-first : StmtAt ds F w (log-of m p ss) q t s st
     unfolding AllInPlace EveryStmts
     rest-first =
-        let whole : Stable ds (domain-of (emitted-domains ds (log-of p ss))) (normalize-stmts ds ts (here .1) .1) = λ v h. ap (λ (l : Log). domain-of (emitted-domains ds l) v) (sym later) in
+        let whole : Stable ds (domain-of (emitted-domains ds (log-of m p ss))) (normalize-stmts ds ts (here .1) .1) = λ v h. ap (λ (l : Log). domain-of (emitted-domains ds l) v) (sym later) in
         record {
           facts = r .facts .0;
           legal = r .legal .0;
@@ -126,14 +146,14 @@ module _ {p : Problem} {f : Fixed} {ss : List Stmt} (set : Settled p f ss) where
           numbered = r .numbered;
           placed = r .placed .0;
           grows = grows;
-          stable = stable-back F ds (domain-of (emitted-domains ds (log-of p ss))) (lowest ds) ts (here .1) (r .plain .1) (r .standing .1) whole;
+          stable = stable-back F ds (domain-of (emitted-domains ds (log-of m p ss))) (lowest ds) ts (here .1) (r .plain .1) (r .standing .1) whole;
         }
 
-    pub rest-next : Rest p ss F w (q + length (encode-stmt t)) ts (here .1) (meet-stmt q t st) (cs ++ here .0)
+    pub rest-next : Rest m p ss F w (q + length (encode-stmt t)) ts (here .1) (meet-stmt q t st) (cs ++ here .0)
     unfolding AllInPlace EveryStmts normalize-stmts
     rest-next =
         let has = has-front F q (encode-stmt t) (stmts-words ts) (r .stands) in
-        let fewer : next-int (here .1) < max-emitted = omega (arith, grows .ints, settled-emitted set) in
+        let fewer : next-int (here .1) < max-emitted = omega (arith, grows .ints, settled-emitted m set) in
         record {
           joins = append-assoc cs (here .0) (normalize-stmts ds ts (here .1) .0) ∙ r .joins;
           ends = r .ends;
@@ -144,6 +164,6 @@ module _ {p : Problem} {f : Fixed} {ss : List Stmt} (set : Settled p f ss) where
           legal = r .legal .1;
           plain = r .plain .1;
           standing = r .standing .1;
-          numbered = stmt-walks F ds q t st s (r .behind, room) has (r .legal .0) (r .numbered) (low-back grows (settled-low set)) fewer .numbered;
+          numbered = stmt-walks F ds q t st s (r .behind, room) has (r .legal .0) (r .numbered) (low-back grows (settled-low m set)) fewer .numbered;
           placed = r .placed .1;
         }

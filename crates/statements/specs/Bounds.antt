@@ -5,18 +5,20 @@ use mathlib.Core.Option.{Option, none as nothing, some}
 use mathlib.Core.List.{List, [], _∷_, _++_, map}
 use Prim.Native.Nat.{ℕ, zero, suc, _+_, _-_, _*_, _≤_}
 use native.Mathlib.Omega.{arith}
+use lib.Dec.{eqb}
 use lib.IntN.{ℤ}
 use lib.ListN.{length, length-append, length-map}
 use Rattle.laws.specs.Lists.{any, flat}
 use Rattle.syntax.specs.Syntax.{Domain, domain-of, encode-int, BoolExpr, Const, Var, NVar, And, Or, Not, Xor, Iff, Imp, Cmp, Members, none, more, encode-bool, encode-members, Cell, Stmt, Rule, Table, encode-stmt}
-use Rattle.clauses.specs.Clause.{Clause, clause}
+use Rattle.clauses.specs.Clause.{BoolLit, Clause, clause}
 use Rattle.clauses.specs.Log.{Log, next-bool, get-bool-var, bool-var-at, convert-bool-var}
 use Rattle.clauses.specs.Disjunction.{Sorted, satisfied, pool, pooled, with-longer, sorted, finish-sorted, normalize-disjunction}
 use Rattle.clauses.specs.Normalize.{no-run, run-then, normalize-conjunction, disjunction-of, cross as cross-run, normalize-var, normalize-comparison, normalize-int-expr, lit-clauses, normalize-bool-expr}
 use Rattle.clauses.specs.Split.{unsplit, normalize-each, normalize-and-register-expr, tseitin-transformation-bool as split}
 use Rattle.words.specs.Exact.{Each}
 use Rattle.tables.specs.Tables.{is-star, star-row, star-table, plain-table, emitted-domains, equivalent-int-vars, normalize-extension-supports, normalize-table}
-use Rattle.answer.specs.Answer.{normalize-stmt, normalize-stmts}
+use Rattle.clauses.specs.Merge.{as-var, tie-found, tie as merge-tie, merge-rule, merge-stmt, merge-stmts}
+use Rattle.answer.specs.Answer.{start-log, normalize-stmt, normalize-stmts}
 use Rattle.walk.specs.Tree.{Tree, var, num, cmp, conj, disj, cross, tied, Trees, nil, cons, size, append, pair, joined, crossed, splits, splits-members, resolve, resolves, tie, both-tied, ties, ties-members, num-run, run, runs}
 use Rattle.walk.specs.Resolve.{rule-trees, rule-runs, split-sided}
 use Rattle.walk.specs.Item.{mode-in, fresh-in}
@@ -81,7 +83,7 @@ unfoldable mutual
   weights nil = 0
   weights (cons t ts) = weight t + weights ts
 
-var-low : (o : Option ℕ) (v : ℕ) (s : Log) → next-bool (bool-var-at o v s .1) ≤ next-bool s + 1
+var-low : (o : Option BoolLit) (v : ℕ) (s : Log) → next-bool (bool-var-at o v s .1) ≤ next-bool s + 1
 var-low nothing v s = omega arith
 var-low (some n) v s = omega arith
 
@@ -194,7 +196,7 @@ mutual
 mutual
   unfolding Legal splits encode-bool
 
-  splits-low : (e : BoolExpr) (l : ℕ) (t : Bool) → Legal e l → splits e t + 1 ≤ length (encode-bool e)
+  pub splits-low : (e : BoolExpr) (l : ℕ) (t : Bool) → Legal e l → splits e t + 1 ≤ length (encode-bool e)
   splits-low (Const b) l t h = absurd h
   splits-low (Var v) l t h = omega arith
   splits-low (NVar k) l t h = absurd h
@@ -251,3 +253,57 @@ pub stmts-low : (F : List ℤ) (ds : List Domain) (ts : List Stmt) (s : Log) →
 unfolding normalize-stmts
 stmts-low F ds [] s x h = omega arith
 stmts-low F ds (t ∷ ts) s x h = omega (arith, stmt-low F ds t s (x .0) (h .0), stmts-low F ds ts (normalize-stmt ds t s .1) (x .1) (h .1), length-append (encode-stmt t) (flat (map encode-stmt ts)))
+
+-- ---- merging: at most one number for each statement
+
+-- no fewer numbers, and at most one more
+abbrev OneMore : Log → Log → Type 0
+OneMore s t = (next-bool s ≤ next-bool t) × (next-bool t ≤ next-bool s + 1)
+
+found-more : (o p : Option BoolLit) (x y : ℕ) (g : Bool) (s : Log) → OneMore s (tie-found o p x y g s)
+found-more (some l) (some m) x y g s = (omega arith, omega arith)
+found-more (some l) nothing x y g s = (omega arith, omega arith)
+found-more nothing (some m) x y g s = (omega arith, omega arith)
+found-more nothing nothing x y g s = (omega arith, omega arith)
+
+tie-more : (a b : Option ℕ) (g : Bool) (s : Log) → OneMore s (merge-tie a b g s)
+unfolding merge-tie
+tie-more nothing b g s = (omega arith, omega arith)
+tie-more (some x) nothing g s = (omega arith, omega arith)
+tie-more (some x) (some y) g s = go (eqb x y)
+  where
+    go : (t : Bool) → OneMore s (cond t s (tie-found (get-bool-var x s) (get-bool-var y s) x y g s))
+    go true = (omega arith, omega arith)
+    go false = found-more (get-bool-var x s) (get-bool-var y s) x y g s
+
+rule-more : (e : BoolExpr) (s : Log) → OneMore s (merge-rule e s)
+unfolding merge-rule
+rule-more (Const b) s = (omega arith, omega arith)
+rule-more (Var v) s = (omega arith, omega arith)
+rule-more (NVar n) s = (omega arith, omega arith)
+rule-more (And ms) s = (omega arith, omega arith)
+rule-more (Or ms) s = (omega arith, omega arith)
+rule-more (Not e) s = (omega arith, omega arith)
+rule-more (Xor a b) s = tie-more (as-var a) (as-var b) true s
+rule-more (Iff a b) s = tie-more (as-var a) (as-var b) false s
+rule-more (Imp a b) s = (omega arith, omega arith)
+rule-more (Cmp o a b) s = (omega arith, omega arith)
+
+stmt-more : (t : Stmt) (s : Log) → OneMore s (merge-stmt t s)
+stmt-more (Rule e) s = rule-more e s
+stmt-more (Table es rows) s = (omega arith, omega arith)
+
+pub merge-grows : (ts : List Stmt) (s : Log) → next-bool s ≤ next-bool (merge-stmts ts s)
+unfolding merge-stmts
+merge-grows [] s = omega arith
+merge-grows (t ∷ ts) s = omega (arith, stmt-more t s .0, merge-grows ts (merge-stmt t s))
+
+merge-low : (ts : List Stmt) (s : Log) → next-bool (merge-stmts ts s) ≤ next-bool s + length (flat (map encode-stmt ts))
+unfolding merge-stmts
+merge-low [] s = omega arith
+merge-low (t ∷ ts) s = omega (arith, stmt-more t s .1, merge-low ts (merge-stmt t s), stmt-words t, length-append (encode-stmt t) (flat (map encode-stmt ts)))
+
+pub start-low : (m : Bool) (ts : List Stmt) → next-bool (start-log m ts) ≤ length (flat (map encode-stmt ts))
+unfolding start-log
+start-low false ts = omega arith
+start-low true ts = omega (arith, merge-low ts [])

@@ -14,8 +14,8 @@ use Rattle.syntax.specs.Syntax.{Domain, domain-of, IntExpr, IConst, IVar, Linea
 use Rattle.syntax.specs.Satisfies.{IVal}
 use Rattle.syntax.specs.Lengths.{int-long}
 use Rattle.sums.specs.LinearSum.{LinearSum, constant}
-use Rattle.clauses.specs.Clause.{Clause}
-use Rattle.clauses.specs.Log.{declared, aux, side, declared-int, column, Log, next-bool, next-int, get-bool-var, get-int-var, bool-var-at, convert-bool-var, int-var-at, convert-int-var}
+use Rattle.clauses.specs.Clause.{BoolLit, Clause}
+use Rattle.clauses.specs.Log.{merged, declared, aux, side, declared-int, column, Log, next-bool, next-int, get-bool-var, get-int-var, bool-var-at, convert-bool-var, int-var-at, convert-int-var}
 use Rattle.clauses.specs.Disjunction.{normalize-disjunction}
 use Rattle.clauses.specs.Normalize.{no-run, run-then, normalize-conjunction, disjunction-of, cross as cross-run, normalize-var, normalize-comparison, normalize-int-var, normalize-term, normalize-int-expr, normalize-terms, lit-clauses}
 use Rattle.clauses.specs.Split.{normalize-and-register-expr, unsplit, split-not, split-members, split-two, split-sides, split-more, tseitin-transformation-bool as split, tseitin-transformation-members as split-each}
@@ -37,10 +37,13 @@ abbrev opens : ℕ → Log → ℕ
 opens zero s = 0
 opens (suc i) s = is-open (get-int-var i s) + opens i s
 
-opens-most : (i : ℕ) → opens i [] ≡ i
-unfolding get-int-var
-opens-most zero = refl
-opens-most (suc i) = omega (arith, opens-most i)
+open-one : (o : Option ℕ) → is-open o ≤ 1
+open-one nothing = omega arith
+open-one (some n) = omega arith
+
+opens-most : (i : ℕ) (s : Log) → opens i s ≤ i
+opens-most zero s = omega arith
+opens-most (suc i) s = omega (arith, opens-most i s, open-one (get-int-var i s))
 
 opens-keep : (i v : ℕ) (s : Log) → i ≤ v → opens i (declared-int v ∷ s) ≡ opens i s
 unfolding get-int-var
@@ -68,24 +71,35 @@ opens-drop (suc i) v s h e = go (eqb i v) refl (λ k. opens-drop i v s k e)
 abbrev columns : Log → ℕ
 columns [] = 0
 columns (declared v ∷ s) = columns s
+columns (merged v w g ∷ s) = columns s
 columns (aux cs ∷ s) = columns s
 columns (side e ∷ s) = columns s
 columns (declared-int v ∷ s) = columns s
 columns (column l d ∷ s) = suc (columns s)
 
+columns-few : (s : Log) → columns s ≤ next-int s
+columns-few [] = omega arith
+columns-few (declared v ∷ s) = columns-few s
+columns-few (merged v w g ∷ s) = columns-few s
+columns-few (aux cs ∷ s) = columns-few s
+columns-few (side e ∷ s) = columns-few s
+columns-few (declared-int v ∷ s) = omega (arith, columns-few s)
+columns-few (column l d ∷ s) = omega (arith, columns-few s)
+
 same-opens : (i : ℕ) (s t : Log) → ((v : ℕ) → get-int-var v s ≡ get-int-var v t) → opens i s ≡ opens i t
 same-opens zero s t h = refl
 same-opens (suc i) s t h = rw (h i, same-opens i s t h) refl
 
--- every emitted integer is a declared variable's or a column's
-emitted-is : (b i : ℕ) {ε : IVal} {s : Log} → GrowsFrom ε [] s → Declared b i s → next-int s + opens i s ≤ i + columns s
+-- every emitted integer is a declared variable's or a column's; s0: a log without integers
+emitted-is : (b i : ℕ) {ε : IVal} {s0 s : Log} → next-int s0 ≡ 0 → GrowsFrom ε s0 s → Declared b i s → next-int s + opens i s ≤ i + columns s
 unfolding get-int-var
-emitted-is b i same d = omega (arith, opens-most i)
-emitted-is b i (grow {t} (declared v) l g) d = omega (arith, emitted-is b i g (d .1), same-opens i (declared v ∷ t) t (λ w. refl))
-emitted-is b i (grow {t} (aux cs) l g) d = omega (arith, emitted-is b i g d, same-opens i (aux cs ∷ t) t (λ w. refl))
-emitted-is b i (grow {t} (side e) l g) d = omega (arith, emitted-is b i g d, same-opens i (side e ∷ t) t (λ w. refl))
-emitted-is b i (grow {t} (declared-int v) l g) d = omega (arith, emitted-is b i g (d .1), opens-drop i v t (d .0) l)
-emitted-is b i (grow {t} (column x e) l g) d = omega (arith, emitted-is b i g (d .1), same-opens i (column x e ∷ t) t (λ w. refl))
+emitted-is b i {s0 = s0} z same d = omega (arith, z, opens-most i s0)
+emitted-is b i z (grow {t} (declared v) l g) d = omega (arith, emitted-is b i z g (d .1), same-opens i (declared v ∷ t) t (λ w. refl))
+emitted-is b i z (grow {t} (merged v w h) l g) d = absurd l
+emitted-is b i z (grow {t} (aux cs) l g) d = omega (arith, emitted-is b i z g d, same-opens i (aux cs ∷ t) t (λ w. refl))
+emitted-is b i z (grow {t} (side e) l g) d = omega (arith, emitted-is b i z g d, same-opens i (side e ∷ t) t (λ w. refl))
+emitted-is b i z (grow {t} (declared-int v) l g) d = omega (arith, emitted-is b i z g (d .1), opens-drop i v t (d .0) l)
+emitted-is b i z (grow {t} (column x e) l g) d = omega (arith, emitted-is b i z g (d .1), same-opens i (column x e ∷ t) t (λ w. refl))
 
 -- ---- only columns of tables are columns of the log
 
@@ -100,7 +114,7 @@ int-var-columns : (o : Option ℕ) (v : ℕ) (s : Log) → columns (int-var-at o
 int-var-columns (some n) v s = refl
 int-var-columns nothing v s = refl
 
-bool-var-columns : (o : Option ℕ) (v : ℕ) (s : Log) → columns (bool-var-at o v s .1) ≡ columns s
+bool-var-columns : (o : Option BoolLit) (v : ℕ) (s : Log) → columns (bool-var-at o v s .1) ≡ columns s
 bool-var-columns (some n) v s = refl
 bool-var-columns nothing v s = refl
 
@@ -196,5 +210,5 @@ module _ (ds : List Domain) where
   stmts-columns (t ∷ ts) s = omega (arith, stmt-columns t s, stmts-columns ts (normalize-stmt ds t s .1), length-append (encode-stmt t) (flat (map encode-stmt ts)))
 
   -- at most half as many as there are words, besides the declared ones
-  pub emitted-few : (b i : ℕ) (ε : IVal) (ts : List Stmt) → GrowsFrom ε [] (normalize-stmts ds ts [] .1) → Declared b i (normalize-stmts ds ts [] .1) → 2 * next-int (normalize-stmts ds ts [] .1) ≤ 2 * i + length (flat (map encode-stmt ts))
-  emitted-few b i ε ts g d = omega (arith, emitted-is b i g d, stmts-columns ts [])
+  pub emitted-few : (b i : ℕ) (ε : IVal) (ts : List Stmt) (s : Log) → next-int s ≡ 0 → GrowsFrom ε s (normalize-stmts ds ts s .1) → Declared b i (normalize-stmts ds ts s .1) → 2 * next-int (normalize-stmts ds ts s .1) ≤ 2 * i + length (flat (map encode-stmt ts))
+  emitted-few b i ε ts s z g d = omega (arith, z, columns-few s, emitted-is b i z g d, stmts-columns ts s)

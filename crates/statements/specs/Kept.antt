@@ -7,6 +7,7 @@ use native.Mathlib.Omega.{arith}
 use lib.IntN.{ℤ, pos}
 use lib.ListN.{length, getD, set, length-set}
 use lib.Seq.{getD-set-other}
+use Rattle.laws.specs.Ints.{is-zero}
 use Rattle.syntax.specs.Syntax.{Domain, IntExpr, IConst, IVar, Linear, Terms, tnil, tmore}
 use Rattle.syntax.specs.Written.{EveryInt, EveryTerm}
 use Rattle.sums.specs.LinearSum.{LinearSum, constant, add-sum, mul-sum}
@@ -14,7 +15,7 @@ use Rattle.clauses.specs.Log.{Log, next-int, convert-int-var}
 use Rattle.clauses.specs.Disjunction.{normalize-disjunction}
 use Rattle.clauses.specs.Normalize.{no-run, run-then, normalize-conjunction, disjunction-of, cross as cross-run, lit-clauses, normalize-var, normalize-comparison, normalize-int-var, normalize-term, normalize-int-expr, normalize-terms}
 use Rattle.walk.specs.Tree.{Tree, var, num, cmp, conj, disj, cross, tied, Trees, nil, cons, num-run, run, runs}
-use Rattle.walk.specs.Item.{is-none, bool-map, int-map, emitted-ints, bool-entry, int-entry, State, new-bool, meet-bool, new-int, meet-int-var, meet-int, meet-terms, walk-bools, mets, var-item, num-item, cmp-item, conj-item, disj-item, cross-item, tied-item, item, items}
+use Rattle.walk.specs.Item.{is-none, bool-map, int-map, emitted-ints, bool-at, int-entry, State, new-bool, meet-bool, new-int, meet-int-var, meet-int, meet-terms, walk-bools, mets, var-item, num-item, cmp-item, conj-item, disj-item, cross-item, tied-item, item, items}
 use Rattle.walk.specs.Ints.{int-grows, terms-grow}
 use Rattle.walk.specs.Grow.{then}
 use Rattle.walk.specs.Implements.{Proper, Propers, disj-grows}
@@ -52,7 +53,7 @@ pick-kept false st a h = kept-same (st .work)
 
 bool-kept : (v : ℕ) (st : State) → v < 512 → Kept (st .work) (meet-bool v st .work)
 unfolding meet-bool
-bool-kept v st h = pick-kept (is-none (bool-entry (st .work) v)) st (new-bool v st) (kept-set (st .work) (bool-map + v) _ (omega arith) (omega arith))
+bool-kept v st h = pick-kept (is-zero (bool-at (st .work) v)) st (new-bool v st) (kept-set (st .work) (bool-map + v) _ (omega arith) (omega arith))
 
 pub int-var-kept : (v : ℕ) (st : State) → v < 256 → st .ints < max-emitted → Kept (st .work) (meet-int-var v st .work)
 unfolding meet-int-var

@@ -10,6 +10,8 @@ pub mod Whole
 pub mod Records
 pub mod Stages
 pub mod NumberColumns
+pub mod Ties
+pub mod KnownTies
 pub mod Along
 pub mod Saved
 pub mod NumberedEntry

@@ -1,5 +1,6 @@
 -- Words from 12032 on are free: what is known of the numbered work slice holds of any slice with the same words below them.
 use mathlib.Core.Path.{_≡_, sym, ap, _∙_, subst}
+use mathlib.Core.Bool.{Bool}
 use mathlib.Core.List.{List, [], _∷_, map}
 use Prim.Native.Nat.{ℕ, _+_, _≤_, _<_}
 use native.Mathlib.Omega.{arith}
@@ -10,9 +11,9 @@ use Rattle.laws.specs.Slices.{Has}
 use Rattle.syntax.specs.Syntax.{Domain, Stmt, encode-stmt, Problem}
 use Rattle.fold.specs.Fold.{Fixed}
 use Rattle.sums.specs.LinearSum.{LinearSum}
-use Rattle.clauses.specs.Log.{declared, aux, side, declared-int, column, Log, next-int}
-use Rattle.answer.specs.Answer.{normalize-stmt}
-use Rattle.walk.specs.Item.{nat, bool-map, int-map, emitted-ints, bool-entry, int-entry}
+use Rattle.clauses.specs.Log.{merged, declared, aux, side, declared-int, column, Log, next-int}
+use Rattle.answer.specs.Answer.{start-log, normalize-stmt}
+use Rattle.walk.specs.Item.{nat, bool-map, int-map, emitted-ints, bool-at, int-entry}
 use Rattle.walk.specs.Decode.{read-part}
 use Rattle.walk.specs.NumberingSteps.{state-of}
 use Rattle.walk.specs.Num.{max-emitted, Recorded, Numbered}
@@ -32,9 +33,9 @@ module _ {w w' : List ℤ} (same : Saved 0 w w') where
   word-same : (k : ℕ) → k < free-from → getD w' k (pos 0) ≡ getD w k (pos 0)
   word-same k h = same .cells k (omega arith) h
 
-  bool-entry-same : (v : ℕ) → v < 512 → bool-entry w' v ≡ bool-entry w v
-  unfolding bool-entry
-  bool-entry-same v h = ap nat (word-same (bool-map + v) (omega arith))
+  bool-at-same : (v : ℕ) → v < 512 → bool-at w' v ≡ bool-at w v
+  unfolding bool-at
+  bool-at-same v h = word-same (bool-map + v) (omega arith)
 
   int-entry-same : (v : ℕ) → v < 256 → int-entry w' v ≡ int-entry w v
   unfolding int-entry
@@ -44,6 +45,7 @@ module _ {w w' : List ℤ} (same : Saved 0 w w') where
   unfolding Recorded
   recorded-same C [] h r = tt
   recorded-same C (declared v ∷ s) h r = recorded-same C s h r
+  recorded-same C (merged u v g ∷ s) h r = recorded-same C s h r
   recorded-same C (aux cs ∷ s) h r = recorded-same C s h r
   recorded-same C (side e ∷ s) h r = recorded-same C s h r
   recorded-same C (declared-int v ∷ s) h r = (word-same (emitted-ints + next-int s) (omega arith) ∙ r .0, recorded-same C s (omega arith) (r .1))
@@ -51,7 +53,7 @@ module _ {w w' : List ℤ} (same : Saved 0 w w') where
 
   numbered-same : (C : Log → ℤ → LinearSum → Domain → Type 0) (c : Counters) (s : Log) → next-int s ≤ max-emitted → Numbered C (state-of w c) s → Numbered C (state-of w' c) s
   numbered-same C c s h n = record {
-    map = λ v k. bool-entry-same v k ∙ n .map v k;
+    map = λ v k. bool-at-same v k ∙ n .map v k;
     map-int = λ v k. int-entry-same v k ∙ n .map-int v k;
     bools = n .bools;
     ints = n .ints;
@@ -69,14 +71,14 @@ module _ {w w' : List ℤ} (same : Saved 0 w w') where
         let n = length-append (encode-stmt t) (stmts-words ss) in
         (in-place-saved F ds at t s (omega arith) (omega (arith, n)) same (k .0), all-placed-same (at + length (encode-stmt t)) ss (normalize-stmt ds t s .1) (omega (arith, n)) (k .1))
 
-pub ready-keeps : {p : Problem} {f : Fixed} {ss : List Stmt} {w w' : List ℤ} {c : Counters} → take free-from w' ≡ take free-from w → length w' ≡ length w → NumberedSet p f ss w c → NumberedSet p f ss w' c
-ready-keeps {p} {f} {ss} {w} {w'} {c} e l r =
+pub ready-keeps : {m : Bool} {p : Problem} {f : Fixed} {ss : List Stmt} {w w' : List ℤ} {c : Counters} → take free-from w' ≡ take free-from w → length w' ≡ length w → NumberedSet m p f ss w c → NumberedSet m p f ss w' c
+ready-keeps {m} {p} {f} {ss} {w} {w'} {c} e l r =
     let q : read-part w ≡ read-part w' = sym (part-same w w' e) in
     let same : Saved 0 w w' = saved-below e l in
     record {
       set = r .set;
       values = λ v h. word-same same v (omega arith) ∙ r .values v h;
       stands = subst (λ (F : List ℤ). Has F 512 (stmts-words ss)) q (r .stands);
-      numbered = subst (λ (F : List ℤ). Numbered (ColumnRecord F (p .domains)) (state-of w' c) (log-of p ss)) q (numbered-same same _ c (log-of p ss) (omega (arith, settled-emitted (r .set))) (r .numbered));
-      placed = subst (λ (F : List ℤ). AllInPlace F (p .domains) w' 512 ss []) q (all-placed-same same (read-part w) (p .domains) 512 ss [] (omega (arith, settled-short p f ss (r .set))) (r .placed));
+      numbered = subst (λ (F : List ℤ). Numbered (ColumnRecord F (p .domains)) (state-of w' c) (log-of m p ss)) q (numbered-same same _ c (log-of m p ss) (omega (arith, settled-emitted m (r .set))) (r .numbered));
+      placed = subst (λ (F : List ℤ). AllInPlace F (p .domains) w' 512 ss (start-log m ss)) q (all-placed-same same (read-part w) (p .domains) 512 ss (start-log m ss) (omega (arith, settled-short p f ss (r .set))) (r .placed));
     }

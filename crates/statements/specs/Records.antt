@@ -18,7 +18,7 @@ use Rattle.limits.specs.Limits.{heavy, many-column, written, written-terms}
 use Rattle.sums.specs.LinearSum.{Term, term, LinearSum, linear-sum, constant, add-sum, mul-sum, lowest, highest, get-domain-linear-sum}
 use Rattle.sums.specs.Linear.{linear-of}
 use Rattle.sums.specs.Rising.{Among}
-use Rattle.clauses.specs.Log.{declared, aux, side, declared-int, column, Log, next-int, get-int-var, convert-int-var}
+use Rattle.clauses.specs.Log.{merged, declared, aux, side, declared-int, column, Log, next-int, get-int-var, convert-int-var}
 use Rattle.clauses.specs.Normalize.{IntOut, normalize-int-var, normalize-term, normalize-int-expr, normalize-terms}
 use Rattle.clauses.specs.Bounds.{terms-bound, sum-bound}
 use Rattle.clauses.specs.Grow.{Grows as GrowsFrom, same, grow, grows-trans, grows-bool, grows-int, grows-get-bool, grows-get-int, get-int-below}
@@ -141,17 +141,19 @@ module _ (F : List ℤ) (ds : List Domain) (b i : ℕ) (w : List ℤ) (L : Log) 
           domain = a ∙ c .domain ∙ q ∙ ap (get-domain-linear-sum domain-at) e;
         })
 
-    pub entry-at : {s : Log} → GrowsFrom ε [] s → GrowsFrom ε s L → Recorded (ColumnRecord F ds) w s → Declared b i s → Fit w L → (n : ℕ) → n < next-int s → Entry n
+    -- s0: a log without integers
+    pub entry-at : {s0 s : Log} → next-int s0 ≡ 0 → GrowsFrom ε s0 s → GrowsFrom ε s L → Recorded (ColumnRecord F ds) w s → Declared b i s → Fit w L → (n : ℕ) → n < next-int s → Entry n
     unfolding Recorded
-    entry-at same g r d f n h = absurd (omega arith)
-    entry-at (grow {t} (declared v) l k) g r d f n h = entry-at k (grows-trans (grow (declared v) l same) g) r (d .1) f n h
-    entry-at (grow {t} (aux cs) l k) g r d f n h = entry-at k (grows-trans (grow (aux cs) l same) g) r d f n h
-    entry-at (grow {t} (side e) l k) g r d f n h = entry-at k (grows-trans (grow (side e) l same) g) r d f n h
-    entry-at (grow {t} (declared-int v) l k) g r d f n h =
+    entry-at y same g r d f n h = absurd (omega arith)
+    entry-at y (grow {t} (declared v) l k) g r d f n h = entry-at y k (grows-trans (grow (declared v) l same) g) r (d .1) f n h
+    entry-at y (grow {t} (merged u v z) l k) g r d f n h = absurd l
+    entry-at y (grow {t} (aux cs) l k) g r d f n h = entry-at y k (grows-trans (grow (aux cs) l same) g) r d f n h
+    entry-at y (grow {t} (side e) l k) g r d f n h = entry-at y k (grows-trans (grow (side e) l same) g) r d f n h
+    entry-at y (grow {t} (declared-int v) l k) g r d f n h =
         least n (next-int t) (ltb n (next-int t)) refl (omega arith)
-        (λ m. entry-at k (grows-trans (grow (declared-int v) l same) g) (r .1) (d .1) f n m)
+        (λ m. entry-at y k (grows-trans (grow (declared-int v) l same) g) (r .1) (d .1) f n m)
         (λ z. rw z (of-declared v (r .0) (d .0) (domain-stays ds g (next-int t) (omega arith) ∙ new-int-domain ds v t)))
-    entry-at (grow {t} (column x e) l k) g r d f n h =
+    entry-at y (grow {t} (column x e) l k) g r d f n h =
         least n (next-int t) (ltb n (next-int t)) refl (omega arith)
-        (λ m. entry-at k (grows-trans (grow (column x e) l same) g) (r .1) (d .1) f n m)
+        (λ m. entry-at y k (grows-trans (grow (column x e) l same) g) (r .1) (d .1) f n m)
         (λ z. rw z (column-entry x e t (r .0) (l .0) g (grows-trans (grow (column x e) l same) g) f))

@@ -11,9 +11,10 @@ use lib.Seq.{ext-getD, getD-take, getD-drop}
 use Rattle.laws.specs.Lists.{flat}
 use Rattle.laws.specs.Slices.{Has, has-fits, has-nth}
 use Rattle.syntax.specs.Syntax.{Domain, IntExpr, IConst, IVar, Linear, encode-int, Stmt, Rule, Table, encode-stmt}
+use Rattle.clauses.specs.Clause.{BoolLit}
 use Rattle.clauses.specs.Log.{Log, get-bool-var, get-int-var}
 use Rattle.tables.specs.Tables.{equivalent-int-var}
-use Rattle.walk.specs.Item.{nat, bool-map, int-map, bool-entry, int-entry}
+use Rattle.walk.specs.Item.{nat, bool-map, int-map, bool-at, int-entry}
 use Rattle.walk.specs.Grow.{Fit}
 use Rattle.walk.specs.Decode.{read-part}
 use Rattle.walk.specs.NumberingSteps.{part-short}
@@ -82,10 +83,10 @@ has-saved {e} {w} {w'} at (u ∷ us) l s h =
 
 -- ---- the maps
 
-pub fit-saved : {e : ℕ} {w w' : List ℤ} (L : Log) → e ≤ bool-map → ((v n : ℕ) → get-bool-var v L ≡ some n → v < 512) → ((v n : ℕ) → get-int-var v L ≡ some n → v < 256) → Saved e w w' → Fit w L → Fit w' L
-unfolding bool-entry int-entry
+pub fit-saved : {e : ℕ} {w w' : List ℤ} (L : Log) → e ≤ bool-map → ((v : ℕ) (l : BoolLit) → get-bool-var v L ≡ some l → v < 512) → ((v n : ℕ) → get-int-var v L ≡ some n → v < 256) → Saved e w w' → Fit w L → Fit w' L
+unfolding bool-at int-entry
 fit-saved L l low low-int s f = record {
-  agree = λ v n h. let k = low v n h in ap nat (s .cells (bool-map + v) (omega arith) (omega arith)) ∙ f .agree v n h;
+  agree = λ v n h. let k = low v n h in s .cells (bool-map + v) (omega arith) (omega arith) ∙ f .agree v n h;
   agree-int = λ v n h. let k = low-int v n h in ap nat (s .cells (int-map + v) (omega arith) (omega arith)) ∙ f .agree-int v n h;
   small = f .small;
 }

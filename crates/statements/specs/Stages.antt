@@ -1,7 +1,7 @@
 -- What every later pass may take for granted: a set that was accepted and settled, what is known of its folded statements,
 -- and the work slice before and after numbering.
 use mathlib.Core.Path.{_≡_, sym, ap, _∙_}
-use mathlib.Core.Bool.{false}
+use mathlib.Core.Bool.{Bool, false}
 use mathlib.Core.List.{List, [], _∷_, _++_, map, append-assoc}
 use Prim.Native.Nat.{ℕ, _+_, _*_, _≤_, _<_}
 use native.Mathlib.Omega.{arith}
@@ -22,7 +22,7 @@ use Rattle.fold.specs.Kept.{fold-int-depth, fold-stmts-size}
 use Rattle.clauses.specs.Clause.{Clause}
 use Rattle.clauses.specs.Log.{Log, next-bool, get-bool-var, get-int-var}
 use Rattle.tables.specs.Tables.{emitted-domains}
-use Rattle.answer.specs.Answer.{fixed-word, map-word, domain-words, clause-words, layout, answer-of, normalize, normalize-stmts}
+use Rattle.answer.specs.Answer.{fixed-word, map-word, bool-word, start-log, domain-words, clause-words, layout, answer-of, normalize, normalize-stmts}
 use Rattle.call.specs.WellRead.{well-declared}
 use Rattle.walk.specs.Legal.{LegalInt}
 use Rattle.walk.specs.Rule.{LegalRule}
@@ -33,7 +33,7 @@ use Rattle.walk.specs.declared.Counters.{Counters}
 use Rattle.statements.specs.Columns.{ColumnRecord}
 use Rattle.statements.specs.Statements.{LegalStmts, AllInPlace}
 use Rattle.statements.specs.Settled.{int-depth, int-legal, Light, settled-declared, settled-light, settled-legal}
-use Rattle.statements.specs.Whole.{Empty}
+use Rattle.statements.specs.Whole.{Empty, start}
 
 abbrev pub stmts-words : List Stmt → List ℤ
 stmts-words ss = flat (map encode-stmt ss)
@@ -46,12 +46,12 @@ pub record Settled (p : Problem) (f : Fixed) (ss : List Stmt) : Type 0 where
   pub short : length (encode p) ≤ max-set-words
   pub ends : optimize p ≡ settled f ss
 
--- its clauses and the log of its emitted numbers
-abbrev pub clauses-of : Problem → List Stmt → List Clause
-clauses-of p ss = normalize-stmts (p .domains) ss [] .0
+-- its clauses and the log of its emitted numbers; m: merging chosen
+abbrev pub clauses-of : Bool → Problem → List Stmt → List Clause
+clauses-of m p ss = normalize-stmts (p .domains) ss (start-log m ss) .0
 
-abbrev pub log-of : Problem → List Stmt → Log
-log-of p ss = normalize-stmts (p .domains) ss [] .1
+abbrev pub log-of : Bool → Problem → List Stmt → Log
+log-of m p ss = normalize-stmts (p .domains) ss (start-log m ss) .1
 
 -- ---- what is known of a folded statement
 
@@ -136,31 +136,38 @@ pub record Folded (p : Problem) (f : Fixed) (ss : List Stmt) (w : List ℤ) : Ty
   pub stands : Has (read-part w) 512 (stmts-words ss)
   pub empty : Empty w
 
--- after it: the maps, the records and the columns' numbers of the log
-pub record NumberedSet (p : Problem) (f : Fixed) (ss : List Stmt) (w : List ℤ) (c : Counters) : Type 0 where
+-- after merging, if it was chosen: the map of the log from which clauses are made; n: how many numbers it has
+pub record Started (m : Bool) (p : Problem) (f : Fixed) (ss : List Stmt) (w : List ℤ) (n : ℕ) : Type 0 where
   pub set : Settled p f ss
   pub values : (v : ℕ) → v < 512 → getD w v (pos 0) ≡ fixed-word (f v)
   pub stands : Has (read-part w) 512 (stmts-words ss)
-  pub numbered : Numbered (ColumnRecord (read-part w) (p .domains)) (state-of w c) (log-of p ss)
-  pub placed : AllInPlace (read-part w) (p .domains) w 512 ss []
+  pub numbered : Numbered (ColumnRecord (read-part w) (p .domains)) (start w n) (start-log m ss)
+
+-- after numbering: the maps, the records and the columns' numbers of the log
+pub record NumberedSet (m : Bool) (p : Problem) (f : Fixed) (ss : List Stmt) (w : List ℤ) (c : Counters) : Type 0 where
+  pub set : Settled p f ss
+  pub values : (v : ℕ) → v < 512 → getD w v (pos 0) ≡ fixed-word (f v)
+  pub stands : Has (read-part w) 512 (stmts-words ss)
+  pub numbered : Numbered (ColumnRecord (read-part w) (p .domains)) (state-of w c) (log-of m p ss)
+  pub placed : AllInPlace (read-part w) (p .domains) w 512 ss (start-log m ss)
 
 -- ---- the answer's words in front of the clauses
 
-unfoldable pub head-words : Problem → Fixed → List Stmt → List ℤ
-head-words p f ss =
+unfoldable pub head-words : Bool → Problem → Fixed → List Stmt → List ℤ
+head-words m p f ss =
     map fixed-word (map f (below (p .bools)))
-    ++ (map map-word (map (λ v. get-bool-var v (log-of p ss)) (below (p .bools)))
-    ++ (map map-word (map (λ v. get-int-var v (log-of p ss)) (below (length (p .domains))))
-    ++ (pos (next-bool (log-of p ss)) ∷ counted domain-words (emitted-domains (p .domains) (log-of p ss)))))
+    ++ (map bool-word (map (λ v. get-bool-var v (log-of m p ss)) (below (p .bools)))
+    ++ (map map-word (map (λ v. get-int-var v (log-of m p ss)) (below (length (p .domains))))
+    ++ (pos (next-bool (log-of m p ss)) ∷ counted domain-words (emitted-domains (p .domains) (log-of m p ss)))))
 
-pub layout-head : (p : Problem) (f : Fixed) (ss : List Stmt) → layout (normalize p f ss) ≡ head-words p f ss ++ counted clause-words (clauses-of p ss)
+pub layout-head : (m : Bool) (p : Problem) (f : Fixed) (ss : List Stmt) → layout (normalize m p f ss) ≡ head-words m p f ss ++ counted clause-words (clauses-of m p ss)
 unfolding head-words layout normalize answer-of
-layout-head p f ss =
+layout-head m p f ss =
     let a : List ℤ = map fixed-word (map f (below (p .bools))) in
-    let b : List ℤ = map map-word (map (λ v. get-bool-var v (log-of p ss)) (below (p .bools))) in
-    let c : List ℤ = map map-word (map (λ v. get-int-var v (log-of p ss)) (below (length (p .domains)))) in
-    let d : List ℤ = pos (next-bool (log-of p ss)) ∷ counted domain-words (emitted-domains (p .domains) (log-of p ss)) in
-    let e : List ℤ = counted clause-words (clauses-of p ss) in
+    let b : List ℤ = map bool-word (map (λ v. get-bool-var v (log-of m p ss)) (below (p .bools))) in
+    let c : List ℤ = map map-word (map (λ v. get-int-var v (log-of m p ss)) (below (length (p .domains)))) in
+    let d : List ℤ = pos (next-bool (log-of m p ss)) ∷ counted domain-words (emitted-domains (p .domains) (log-of m p ss)) in
+    let e : List ℤ = counted clause-words (clauses-of m p ss) in
     sym (append-assoc a (b ++ (c ++ d)) e ∙ ap (λ (l : List ℤ). a ++ l) (append-assoc b (c ++ d) e ∙ ap (λ (l : List ℤ). b ++ l) (append-assoc c d e)))
 
 -- ---- what a pass is lent: some such set
@@ -173,12 +180,22 @@ pub record SomeFolded (w : List ℤ) (end : ℕ) : Type 0 where
   pub folded : Folded it fixed stmts w
   pub ends : end ≡ 512 + length (stmts-words stmts)
 
+-- n: how many numbers merging gave
+pub record SomeStarted (w : List ℤ) (end n : ℕ) : Type 0 where
+  pub merge : Bool
+  pub it : Problem
+  pub fixed : Fixed
+  pub stmts : List Stmt
+  pub started : Started merge it fixed stmts w n
+  pub ends : end ≡ 512 + length (stmts-words stmts)
+
 -- the set's words, and how many variables they declare
 pub record SomeReady (set w : List ℤ) (b i : ℕ) (c : Counters) : Type 0 where
+  pub merge : Bool
   pub it : Problem
   pub fixed : Fixed
   pub stmts : List Stmt
   pub words : set ≡ encode it
   pub bools : b ≡ it .bools
   pub ints : i ≡ length (it .domains)
-  pub ready : NumberedSet it fixed stmts w c
+  pub ready : NumberedSet merge it fixed stmts w c

@@ -1,6 +1,6 @@
 -- The answer's words by the two passes: after numbering, the maps and counters of the work slice and the statements' words make up the layout.
 use mathlib.Core.Path.{_≡_, refl, sym}
-use mathlib.Core.Bool.{true, false, false≢true}
+use mathlib.Core.Bool.{Bool, true, false, false≢true}
 use mathlib.Core.Option.{Option, none as nothing, some}
 use mathlib.Core.List.{List, [], _∷_, _++_, map}
 use Prim.Native.Nat.{ℕ, zero, suc, _+_, _*_, _≤_, _<_}
@@ -20,34 +20,37 @@ use Rattle.limits.specs.Limits.{check}
 use Rattle.fold.specs.Fold.{Fixed}
 use Rattle.fold.specs.Optimize.{settled, optimize}
 use Rattle.sums.specs.Domain.{ordered}
+use Rattle.clauses.specs.Clause.{BoolLit}
 use Rattle.clauses.specs.Log.{Log, next-int, get-bool-var, get-int-var}
 use Rattle.clauses.specs.Disjunction.{Out}
 use Rattle.clauses.specs.Grow.{Grows as GrowsFrom}
 use Rattle.tables.specs.Tables.{emitted-domains}
 use Rattle.tables.specs.ColumnMeaning.{WithinDomain}
-use Rattle.answer.specs.Answer.{fixed-word, map-word, domain-words, clause-words, layout, answer-of, normalize, normalize-stmts}
+use Rattle.answer.specs.Answer.{fixed-word, map-word, bool-word, start-log, domain-words, clause-words, layout, answer-of, normalize, normalize-stmts}
 use Rattle.answer.specs.Declared.{Declared, stmts-declared}
+use Rattle.answer.specs.Start.{start-ints, start-declared}
 use Rattle.call.specs.Demand.{stmts-mean, domains-ordered}
-use Rattle.walk.specs.Item.{bool-entry, int-entry, State}
+use Rattle.walk.specs.Item.{bool-at, int-entry, State}
 use Rattle.walk.specs.Num.{max-emitted, code, Recorded, Numbered, numbered-fit}
 use Rattle.walk.specs.TwoWalks.{Low}
 use Rattle.statements.specs.Columns.{ColumnRecord}
 use Rattle.statements.specs.Statements.{Stable, meet-stmts, stmts-text, StmtsWalks, stmts-walks}
-use Rattle.statements.specs.Bounds.{stmts-low}
+use Rattle.statements.specs.Bounds.{stmts-low, start-low}
 use Rattle.statements.specs.Emitted.{emitted-few}
 use Rattle.statements.specs.Settled.{settled-declared, settled-plain, settled-few, settled-legal}
 
 -- ---- before numbering: empty maps
 
 pub record Empty (w : List ℤ) : Type 0 where
-  pub bools : (v : ℕ) → v < 512 → bool-entry w v ≡ 0
+  pub bools : (v : ℕ) → v < 512 → bool-at w v ≡ pos 0
   pub ints : (v : ℕ) → v < 256 → int-entry w v ≡ 0
   pub size : 16384 ≤ length w
 
-abbrev pub start : List ℤ → State
-start w = record { work = w; bools = 0; ints = 0 }
+-- n: how many Booleans have a number already
+abbrev pub start : List ℤ → ℕ → State
+start w n = record { work = w; bools = n; ints = 0 }
 
-pub start-numbered : (F : List ℤ) (ds : List Domain) (w : List ℤ) → Empty w → Numbered (ColumnRecord F ds) (start w) []
+pub start-numbered : (F : List ℤ) (ds : List Domain) (w : List ℤ) → Empty w → Numbered (ColumnRecord F ds) (start w 0) []
 unfolding get-bool-var get-int-var Recorded
 start-numbered F ds w h = record {
   map = λ v k. h .bools v k;
@@ -76,72 +79,80 @@ map-code : (o : Option ℕ) → map-word o ≡ pos (code o)
 map-code nothing = refl
 map-code (some n) = refl
 
--- the words of a map, from its entries
+-- the words of the integer map, from its entries
 pub entries : (entry : ℕ → ℕ) (look : ℕ → Option ℕ) (i n : ℕ) → ((v : ℕ) → v < i + n → entry v ≡ code (look v)) → map map-word (map look (from i n)) ≡ map (λ v. pos (entry v)) (from i n)
 entries entry look i zero h = refl
 entries entry look i (suc n) h = rw (map-code (look i), sym (h i (omega arith)), entries entry look (suc i) n (λ v k. h v (omega arith))) refl
 
--- the log of such a set, from its lowest values: legal, of declared variables, and its numbers are low
-module _ (p : Problem) (well : WellFormed p) (f : Fixed) (ss : List Stmt) (end : optimize p ≡ settled f ss) where
+-- the words of the Boolean map
+pub words-at : (word : ℕ → ℤ) (look : ℕ → Option BoolLit) (i n : ℕ) → ((v : ℕ) → v < i + n → word v ≡ bool-word (look v)) → map bool-word (map look (from i n)) ≡ map word (from i n)
+words-at word look i zero h = refl
+words-at word look i (suc n) h = rw (sym (h i (omega arith)), words-at word look (suc i) n (λ v k. h v (omega arith))) refl
+
+-- the log of such a set, from its lowest values: legal, of declared variables, and its numbers are low; m: merging chosen
+module _ (m : Bool) (p : Problem) (well : WellFormed p) (f : Fixed) (ss : List Stmt) (end : optimize p ≡ settled f ss) where
   abbrev ds : List Domain
   ds = p .domains
 
+  abbrev s0 : Log
+  s0 = start-log m ss
+
   abbrev log : Log
-  log = normalize-stmts ds ss [] .1
+  log = normalize-stmts ds ss s0 .1
 
   pub log-standing : EveryStmts (λ v. Unit {0}) (WithinDomain ds (lowest ds)) ss
   log-standing =
       every-stmts-map (λ v. v < p .bools) (λ v. v < length ds) (λ v. Unit {0}) (WithinDomain ds (lowest ds)) (λ v h. tt)
       (λ v h. let o = domains-ordered ds (well .domains-well) v h in (o, lowest-in (domain-of ds v) o)) ss (settled-declared p well f ss end)
 
-  pub grown : GrowsFrom (lowest ds) [] log
-  grown = stmts-mean (λ n. false) (lowest ds) (λ n. false) (lowest ds) ds ss [] (settled-plain p well f ss end) log-standing .grows
+  pub grown : GrowsFrom (lowest ds) s0 log
+  grown = stmts-mean (λ n. false) (lowest ds) (λ n. false) (lowest ds) ds ss s0 (settled-plain p well f ss end) log-standing .grows
 
   pub declared : Declared (p .bools) (length ds) log
-  declared = stmts-declared (p .bools) (length ds) ds ss (settled-declared p well f ss end) [] tt
+  declared = let d = settled-declared p well f ss end in stmts-declared (p .bools) (length ds) ds ss d s0 (start-declared (p .bools) (length ds) m ss d)
 
   pub emitted : 2 * next-int log ≤ 2 * length ds + length (flat (map encode-stmt ss))
-  emitted = emitted-few ds (p .bools) (length ds) (lowest ds) ss grown declared
+  emitted = emitted-few ds (p .bools) (length ds) (lowest ds) ss s0 (start-ints m ss) grown declared
 
   pub log-roomy : 2 * length ds + length (flat (map encode-stmt ss)) ≤ 4608 → next-int log < max-emitted
   log-roomy few = omega (arith, emitted)
 
   pub log-low : check p ≡ 0 → length (flat (map encode-stmt ss)) ≤ 4096 → 2 * length ds + length (flat (map encode-stmt ss)) ≤ 4608 → Low log
-  log-low unrefused short few = record { bools = omega (arith, stmts-low [] ds ss [] (settled-legal p well f ss end unrefused []) (settled-few p well f ss end)); ints = omega (arith, log-roomy few) }
+  log-low unrefused short few = record { bools = omega (arith, stmts-low [] ds ss s0 (settled-legal p well f ss end unrefused []) (settled-few p well f ss end), start-low m ss); ints = omega (arith, log-roomy few) }
 
-module _ (p : Problem) (well : WellFormed p) (f : Fixed) (ss : List Stmt) (end : optimize p ≡ settled f ss) (unrefused : check p ≡ 0)
+module _ (m : Bool) (p : Problem) (well : WellFormed p) (f : Fixed) (ss : List Stmt) (end : optimize p ≡ settled f ss) (unrefused : check p ≡ 0)
     (F : List ℤ) (stands : Has F 512 (flat (map encode-stmt ss))) (short : length (flat (map encode-stmt ss)) ≤ 4096) (few : 2 * length (p .domains) + length (flat (map encode-stmt ss)) ≤ 4608)
-    (w : List ℤ) (empty : Empty w) where
+    (w : List ℤ) (n : ℕ) (begun : Numbered (ColumnRecord F (p .domains)) (start w n) (start-log m ss)) where
   abbrev out : Out
-  out = normalize-stmts (p .domains) ss []
+  out = normalize-stmts (p .domains) ss (start-log m ss)
 
   abbrev st : State
-  st = meet-stmts 512 ss (start w)
+  st = meet-stmts 512 ss (start w n)
 
   pub standing : EveryStmts (λ v. Unit {0}) (WithinDomain (p .domains) (lowest (p .domains))) ss
-  standing = log-standing p well f ss end
+  standing = log-standing m p well f ss end
 
   pub roomy : next-int (out .1) < max-emitted
-  roomy = log-roomy p well f ss end few
+  roomy = log-roomy m p well f ss end few
 
   pub low : Low (out .1)
-  low = log-low p well f ss end unrefused short few
+  low = log-low m p well f ss end unrefused short few
 
-  pub passes : StmtsWalks F (p .domains) 512 ss (start w) []
-  passes = stmts-walks F (p .domains) (lowest (p .domains)) 512 ss (start w) [] (omega arith) (omega arith) stands (settled-legal p well f ss end unrefused F) (settled-plain p well f ss end) standing (start-numbered F (p .domains) w empty) low roomy
+  pub passes : StmtsWalks F (p .domains) 512 ss (start w n) (start-log m ss)
+  passes = stmts-walks F (p .domains) (lowest (p .domains)) 512 ss (start w n) (start-log m ss) (omega arith) (omega arith) stands (settled-legal p well f ss end unrefused F) (settled-plain p well f ss end) standing begun low roomy
 
   -- the answer's words: the fixed values, the entries of the maps, the counters and domains, the count and the words of the clauses
   pub answer-words : (dom : ℕ → Domain) → Stable (p .domains) dom (out .1)
-      → layout (normalize p f ss)
+      → layout (normalize m p f ss)
       ≡ map fixed-word (map f (below (p .bools)))
-      ++ (map (λ v. pos (bool-entry (st .work) v)) (below (p .bools))
+      ++ (map (bool-at (st .work)) (below (p .bools))
       ++ (map (λ v. pos (int-entry (st .work) v)) (below (length (p .domains)))
-      ++ (pos (st .bools) ∷ (counted domain-words (emitted-domains (p .domains) (out .1)) ++ (pos (length (out .0)) ∷ stmts-text (st .work) dom 512 ss 0)))))
+      ++ (pos (st .bools) ∷ (counted domain-words (emitted-domains (p .domains) (out .1)) ++ (pos (length (out .0)) ∷ stmts-text (st .work) dom 512 ss n)))))
   unfolding layout normalize answer-of
   answer-words dom d =
-      let n = passes .numbered in
-      let fit = numbered-fit (ColumnRecord F (p .domains)) st (out .1) n (low .bools) in
-      let b : map map-word (map (λ v. get-bool-var v (out .1)) (below (p .bools))) ≡ map (λ v. pos (bool-entry (st .work) v)) (below (p .bools)) = entries (bool-entry (st .work)) (λ v. get-bool-var v (out .1)) 0 (p .bools) (λ v k. n .map v (omega (arith, well .few-bools))) in
-      let i : map map-word (map (λ v. get-int-var v (out .1)) (below (length (p .domains)))) ≡ map (λ v. pos (int-entry (st .work) v)) (below (length (p .domains))) = entries (int-entry (st .work)) (λ v. get-int-var v (out .1)) 0 (length (p .domains)) (λ v k. n .map-int v (omega (arith, well .few-ints))) in
-      let t : stmts-text (st .work) dom 512 ss 0 ≡ flat (map clause-words (out .0)) = passes .text (st .work) dom fit (passes .placed) d in
-      rw (b, i, n .bools, t) refl
+      let k = passes .numbered in
+      let fit = numbered-fit (ColumnRecord F (p .domains)) st (out .1) k (low .bools) in
+      let b : map bool-word (map (λ v. get-bool-var v (out .1)) (below (p .bools))) ≡ map (bool-at (st .work)) (below (p .bools)) = words-at (bool-at (st .work)) (λ v. get-bool-var v (out .1)) 0 (p .bools) (λ v l. k .map v (omega (arith, well .few-bools))) in
+      let i : map map-word (map (λ v. get-int-var v (out .1)) (below (length (p .domains)))) ≡ map (λ v. pos (int-entry (st .work) v)) (below (length (p .domains))) = entries (int-entry (st .work)) (λ v. get-int-var v (out .1)) 0 (length (p .domains)) (λ v l. k .map-int v (omega (arith, well .few-ints))) in
+      let t : stmts-text (st .work) dom 512 ss n ≡ flat (map clause-words (out .0)) = passes .text (st .work) dom fit (passes .placed) d in
+      rw (b, i, k .bools, t) refl

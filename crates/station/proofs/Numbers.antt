@@ -1,5 +1,5 @@
 -- The answer as a station's number: it fits i64, and it is the definition's; with what `compile` says of the answer.
-use mathlib.Core.Path.{_≡_, refl, sym, ap, _∙_}
+use mathlib.Core.Path.{_≡_, refl, sym, ap, _∙_, subst}
 use mathlib.Core.List.{List}
 use Prim.Native.Nat.{ℕ, zero, suc, _≤_}
 use native.Mathlib.Omega.{arith}
@@ -10,7 +10,8 @@ use mir.Val.{toZ, ofZ, SFits}
 use mir.Facts.{toZ-ofZ}
 use Rattle.laws.specs.Ints.{apart}
 use Rattle.syntax.specs.Words.{max-answer-words}
-use Rattle.call.specs.Call.{Result, compiled, contradiction, refused, returned, call}
+use Rattle.call.specs.Call.{Result, compiled, contradiction, refused, returned, call-with}
+use Rattle.call.specs.declared.Choices.{Choices}
 use Rattle.planner.specs.declared.Answer.{Answer}
 use Rattle.planner.specs.declared.Answer.the-variants.{Compiled, Contradiction, Refused}
 use Rattle.planner.specs.Contract.{answer-of, Compiles}
@@ -74,14 +75,14 @@ none-back contradiction s e = refl
 none-back (refused zero) s e = absurd s
 none-back (refused (suc k)) s e = let l : k ≡ 99 = cc in absurd (omega (arith, s))
 
-module _ (set out work out' work' : List ℤ) (r : Answer) (h : Compiles set out work out' work' r) where
+module _ (c : Choices) (set out work out' work' : List ℤ) (r : Answer) (h : Compiles c set out work out' work' r) where
   abbrev result : Result
-  result = call set (length out) (length work)
+  result = call-with c set (length out) (length work)
 
   small : Small result
-  small = call-small set (length out) (length work)
+  small = call-small c set (length out) (length work)
 
-  gives : (x : ℤ) → x ≡ returned result → Returns set out work out' work' x
+  gives : (x : ℤ) → x ≡ returned result → Returns c set out work out' work' x
   gives x e =
       record {
         number = e;
@@ -98,11 +99,15 @@ module _ (set out work out' work' : List ℤ) (r : Answer) (h : Compiles set out
   pub refusal-small : (k : ℕ) → r ≡ Refused k → k ≤ 12
   refusal-small k e = refusal-of result small k (sym (h .answer) ∙ e) .0
 
-  pub returns-words : (n : ℕ) → r ≡ Compiled n → Returns set out work out' work' (toZ w64 n)
+  pub returns-words : (n : ℕ) → r ≡ Compiled n → Returns c set out work out' work' (toZ w64 n)
   returns-words n e = gives (toZ w64 n) (number-is n (words-small n e) ∙ words-of result small n (sym (h .answer) ∙ e) .1)
 
-  pub returns-none : r ≡ Contradiction → Returns set out work out' work' (negℤ (pos 100))
+  pub returns-none : r ≡ Contradiction → Returns c set out work out' work' (negℤ (pos 100))
   returns-none e = gives (negℤ (pos 100)) (none-of result (sym (h .answer) ∙ e))
 
-  pub returns-refusal : (k : ℕ) → r ≡ Refused k → Returns set out work out' work' (toZ w64 (ofZ w64 (pos 0 -ℤ toZ w64 k)))
+  pub returns-refusal : (k : ℕ) → r ≡ Refused k → Returns c set out work out' work' (toZ w64 (ofZ w64 (pos 0 -ℤ toZ w64 k)))
   returns-refusal k e = gives _ (negated-is k (refusal-small k e) ∙ refusal-of result small k (sym (h .answer) ∙ e) .1)
+
+-- choices by another name, and the number from its bits
+pub returns-as : {c d : Choices} {set out work out' work' : List ℤ} {x : ℤ} → c ≡ d → SFits w64 x → Returns c set out work out' work' x → Returns d set out work out' work' (toZ w64 (ofZ w64 x))
+returns-as {c} {d} {set} {out} {work} {out'} {work'} {x} e f h = rw (toZ-ofZ f) (subst (λ (b : Choices). Returns b set out work out' work' x) e h)

@@ -72,8 +72,8 @@ module _ (set values work work' : List ℤ) (r : Checked) (h : Checks set values
       record {
         number = e;
         zeroed = h .zeroed;
-        passes = λ o w enough n.
-            let y = yes-passes set values o w (length work) enough n in
+        passes = λ c o w enough n.
+            let y = yes-passes c set values o w (length work) enough n in
             (λ z. y .0 (zero-satisfied verdict numbered (sym e ∙ z)), λ z. e ∙ ap verdict-number (y .1 z));
       }
 

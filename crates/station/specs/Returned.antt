@@ -4,16 +4,23 @@ use mathlib.Core.Path.{_≡_}
 use mathlib.Core.Logic.{_↔_}
 use mathlib.Core.Bool.{true, false}
 use mathlib.Core.List.{List}
-use Prim.Native.Nat.{ℕ}
+use Prim.Native.Nat.{ℕ, _%_}
+use lib.Dec.{eqb}
 use lib.IntN.{ℤ, pos, negℤ}
 use lib.ListN.{length, take}
 use Rattle.syntax.specs.Satisfies.{Val, IVal}
-use Rattle.call.specs.Call.{compiled, returned, call, output-after, zeros}
+use Rattle.call.specs.Call.{compiled, returned, call-with, output-after, zeros}
+use Rattle.call.specs.declared.Choices.{Choices}
 use Rattle.call.specs.Claim.{within, satisfied, Passed, Consequences}
 
-pub record Returns (set out work out' work' : List ℤ) (r : ℤ) : Type 0 where
-  pub number : r ≡ returned (call set (length out) (length work))
-  pub output : out' ≡ output-after (call set (length out) (length work)) (length out)
+-- the choices that a number names: 1, merging; what else it holds says nothing
+unfoldable pub choices-of : ℕ → Choices
+choices-of n = record { merge = eqb (n % 2) 1 }
+
+-- c: what the caller chose
+pub record Returns (c : Choices) (set out work out' work' : List ℤ) (r : ℤ) : Type 0 where
+  pub number : r ≡ returned (call-with c set (length out) (length work))
+  pub output : out' ≡ output-after (call-with c set (length out) (length work)) (length out)
   pub zeroed : work' ≡ zeros (length work)
   -- a number of words: an assignment within the domains satisfies the set's words exactly when it passes the words written
   pub exact : (n : ℕ) → r ≡ pos n → (δ : Val) (ε : IVal) → within set ε ≡ true → (satisfied set δ ε ≡ true) ↔ Passed set (compiled (take n out')) δ ε

@@ -17,7 +17,8 @@ use Rattle.read.specs.Read.{read-set}
 use Rattle.read.specs.WellFormed.{WellFormed}
 use Rattle.read.specs.Exact.{set-sound}
 use Rattle.limits.specs.Limits.{check}
-use Rattle.call.specs.Call.{call, zeros}
+use Rattle.call.specs.Call.{call-with, zeros}
+use Rattle.call.specs.declared.Choices.{Choices}
 use Rattle.call.specs.Claim.{Passed, NotRefused}
 use Rattle.evaluate.specs.Roster.{bool-of, int-of, Verdict, satisfied, broken, refused, right-count, all-inside, first-false, truth, judged, rostered, unless-refused, when-read, check-roster}
 use Rattle.passing.specs.Passing.{declared-bools, is-roster}
@@ -33,8 +34,8 @@ pub record Judges (set values work work' : List ℤ) (r : ℤ) : Type 0 where
   pub number : r ≡ verdict-number (check-roster set values (length work))
   pub zeroed : work' ≡ zeros (length work)
   -- 0: exactly for the rosters that pass the answer of a compile that is not refused
-  pub passes : (out-length work-length : ℕ) → ltb (length work) min-work-words ≡ false → NotRefused (call set out-length work-length)
-      → (r ≡ pos 0) ↔ ((is-roster set values ≡ true) × Passed set (call set out-length work-length) (bool-of values) (int-of (declared-bools set) values))
+  pub passes : (c : Choices) (out-length work-length : ℕ) → ltb (length work) min-work-words ≡ false → NotRefused (call-with c set out-length work-length)
+      → (r ≡ pos 0) ↔ ((is-roster set values ≡ true) × Passed set (call-with c set out-length work-length) (bool-of values) (int-of (declared-bools set) values))
 
 -- ---- statements are numbered from 1, at most 4096 of them; refusals from 1 to 15
 

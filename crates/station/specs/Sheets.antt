@@ -14,7 +14,7 @@ use Rattle.laws.specs.Lists.{counted}
 use Rattle.syntax.specs.Words.{max-answer-words}
 use Rattle.syntax.specs.Satisfies.{Val, IVal}
 use Rattle.answer.specs.Answer.{clause-words}
-use Rattle.call.specs.Call.{Result, compiled, contradiction, refused, returned, call, output-after, zeros}
+use Rattle.call.specs.Call.{Result, compiled, contradiction, refused, returned, unchosen, call, output-after, zeros}
 use Rattle.call.specs.Claim.{within, satisfied, Passed}
 use Rattle.sheetback.specs.ReadSheet.{read-sheet}
 use Rattle.sheetback.specs.Sheeted.{sheet-text, with-sheet, sheet-call, sheet-after}
@@ -49,7 +49,7 @@ Small-sheet (refused (suc k)) = k < 13
 
 pub sheet-small : (words : List ℤ) (o w s : ℕ) → Small-sheet (sheet-call words o w s)
 unfolding sheet-call with-sheet
-sheet-small words o w s = go (call words o w) (call-small words o w)
+sheet-small words o w s = go (call words o w) (call-small unchosen words o w)
   where
     size : (ws : List ℤ) → length ws ≤ max-answer-words → (t : Bool) → Small-sheet (cond t (refused 13) (compiled ws))
     size ws h true = omega arith

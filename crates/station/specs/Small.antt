@@ -18,7 +18,8 @@ use Rattle.read.specs.Read.{read-range, size-at, size-of, read-rising, read-enu
 use Rattle.limits.specs.Limits.{any-part, heavy-comparison, heavy, many-comparison, many-column, wide-column, check}
 use Rattle.fold.specs.Optimize.{Outcome, inconsistent, settled, optimize}
 use Rattle.answer.specs.Answer.{layout, normalize}
-use Rattle.call.specs.Call.{Result, compiled, contradiction, refused, measured, answered, checked, when-read, call}
+use Rattle.call.specs.Call.{Result, compiled, contradiction, refused, measured, answered, checked, when-read, call-with}
+use Rattle.call.specs.declared.Choices.{Choices}
 
 -- the documents' numbers
 abbrev pub Number : ℕ → Type 0
@@ -215,10 +216,10 @@ measured-small o ws = go (ltb o (length ws)) (ltb max-answer-words (length ws)) 
     go false true e = omega arith
     go false false e = ltb-false max-answer-words (length ws) e
 
-answered-small : (o : ℕ) (p : Problem) (x : Outcome) → Small (answered o p x)
+answered-small : (c : Choices) (o : ℕ) (p : Problem) (x : Outcome) → Small (answered c o p x)
 unfolding answered
-answered-small o p inconsistent = tt
-answered-small o p (settled f ss) = measured-small o (layout (normalize p f ss))
+answered-small c o p inconsistent = tt
+answered-small c o p (settled f ss) = measured-small o (layout (normalize (c .merge) p f ss))
 
 -- 0 where nothing is refused
 abbrev pub Checked : ℕ → Type 0
@@ -235,16 +236,16 @@ check-small p = go (any (any-part (heavy-comparison (p .domains)) (heavy (p .dom
     go false false true = omega arith
     go false false false = tt
 
-checked-small : (o : ℕ) (p : Problem) (k : ℕ) → Checked k → Small (checked o p k)
+checked-small : (c : Choices) (o : ℕ) (p : Problem) (k : ℕ) → Checked k → Small (checked c o p k)
 unfolding checked
-checked-small o p zero h = answered-small o p (optimize p)
-checked-small o p (suc k) h = h
+checked-small c o p zero h = answered-small c o p (optimize p)
+checked-small c o p (suc k) h = h
 
-read-small : (o : ℕ) (q : Parsed Problem) → Low q → Small (when-read o q)
+read-small : (c : Choices) (o : ℕ) (q : Parsed Problem) → Low q → Small (when-read c o q)
 unfolding when-read
-read-small o (refuse k) h = h
-read-small o (ok p r) h = checked-small o p (check p) (check-small p)
+read-small c o (refuse k) h = h
+read-small c o (ok p r) h = checked-small c o p (check p) (check-small p)
 
-pub call-small : (ws : List ℤ) (o n : ℕ) → Small (call ws o n)
-unfolding call
-call-small ws o n = cond-small (ltb n min-work-words) (refused 1) _ (omega arith) (cond-small (ltb max-set-words (length ws)) (refused 2) _ (omega arith) (read-small o (read-set ws) (set-low ws)))
+pub call-small : (c : Choices) (ws : List ℤ) (o n : ℕ) → Small (call-with c ws o n)
+unfolding call-with
+call-small c ws o n = cond-small (ltb n min-work-words) (refused 1) _ (omega arith) (cond-small (ltb max-set-words (length ws)) (refused 2) _ (omega arith) (read-small c o (read-set ws) (set-low ws)))

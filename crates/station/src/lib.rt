@@ -1,4 +1,5 @@
 // What a station links: every entry for C, over the proved calls. A slice is a pointer and a length in C (tools/station/planner.h).
+use call::Choices;
 use evaluate::Checked;
 use join::Joined;
 use planner::Answer;
@@ -7,21 +8,49 @@ ghost use mathlib.Core.Path.{_≡_};
 ghost use Prim.Native.Nat.{_<_};
 ghost use lib.IntN.{pos};
 ghost use lib.ListN.{set};
-ghost use Rattle.station.specs.Returned.{Returns};
+ghost use Rattle.call.specs.Call.{unchosen};
+ghost use Rattle.station.specs.Returned.{choices-of, Returns};
 ghost use Rattle.station.specs.Joined.{Join-returns, Find-returns};
 ghost use Rattle.station.specs.Rosters.{Judges};
 ghost use Rattle.station.specs.Sheets.{Sheet-returns};
 
 // The number of words written, the refusal's number negated, or -100 for a contradiction.
-#[no_mangle]
-pub extern "C" fn compile_set(set: &[i32], output: &mut [i32], work: &mut [i32]) -> i64
-    ensures { λ r. ⌜ Returns (now (set .entry)) (now (output .entry)) (now (work .entry)) (now (output .exit)) (now (work .exit)) r ⌝ }
+fn compile_number(set: &[i32], output: &mut [i32], work: &mut [i32], choices: Choices) -> i64
+    ensures { λ r. ⌜ Returns choices (now (set .entry)) (now (output .entry)) (now (work .entry)) (now (output .exit)) (now (work .exit)) r ⌝ }
 {
-    match planner::compile(set, output, work) {
+    match planner::compile_with(set, output, work, choices) {
         Answer::Compiled(n) => n as i64,
         Answer::Contradiction => -100,
         Answer::Refused(k) => 0 - (k as i64),
     }
+}
+
+// The call with nothing chosen.
+#[no_mangle]
+pub extern "C" fn compile_set(set: &[i32], output: &mut [i32], work: &mut [i32]) -> i64
+    ensures { λ r. ⌜ Returns unchosen (now (set .entry)) (now (output .entry)) (now (work .entry)) (now (output .exit)) (now (work .exit)) r ⌝ }
+{
+    compile_number(set, output, work, Choices { merge: false })
+}
+
+// The choices that a number names.
+fn choices_of(n: u32) -> Choices
+    ensures { λ r. ⌜ r ≡ choices-of n ⌝ }
+{
+    Choices { merge: n % 2 == 1 }
+}
+
+// The same with choices: 1, merging; other bits are ignored.
+#[no_mangle]
+pub extern "C" fn compile_set_with(
+    set: &[i32],
+    output: &mut [i32],
+    work: &mut [i32],
+    choices: u32,
+) -> i64
+    ensures { λ r. ⌜ Returns (choices-of choices) (now (set .entry)) (now (output .entry)) (now (work .entry)) (now (output .exit)) (now (work .exit)) r ⌝ }
+{
+    compile_number(set, output, work, choices_of(choices))
 }
 
 // The joined set's words into the buffer: their number, or the refusal's number negated.

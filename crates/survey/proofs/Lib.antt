@@ -1,2 +1,3 @@
 pub mod Leaves
 mod SkipLaws
+pub mod Literals

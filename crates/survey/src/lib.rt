@@ -4,7 +4,7 @@ ghost use mathlib.Core.Bool.{true};
 ghost use Prim.Native.Nat.{_+_, _≤_, _<_, min};
 ghost use lib.IntN.{pos};
 ghost use lib.ListN.{getD};
-ghost use Rattle.walk.specs.Item.{limit, bump as bump-of, nat, mode-in, fresh-in, lines-in, var-item};
+ghost use Rattle.walk.specs.Item.{limit, bump as bump-of, nat, bool-at, signed as signed-of, mode-in, fresh-in, lines-in, var-item};
 ghost use Rattle.walk.specs.Decode.{word as word-in, below as below-of, int-end as int-end-of, node-of, constant-node, comparison-node, read-part, surveyed, closed-disj, closed-cross, added, Surveys, SurveysAll};
 ghost use Rattle.survey.specs.Skip.{inside-of, Skips, SkipsAll};
 use walk::Mode;
@@ -25,7 +25,35 @@ pub fn entry(work: &[i32], i: usize) -> usize
     0
 }
 
-// The same of the words that are read: those below the maps.
+// The literal of a declared Boolean in the map: its number plus 1, negative if negated; 0 for none.
+pub fn literal(work: &[i32], v: usize) -> i32
+    requires { ⌜ v < 512 ⌝ }
+    ensures { λ r. ⌜ r ≡ bool-at (now (work .entry)) v ⌝ }
+{
+    let i = 4608 + v;
+    if i < work.len() {
+        return work[i];
+    }
+    0
+}
+
+// The same literal, negated if g.
+pub fn signed(z: i32, g: bool) -> i32
+    ensures { λ r. ⌜ r ≡ signed-of z g ⌝ }
+{
+    if z > 1073741824 {
+        return 0;
+    }
+    if z < -1073741824 {
+        return 0;
+    }
+    if g {
+        return 0 - z;
+    }
+    z
+}
+
+// The number at a place of the words that are read: those below the maps.
 pub fn word(work: &[i32], at: usize) -> usize
     ensures { λ r. ⌜ r ≡ word-in (read-part (now (work .entry))) at ⌝ }
 {

@@ -12,7 +12,7 @@ use borrow.Author.Tests.{eqb-true}
 use Rattle.syntax.specs.Syntax.{Domain, domain-of}
 use Rattle.syntax.specs.Satisfies.{IVal}
 use Rattle.sums.specs.LinearSum.{LinearSum}
-use Rattle.clauses.specs.Log.{Made, declared, aux, side, declared-int, column, Log, next-int, get-int-var}
+use Rattle.clauses.specs.Log.{merged, Made, declared, aux, side, declared-int, column, Log, next-int, get-int-var}
 use Rattle.clauses.specs.Grow.{Grows, same, grow, grows-int, get-int-below}
 use Rattle.tables.specs.Tables.{newest, backwards, emitted-domains}
 
@@ -29,6 +29,7 @@ module _ (ds : List Domain) where
   unfolding newest
   length-newest [] = refl
   length-newest (declared v ∷ s) = length-newest s
+  length-newest (merged q r z ∷ s) = length-newest s
   length-newest (aux cs ∷ s) = length-newest s
   length-newest (side e ∷ s) = length-newest s
   length-newest (declared-int v ∷ s) = ap suc (length-newest s)
@@ -60,6 +61,7 @@ module _ (ds : List Domain) where
   -- the older ones
   pub domain-step : (m : Made) (s : Log) (n : ℕ) → n < next-int s → domain-at (m ∷ s) n ≡ domain-at s n
   domain-step (declared v) s n l = unfold emitted-domains newest in refl
+  domain-step (merged q r z) s n l = unfold emitted-domains newest in refl
   domain-step (aux cs) s n l = unfold emitted-domains newest in refl
   domain-step (side e) s n l = unfold emitted-domains newest in refl
   domain-step (declared-int v) s n l = rw (emitted-int v s) (List·getD-append (emitted-domains ds s) (domain-of ds v ∷ []) _ n (omega (arith, length-emitted s)))
@@ -79,6 +81,7 @@ module _ (ds : List Domain) where
   unfolding get-int-var
   int-var-domain [] v n h = let z : _≡_ {A = ℕ} 0 1 = cc in absurd (omega arith)
   int-var-domain (declared w ∷ s) v n h = domain-step (declared w) s n (get-int-below s v n h) ∙ int-var-domain s v n h
+  int-var-domain (merged q r z ∷ s) v n h = domain-step (merged q r z) s n (get-int-below s v n h) ∙ int-var-domain s v n h
   int-var-domain (aux cs ∷ s) v n h = domain-step (aux cs) s n (get-int-below s v n h) ∙ int-var-domain s v n h
   int-var-domain (side e ∷ s) v n h = domain-step (side e) s n (get-int-below s v n h) ∙ int-var-domain s v n h
   int-var-domain (declared-int w ∷ s) v n h = met s v n w (int-var-domain s v n) (eqb v w) refl h

@@ -14,7 +14,7 @@ use mir.Syntax.{w32, w64}
 use mir.Val.{SFits, Fits}
 use Rattle.laws.specs.Bools.{and-l}
 use Rattle.laws.specs.Lists.{all, all-append}
-use Rattle.call.specs.Call.{Result, compiled, contradiction, refused, call, output-after, zeros}
+use Rattle.call.specs.Call.{Result, compiled, contradiction, refused, unchosen, call, output-after, zeros}
 use Rattle.input.specs.ReadText.{read-text}
 use Rattle.input.specs.Input.{words-of, words-after}
 use Rattle.input.specs.Room.{few-words}
@@ -171,7 +171,7 @@ module _ (text : List ℕ) (output work : List ℤ) (out out' : List ℕ) (r : �
   typed contradiction output' answer e f a s = tt
   typed (refused k) output' answer e f a s = s k a
 
-  module _ (set output' work' : List ℤ) (answer : Answer) (set-read : read-text text ≡ some set) (c : Compiles set output work output' work' answer) (same : length output' ≡ length output) where
+  module _ (set output' work' : List ℤ) (answer : Answer) (set-read : read-text text ≡ some set) (c : Compiles unchosen set output work output' work' answer) (same : length output' ≡ length output) where
     answered-left : output' ≡ output-after (call set (length output) (length work)) (length output')
     answered-left = c .output ∙ ap (output-after (call set (length output) (length work))) (sym same)
 
@@ -188,7 +188,7 @@ module _ (text : List ℕ) (output work : List ℤ) (out out' : List ℕ) (r : �
         record {
           listing = record { count = rw set-read (b .count); bytes = rw set-read (b .bytes) };
           inside = bytes-inside (print-result set (call set (length output) (length work))) out out' r (b .count) (b .bytes);
-          room = λ m. rw set-read (listing-room set (length output) (length work) m (typed (call set (length output) (length work)) output' answer (c .output) f (c .answer) (p .small)));
+          room = λ m. rw set-read (listing-room unchosen set (length output) (length work) m (typed (call set (length output) (length work)) output' answer (c .output) f (c .answer) (p .small)));
           answered = rw set-read (c .output);
           worked = rw set-read (c .zeroed);
         }

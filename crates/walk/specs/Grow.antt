@@ -2,20 +2,21 @@
 use mathlib.Core.Path.{_≡_, refl, ap}
 use mathlib.Core.Bool.{Bool, true, false, cond}
 use mathlib.Core.Option.{Option, none as nothing, some}
-use mathlib.Core.List.{List, [], _∷_}
+use mathlib.Core.List.{List, _∷_}
 use Prim.Native.Nat.{ℕ, suc, _≤_, _<_}
 use native.Mathlib.Omega.{arith}
 use lib.IntN.{ℤ, pos, negsuc}
 use lib.Dec.{eqb, eqb→eq}
 use borrow.Author.Tests.{le-leb, eq-eqb}
 use Rattle.clauses.specs.Clause.{Clause, BoolLit, lit}
-use Rattle.clauses.specs.Log.{declared, aux, side, declared-int, column, Log, next-bool, next-int, get-bool-var, get-int-var}
-use Rattle.walk.specs.Item.{limit, bool-entry, int-entry, word-of}
+use Rattle.clauses.specs.Log.{declared, aux, declared-int, Log, next-bool, next-int, get-bool-var, get-int-var, negate-lit}
+use Rattle.walk.specs.Item.{limit, int-entry, word-of, bool-at, signed}
+use Rattle.clauses.specs.Grow.{number-of, get-bool-below}
 
 pub record Grows (s t : Log) : Type 0 where
   pub bools : next-bool s ≤ next-bool t
   pub ints : next-int s ≤ next-int t
-  pub keep : (v n : ℕ) → get-bool-var v s ≡ some n → get-bool-var v t ≡ some n
+  pub keep : (v : ℕ) (n : BoolLit) → get-bool-var v s ≡ some n → get-bool-var v t ≡ some n
   pub keep-int : (v n : ℕ) → get-int-var v s ≡ some n → get-int-var v t ≡ some n
 
 pub same : {s : Log} → Grows s s
@@ -34,7 +35,7 @@ unfolding get-bool-var get-int-var
 grow-aux cs s = record { bools = omega arith; ints = omega arith; keep = λ v n h. h; keep-int = λ v n h. h }
 
 -- a variable that is not there yet
-kept : (v w k n : ℕ) (o p : Option ℕ) → p ≡ nothing → o ≡ some n → (v ≡ w → o ≡ p) → (b : Bool) → eqb v w ≡ b → cond b (some k) o ≡ some n
+kept : {X : Type 0} (v w : ℕ) (k n : X) (o p : Option X) → p ≡ nothing → o ≡ some n → (v ≡ w → o ≡ p) → (b : Bool) → eqb v w ≡ b → cond b (some k) o ≡ some n
 kept v w k n o p l h q false e = h
 kept v w k n o p l h q true e = let r : v ≡ w = eqb→eq v w (rw e tt) in let x : o ≡ p = q r in cc
 
@@ -43,7 +44,7 @@ unfolding get-bool-var get-int-var
 grow-declared w s h = record {
   bools = omega arith;
   ints = omega arith;
-  keep = λ v n q. kept v w (next-bool s) n (get-bool-var v s) (get-bool-var w s) h q (λ r. ap (λ x. get-bool-var x s) r) (eqb v w) refl;
+  keep = λ v n q. kept v w (lit (next-bool s) false) n (get-bool-var v s) (get-bool-var w s) h q (λ r. ap (λ x. get-bool-var x s) r) (eqb v w) refl;
   keep-int = λ v n q. q;
 }
 
@@ -58,20 +59,10 @@ grow-declared-int w s h = record {
 
 -- ---- numbers lie below the counters
 
-low-at : (k n : ℕ) (o : Option ℕ) (b : Bool) → (o ≡ some n → n < k) → cond b (some k) o ≡ some n → n < suc k
-low-at k n o true f h = let q : k ≡ n = cc in omega arith
-low-at k n o false f h = let q : n < k = f h in omega arith
+pub bool-below : (s : Log) (v : ℕ) (l : BoolLit) → get-bool-var v s ≡ some l → number-of l < next-bool s
+bool-below s v l h = get-bool-below s v l h
 
-pub bool-below : (s : Log) (v n : ℕ) → get-bool-var v s ≡ some n → n < next-bool s
-unfolding get-bool-var
-bool-below [] v n h = let z : _≡_ {A = ℕ} 0 1 = cc in omega arith
-bool-below (declared w ∷ s) v n h = low-at (next-bool s) n (get-bool-var v s) (eqb v w) (bool-below s v n) h
-bool-below (aux cs ∷ s) v n h = omega (arith, bool-below s v n h)
-bool-below (side e ∷ s) v n h = omega (arith, bool-below s v n h)
-bool-below (declared-int w ∷ s) v n h = bool-below s v n h
-bool-below (column l d ∷ s) v n h = bool-below s v n h
-
-pub bool-here : (v : ℕ) (s : Log) → get-bool-var v (declared v ∷ s) ≡ some (next-bool s)
+pub bool-here : (v : ℕ) (s : Log) → get-bool-var v (declared v ∷ s) ≡ some (lit (next-bool s) false)
 unfolding get-bool-var
 bool-here v s = rw (eq-eqb v v refl)
 
@@ -79,11 +70,17 @@ pub int-here : (v : ℕ) (s : Log) → get-int-var v (declared-int v ∷ s) ≡ 
 unfolding get-int-var
 int-here v s = rw (eq-eqb v v refl)
 
+-- ---- the word of a literal
+
+abbrev pub lit-word : BoolLit → ℤ
+lit-word (lit n false) = pos (suc n)
+lit-word (lit n true) = negsuc n
+
 -- ---- the maps of a log
 
--- the maps have the log's numbers, and the counters are below the limit
+-- the maps have the log's literals and numbers, and the counters are below the limit
 pub record Fit (w : List ℤ) (s : Log) : Type 0 where
-  pub agree : (v n : ℕ) → get-bool-var v s ≡ some n → bool-entry w v ≡ suc n
+  pub agree : (v : ℕ) (l : BoolLit) → get-bool-var v s ≡ some l → bool-at w v ≡ lit-word l
   pub agree-int : (v n : ℕ) → get-int-var v s ≡ some n → int-entry w v ≡ suc n
   pub small : next-bool s ≤ limit
 
@@ -94,13 +91,14 @@ back g f = record {
   small = omega (arith, g .bools, f .small);
 }
 
--- ---- the word of a literal
-
-abbrev pub lit-word : BoolLit → ℤ
-lit-word (lit n false) = pos (suc n)
-lit-word (lit n true) = negsuc n
-
 pub word-lit : (n : ℕ) (g : Bool) → n < limit → word-of (suc n) g ≡ lit-word (lit n g)
 unfolding word-of
 word-lit n false h = rw (le-leb (suc n) limit (omega arith))
 word-lit n true h = rw (le-leb (suc n) limit (omega arith))
+
+pub signed-lit : (l : BoolLit) (g : Bool) → number-of l < limit → signed (lit-word l) g ≡ lit-word (negate-lit g l)
+unfolding signed
+signed-lit (lit n false) false h = rw (le-leb (suc n) limit (omega arith))
+signed-lit (lit n false) true h = rw (le-leb (suc n) limit (omega arith))
+signed-lit (lit n true) false h = rw (le-leb (suc n) limit (omega arith))
+signed-lit (lit n true) true h = rw (le-leb (suc n) limit (omega arith))

@@ -6,7 +6,7 @@ use mathlib.Core.List.{List, [], _∷_, _++_, append-nil}
 use Prim.Native.Nat.{ℕ, suc, _+_, _≤_, _<_, min}
 use native.Mathlib.Omega.{arith}
 use native.Mathlib.Numerals.{add-one}
-use lib.IntN.{ℤ}
+use lib.IntN.{ℤ, pos}
 use lib.ListN.{length, length-append}
 use lib.Dec.{eqb}
 use borrow.Author.Tests.{eq-eqb, ne-eqb}
@@ -15,13 +15,14 @@ use Rattle.syntax.specs.Syntax.{CmpOp, IntExpr}
 use Rattle.syntax.specs.Written.{EveryInt}
 use Rattle.sums.specs.LinearSum.{sub-sum}
 use Rattle.clauses.specs.Clause.{BoolLit, lit, LinearLit, linear, Clause, clause}
-use Rattle.clauses.specs.Log.{Log, declared, next-bool, get-bool-var, bool-var-at, convert-bool-var}
+use Rattle.clauses.specs.Log.{Log, declared, negate-lit, next-bool, get-bool-var, bool-var-at, convert-bool-var}
 use Rattle.clauses.specs.Disjunction.{add-bool-each, Sorted, satisfied, pool, sorted, Out, Outs, each-longer, finish-disjunction, finish-sorted, normalize-disjunction}
 use Rattle.clauses.specs.Normalize.{Run, Runs, no-run, run-then, two, normalize-conjunction, disjunction-of, cross as cross-run, lit-clauses, normalize-var, negate-op-if, normalize-comparison, normalize-int-expr}
 use Rattle.answer.specs.Answer.{linear-words}
 use Rattle.walk.specs.Tree.{Tree, var, num, cmp, conj, disj, cross, tied, Trees, nil, cons, size, num-run, run, runs}
-use Rattle.walk.specs.Item.{limit, bump, bool-entry, word-of, comparison, clause-text, tally, long, fresh, disj-lines, closed, lines-of, extra, Item, tallies, all-lines, counts, pools, texts, long-texts, disj-text, var-item, num-item, cmp-item, conj-item, disj-item, cross-item, tied-item, item, items}
-use Rattle.walk.specs.Grow.{Grows, same, then, grow-declared, bool-below, bool-here, Fit, back, lit-word, word-lit}
+use Rattle.walk.specs.Item.{limit, bump, bool-at, nat, signed, bool-entry, word-of, comparison, clause-text, tally, long, fresh, disj-lines, closed, lines-of, extra, Item, tallies, all-lines, counts, pools, texts, long-texts, disj-text, var-item, num-item, cmp-item, conj-item, disj-item, cross-item, tied-item, item, items}
+use Rattle.walk.specs.Grow.{Grows, same, then, grow-declared, bool-below, bool-here, Fit, back, lit-word, word-lit, signed-lit}
+use Rattle.clauses.specs.Grow.{number-of}
 use Rattle.walk.specs.Ints.{int-grows, int-bools, int-linear}
 use Rattle.walk.specs.Texts.{words, linears, layout, words-more, linears-more, layout-append, layout-add, long-layout, AllLong, finish-words, finish-count, finish-grows, lengths, finish-lines, finish-long, disjunction-finish}
 
@@ -311,32 +312,38 @@ module _ (w : List ℤ) where
         };
   }
 
-  var-at : (v : ℕ) (g : Bool) (s : Log) (n : ℕ) (t : Log) → get-bool-var v t ≡ some n → Fit w t → cond (eqb (bool-entry w v) (next-bool s + 1)) (bump (next-bool s) 1) (next-bool s) ≡ next-bool t
-      → ImplementsAt (var-item v g) s (lit-clauses n g, t)
+  var-at : (v : ℕ) (g : Bool) (s : Log) (l : BoolLit) (t : Log) → get-bool-var v t ≡ some l → Fit w t → cond (eqb (bool-entry w v) (next-bool s + 1)) (bump (next-bool s) 1) (next-bool s) ≡ next-bool t
+      → ImplementsAt (var-item v g) s (clause (negate-lit g l ∷ []) [] ∷ [], t)
   unfolding var-item layout
-  var-at v g s n t h f c =
-      let e : word-of (bool-entry w v) g ≡ lit-word (lit n g) = rw (f .agree v n h) (word-lit n g (omega (arith, bool-below t v n h, f .small))) in
+  var-at v g s l t h f c =
+      let e : signed (bool-at w v) g ≡ lit-word (negate-lit g l) = rw (f .agree v l h) (signed-lit l g (omega (arith, bool-below t v l h, f .small))) in
       record {
         count = c;
         text = λ suf. rw e (sym (append-nil _));
-        shape = single (lit n g ∷ []) [] refl refl (ap (λ x. x ∷ []) e) refl;
+        shape = single (negate-lit g l ∷ []) [] refl refl (ap (λ x. x ∷ []) e) refl;
       }
+
+  -- an old number is not the counter's
+  old-entry : (v k : ℕ) (l : BoolLit) → bool-at w v ≡ lit-word l → number-of l < k → eqb (bool-entry w v) (k + 1) ≡ false
+  unfolding bool-entry bool-at nat
+  old-entry v k (lit n false) e h = rw e (ne-eqb (suc n) (k + 1) (λ q. omega arith))
+  old-entry v k (lit n true) e h = rw e (ne-eqb 0 (k + 1) (λ q. omega arith))
+
+  new-entry : (v k : ℕ) → bool-at w v ≡ pos (suc k) → eqb (bool-entry w v) (k + 1) ≡ true
+  unfolding bool-entry bool-at nat
+  new-entry v k e = rw e (eq-eqb (suc k) (k + 1) (omega arith))
 
   pub var-good : (v : ℕ) (g : Bool) → Implements (var-item v g) (normalize-var v g)
   unfolding normalize-var convert-bool-var
   var-good v g = record { grows = λ s. gr s (get-bool-var v s) refl; at = λ s f. go s (get-bool-var v s) refl f }
     where
-      gr : (s : Log) (o : Option ℕ) → get-bool-var v s ≡ o → Grows s (bool-var-at o v s .1)
+      gr : (s : Log) (o : Option BoolLit) → get-bool-var v s ≡ o → Grows s (bool-var-at o v s .1)
       gr s nothing e = grow-declared v s e
       gr s (some n) e = same
 
-      go : (s : Log) (o : Option ℕ) → get-bool-var v s ≡ o → Fit w (bool-var-at o v s .1) → ImplementsAt (var-item v g) s (lit-clauses (bool-var-at o v s .0) g, bool-var-at o v s .1)
-      go s nothing e f =
-          let p : bool-entry w v ≡ suc (next-bool s) = f .agree v (next-bool s) (bool-here v s) in
-          var-at v g s (next-bool s) (declared v ∷ s) (bool-here v s) f (rw (eq-eqb (bool-entry w v) (next-bool s + 1) (omega arith)) (omega (arith, f .small)))
-      go s (some n) e f =
-          let p : bool-entry w v ≡ suc n = f .agree v n e in
-          var-at v g s n s e f (rw (ne-eqb (bool-entry w v) (next-bool s + 1) (λ q. omega (arith, bool-below s v n e))))
+      go : (s : Log) (o : Option BoolLit) → get-bool-var v s ≡ o → Fit w (bool-var-at o v s .1) → ImplementsAt (var-item v g) s (clause (negate-lit g (bool-var-at o v s .0) ∷ []) [] ∷ [], bool-var-at o v s .1)
+      go s nothing e f = var-at v g s (lit (next-bool s) false) (declared v ∷ s) (bool-here v s) f (rw (new-entry v (next-bool s) (f .agree v (lit (next-bool s) false) (bool-here v s))) (omega (arith, f .small)))
+      go s (some l) e f = var-at v g s l s e f (rw (old-entry v (next-bool s) l (f .agree v l e) (bool-below s v l e)))
 
   length-items : (ts : Trees) → length (items ts) ≡ size ts
   unfolding items

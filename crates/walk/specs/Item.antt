@@ -3,7 +3,8 @@
 use mathlib.Core.Bool.{Bool, true, false, cond}
 use mathlib.Core.List.{List, [], _∷_, _++_}
 use Prim.Native.Nat.{ℕ, zero, suc, _+_, _-_, min}
-use lib.IntN.{ℤ, pos, negsuc, negℤ}
+use lib.IntN.{ℤ, pos, negsuc, negℤ, natAbs}
+use Rattle.laws.specs.Ints.{is-zero}
 use lib.ListN.{length, getD, set}
 use lib.Dec.{eqb, leb}
 use Rattle.syntax.specs.Syntax.{CmpOp, IntExpr, IConst, IVar, Linear, Terms, tnil, tmore}
@@ -42,6 +43,10 @@ unfoldable pub nat : ℤ → ℕ
 nat (pos n) = n
 nat (negsuc n) = 0
 
+-- a Boolean's word is negative where it is tied to the negation of a number
+unfoldable pub bool-at : List ℤ → ℕ → ℤ
+bool-at w v = getD w (bool-map + v) (pos 0)
+
 unfoldable pub bool-entry : List ℤ → ℕ → ℕ
 bool-entry w v = nat (getD w (bool-map + v) (pos 0))
 
@@ -63,7 +68,7 @@ abbrev pub new-bool : ℕ → State → State
 new-bool v s = record { work = set (s .work) (bool-map + v) (pos (bump (s .bools) 1)); bools = bump (s .bools) 1; ints = s .ints }
 
 unfoldable pub meet-bool : ℕ → State → State
-meet-bool v s = cond (is-none (bool-entry (s .work) v)) (new-bool v s) s
+meet-bool v s = cond (is-zero (bool-at (s .work) v)) (new-bool v s) s
 
 -- convert_int_var; the record of an emitted integer that is declared is its index
 abbrev pub new-int : ℕ → State → State
@@ -95,6 +100,10 @@ walk-bools k s = record { work = s .work; bools = bump (s .bools) k; ints = s .i
 -- the word of the literal whose number plus 1 is x
 unfoldable pub word-of : ℕ → Bool → ℤ
 word-of x g = cond (leb x limit) (cond g (negℤ (pos x)) (pos x)) (pos 0)
+
+-- the literal whose word in the map is z
+unfoldable pub signed : ℤ → Bool → ℤ
+signed z g = cond (leb (natAbs z) limit) (cond g (negℤ z) z) (pos 0)
 
 -- a comparison, given the final map
 unfoldable pub comparison : List ℤ → CmpOp → IntExpr → IntExpr → Bool → List ℤ
@@ -242,8 +251,8 @@ unfoldable pub var-item : ℕ → Bool → Item
 var-item v g = record {
   unit = tally 0 1 0 0;
   count = λ w n. cond (eqb (bool-entry w v) (n + 1)) (bump n 1) n;
-  pool = λ b w. cond b (word-of (bool-entry w v) g ∷ []) [];
-  text = λ w n suf. clause-text (word-of (bool-entry w v) g ∷ []) suf 0 [];
+  pool = λ b w. cond b (signed (bool-at w v) g ∷ []) [];
+  text = λ w n suf. clause-text (signed (bool-at w v) g ∷ []) suf 0 [];
   met = meet-bool v;
 }
 

@@ -11,14 +11,16 @@ use lib.IntN.{ℤ, pos}
 use lib.ListN.{length, getD, set, length-set}
 use lib.Seq.{getD-set-same, getD-set-other}
 use lib.Dec.{eqb, eqb→eq}
-use borrow.Author.Tests.{eq-eqb}
+use borrow.Author.Tests.{eq-eqb, ne-eqb}
 use Rattle.syntax.specs.Syntax.{Domain, IntExpr, IConst, IVar, Linear, Terms, tnil, tmore}
 use Rattle.syntax.specs.Written.{EveryInt, EveryTerm}
 use Rattle.sums.specs.LinearSum.{LinearSum, constant, add-sum, mul-sum}
-use Rattle.clauses.specs.Log.{declared, aux, side, declared-int, column, Log, next-bool, next-int, get-bool-var, get-int-var, bool-var-at, int-var-at, convert-int-var}
+use Rattle.clauses.specs.Log.{declared, aux, side, declared-int, column, Log, next-bool, next-int, get-bool-var, get-int-var, bool-var-at, int-var-at, convert-int-var, merged}
 use Rattle.clauses.specs.Normalize.{normalize-int-var, normalize-term, normalize-int-expr, normalize-terms}
-use Rattle.walk.specs.Item.{limit, bump, is-none, bool-map, int-map, emitted-ints, nat, bool-entry, int-entry, State, meet-bool, meet-int-var, meet-int, meet-terms}
-use Rattle.walk.specs.Grow.{Fit}
+use Rattle.walk.specs.Item.{limit, bump, is-none, bool-map, int-map, emitted-ints, nat, int-entry, State, meet-bool, meet-int-var, meet-int, meet-terms, bool-at}
+use Rattle.walk.specs.Grow.{Fit, lit-word}
+use Rattle.clauses.specs.Clause.{BoolLit, lit}
+use Rattle.answer.specs.Answer.{bool-word}
 use Rattle.walk.specs.Ints.{terms-grow}
 
 -- how many records there is room for
@@ -33,6 +35,7 @@ module _ (Column : Log → ℤ → LinearSum → Domain → Type 0) where
   unfoldable pub Recorded : List ℤ → Log → Type 0
   Recorded w [] = Unit {0}
   Recorded w (declared v ∷ s) = Recorded w s
+  Recorded w (merged q r z ∷ s) = Recorded w s
   Recorded w (aux cs ∷ s) = Recorded w s
   Recorded w (side e ∷ s) = Recorded w s
   Recorded w (declared-int v ∷ s) = (getD w (emitted-ints + next-int s) (pos 0) ≡ pos v) × Recorded w s
@@ -40,18 +43,22 @@ module _ (Column : Log → ℤ → LinearSum → Domain → Type 0) where
 
   -- the state of a log
   pub record Numbered (st : State) (s : Log) : Type 0 where
-    pub map : (v : ℕ) → v < 512 → bool-entry (st .work) v ≡ code (get-bool-var v s)
+    pub map : (v : ℕ) → v < 512 → bool-at (st .work) v ≡ bool-word (get-bool-var v s)
     pub map-int : (v : ℕ) → v < 256 → int-entry (st .work) v ≡ code (get-int-var v s)
     pub bools : st .bools ≡ next-bool s
     pub ints : st .ints ≡ next-int s
-    pub low : (v n : ℕ) → get-bool-var v s ≡ some n → v < 512
+    pub low : (v : ℕ) (n : BoolLit) → get-bool-var v s ≡ some n → v < 512
     pub low-int : (v n : ℕ) → get-int-var v s ≡ some n → v < 256
     pub size : 16384 ≤ length (st .work)
     pub records : Recorded (st .work) s
 
+  pub word-some : (l : BoolLit) (o : Option BoolLit) → o ≡ some l → bool-word o ≡ lit-word l
+  word-some (lit n false) o e = rw e
+  word-some (lit n true) o e = rw e
+
   pub numbered-fit : (st : State) (s : Log) → Numbered st s → next-bool s ≤ limit → Fit (st .work) s
   numbered-fit st s h l = record {
-    agree = λ v n e. h .map v (h .low v n e) ∙ rw e;
+    agree = λ v l e. h .map v (h .low v l e) ∙ word-some l (get-bool-var v s) e;
     agree-int = λ v n e. h .map-int v (h .low-int v n e) ∙ rw e;
     small = l;
   }
@@ -67,6 +74,7 @@ module _ (Column : Log → ℤ → LinearSum → Domain → Type 0) where
   unfolding Recorded
   recorded-set w p x [] f h = tt
   recorded-set w p x (declared v ∷ s) f h = recorded-set w p x s f h
+  recorded-set w p x (merged q r z ∷ s) f h = recorded-set w p x s f h
   recorded-set w p x (aux cs ∷ s) f h = recorded-set w p x s f h
   recorded-set w p x (side e ∷ s) f h = recorded-set w p x s f h
   recorded-set w p x (declared-int v ∷ s) f h =
@@ -74,17 +82,17 @@ module _ (Column : Log → ℤ → LinearSum → Domain → Type 0) where
   recorded-set w p x (column l d ∷ s) f h =
       (rw (getD-set-other w p (emitted-ints + next-int s) x (pos 0) (f (next-int s) (omega arith))) (h .0), recorded-set w p x s (λ k l. f k (omega arith)) (h .1))
 
-  pub bool-other : (w : List ℤ) (p : ℕ) (x : ℤ) (u : ℕ) → (bool-map + u ≡ p → ⊥) → bool-entry (set w p x) u ≡ bool-entry w u
-  unfolding bool-entry
-  bool-other w p x u h = ap nat (getD-set-other w p (bool-map + u) x (pos 0) h)
+  pub bool-other : (w : List ℤ) (p : ℕ) (x : ℤ) (u : ℕ) → (bool-map + u ≡ p → ⊥) → bool-at (set w p x) u ≡ bool-at w u
+  unfolding bool-at
+  bool-other w p x u h = getD-set-other w p (bool-map + u) x (pos 0) h
 
   pub int-other : (w : List ℤ) (p : ℕ) (x : ℤ) (u : ℕ) → (int-map + u ≡ p → ⊥) → int-entry (set w p x) u ≡ int-entry w u
   unfolding int-entry
   int-other w p x u h = ap nat (getD-set-other w p (int-map + u) x (pos 0) h)
 
-  bool-same : (w : List ℤ) (v n : ℕ) → bool-map + v < length w → bool-entry (set w (bool-map + v) (pos n)) v ≡ n
-  unfolding bool-entry nat
-  bool-same w v n h = ap nat (getD-set-same w (bool-map + v) (pos n) (pos 0) h)
+  bool-same : (w : List ℤ) (v n : ℕ) → bool-map + v < length w → bool-at (set w (bool-map + v) (pos n)) v ≡ pos n
+  unfolding bool-at
+  bool-same w v n h = getD-set-same w (bool-map + v) (pos n) (pos 0) h
 
   int-same : (w : List ℤ) (v n : ℕ) → int-map + v < length w → int-entry (set w (int-map + v) (pos n)) v ≡ n
   unfolding int-entry nat
@@ -92,13 +100,13 @@ module _ (Column : Log → ℤ → LinearSum → Domain → Type 0) where
 
   -- ---- a declared variable
 
-  pub bool-num : (v : ℕ) (st : State) (s : Log) (o : Option ℕ) → get-bool-var v s ≡ o → v < 512 → Numbered st s → next-bool (bool-var-at o v s .1) ≤ limit → Numbered (meet-bool v st) (bool-var-at o v s .1)
+  pub bool-num : (v : ℕ) (st : State) (s : Log) (o : Option BoolLit) → get-bool-var v s ≡ o → v < 512 → Numbered st s → next-bool (bool-var-at o v s .1) ≤ limit → Numbered (meet-bool v st) (bool-var-at o v s .1)
   unfolding meet-bool get-bool-var get-int-var Recorded
-  bool-num v st s (some n) e hv h l =
-      rw (none-not (bool-entry (st .work) v) (λ q. let z : _≡_ {A = ℕ} 0 (suc n) = sym q ∙ h .map v hv ∙ ap code e in omega arith)) h
+  bool-num v st s (some (lit n false)) e hv h l = rw (h .map v hv ∙ ap bool-word e, ne-eqb (suc n) 0 (λ q. omega arith)) h
+  bool-num v st s (some (lit n true)) e hv h l = rw (h .map v hv ∙ ap bool-word e) h
   bool-num v st s nothing e hv h l =
       let b : bump (st .bools) 1 ≡ suc (next-bool s) = omega (arith, h .bools) in
-      let z : bool-entry (st .work) v ≡ 0 = h .map v hv ∙ ap code e in
+      let z : bool-at (st .work) v ≡ pos 0 = h .map v hv ∙ ap bool-word e in
       rw (z, b) (record {
         map = λ u hu. mp u hu (eqb u v) refl;
         map-int = λ u hu. int-other (st .work) (bool-map + v) _ u (λ q. omega arith) ∙ h .map-int u hu;
@@ -110,13 +118,13 @@ module _ (Column : Log → ℤ → LinearSum → Domain → Type 0) where
         records = recorded-set (st .work) (bool-map + v) _ s (λ k l q. omega arith) (h .records);
       })
     where
-      mp : (u : ℕ) → u < 512 → (c : Bool) → eqb u v ≡ c → bool-entry (set (st .work) (bool-map + v) (pos (suc (next-bool s)))) u ≡ code (get-bool-var u (declared v ∷ s))
+      mp : (u : ℕ) → u < 512 → (c : Bool) → eqb u v ≡ c → bool-at (set (st .work) (bool-map + v) (pos (suc (next-bool s)))) u ≡ bool-word (get-bool-var u (declared v ∷ s))
       mp u hu true q = let p : u ≡ v = eqb→eq u v (rw q tt) in rw q (rw p (bool-same (st .work) v (suc (next-bool s)) (omega (arith, h .size))))
       mp u hu false q =
           let ne : u ≢ v = λ (p : u ≡ v). false≢true (sym q ∙ eq-eqb u v p) in
           rw q (bool-other (st .work) (bool-map + v) (pos (suc (next-bool s))) u (λ x. ne (omega arith)) ∙ h .map u hu)
 
-      lw : (u n : ℕ) (c : Bool) → eqb u v ≡ c → get-bool-var u (declared v ∷ s) ≡ some n → u < 512
+      lw : (u : ℕ) (n : BoolLit) (c : Bool) → eqb u v ≡ c → get-bool-var u (declared v ∷ s) ≡ some n → u < 512
       lw u n true q f = let p : u ≡ v = eqb→eq u v (rw q tt) in omega arith
       lw u n false q f = h .low u n (rw q at f)
 

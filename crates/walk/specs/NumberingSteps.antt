@@ -10,8 +10,9 @@ use lib.ListN.{length, getD, set, length-set, length-take}
 use lib.Seq.{take-set-le}
 use borrow.Author.Tests.{ne-eqb}
 use Rattle.syntax.specs.Syntax.{IntExpr}
-use Rattle.walk.specs.Item.{limit, bump, nat, bool-map, int-map, emitted-ints, bool-entry, int-entry, State, meet-bool, meet-int-var, meet-int, meet-terms, walk-bools, fresh, tallies, mets, var-item, cmp-item, num-item, conj-item, disj-item, cross-item, item, items}
+use Rattle.walk.specs.Item.{limit, bump, nat, bool-map, int-map, emitted-ints, int-entry, State, meet-bool, meet-int-var, meet-int, meet-terms, walk-bools, fresh, tallies, mets, var-item, cmp-item, num-item, conj-item, disj-item, cross-item, item, items, bool-at}
 use Rattle.walk.specs.Decode.{word, past, below, terms, int-step, int-at, int-end, node-of, Read, Reads, Reader, many, cross-step, step, decode, read-part, Surveys}
+use Rattle.laws.specs.Ints.{is-zero}
 use Rattle.walk.specs.Steps.{decode-level, many-more}
 use Rattle.walk.specs.declared.Node.{Node}
 use Rattle.walk.specs.declared.Node.the-variants.{Var, Cmp, Not, Join, Cross}
@@ -46,14 +47,13 @@ unfolding read-part
 part-set w p x h = take-set-le 4608 w p x h
 
 module _ (w : List ℤ) (c : Counters) (low : c .bools ≤ limit) (low-ints : c .ints ≤ limit) where
-  pub bool-old : (v x : ℕ) → x ≡ nat (getD w (bool-map + v) (pos 0)) → (x ≡ 0 → ⊥) → Met (meet-bool v) w c w c
-  unfolding meet-bool bool-entry
-  bool-old v zero e z = absurd (z refl)
-  bool-old v (suc x) e z = record { state = rw (← e); part = refl; size = refl; low = low; low-ints = low-ints }
+  pub bool-old : (v : ℕ) (x : ℤ) → x ≡ getD w (bool-map + v) (pos 0) → is-zero x ≡ false → Met (meet-bool v) w c w c
+  unfolding meet-bool bool-at
+  bool-old v x e z = record { state = rw (← e, z); part = refl; size = refl; low = low; low-ints = low-ints }
 
-  pub bool-new : (v x k : ℕ) (w' : List ℤ) (r : Counters) → x ≡ nat (getD w (bool-map + v) (pos 0)) → x ≡ 0 → k ≡ bump (c .bools) 1 → w' ≡ set w (bool-map + v) (pos k) → r ≡ record { bools = k; ints = c .ints } → Met (meet-bool v) w c w' r
-  unfolding meet-bool bool-entry
-  bool-new v x k w' r e z hk hw hr = rw (hr, hw) (record {
+  pub bool-new : (v k : ℕ) (x : ℤ) (w' : List ℤ) (r : Counters) → x ≡ getD w (bool-map + v) (pos 0) → is-zero x ≡ true → k ≡ bump (c .bools) 1 → w' ≡ set w (bool-map + v) (pos k) → r ≡ record { bools = k; ints = c .ints } → Met (meet-bool v) w c w' r
+  unfolding meet-bool bool-at
+  bool-new v k x w' r e z hk hw hr = rw (hr, hw) (record {
     state = rw (← e, z, ← hk);
     part = part-set w (bool-map + v) (pos k) (omega arith);
     size = length-set w (bool-map + v) (pos k);

@@ -19,7 +19,8 @@ use Rattle.walk.specs.Grow.{Grows, same, then, Fit, back}
 use Rattle.walk.specs.Ints.{int-grows}
 use Rattle.walk.specs.Texts.{layout, Auxed, here, above, disjunction-auxed, Untouched, auxed-untouched}
 use Rattle.walk.specs.Implements.{Proper, Propers, goods-sorts, disj-grows, disj-at, beside, shape-some, var-good, item-good, items-good}
-use Rattle.walk.specs.Num.{max-emitted, code, Recorded, Numbered, numbered-fit, bool-num, expr-num}
+use Rattle.walk.specs.Num.{max-emitted, code, Recorded, Numbered, numbered-fit, bool-num, expr-num, word-some}
+use Rattle.answer.specs.Answer.{bool-word}
 
 -- the counters of a log, low enough
 pub record Low (s : Log) : Type 0 where
@@ -55,7 +56,7 @@ module _ (Column : Log → ℤ → LinearSum → Domain → Type 0) where
   -- a log with more numbers that are no variables'
   untouched-fit : (st : State) (z e : Log) → Numbered Column st z → Untouched z e → next-bool e ≤ limit → Fit (st .work) e
   untouched-fit st z e h u l = record {
-    agree = λ v n q. let r = sym (u .keep v) ∙ q in h .map v (h .low v n r) ∙ ap code r;
+    agree = λ v n q. let r = sym (u .keep v) ∙ q in h .map v (h .low v n r) ∙ word-some Column n (get-bool-var v z) r;
     agree-int = λ v n q. let r = sym (u .keep-int v) ∙ q in h .map-int v (h .low-int v n r) ∙ ap code r;
     small = l;
   }
@@ -63,7 +64,7 @@ module _ (Column : Log → ℤ → LinearSum → Domain → Type 0) where
   pub pass-num : (st : State) (z e : Log) (k : ℕ) → Numbered Column st z → Untouched z e → Recorded Column (st .work) e → next-bool e ≡ next-bool z + k → next-bool e ≤ limit → Numbered Column (walk-bools k st) e
   unfolding walk-bools
   pass-num st z e k h u r c l = record {
-    map = λ v hv. h .map v hv ∙ ap code (sym (u .keep v));
+    map = λ v hv. h .map v hv ∙ ap bool-word (sym (u .keep v));
     map-int = λ v hv. h .map-int v hv ∙ ap code (sym (u .keep-int v));
     bools = omega (arith, c, h .bools);
     ints = h .ints ∙ sym (u .ints);

@@ -5,10 +5,10 @@ use mathlib.Core.List.{List, [], _∷_, _++_, append-assoc}
 use Prim.Native.Nat.{ℕ, zero, suc, _+_, _-_, _≤_}
 use native.Mathlib.Omega.{arith}
 use lib.IntN.{ℤ, pos}
-use lib.ListN.{length, getD, length-append}
+use lib.ListN.{length, length-append}
 use Rattle.laws.specs.Writes.{Wrote, wrote-none, wrote-then}
 use Rattle.walk.specs.Tree.{Tree, var, num, cmp, conj, disj, cross, tied, Trees, nil, cons}
-use Rattle.walk.specs.Item.{nat, is-none, Tally, closed, long, disj-lines, word-of, clause-text, bool-entry, block, Item, tallies, pools, item, items, var-item, num-item, cmp-item, conj-item, disj-item, cross-item, tied-item}
+use Rattle.walk.specs.Item.{bool-at, signed, is-none, Tally, closed, long, disj-lines, word-of, clause-text, block, Item, tallies, pools, item, items, var-item, num-item, cmp-item, conj-item, disj-item, cross-item, tied-item}
 use Rattle.walk.specs.Decode.{word, Read, many, step, cross-step, decode, read-part, item-at, items-at, Surveys}
 use Rattle.walk.specs.declared.Node.the-variants.{Var, Cmp, Not, Join, Cross}
 use Rattle.walk.specs.declared.Surveyed.{Surveyed}
@@ -114,9 +114,9 @@ long-share (tied v t u) b h = either-zero b
 -- ---- leaves
 
 module _ (w : List ℤ) (g b : Bool) {out a : List ℤ} {o p : ℕ} where
-  pub pool-lit : (v x : ℕ) → b ≡ true → x ≡ nat (getD w (4608 + v) (pos 0)) → Wrote out o (word-of x g ∷ []) a p → Wrote out o (var-item v g .pool b w) a p
-  unfolding var-item bool-entry
-  pool-lit v x e f y = rw e (subst (λ (m : ℕ). Wrote out o (word-of m g ∷ []) a p) f y)
+  pub pool-lit : (v : ℕ) (z : ℤ) → b ≡ true → z ≡ signed (bool-at w v) g → Wrote out o (z ∷ []) a p → Wrote out o (var-item v g .pool b w) a p
+  unfolding var-item
+  pool-lit v z e f y = rw e (subst (λ (m : ℤ). Wrote out o (m ∷ []) a p) f y)
 
   pub compared-plain : (at k : ℕ) → b ≡ false → Compared w at k g (λ ws. ws) out o a p → Compared w at k g (λ ws. cond b [] ws) out o a p
   compared-plain at k e x = record { wrote = λ c d h. rw e (x .wrote c d h) }

@@ -8,7 +8,7 @@ use lib.IntN.{ℤ, pos}
 use lib.ListN.{length, getD}
 use lib.Dec.{eqb}
 use Rattle.laws.specs.Writes.{cap, Wrote, wrote-none, wrote-then}
-use Rattle.walk.specs.Item.{bump, is-none, is-single, Tally, tally, mode-in, fresh-in, nat, bool-entry, word-of, clause-text, block, extra, pool-text, Item, tallies, counts, pools, texts, long-texts, disj-text, item, items, var-item, num-item, cmp-item, conj-item, disj-item, cross-item}
+use Rattle.walk.specs.Item.{bump, is-none, bool-at, signed, is-single, Tally, tally, mode-in, fresh-in, word-of, clause-text, block, extra, pool-text, Item, tallies, counts, pools, texts, long-texts, disj-text, item, items, var-item, num-item, cmp-item, conj-item, disj-item, cross-item}
 use Rattle.walk.specs.Decode.{word, Read, many, step, cross-step, decode, read-part, item-at, items-at, Surveys, SurveysAll}
 use Rattle.walk.specs.declared.Mode.{Mode}
 use Rattle.walk.specs.declared.Mode.the-variants.{Pool, Pass, Two, Each}
@@ -25,9 +25,9 @@ pub write-none : (w : List ℤ) (l : ℕ) (t g : Bool) (at base n : ℕ) (suf : 
 unfolding decode item disj-item disj-text tallies pools long-texts counts
 write-none w l t g at base n suf {out} {a} {o} {p} e x = rw e x
 
-pub var-text : (w : List ℤ) (v x : ℕ) (g : Bool) (n : ℕ) (suf : List ℤ) {out a : List ℤ} {o p : ℕ} → x ≡ nat (getD w (4608 + v) (pos 0)) → Wrote out o (clause-text (word-of x g ∷ []) suf 0 []) a p → Wrote out o (var-item v g .text w n suf) a p
-unfolding var-item bool-entry
-var-text w v x g n suf {out} {a} {o} {p} f y = subst (λ (m : ℕ). Wrote out o (clause-text (word-of m g ∷ []) suf 0 []) a p) f y
+pub var-text : (w : List ℤ) (v : ℕ) (z : ℤ) (g : Bool) (n : ℕ) (suf : List ℤ) {out a : List ℤ} {o p : ℕ} → z ≡ signed (bool-at w v) g → Wrote out o (clause-text (z ∷ []) suf 0 []) a p → Wrote out o (var-item v g .text w n suf) a p
+unfolding var-item
+var-text w v z g n suf {out} {a} {o} {p} f y = subst (λ (m : ℤ). Wrote out o (clause-text (m ∷ []) suf 0 []) a p) f y
 
 -- a split Xor or Iff: two clauses of two numbers
 split-text : (w : List ℤ) (u : ℕ) (h : Bool) (q base n : ℕ) (suf : List ℤ) {out a : List ℤ} {o p : ℕ}

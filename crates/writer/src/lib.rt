@@ -109,7 +109,7 @@ fn pool_var(work: &[i32], v: usize, g: bool, b: bool, out: &mut [i32], o: usize)
     ensures { λ r. ⌜ Wrote (now (out .entry)) o (var-item v g .pool b (now (work .entry))) (now (out .exit)) r ⌝ }
 {
     if b {
-        return put(out, o, word_of(survey::entry(work, 4608 + v), g));
+        return put(out, o, survey::signed(survey::literal(work, v), g));
     }
     o
 }
@@ -296,7 +296,7 @@ fn write_var(
     requires { ⌜ (v < 512) × (n ≤ limit) × Stacked s 0 × Open (now out) o ⌝ }
     ensures { λ r. ⌜ (r .seen ≡ surveyed q base (var-item v true .count (now (work .entry)) n) 0 1 0 0 1) × Wrote (now (out .entry)) o (var-item v g .text (now (work .entry)) n (suffix s)) (now (out .exit)) (r .o) ⌝ }
 {
-    let p = put_lit(survey::entry(work, 4608 + v), g, s, out, o);
+    let p = put_lit(survey::signed(survey::literal(work, v), g), s, out, o);
     let x = survey::single(q, base, survey::met(work, v, n), 1, 0);
     Walked { seen: x, o: p }
 }

@@ -1,5 +1,6 @@
 -- The loop over the statements: so far the clauses of those before q are written, and the words of the work slice from q on are as numbering left them.
 use mathlib.Core.Path.{_≡_, refl, sym, _∙_, subst}
+use mathlib.Core.Bool.{Bool}
 use mathlib.Core.List.{List, [], _∷_, _++_, append-nil}
 use Prim.Native.Nat.{ℕ, _+_, _*_, _≤_, _<_}
 use native.Mathlib.Omega.{arith}
@@ -10,29 +11,28 @@ use Rattle.syntax.specs.Syntax.{Domain, Stmt, Rule, Table, encode-stmt, Problem
 use Rattle.fold.specs.Fold.{Fixed}
 use Rattle.clauses.specs.Clause.{Clause}
 use Rattle.clauses.specs.Log.{Log, next-bool, next-int}
-use Rattle.answer.specs.Answer.{normalize-stmts}
+use Rattle.answer.specs.Answer.{start-log, normalize-stmts}
 use Rattle.walk.specs.Item.{State}
 use Rattle.walk.specs.Decode.{read-part}
 use Rattle.walk.specs.declared.Counters.{Counters}
 use Rattle.rows.specs.Emit.{Clauses, Behind}
 use Rattle.rows.proofs.Looping.{clauses-none, clauses-then, clauses-to}
 use Rattle.statements.specs.Statements.{meet-stmt}
-use Rattle.statements.specs.Whole.{start}
 use Rattle.statements.specs.Stages.{stmts-words, clauses-of, log-of}
 use Rattle.statements.specs.NumberedEntry.{settled-emitted, settled-low, ready-fit}
-use Rattle.statements.specs.Along.{zeros, StmtAt, Rest, rest-start, rest-first, rest-next}
+use Rattle.statements.specs.Along.{begin, StmtAt, Rest, rest-start, rest-first, rest-next}
 use Rattle.statements.specs.Saved.{Saved, saved-same, saved-then, saved-less, has-saved, fit-saved, in-place-saved}
 use Rattle.tabling.proofs.After.{triples-stay}
 use Rattle.tabling.specs.Step.{Place, after, At, SomeAt, Did}
 use Rattle.writing.specs.Writing.{Writable}
 
 module _ (w₀ out₀ : List ℤ) (o₀ : ℕ) where
-  pub record Sofar (p : Problem) (ss : List Stmt) (w out : List ℤ) (q m o k : ℕ) : Type 0 where
+  pub record Sofar (merge : Bool) (p : Problem) (ss : List Stmt) (w out : List ℤ) (q m o k : ℕ) : Type 0 where
     pub rest : List Stmt
     pub log : Log
     pub state : State
     pub done : List Clause
-    pub left : Rest p ss (read-part w₀) w₀ q rest log state done
+    pub left : Rest merge p ss (read-part w₀) w₀ q rest log state done
     pub number : m ≡ next-bool log
     pub wrote : Clauses out₀ o₀ 0 done out o k
     pub saved : Saved q w₀ w
@@ -42,29 +42,29 @@ unfolding encode-stmt
 stmt-words (Rule e) = omega arith
 stmt-words (Table es rows) = omega arith
 
-module _ {set w₀ : List ℤ} {end triples : ℕ} {out₀ : List ℤ} {o₀ : ℕ} {p : Problem} {f : Fixed} {ss : List Stmt} {c : Counters} (h : Writable p f ss c set w₀ end triples out₀ o₀) where
+module _ {set w₀ : List ℤ} {end from triples : ℕ} {out₀ : List ℤ} {o₀ : ℕ} {merge : Bool} {p : Problem} {f : Fixed} {ss : List Stmt} {c : Counters} (h : Writable merge p f ss c set w₀ end from triples out₀ o₀) where
   abbrev ds : List Domain
   ds = p .domains
 
   abbrev L : Log
-  L = log-of p ss
+  L = log-of merge p ss
 
   abbrev F : List ℤ
   F = read-part w₀
 
-  pub sofar-start : Sofar w₀ out₀ o₀ p ss w₀ out₀ 512 0 o₀ 0
+  pub sofar-start : Sofar w₀ out₀ o₀ merge p ss w₀ out₀ 512 from o₀ 0
   sofar-start = record {
     rest = ss;
-    log = [];
-    state = start zeros;
+    log = start-log merge ss;
+    state = begin merge F ss;
     done = [];
-    left = rest-start (h .ready .set) (h .ready .stands) (h .ready .placed);
-    number = refl;
+    left = rest-start merge (h .ready .set) (h .ready .stands) (h .ready .placed);
+    number = h .first;
     wrote = clauses-none (h .room);
     saved = saved-same 512 w₀;
   }
 
-  module _ {w out : List ℤ} {q m o k : ℕ} (v : Sofar w₀ out₀ o₀ p ss w out q m o k) where
+  module _ {w out : List ℤ} {q m o k : ℕ} (v : Sofar w₀ out₀ o₀ merge p ss w out q m o k) where
     pub sofar-behind : Behind out o k
     sofar-behind = record { room = record { place = wrote-low (v .wrote .words); part = omega (arith, wrote-length (v .wrote .words), h .room .room .part) }; low = v .wrote .low }
 
@@ -81,9 +81,9 @@ module _ {set w₀ : List ℤ} {end triples : ℕ} {out₀ : List ℤ} {o₀ : �
     abbrev place : Place
     place = record { problem = p; folded = F; whole = L; before = v .log; state = v .state }
 
-    next-at : (t : Stmt) (ts : List Stmt) → Rest p ss F w₀ q (t ∷ ts) (v .log) (v .state) (v .done) → At place t set w q triples m out o
+    next-at : (t : Stmt) (ts : List Stmt) → Rest merge p ss F w₀ q (t ∷ ts) (v .log) (v .state) (v .done) → At place t set w q triples m out o
     next-at t ts r =
-        let a : StmtAt ds F w₀ L q t (v .log) (v .state) = rest-first (h .ready .set) r in
+        let a : StmtAt ds F w₀ L q t (v .log) (v .state) = rest-first merge (h .ready .set) r in
         let n = h .ready .numbered in
         let b : triples + 3 * next-int L ≤ o₀ = omega (arith, h .behind, n .ints) in
         record {
@@ -106,14 +106,14 @@ module _ {set w₀ : List ℤ} {end triples : ℕ} {out₀ : List ℤ} {o₀ : �
           stands = has-saved q (encode-stmt t) (omega arith) (v .saved) (a .stands);
           number = v .number;
           fit = fit-saved L (omega (arith, a .inside)) (n .low) (n .low-int) (v .saved) (ready-fit (h .ready));
-          low = settled-low (h .ready .set);
-          few = omega (arith, settled-emitted (h .ready .set));
+          low = settled-low merge (h .ready .set);
+          few = omega (arith, settled-emitted merge (h .ready .set));
           domains = triples-stay ds L triples b (v .wrote .words) (h .domains);
           behind = omega (arith, b, v .wrote .words .at, h .room .room .place);
           size = omega (arith, n .size, v .saved .size);
         }
 
-    some-left : {X : Type 0} → q < end → (rest : List Stmt) → Rest p ss F w₀ q rest (v .log) (v .state) (v .done) → ((t : Stmt) (ts : List Stmt) → Rest p ss F w₀ q (t ∷ ts) (v .log) (v .state) (v .done) → X) → X
+    some-left : {X : Type 0} → q < end → (rest : List Stmt) → Rest merge p ss F w₀ q rest (v .log) (v .state) (v .done) → ((t : Stmt) (ts : List Stmt) → Rest merge p ss F w₀ q (t ∷ ts) (v .log) (v .state) (v .done) → X) → X
     some-left l [] r g = absurd (omega (arith, r .place, h .ends))
     some-left l (t ∷ ts) r g = g t ts r
 
@@ -121,17 +121,17 @@ module _ {set w₀ : List ℤ} {end triples : ℕ} {out₀ : List ℤ} {o₀ : �
     sofar-at l = some-left l (v .rest) (v .left) (λ t ts r. record { place = place; stmt = t; it = next-at t ts r })
 
     module _ {w' out' : List ℤ} {e m' o' k' : ℕ} (g : (x : Place) (t : Stmt) → At x t set w q triples m out o → Did x t w q out o k w' out' e m' o' k') where
-      next : (t : Stmt) (ts : List Stmt) → Rest p ss F w₀ q (t ∷ ts) (v .log) (v .state) (v .done) → Sofar w₀ out₀ o₀ p ss w' out' e m' o' k' × ((q < e) × (e ≤ end))
+      next : (t : Stmt) (ts : List Stmt) → Rest merge p ss F w₀ q (t ∷ ts) (v .log) (v .state) (v .done) → Sofar w₀ out₀ o₀ merge p ss w' out' e m' o' k' × ((q < e) × (e ≤ end))
       next t ts r =
           let d : Did place t w q out o k w' out' e m' o' k' = g place t (next-at t ts r) in
-          let r' = rest-next (h .ready .set) r in
+          let r' = rest-next merge (h .ready .set) r in
           let n : q + length (encode-stmt t) ≡ e = sym (d .next) in (
             record {
               rest = ts;
               log = after place t .1;
               state = meet-stmt q t (v .state);
               done = v .done ++ after place t .0;
-              left = subst (λ (i : ℕ). Rest p ss F w₀ i ts (after place t .1) (meet-stmt q t (v .state)) (v .done ++ after place t .0)) n r';
+              left = subst (λ (i : ℕ). Rest merge p ss F w₀ i ts (after place t .1) (meet-stmt q t (v .state)) (v .done ++ after place t .0)) n r';
               number = d .bools;
               wrote = clauses-then (h .room .room .part) (v .wrote) (d .clauses);
               saved = saved-then (omega (arith, stmt-words t)) (v .saved) (d .saved);
@@ -139,13 +139,13 @@ module _ {set w₀ : List ℤ} {end triples : ℕ} {out₀ : List ℤ} {o₀ : �
             (omega (arith, stmt-words t), omega (arith, r' .place, h .ends)),
           )
 
-      pub sofar-next : q < end → Sofar w₀ out₀ o₀ p ss w' out' e m' o' k' × ((q < e) × (e ≤ end))
+      pub sofar-next : q < end → Sofar w₀ out₀ o₀ merge p ss w' out' e m' o' k' × ((q < e) × (e ≤ end))
       sofar-next l = some-left l (v .rest) (v .left) next
 
-    none-left : end ≤ q → (rest : List Stmt) → Rest p ss F w₀ q rest (v .log) (v .state) (v .done) → v .done ≡ clauses-of p ss
+    none-left : end ≤ q → (rest : List Stmt) → Rest merge p ss F w₀ q rest (v .log) (v .state) (v .done) → v .done ≡ clauses-of merge p ss
     unfolding normalize-stmts
     none-left l [] r = sym (append-nil (v .done)) ∙ r .joins
     none-left l (t ∷ ts) r = absurd (omega (arith, r .place, h .ends, stmt-words t, length-append (encode-stmt t) (stmts-words ts)))
 
-    pub sofar-end : end ≤ q → Clauses out₀ o₀ 0 (clauses-of p ss) out o k
+    pub sofar-end : end ≤ q → Clauses out₀ o₀ 0 (clauses-of merge p ss) out o k
     sofar-end l = clauses-to (none-left l (v .rest) (v .left)) (v .wrote)

@@ -48,20 +48,21 @@ fn write_statement(
     tabling::write_table(set, work, at, triples, m, out, o, k)
 }
 
-// The clauses of the statements from 512 to `end`. The emitted integers' words stand in the answer from `triples` on.
+// The clauses of the statements from 512 to `end`. `from` Booleans have a number already; the emitted integers' words stand in the answer from `triples` on.
 pub fn write_statements(
     set: &[i32],
     work: &mut [i32],
     end: usize,
+    from: usize,
     triples: usize,
     out: &mut [i32],
     o: usize,
 ) -> Written
-    requires { ⌜ SomeWritable (now set) (now work) end triples (now out) o ⌝ }
-    ensures { λ r. ⌜ WrittenAll (now (set .entry)) (now (work .entry)) end triples (now (out .entry)) o (now (work .exit)) (now (out .exit)) r ⌝ }
+    requires { ⌜ SomeWritable (now set) (now work) end from triples (now out) o ⌝ }
+    ensures { λ r. ⌜ WrittenAll (now (set .entry)) (now (work .entry)) end from triples (now (out .entry)) o (now (work .exit)) (now (out .exit)) r ⌝ }
 {
     let mut q = 512;
-    let mut m = 0;
+    let mut m = from;
     let mut p = o;
     let mut k = 0;
     while q < end {

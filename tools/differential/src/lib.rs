@@ -1,5 +1,6 @@
-//! What the programs share: the port's entries, the command line, and sets of many passes.
+//! What the programs share: the port's entries, the command line, lent slices, and sets of many passes.
 pub mod links;
+pub mod slices;
 
 /// An entry of the port that takes a set, an output slice and a work slice, all lent, and answers with a number.
 macro_rules! entry {
@@ -23,6 +24,17 @@ entry!(
     /// What folding and propagation leave, in the static library of `remaining`.
     settle, settle_set, usize
 );
+
+/// The call with choices (bit 1: merging), in the static library of `station`.
+#[inline]
+pub fn compile_with(set: &[i32], out: &mut [i32], work: &mut [i32], choices: u32) -> i64 {
+    extern "C" {
+        fn compile_set_with(s: *const i32, n: usize, o: *mut i32, m: usize, w: *mut i32, k: usize, c: u32) -> i64;
+    }
+    unsafe {
+        compile_set_with(set.as_ptr(), set.len(), out.as_mut_ptr(), out.len(), work.as_mut_ptr(), work.len(), choices)
+    }
+}
 
 /// The check of a roster, in the static library of `station`.
 #[inline]

@@ -44,6 +44,24 @@ pub fn decode(bools: usize, ints: usize, words: &[i32]) -> Option<Answer> {
     Some(Answer { fixed, bool_map, int_map, bools: emitted_bools, domains, clauses })
 }
 
+/// The words of an answer.
+pub fn encode(answer: &Answer) -> Vec<i32> {
+    let mut out = [&answer.fixed[..], &answer.bool_map, &answer.int_map].concat();
+    out.extend([answer.bools, answer.domains.len() as i32]);
+    out.extend(answer.domains.iter().flatten());
+    out.push(answer.clauses.len() as i32);
+    for clause in &answer.clauses {
+        out.push(clause.literals.len() as i32);
+        out.extend(&clause.literals);
+        out.push(clause.comparisons.len() as i32);
+        for c in &clause.comparisons {
+            out.extend([c.op, c.constant, c.terms.len() as i32]);
+            out.extend(c.terms.iter().flat_map(|(v, coefficient)| [*v, *coefficient]));
+        }
+    }
+    out
+}
+
 impl Words<'_> {
     fn word(&mut self) -> Option<i32> {
         self.0.next().copied()

@@ -23,6 +23,7 @@ pub mod generate;
 pub mod join;
 pub mod listing;
 pub mod meaning;
+pub mod merge;
 mod passes;
 pub mod read;
 pub mod record;
@@ -30,8 +31,8 @@ pub mod refuse;
 pub mod roster;
 mod rust;
 pub mod set;
-pub mod sheet;
 pub mod settled;
+pub mod sheet;
 mod size;
 
-pub use call::{call, Outcome};
+pub use call::{call, call_with, Outcome};

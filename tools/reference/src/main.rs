@@ -1,9 +1,10 @@
 //! Commands over the reference; README.md lists them.
 use reference::call::counted;
 use reference::generate::{case, limits, FAMILIES};
-use reference::meaning::{check, Verdict};
-use reference::record::{commas, inputs, record, result};
-use reference::{call, cases, listing::listing, sheet::sheet_listing, Outcome};
+use reference::meaning::{check, check_with, Verdict};
+use reference::merge::{model, ties};
+use reference::record::{commas, inputs, record, record_merged, result};
+use reference::{call, call_with, cases, listing::listing, sheet::sheet_listing, Outcome};
 use std::collections::BTreeMap;
 use std::io::{Read, Write};
 use std::process::ExitCode;
@@ -18,12 +19,15 @@ fn main() -> ExitCode {
         ["p1"] => show(&listing(P1.as_bytes())),
         ["listing"] => show(&listing(&input())),
         ["sheet"] => show(&sheet_listing(&input())),
-        ["words"] => words(SLICE),
-        ["words", length] => length.parse().is_ok_and(words),
+        ["words"] => words(SLICE, false),
+        ["words", length] => length.parse().is_ok_and(|length| words(length, false)),
+        ["merged"] => words(SLICE, true),
         ["cases"] => report(&cases::differences()),
         ["generate", seed, family, count] => each(seed, family, count, generated),
         ["record", seed, family, count] => each(seed, family, count, record),
+        ["record", seed, family, count, "merged"] => each(seed, family, count, record_merged),
         ["meaning", seed, family, count] => meaning(seed, family, count),
+        ["merging", seed, family, count] => merging(seed, family, count),
         ["sizes", seed, family, count] => sizes(seed, family, count),
         ["refusals", seed, count] => refusals(seed, count),
         _ => usage(),
@@ -36,9 +40,12 @@ fn main() -> ExitCode {
 }
 
 fn usage() -> bool {
-    eprintln!("p1 | listing | sheet | words [OUT] | cases | generate SEED FAMILY COUNT | record SEED FAMILY COUNT");
-    eprintln!("meaning SEED FAMILY COUNT | sizes SEED FAMILY COUNT | refusals SEED COUNT");
-    eprintln!("families: {}, text (generate and record only); meaning and sizes also take all", FAMILIES.join(", "));
+    eprintln!(
+        "p1 | listing | sheet | words [OUT] | merged | cases | generate SEED FAMILY COUNT | record SEED FAMILY COUNT [merged]"
+    );
+    eprintln!("meaning SEED FAMILY COUNT | merging SEED FAMILY COUNT | sizes SEED FAMILY COUNT | refusals SEED COUNT");
+    eprintln!("families: {}, text (generate and record only)", FAMILIES.join(", "));
+    eprintln!("meaning, merging and sizes also take all");
     false
 }
 
@@ -53,13 +60,13 @@ fn input() -> Vec<u8> {
     text
 }
 
-fn words(out_len: usize) -> bool {
+fn words(out_len: usize, merge: bool) -> bool {
     let text = String::from_utf8_lossy(&input()).replace(',', " ");
     let Ok(set) = text.split_whitespace().map(str::parse).collect::<Result<Vec<i32>, _>>() else {
         eprintln!("words are numbers parted by blanks or commas");
         return false;
     };
-    show(&format!("{}\n", result(&call(&set, out_len, SLICE))))
+    show(&format!("{}\n", result(&call_with(&set, out_len, SLICE, merge))))
 }
 
 fn report(differences: &[String]) -> bool {
@@ -93,7 +100,7 @@ fn tally(seed: &str, family: &str, count: &str, test: fn(&[i32]) -> String) -> b
     let (Ok(seed), Ok(count)) = (seed.parse::<u64>(), count.parse::<u64>()) else {
         return usage();
     };
-    let families = if family == "all" { FAMILIES[..8].to_vec() } else { vec![family] };
+    let families = if family == "all" { FAMILIES[..9].to_vec() } else { vec![family] };
     families.iter().all(|family| {
         let mut tallies: BTreeMap<String, u64> = BTreeMap::new();
         for index in 0..count {
@@ -113,7 +120,11 @@ fn tally(seed: &str, family: &str, count: &str, test: fn(&[i32]) -> String) -> b
 }
 
 fn meaning(seed: &str, family: &str, count: &str) -> bool {
-    tally(seed, family, count, |set| match check(set) {
+    tally(seed, family, count, |set| verdict(check(set)))
+}
+
+fn verdict(found: Verdict) -> String {
+    match found {
         Verdict::Agrees(0, _) => "agrees, none pass".to_string(),
         Verdict::Agrees(passing, all) if passing == all => "agrees, all pass".to_string(),
         Verdict::Agrees(_, _) => "agrees, some pass".to_string(),
@@ -121,7 +132,34 @@ fn meaning(seed: &str, family: &str, count: &str) -> bool {
         Verdict::Refused(number) => format!("refused {number}"),
         Verdict::TooLarge => "too large".to_string(),
         Verdict::Differs(how) => format!("differs: {how}"),
+    }
+}
+
+/// The Rust with merging against the model, word for word where they are not known to part; and the meaning of the answer.
+fn merging(seed: &str, family: &str, count: &str) -> bool {
+    std::panic::set_hook(Box::new(|_| ()));
+    tally(seed, family, count, |set| match check_with(set, true) {
+        Verdict::Differs(how) => format!("differs: {how}"),
+        Verdict::Agrees(_, _) => format!("{}, meaning agrees", merged(set)),
+        _ => merged(set),
     })
+}
+
+fn merged(set: &[i32]) -> String {
+    let model = model(set, 1 << 20, SLICE);
+    let rust = call_with(set, 1 << 20, SLICE, true);
+    let (Some(ties), Outcome::Compiled(words)) = (ties(set), &model) else {
+        return if model == rust { result(&model) } else { format!("differs: {model:?}, {rust:?}") };
+    };
+    let negative = words[set[0] as usize..2 * set[0] as usize].iter().any(|word| *word < 0);
+    match (ties.apart(), model == rust) {
+        (true, _) if rust == Outcome::Panicked => "self-tie, the Rust's assertion fails".to_string(),
+        (true, false) => "self-tie, the Rust maps otherwise".to_string(),
+        (true, true) => "self-tie, equal".to_string(),
+        (false, false) => format!("differs: {model:?}, {rust:?}"),
+        (false, true) if ties.classes == 0 => "equal, no ties".to_string(),
+        (false, true) => format!("equal, ties{}", if negative { ", negated" } else { "" }),
+    }
 }
 
 /// Whether the counted length is the answer's.

@@ -1,6 +1,7 @@
 //! The meaning of an answer, by enumeration: the assignments that satisfy the set are those that pass.
 use crate::answer::{decode, Answer, Clause, Comparison};
 use crate::call::{compile, Outcome, ANSWER};
+use crate::merge;
 use crate::passes::passes;
 use crate::refuse::accept;
 use crate::set::{Bool, Int, Set, Statement, Table};
@@ -33,6 +34,11 @@ pub enum Verdict {
 
 /// Compares the set's words with their answer's words over all assignments.
 pub fn check(words: &[i32]) -> Verdict {
+    check_with(words, false)
+}
+
+/// The same with merging on or off; on, of a set whose self-ties part the Rust from document 02, the model's answer.
+pub fn check_with(words: &[i32], merge: bool) -> Verdict {
     let set = match accept(words, usize::MAX) {
         Ok(set) => set,
         Err(refusal) => return Verdict::Refused(refusal),
@@ -40,8 +46,10 @@ pub fn check(words: &[i32]) -> Verdict {
     let Some(count) = assignments(&set) else {
         return Verdict::TooLarge;
     };
-    match compile(&set, ANSWER as usize) {
-        Outcome::Compiled(answer) => compare(&set, count, &answer),
+    let outcome =
+        if merge { merge::expected(words, ANSWER as usize, usize::MAX) } else { compile(&set, ANSWER as usize, false) };
+    match outcome {
+        Outcome::Compiled(answer) => compare(&set, count, &answer, merge),
         Outcome::Contradiction => contradiction(&set, count),
         Outcome::Refused(refusal) => Verdict::Refused(refusal),
         Outcome::Panicked => Verdict::Differs("the Rust panicked".to_string()),
@@ -50,10 +58,15 @@ pub fn check(words: &[i32]) -> Verdict {
 
 /// Judges an answer from elsewhere to a set that refusals 1 to 11 let through.
 pub fn judge(words: &[i32], answer: &[i32]) -> Verdict {
+    judge_with(words, answer, false)
+}
+
+/// The same with merging on or off.
+pub fn judge_with(words: &[i32], answer: &[i32], merge: bool) -> Verdict {
     match accept(words, usize::MAX) {
         Err(refusal) => Verdict::Refused(refusal),
         Ok(set) => match assignments(&set) {
-            Some(count) => compare(&set, count, answer),
+            Some(count) => compare(&set, count, answer, merge),
             None => Verdict::TooLarge,
         },
     }
@@ -87,14 +100,14 @@ fn contradiction(set: &Set, count: u64) -> Verdict {
     }
 }
 
-fn compare(set: &Set, count: u64, words: &[i32]) -> Verdict {
+fn compare(set: &Set, count: u64, words: &[i32], merge: bool) -> Verdict {
     if count * words.len() as u64 > EFFORT {
         return Verdict::TooLarge;
     }
     let Some(answer) = decode(set.bools, set.domains.len(), words) else {
         return Verdict::Differs("the answer's words do not fit the layout".to_string());
     };
-    if let Some(fault) = fault(set, &answer) {
+    if let Some(fault) = fault(set, &answer, merge) {
         return Verdict::Differs(fault.to_string());
     }
     let mut passing = 0;
@@ -112,8 +125,8 @@ fn compare(set: &Set, count: u64, words: &[i32]) -> Verdict {
     Verdict::Agrees(passing, count)
 }
 
-/// What the answer's layout promises besides its meaning.
-fn fault(set: &Set, answer: &Answer) -> Option<&'static str> {
+/// What the answer's layout promises besides its meaning. With merging, Booleans may share a number and be its negation.
+fn fault(set: &Set, answer: &Answer, merge: bool) -> Option<&'static str> {
     let emitted_bools = answer.bools;
     let emitted_ints = answer.domains.len() as i32;
     if !(0..=EMITTED).contains(&emitted_bools) {
@@ -125,8 +138,11 @@ fn fault(set: &Set, answer: &Answer) -> Option<&'static str> {
     if answer.fixed.iter().zip(&answer.bool_map).any(|(fixed, map)| *fixed < 2 && *map != 0) {
         return Some("a fixed variable is emitted");
     }
-    if !numbers(&answer.bool_map, emitted_bools) || !numbers(&answer.int_map, emitted_ints) {
+    if !merge && !numbers(&answer.bool_map, emitted_bools) || !numbers(&answer.int_map, emitted_ints) {
         return Some("a map's numbers are not different emitted numbers");
+    }
+    if answer.bool_map.iter().any(|word| word.unsigned_abs() > emitted_bools as u32) {
+        return Some("the Boolean map names what is not emitted");
     }
     if !records(set, answer) {
         return Some("an emitted integer's record is not its domain");

@@ -6,7 +6,8 @@ use std::collections::{BTreeMap, BTreeSet};
 /// Branches after which a search is given up.
 const BRANCHES: u64 = 100_000;
 
-/// Whether some values of the new variables make every clause true; nothing where the search was given up.
+/// Whether the assignment agrees with the fixed values and the signed map, and some values of the new variables make every clause
+/// true; nothing where the search was given up.
 pub fn passes(answer: &Answer, a: &Assignment) -> Option<bool> {
     let agrees = |(fixed, value): (&i32, &bool)| *fixed == 2 || (*fixed == 1) == *value;
     if !answer.fixed.iter().zip(&a.bools).all(agrees) {
@@ -19,8 +20,13 @@ pub fn passes(answer: &Answer, a: &Assignment) -> Option<bool> {
         trail: vec![],
         branches: 0,
     };
-    for (number, value) in answer.bool_map.iter().zip(&a.bools).filter(|(number, _)| **number > 0) {
-        search.bools[*number as usize - 1] = Some(*value);
+    for (word, value) in answer.bool_map.iter().zip(&a.bools).filter(|(word, _)| **word != 0) {
+        let emitted = &mut search.bools[word.unsigned_abs() as usize - 1];
+        let value = *value == (*word > 0);
+        if emitted.is_some_and(|other| other != value) {
+            return Some(false);
+        }
+        *emitted = Some(value);
     }
     for (number, value) in answer.int_map.iter().zip(&a.ints).filter(|(number, _)| **number > 0) {
         search.ints[*number as usize - 1] = Some(*value as i128);

@@ -2,6 +2,7 @@
 use crate::call::{call, Outcome};
 use crate::generate::{case, text, Case};
 use crate::listing::listing;
+use crate::merge::expected;
 
 /// `set=.. out=.. work=.. result=..`: words parted by commas, lengths, and the outcome with its words or number.
 pub fn line(case: &Case, outcome: &Outcome) -> String {
@@ -33,6 +34,13 @@ pub fn record(family: &str, seed: u64, index: u64) -> Option<String> {
     let case = case(family, seed, index)?;
     let outcome = call(&case.set, case.out_len, case.work_len);
     Some(line(&case, &outcome))
+}
+
+/// The recorded line of a case with merging chosen (request 2.7), marked as such.
+pub fn record_merged(family: &str, seed: u64, index: u64) -> Option<String> {
+    let case = case(family, seed, index)?;
+    let outcome = expected(&case.set, case.out_len, case.work_len);
+    Some(format!("choices=1 {}", line(&case, &outcome)))
 }
 
 pub fn commas(words: &[i32]) -> String {

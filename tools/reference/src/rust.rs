@@ -27,11 +27,12 @@ pub fn optimized(set: &Set) -> Option<CSP> {
     Some(csp)
 }
 
-/// The answer's words of an optimized problem.
-pub fn answer(set: &Set, mut csp: CSP) -> Vec<i32> {
+/// The answer's words of an optimized problem, with `merge_equivalent_variables` on or off.
+pub fn answer(set: &Set, mut csp: CSP, merge: bool) -> Vec<i32> {
     let mut norm = NormCSP::new();
     let mut map = NormalizeMap::new();
-    normalize(&mut csp, &mut norm, &mut map, &Config::document_01());
+    let config = Config { merge_equivalent_variables: merge, ..Config::document_01() };
+    normalize(&mut csp, &mut norm, &mut map, &config);
     let mut out = vec![];
     maps(set, &csp, &map, &mut out);
     emitted(&norm, &mut out);

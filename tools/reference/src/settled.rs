@@ -27,10 +27,13 @@ pub fn settled(set: &[i32], work_len: usize) -> Settled {
 
 fn words(bools: usize, csp: &CSP) -> Vec<i32> {
     let mut out: Vec<i32> = (0..bools).map(|v| fixed(csp.get_bool_var_status(BoolVar::new(v)))).collect();
-    for left in &csp.constraints {
-        statement_words(&statement(left), &mut out);
-    }
+    left(csp).iter().for_each(|statement| statement_words(statement, &mut out));
     out
+}
+
+/// The remaining statements.
+pub fn left(csp: &CSP) -> Vec<Statement> {
+    csp.constraints.iter().map(statement).collect()
 }
 
 fn fixed(status: BoolVarStatus) -> i32 {

@@ -71,7 +71,7 @@ returns c =
     let h = test-of (λ z. ltZ z (pos 0)) f (c .before .if1 .taken) in
     let g = next-fits z f h _ (toZ-ofZ f) in
     let q = place-fits z f h _ (toZ-ofZ f) _ (toZ-ofZ g) in
-    λ p b ss k x. gives-column x _ (place-same z f h _ (toZ-ofZ f) _ (toZ-ofZ g) _ (toZ-ofZ q)) h (c .column-domain .ensures)
+    λ merge p b ss k x. gives-column x _ (place-same z f h _ (toZ-ofZ f) _ (toZ-ofZ g) _ (toZ-ofZ q)) h (c .column-domain .ensures)
 
 cast-declared-domain : tie.Need-cast-declared-domain
 cast-declared-domain c =
@@ -95,7 +95,7 @@ returns-2 c =
     let z = getD (s .args .work .now) (emitted-ints + s .args .n) (pos 0) in
     let f : SFits w32 z = sfits-of (c .before .before .w .given) in
     let h = test-of (λ z. ltZ z (pos 0)) f (c .before .if1 .left) in
-    λ p b ss k x. gives-declared x _ (toZ-ofZ f) h (c .declared-domain .ensures)
+    λ merge p b ss k x. gives-declared x _ (toZ-ofZ f) h (c .declared-domain .ensures)
 
 pub emitted-domain-spec : {M : Type 1} → statement M
 emitted-domain-spec =

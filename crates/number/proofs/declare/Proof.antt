@@ -1,20 +1,21 @@
+use mathlib.Core.Path.{refl}
+use native.Mathlib.Omega.{arith}
+use mir.Syntax.{w32}
+use mir.Val.{SFits}
+use Rattle.laws.specs.Ints.{bits-zero, bits-nonzero}
+use Rattle.walk.specs.Item.{bool-at}
+use Rattle.walk.specs.NumberingSteps.{bool-old, bool-new}
 use borrow.Author.Needs.{needs}
 use Rattle.number.proofs.declare.Statement.{statement}
 use Rattle.number.proofs.declare.Tie as tie
 use Rattle.number.proofs.declare.Reads as reads
 use Rattle.number.proofs.declare.Lts as lts
-use Rattle.survey.proofs.bump.Reads as bump-reads
-use Rattle.survey.proofs.entry.Reads as entry-reads
 use Rattle.number.proofs.store.Reads as store-reads
-use mathlib.Core.Path.{refl}
-use native.Mathlib.Omega.{arith}
-use Rattle.walk.specs.NumberingSteps.{bool-old, bool-new}
+use Rattle.survey.proofs.bump.Reads as bump-reads
+use Rattle.survey.proofs.literal.Reads as literal-reads
 
-add-entry : tie.Need-add-entry
-add-entry c = search needs
-
-entry-requires : tie.Need-entry-requires
-entry-requires c κs = search needs
+literal-requires : tie.Need-literal-requires
+literal-requires c κs = search needs
 
 bump-requires : tie.Need-bump-requires
 bump-requires c κs = search needs
@@ -29,20 +30,23 @@ same-length : tie.Need-same-length
 same-length c = c .before .store .ensures .1
 
 returns : tie.Need-returns
-returns c = bool-new _ ((c .before .before .before .before .before .before .before) .args .c) ((c .before .before .before .before .before .before .before) .pre .1 .0) ((c .before .before .before .before .before .before .before) .pre .1 .1) _ _ _ _ _ (c .before .before .before .before .before .entry .ensures) (c .before .before .before .before .if1 .taken) (c .before .before .before .bump .ensures) (c .before .store .ensures .0) refl
+unfolding bool-at
+returns c =
+    let f : SFits w32 (c .before .before .before .before .before .literal .result) = search needs in
+    bool-new _ (c .before .before .before .before .before .before .before .args .c) (c .before .before .before .before .before .before .before .pre .1 .0) (c .before .before .before .before .before .before .before .pre .1 .1) _ _ (c .before .before .before .before .before .literal .result) _ _ (c .before .before .before .before .before .literal .ensures) (bits-zero (c .before .before .before .before .before .literal .result) f (c .before .before .before .before .if1 .taken)) (c .before .before .before .bump .ensures) (c .before .store .ensures .0) refl
 
 same-length-2 : tie.Need-same-length-2
 same-length-2 c = search needs
 
 returns-2 : tie.Need-returns-2
-returns-2 c = bool-old _ ((c .before .before .before) .args .c) ((c .before .before .before) .pre .1 .0) ((c .before .before .before) .pre .1 .1) _ _ (c .before .entry .ensures) (c .if1 .left)
+unfolding bool-at
+returns-2 c = bool-old _ (c .before .before .before .args .c) (c .before .before .before .pre .1 .0) (c .before .before .before .pre .1 .1) _ (c .before .literal .result) (c .before .literal .ensures) (bits-nonzero (c .before .literal .result) (c .if1 .left))
 
 pub declare-spec : {M : Type 1} → statement M
 declare-spec =
     tie.close
     (tie.spec
-    add-entry
-    entry-requires
+    literal-requires
     bump-requires
     add-store
     store-requires

@@ -1,47 +1,60 @@
-use borrow.Author.Needs.{needs}
 use native.Mathlib.Omega.{arith}
-use Rattle.numbered.proofs.Single.{stmt-inside, some-table, rule-met, stmt-table-met}
+use Rattle.numbered.proofs.Single.{stmt-inside, some-table, known-met, rule-met, stmt-table-met}
+use borrow.Author.Needs.{needs}
 use Rattle.numbered.proofs.number_statement.Statement.{statement}
 use Rattle.numbered.proofs.number_statement.Tie as tie
 use Rattle.numbered.proofs.number_statement.Reads as reads
 use Rattle.numbered.proofs.number_statement.Lts as lts
 use Rattle.number.proofs.number_rule.Reads as number-rule-reads
-use Rattle.survey.proofs.word.Reads as word-reads
+use Rattle.numbered.proofs.known_tie.Reads as known-tie-reads
 use Rattle.numbered.proofs.number_table.Reads as number-table-reads
+use Rattle.survey.proofs.word.Reads as word-reads
+
+known-tie-requires : tie.Need-known-tie-requires
+known-tie-requires c κs = omega (arith, stmt-inside _ _ _ (c .before .pre .0))
+
+same-length : tie.Need-same-length
+same-length c = search needs
+
+returns : tie.Need-returns
+returns c = known-met _ _ _ (c .before .before .before .pre .1 .1 .0) (c .before .before .before .pre .1 .1 .1) (c .before .known-tie .ensures (c .if1 .taken))
 
 word-requires : tie.Need-word-requires
 word-requires c κs = search needs
 
 add-number-rule : tie.Need-add-number-rule
-add-number-rule c = omega (arith, stmt-inside _ _ _ (c .before .before .before .before .pre .0))
+add-number-rule c = omega (arith, stmt-inside _ _ _ (c .before .before .before .before .before .before .before .pre .0))
 
 number-rule-requires : tie.Need-number-rule-requires
-number-rule-requires c κs = let s = c .before .before .before .before in (s .pre .1 .0, (stmt-inside _ _ _ (s .pre .0), s .pre .1 .1))
-
-same-length : tie.Need-same-length
-same-length c = c .before .number-rule .ensures .size
-
-returns : tie.Need-returns
-returns c = rule-met _ _ _ _ _ _ (c .before .before .before .before .word .ensures) (c .before .before .before .if1 .taken) (c .before .number-rule .ensures)
-
-number-table-requires : tie.Need-number-table-requires
-number-table-requires c κs = let s = c .before .before .before .before in (some-table _ _ _ _ (c .before .before .word .ensures) (s .pre .0) (c .before .if1 .left), s .pre .1)
+number-rule-requires c κs = (c .before .before .before .before .before .before .before .pre .1 .0, (stmt-inside _ _ _ (c .before .before .before .before .before .before .before .pre .0), c .before .before .before .before .before .before .before .pre .1 .1))
 
 same-length-2 : tie.Need-same-length-2
-same-length-2 c = c .before .number-table .ensures .size
+same-length-2 c = c .before .number-rule .ensures .size
 
 returns-2 : tie.Need-returns-2
-returns-2 c = stmt-table-met _ _ _ _ _ _ (c .before .before .before .before .word .ensures) (c .before .before .before .if1 .left) (c .before .number-table .ensures)
+returns-2 c = rule-met _ _ _ _ _ _ (c .before .before .before .before .word .ensures) (c .before .before .before .if2 .taken) (c .before .number-rule .ensures)
+
+number-table-requires : tie.Need-number-table-requires
+number-table-requires c κs = (some-table _ _ _ _ (c .before .before .word .ensures) (c .before .before .before .before .before .before .before .pre .0) (c .before .if2 .left), c .before .before .before .before .before .before .before .pre .1)
+
+same-length-3 : tie.Need-same-length-3
+same-length-3 c = c .before .number-table .ensures .size
+
+returns-3 : tie.Need-returns-3
+returns-3 c = stmt-table-met _ _ _ _ _ _ (c .before .before .before .before .word .ensures) (c .before .before .before .if2 .left) (c .before .number-table .ensures)
 
 pub number-statement-spec : {M : Type 1} → statement M
 number-statement-spec =
     tie.close
     (tie.spec
+    known-tie-requires
+    same-length
+    returns
     word-requires
     add-number-rule
     number-rule-requires
-    same-length
-    returns
-    number-table-requires
     same-length-2
-    returns-2)
+    returns-2
+    number-table-requires
+    same-length-3
+    returns-3)

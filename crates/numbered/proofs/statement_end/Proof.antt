@@ -8,21 +8,21 @@ use Rattle.numbered.proofs.statement_end.Statement.{statement}
 use Rattle.numbered.proofs.statement_end.Tie as tie
 use Rattle.numbered.proofs.statement_end.Reads as reads
 use Rattle.numbered.proofs.statement_end.Lts as lts
-use Rattle.survey.proofs.survey.Reads as survey-reads
+use Rattle.survey.proofs.skip.Reads as skip-reads
 use Rattle.survey.proofs.word.Reads as word-reads
 use Rattle.numbered.proofs.columns_end.Reads as columns-end-reads
 
 word-requires : tie.Need-word-requires
 word-requires c κs = search needs
 
-add-survey : tie.Need-add-survey
-add-survey c = omega (arith, stmt-inside _ _ _ (c .before .before .pre .0))
+add-skip : tie.Need-add-skip
+add-skip c = omega (arith, stmt-inside _ _ _ (c .before .before .pre .0))
 
-survey-requires : tie.Need-survey-requires
-survey-requires c κs = let s = c .before .before in (s .pre .1, (stmt-inside _ _ _ (s .pre .0), (omega arith, omega arith)))
+skip-requires : tie.Need-skip-requires
+skip-requires c κs = let s = c .before .before in (s .pre .1, (stmt-inside _ _ _ (s .pre .0), omega arith))
 
 returns : tie.Need-returns
-returns c = rule-ends _ _ _ _ _ (c .before .before .word .ensures) (c .before .if1 .taken) (c .survey .ensures)
+returns c = rule-ends _ _ _ _ _ (c .before .before .word .ensures) (c .before .if1 .taken) (c .skip .ensures)
 
 add-word : tie.Need-add-word
 add-word c = omega (arith, table-inside _ _ _ (some-table _ _ _ _ (c .before .word .ensures) (c .before .before .pre .0) (c .if1 .left)))
@@ -60,8 +60,8 @@ statement-end-spec =
     tie.close
     (tie.spec
     word-requires
-    add-survey
-    survey-requires
+    add-skip
+    skip-requires
     returns
     add-word
     word-requires-2

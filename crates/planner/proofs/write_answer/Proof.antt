@@ -1,4 +1,3 @@
--- `write_answer` meets its contract.
 use native.Mathlib.Omega.{arith}
 use Rattle.planner.proofs.Whole.{place-low, place-small, some-writable, written-length, count-small, written-fits, written-long}
 use borrow.Author.Needs.{needs}
@@ -23,13 +22,13 @@ add-write-statements-2 : tie.Need-add-write-statements-2
 add-write-statements-2 c = search needs
 
 add-write-statements-3 : tie.Need-add-write-statements-3
-add-write-statements-3 c = record { fits = omega (arith, place-small _ _ _ _ _ _ _ (c .before .before .before .before .before .before .before .pre) _ _ _ (c .before .before .before .before .write-header .ensures)) }
+add-write-statements-3 c = record { fits = omega (arith, place-small _ _ _ _ _ _ _ _ (c .before .before .before .before .before .before .before .pre) _ _ _ (c .before .before .before .before .write-header .ensures)) }
 
 write-statements-requires : tie.Need-write-statements-requires
-write-statements-requires c κs = some-writable _ _ _ _ _ _ _ (c .before .before .before .before .before .before .before .pre) _ _ _ (c .before .before .before .before .write-header .ensures)
+write-statements-requires c κs = some-writable _ _ _ _ _ _ _ _ (c .before .before .before .before .before .before .before .pre) _ _ _ (c .before .before .before .before .write-header .ensures)
 
 put-requires : tie.Need-put-requires
-put-requires c κs = (omega (arith, place-low _ _ _ _ _ _ _ (c .before .before .before .before .before .before .before .before .before .before .before .before .pre) _ _ _ (c .before .before .before .before .before .before .before .before .before .write-header .ensures), written-length _ _ _ _ _ _ _ (c .before .before .before .before .before .before .before .before .before .before .before .before .pre) _ _ _ (c .before .before .before .before .before .before .before .before .before .write-header .ensures) _ _ _ (c .before .before .before .before .write-statements .ensures)), omega (arith, count-small _ _ _ _ _ _ _ (c .before .before .before .before .before .before .before .before .before .before .before .before .pre) _ _ _ (c .before .before .before .before .before .before .before .before .before .write-header .ensures) _ _ _ (c .before .before .before .before .write-statements .ensures) (c .before .if1 .taken)))
+put-requires c κs = (omega (arith, place-low _ _ _ _ _ _ _ _ (c .before .before .before .before .before .before .before .before .before .before .before .before .pre) _ _ _ (c .before .before .before .before .before .before .before .before .before .write-header .ensures), written-length _ _ _ _ _ _ _ _ (c .before .before .before .before .before .before .before .before .before .before .before .before .pre) _ _ _ (c .before .before .before .before .before .before .before .before .before .write-header .ensures) _ _ _ (c .before .before .before .before .write-statements .ensures)), omega (arith, count-small _ _ _ _ _ _ _ _ (c .before .before .before .before .before .before .before .before .before .before .before .before .pre) _ _ _ (c .before .before .before .before .before .before .before .before .before .write-header .ensures) _ _ _ (c .before .before .before .before .write-statements .ensures) (c .before .if1 .taken)))
 
 same-length : tie.Need-same-length
 same-length c = search needs
@@ -38,7 +37,7 @@ same-length-2 : tie.Need-same-length-2
 same-length-2 c = search needs
 
 returns : tie.Need-returns
-returns c = written-fits _ _ _ _ _ _ _ (c .before .before .before .before .before .before .before .before .before .before .before .before .before .before .pre) _ _ _ (c .before .before .before .before .before .before .before .before .before .before .before .write-header .ensures) _ _ _ (c .before .before .before .before .before .before .write-statements .ensures) _ (c .before .put .ensures)
+returns c = written-fits _ _ _ _ _ _ _ _ (c .before .before .before .before .before .before .before .before .before .before .before .before .before .before .pre) _ _ _ (c .before .before .before .before .before .before .before .before .before .before .before .write-header .ensures) _ _ _ (c .before .before .before .before .before .before .write-statements .ensures) _ (c .before .put .ensures)
 
 same-length-3 : tie.Need-same-length-3
 same-length-3 c = search needs
@@ -47,7 +46,7 @@ same-length-4 : tie.Need-same-length-4
 same-length-4 c = search needs
 
 returns-2 : tie.Need-returns-2
-returns-2 c = written-long _ _ _ _ _ _ _ (c .before .before .before .before .before .before .before .before .before .before .before .pre) _ _ _ (c .before .before .before .before .before .before .before .before .write-header .ensures) _ _ _ (c .before .before .before .write-statements .ensures) (omega (arith, c .if1 .left))
+returns-2 c = written-long _ _ _ _ _ _ _ _ (c .before .before .before .before .before .before .before .before .before .before .before .pre) _ _ _ (c .before .before .before .before .before .before .before .before .write-header .ensures) _ _ _ (c .before .before .before .write-statements .ensures) (omega (arith, c .if1 .left))
 
 pub write-answer-spec : {M : Type 1} → statement M
 write-answer-spec =

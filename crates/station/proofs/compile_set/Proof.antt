@@ -1,32 +1,14 @@
 -- `compile_set` meets its contract.
-use native.Mathlib.Omega.{arith}
-use Rattle.station.proofs.Numbers.{number-fits, negated-fits, words-small, refusal-small, returns-words, returns-none, returns-refusal}
+use mathlib.Core.Path.{refl}
+use mir.Syntax.{w64}
+use mir.Val.{SFits}
+use Rattle.station.proofs.Numbers.{returns-as}
 use borrow.Author.Needs.{needs}
 use Rattle.station.proofs.compile_set.Statement.{statement}
 use Rattle.station.proofs.compile_set.Tie as tie
-use Rattle.station.proofs.compile_set.Reads as reads
-use Rattle.station.proofs.compile_set.Lts as lts
 
-compile-requires : tie.Need-compile-requires
-compile-requires c κs = search needs
-
-enum-known-n : tie.Need-enum-known-n
-enum-known-n c = search needs
-
-cast-result : tie.Need-cast-result
-cast-result c = number-fits _ (words-small _ _ _ _ _ _ (c .before .before .before .before .before .compile .ensures) _ (c .before .n .given .1))
-
-enum-told : tie.Need-enum-told
-enum-told c = search needs
-
-enum-known-k : tie.Need-enum-known-k
-enum-known-k c = search needs
-
-cast-result-2 : tie.Need-cast-result-2
-cast-result-2 c = number-fits _ (omega (arith, refusal-small _ _ _ _ _ _ (c .before .before .before .before .before .compile .ensures) _ (c .before .k .given .1)))
-
-sub-result : tie.Need-sub-result
-sub-result c = negated-fits _ (refusal-small _ _ _ _ _ _ (c .before .before .before .before .before .compile .ensures) _ (c .before .k .given .1))
+compile-number-requires : tie.Need-compile-number-requires
+compile-number-requires c κs = search needs
 
 same-length : tie.Need-same-length
 same-length c = search needs
@@ -35,43 +17,7 @@ same-length-2 : tie.Need-same-length-2
 same-length-2 c = search needs
 
 returns : tie.Need-returns
-returns c = returns-words _ _ _ _ _ _ (c .before .before .before .before .before .compile .ensures) _ (c .before .n .given .1)
-
-same-length-3 : tie.Need-same-length-3
-same-length-3 c = search needs
-
-same-length-4 : tie.Need-same-length-4
-same-length-4 c = search needs
-
-returns-2 : tie.Need-returns-2
-returns-2 c = returns-none _ _ _ _ _ _ (c .before .before .before .before .compile .ensures) (c .enum-told .given .1)
-
-same-length-5 : tie.Need-same-length-5
-same-length-5 c = search needs
-
-same-length-6 : tie.Need-same-length-6
-same-length-6 c = search needs
-
-returns-3 : tie.Need-returns-3
-returns-3 c = returns-refusal _ _ _ _ _ _ (c .before .before .before .before .before .compile .ensures) _ (c .before .k .given .1)
+returns c = let f : SFits w64 (c .before .before .compile-number .result) = search needs in returns-as refl f (c .before .before .compile-number .ensures)
 
 pub compile-set-spec : {M : Type 1} → statement M
-compile-set-spec =
-    tie.close
-    (tie.spec
-    compile-requires
-    enum-known-n
-    cast-result
-    enum-told
-    enum-known-k
-    cast-result-2
-    sub-result
-    same-length
-    same-length-2
-    returns
-    same-length-3
-    same-length-4
-    returns-2
-    same-length-5
-    same-length-6
-    returns-3)
+compile-set-spec = tie.close (tie.spec compile-number-requires same-length same-length-2 returns)

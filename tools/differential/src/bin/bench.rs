@@ -33,7 +33,7 @@ fn times(case: &Case, work: &mut [i32]) -> Option<(f64, f64)> {
     let read = refuse::accept(&case.set, work.len()).ok()?;
     let mut out = vec![0; length];
     let rust = least(|| {
-        black_box(timed(black_box(&read)));
+        black_box(timed(black_box(&read), false));
     });
     let port = least(|| {
         black_box(compile(black_box(&case.set), &mut out, work));

@@ -23,7 +23,7 @@ pub fn near(seed: u64, index: u64) -> Case {
 
 /// The length of the set's answer; 0 where there is none.
 fn length(words: &[i32]) -> usize {
-    match crate::refuse::accept(words, SLICE).map(|set| compile(&set, ANSWER as usize)) {
+    match crate::refuse::accept(words, SLICE).map(|set| compile(&set, ANSWER as usize, false)) {
         Ok(Outcome::Compiled(answer)) => answer.len(),
         _ => 0,
     }

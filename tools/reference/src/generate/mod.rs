@@ -10,6 +10,7 @@ mod places;
 mod rng;
 mod tables;
 mod text;
+mod ties;
 
 use crate::set::{Set, Statement};
 use expressions::World;
@@ -26,8 +27,8 @@ pub struct Case {
 }
 
 /// The families of sets. `longest` needs a gigabyte a case.
-pub const FAMILIES: [&str; 9] =
-    ["rules", "chains", "comparisons", "tables", "mixed", "damaged", "limits", "lengths", "longest"];
+pub const FAMILIES: [&str; 10] =
+    ["rules", "chains", "comparisons", "tables", "mixed", "damaged", "limits", "lengths", "ties", "longest"];
 
 const SLICE: usize = 16384;
 const SET: usize = 4096;
@@ -69,13 +70,14 @@ fn good(family: &str, rng: &mut Rng, scale: Scale) -> Option<Case> {
     Some(Case { set: set.words(), out_len, work_len: SLICE })
 }
 
-/// A good set of one of the first five families.
+/// A good set of one of the first five families or of `ties`.
 pub fn set(family: &str, rng: &mut Rng, scale: Scale) -> Option<Set> {
     let make: fn(&mut Rng, &World, Scale) -> Statement = match family {
         "rules" | "comparisons" => expressions::rule,
         "tables" => tables::table,
         "mixed" => mixed,
         "chains" => return Some(chains::chain(rng, scale)),
+        "ties" => return Some(ties::ties(rng, scale)),
         _ => return None,
     };
     let world = World::of(family, rng, scale);

@@ -1,0 +1,190 @@
+-- Laws for the loop over the statements. F: the folded words at entry, which stay.
+use mathlib.Core.Path.{_≡_, refl, sym, ap, _∙_, subst}
+use mathlib.Core.Bool.{Bool, true, false}
+use mathlib.Core.List.{List, [], _∷_}
+use Prim.Native.Nat.{ℕ, _+_, _≤_, _<_}
+use native.Mathlib.Omega.{arith}
+use lib.IntN.{ℤ, pos}
+use lib.ListN.{length, getD, length-append}
+use lib.Seq.{getD-take}
+use Rattle.laws.specs.Slices.{Has, has-fits, has-front, has-back}
+use Rattle.syntax.specs.Syntax.{Domain, BoolExpr, Stmt, Rule, Table, encode-stmt, Problem}
+use Rattle.words.specs.Exact.{Each}
+use Rattle.fold.specs.Fold.{Fixed}
+use Rattle.clauses.specs.Log.{Log, next-bool}
+use Rattle.clauses.specs.Merge.{merge-stmt, merge-stmts}
+use Rattle.answer.specs.Answer.{start-log}
+use Rattle.walk.specs.Tree.{splits}
+use Rattle.walk.specs.Item.{limit, State}
+use Rattle.walk.specs.Decode.{read-part}
+use Rattle.walk.specs.Rule.{LegalRule, true-rule, legal-rule}
+use Rattle.walk.specs.Num.{Numbered}
+use Rattle.walk.specs.NumberingSteps.{part-short}
+use Rattle.statements.specs.Columns.{ColumnRecord}
+use Rattle.statements.specs.Statements.{LegalStmts}
+use Rattle.statements.specs.Settled.{settled-legal}
+use Rattle.statements.specs.Bounds.{splits-low, merge-grows, start-low}
+use Rattle.statements.specs.Whole.{start, start-numbered}
+use Rattle.statements.specs.Ties.{meet-ties-at, stmt-num}
+use Rattle.statements.specs.Stages.{stmts-words, StmtFacts, settled-facts, settled-short, Folded, Started, SomeFolded}
+use Rattle.numbered.specs.Stands.{Numerable, Stands, SomeStmt, StmtEnds}
+use Rattle.numbered.proofs.Single.{some-word}
+use Rattle.merging.specs.Merging.{Aside, Ties, MergedAll}
+use Rattle.merging.proofs.Laws.{aside-same, aside-then}
+
+-- ---- before the statement at q: the statements left, the log so far
+
+pub record Left (p : Problem) (ss : List Stmt) (w : List ℤ) (end : ℕ) (w' : List ℤ) (n q : ℕ) (rest : List Stmt) : Type 0 where
+  pub log : Log
+  pub ends : q + length (stmts-words rest) ≡ end
+  pub stands : Has (read-part w) q (stmts-words rest)
+  pub facts : Each (StmtFacts (p .domains)) rest
+  pub legal : LegalStmts (read-part w) (p .domains) rest
+  pub numbered : Numbered (ColumnRecord (read-part w) (p .domains)) (start w' n) log
+  pub logs : merge-stmts rest log ≡ start-log true ss
+
+pub record SomeLeft (p : Problem) (ss : List Stmt) (w : List ℤ) (end : ℕ) (w' : List ℤ) (n q : ℕ) : Type 0 where
+  pub rest : List Stmt
+  pub left : Left p ss w end w' n q rest
+
+pub record Sofar (w : List ℤ) (end : ℕ) (w' : List ℤ) (n q : ℕ) : Type 0 where
+  pub aside : Aside w w'
+  pub low : n ≤ limit
+  pub some : (p : Problem) (f : Fixed) (ss : List Stmt) → Folded p f ss w → end ≡ 512 + length (stmts-words ss) → SomeLeft p ss w end w' n q
+
+pub all-start : (w : List ℤ) (end : ℕ) → Sofar w end w 0 512
+all-start w end = record {
+  aside = aside-same w;
+  low = omega arith;
+  some = λ p f ss h e. record {
+    rest = ss;
+    left = record {
+      log = [];
+      ends = sym e;
+      stands = h .stands;
+      facts = settled-facts p f ss (h .set);
+      legal = settled-legal p (h .set .well) f ss (h .set .ends) (h .set .unrefused) (read-part w);
+      numbered = start-numbered (read-part w) (p .domains) w (h .empty);
+      logs = unfold start-log in refl;
+    };
+  };
+}
+
+-- ---- the statement at q
+
+rule-splits : (e : BoolExpr) → LegalRule e 64 → splits e false ≤ length (encode-stmt (Rule e))
+unfolding splits encode-stmt
+rule-splits e (true-rule x) = omega arith
+rule-splits e (legal-rule x) = omega (arith, splits-low e 64 false x)
+
+word-kept : (w w' : List ℤ) → read-part w' ≡ read-part w → (k : ℕ) → k < 4608 → getD w' k (pos 0) ≡ getD w k (pos 0)
+unfolding read-part
+word-kept w w' e k h = sym (getD-take 4608 w' k (pos 0) h) ∙ ap (λ (l : List ℤ). getD l k (pos 0)) e ∙ getD-take 4608 w k (pos 0) h
+
+module _ (p : Problem) (f : Fixed) (ss : List Stmt) (w : List ℤ) (h : Folded p f ss w) where
+  abbrev F : List ℤ
+  F = read-part w
+
+  abbrev ds : List Domain
+  ds = p .domains
+
+  short : length (stmts-words ss) ≤ 4096
+  short = omega (arith, settled-short p f ss (h .set))
+
+  module _ (end : ℕ) (w' : List ℤ) (n q : ℕ) where
+    module _ (t : Stmt) (ts : List Stmt) (x : Left p ss w end w' n q (t ∷ ts)) where
+      here : Has F q (encode-stmt t)
+      here = has-front F q (encode-stmt t) (stmts-words ts) (x .stands)
+
+      inside : q + length (encode-stmt t) ≤ 4608
+      inside = omega (arith, has-fits F q (encode-stmt t) here (some-word t), part-short w)
+
+      numerable : Numerable 0 t
+      numerable = go t (x .facts .0) inside
+        where
+          go : (t : Stmt) → StmtFacts ds t → q + length (encode-stmt t) ≤ 4608 → Numerable 0 t
+          go (Rule e) y l = (y .legal, omega (arith, rule-splits e (y .legal)))
+          go (Table es rows) y l = (y .legal, y .cells)
+
+      stmt-stands : read-part w' ≡ F → Stands w' q 0 t
+      stmt-stands part = record { words = rw part here; numerable = numerable }
+
+      left-next : (w'' : List ℤ) (r q' : ℕ) → q' ≡ q + length (encode-stmt t) → Ties (meet-ties-at F q) w' n w'' r → Left p ss w end w'' r q' ts
+      unfolding merge-stmts
+      left-next w'' r q' e m =
+          let g : next-bool (merge-stmt t (x .log)) ≤ limit = omega (arith, merge-grows ts (merge-stmt t (x .log)), ap next-bool (x .logs), start-low true ss, short) in
+          record {
+            log = merge-stmt t (x .log);
+            ends = omega (arith, e, x .ends, length-append (encode-stmt t) (stmts-words ts));
+            stands = rw e (has-back F q (encode-stmt t) (stmts-words ts) (x .stands));
+            facts = x .facts .1;
+            legal = x .legal .1;
+            numbered = subst (λ (s : State). Numbered (ColumnRecord F ds) s (merge-stmt t (x .log))) (sym (m .state)) (stmt-num F (ColumnRecord F ds) (start w' n) (x .log) (x .numbered) q ds t (x .legal .0) here g);
+            logs = x .logs;
+          }
+
+    some-stmt : (rest : List Stmt) → Left p ss w end w' n q rest → read-part w' ≡ F → q < end → SomeStmt w' q 0
+    some-stmt [] x part l = absurd (omega (arith, x .ends))
+    some-stmt (t ∷ ts) x part l = record { stmt = t; stands = stmt-stands t ts x part }
+
+    stmt-inside : (rest : List Stmt) → Left p ss w end w' n q rest → q < end → q ≤ 4608
+    stmt-inside [] x l = absurd (omega (arith, x .ends))
+    stmt-inside (t ∷ ts) x l = omega (arith, inside t ts x)
+
+    next-left : (rest : List Stmt) → Left p ss w end w' n q rest → read-part w' ≡ F → q < end → (w'' : List ℤ) (r q' : ℕ) → StmtEnds w' q q' → Ties (meet-ties-at (read-part w') q) w' n w'' r → SomeLeft p ss w end w'' r q'
+    next-left [] x part l w'' r q' e m = absurd (omega (arith, x .ends))
+    next-left (t ∷ ts) x part l w'' r q' e m = record { rest = ts; left = left-next t ts x w'' r q' (e t (stmt-stands t ts x part)) (subst (λ (l : List ℤ). Ties (meet-ties-at l q) w' n w'' r) part m) }
+
+    -- no statement is left
+    ready : (rest : List Stmt) → Left p ss w end w' n q rest → read-part w' ≡ F → end ≤ q → Started true p f ss w' n
+    unfolding merge-stmts
+    ready [] x part l = record {
+      set = h .set;
+      values = λ v k. word-kept w w' part v (omega arith) ∙ h .values v k;
+      stands = subst (λ (l : List ℤ). Has l 512 (stmts-words ss)) (sym part) (h .stands);
+      numbered = subst (λ (l : List ℤ). Numbered (ColumnRecord l ds) (start w' n) (start-log true ss)) (sym part) (subst (λ (s : Log). Numbered (ColumnRecord F ds) (start w' n) s) (x .logs) (x .numbered));
+    }
+    ready (t ∷ ts) x part l = absurd (omega (arith, x .ends, some-word t, length-append (encode-stmt t) (stmts-words ts)))
+
+-- ---- the loop
+
+module _ (w : List ℤ) (end : ℕ) (s : SomeFolded w end) (w' : List ℤ) (n q : ℕ) (x : Sofar w end w' n q) where
+  abbrev y : SomeLeft (s .it) (s .stmts) w end w' n q
+  y = x .some (s .it) (s .fixed) (s .stmts) (s .folded) (s .ends)
+
+  pub stmt-here : q < end → SomeStmt w' q 0
+  stmt-here l = some-stmt (s .it) (s .fixed) (s .stmts) w (s .folded) end w' n q (y .rest) (y .left) (x .aside .part) l
+
+  pub here-inside : q < end → q ≤ 4608
+  here-inside l = stmt-inside (s .it) (s .fixed) (s .stmts) w (s .folded) end w' n q (y .rest) (y .left) l
+
+  pub size-here : 4608 ≤ length w'
+  size-here = omega (arith, x .aside .size, s .folded .empty .size)
+
+  pub moved : (q' : ℕ) → q < end → StmtEnds w' q q' → q < q'
+  moved q' l e = let t = stmt-here l in omega (arith, e (t .stmt) (t .stands), some-word (t .stmt))
+
+  pub all-again : (w'' : List ℤ) (r q' : ℕ) → q < end → StmtEnds w' q q' → Ties (meet-ties-at (read-part w') q) w' n w'' r → Sofar w end w'' r q'
+  all-again w'' r q' l e m = record {
+    aside = aside-then (x .aside) (m .aside);
+    low = m .low;
+    some = λ p f ss h i. let z = x .some p f ss h i in next-left p f ss w h end w' n q (z .rest) (z .left) (x .aside .part) l w'' r q' e m;
+  }
+
+pub all-done : (w : List ℤ) (end : ℕ) (w' : List ℤ) (n q : ℕ) → Sofar w end w' n q → end ≤ q → MergedAll true w end w' n
+all-done w end w' n q x l = record {
+  started = λ p f ss h i. let z = x .some p f ss h i in ready p f ss w h end w' n q (z .rest) (z .left) (x .aside .part) l;
+  aside = x .aside;
+}
+
+-- ---- merging that was not chosen
+
+pub unmerged : (w : List ℤ) (end : ℕ) → MergedAll false w end w 0
+unfolding start-log
+unmerged w end = record {
+  started = λ p f ss h i. record { set = h .set; values = h .values; stands = h .stands; numbered = start-numbered (read-part w) (p .domains) w (h .empty) };
+  aside = aside-same w;
+}
+
+pub merged-as : {w w' : List ℤ} {end n : ℕ} (merge chosen : Bool) → merge ≡ chosen → MergedAll chosen w end w' n → MergedAll merge w end w' n
+merged-as {w} {w'} {end} {n} merge chosen e m = subst (λ (b : Bool). MergedAll b w end w' n) (sym e) m
