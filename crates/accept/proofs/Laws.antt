@@ -31,33 +31,33 @@ module _ (ws : List ℤ) (at : ℕ) where
   int-plain e h = record { inside = omega (arith, int-fits ws at e h, int-long e); value = int-tag e; is = int-tag-word ws at e h }
 
   module _ (w : ℕ) (hw : getD ws at (pos 0) ≡ pos w) where
-    tag-is : (e : IntExpr) → Has ws at (encode-int e) → int-tag e ≡ w
-    tag-is e h = pos-eq _ _ _ (int-tag-word ws at e h) hw
+    code-is : (e : IntExpr) → Has ws at (encode-int e) → int-tag e ≡ w
+    code-is e h = pos-eq _ _ _ (int-tag-word ws at e h) hw
 
     pub const-inv : {X : Type 0} (e : IntExpr) → Has ws at (encode-int e) → w ≡ 20 → ((c : ℤ) → e ≡ IConst c → getD ws (at + 1) (pos 0) ≡ c → X) → X
     unfolding encode-int
     const-inv (IConst c) h z go = go c refl (has-word ws (at + 1) _ _ (pos 0) (has-rest ws at _ _ h))
-    const-inv (IVar v) h z go = absurd (let e : 21 ≡ w = tag-is (IVar v) h in omega arith)
-    const-inv (Linear ts) h z go = absurd (let e : 22 ≡ w = tag-is (Linear ts) h in omega arith)
+    const-inv (IVar v) h z go = absurd (let e : 21 ≡ w = code-is (IVar v) h in omega arith)
+    const-inv (Linear ts) h z go = absurd (let e : 22 ≡ w = code-is (Linear ts) h in omega arith)
 
     pub second-plain : (e : IntExpr) → Has ws at (encode-int e) → (w ≡ 20 → ⊥) → Plain ws (at + 1)
     unfolding encode-int
-    second-plain (IConst c) h z = absurd (z (sym (tag-is (IConst c) h)))
+    second-plain (IConst c) h z = absurd (z (sym (code-is (IConst c) h)))
     second-plain (IVar v) h z = record { inside = omega (arith, int-fits ws at (IVar v) h); value = v; is = has-word ws (at + 1) _ _ (pos 0) (has-rest ws at _ _ h) }
     second-plain (Linear ts) h z = record { inside = omega (arith, int-fits ws at (Linear ts) h); value = count-terms ts; is = has-word ws (at + 1) _ _ (pos 0) (has-rest ws at _ _ h) }
 
     module _ (v : ℕ) (hv : getD ws (at + 1) (pos 0) ≡ pos v) where
       pub var-inv : {X : Type 0} (e : IntExpr) → Has ws at (encode-int e) → w ≡ 21 → (e ≡ IVar v → X) → X
       unfolding encode-int
-      var-inv (IConst c) h z go = absurd (let e : 20 ≡ w = tag-is (IConst c) h in omega arith)
+      var-inv (IConst c) h z go = absurd (let e : 20 ≡ w = code-is (IConst c) h in omega arith)
       var-inv (IVar u) h z go = go (ap IVar (pos-eq _ _ _ (has-word ws (at + 1) _ _ (pos 0) (has-rest ws at _ _ h)) hv))
-      var-inv (Linear ts) h z go = absurd (let e : 22 ≡ w = tag-is (Linear ts) h in omega arith)
+      var-inv (Linear ts) h z go = absurd (let e : 22 ≡ w = code-is (Linear ts) h in omega arith)
 
       pub sum-inv : {X : Type 0} (e : IntExpr) → Has ws at (encode-int e) → (w ≡ 20 → ⊥) → (w ≡ 21 → ⊥)
           → ((ts : Terms) → e ≡ Linear ts → v ≡ count-terms ts → Has ws (at + 2) (encode-terms ts) → X) → X
       unfolding encode-int
-      sum-inv (IConst c) h a b go = absurd (a (sym (tag-is (IConst c) h)))
-      sum-inv (IVar u) h a b go = absurd (b (sym (tag-is (IVar u) h)))
+      sum-inv (IConst c) h a b go = absurd (a (sym (code-is (IConst c) h)))
+      sum-inv (IVar u) h a b go = absurd (b (sym (code-is (IVar u) h)))
       sum-inv (Linear ts) h a b go =
           let m : at + 2 ≡ at + 1 + 1 = omega arith in
           go ts refl (sym (pos-eq _ _ _ (has-word ws (at + 1) _ _ (pos 0) (has-rest ws at _ _ h)) hv)) (rw m (has-rest ws (at + 1) _ _ (has-rest ws at _ _ h)))

@@ -9,26 +9,15 @@ use lib.ListN.{length, getD, length-append}
 use Rattle.laws.specs.Lists.{any, any-append, flat}
 use Rattle.laws.specs.Slices.{Has, has-fits, has-front, has-back, has-word, has-rest}
 use Rattle.laws.specs.Ints.{pos-eq}
-use Rattle.syntax.specs.Syntax.{IntExpr, encode-int, CmpOp, BoolExpr, Const, Var, NVar, And, Or, Not, Xor, Iff, Imp, Cmp, Members, none, more, count-members, encode-bit, encode-op, encode-bool, encode-members}
+use Rattle.syntax.specs.Syntax.{IntExpr, encode-int, CmpOp, BoolExpr, Const, Var, NVar, And, Or, Not, Xor, Iff, Imp, Cmp, Members, mnil, more, count-members, encode-bit, encode-op, encode-bool, encode-members}
 use Rattle.syntax.specs.Written.{EveryOf}
+use Rattle.syntax.specs.Codes.{bool-code}
 use Rattle.domains.specs.Declared.{Plain}
 use Rattle.limits.specs.Limits.{any-comparison, any-comparison-members}
 use Rattle.accept.specs.Walk.{Int-at, test-comparison, test-column, Ready-pair, Pair-post, Usable, Usable-members, Usable-all, listed, parts, head-length, own-test, Bool-at, Bools-at, Ready-bool, Ready-bools, Step-post, Bools-post}
 use Rattle.accept.proofs.TestLaws.{hit-of, miss-of, or-false}
 
 -- ---- an expression's own words, and those of its parts
-
-abbrev tag : BoolExpr → ℕ
-tag (Const b) = 10
-tag (Var v) = 11
-tag (NVar n) = 0
-tag (And ms) = 12
-tag (Or ms) = 13
-tag (Not e) = 14
-tag (Xor a b) = 15
-tag (Iff a b) = 16
-tag (Imp a b) = 17
-tag (Cmp o a b) = 18
 
 abbrev own-words : BoolExpr → List ℤ
 own-words (Const b) = pos 10 ∷ encode-bit b ∷ []
@@ -44,7 +33,7 @@ own-words (Cmp o a b) = pos 18 ∷ encode-op o ∷ (encode-int a ++ encode-int b
 
 members-words : (ms : Members) → encode-members ms ≡ flat (map encode-bool (listed ms))
 unfolding encode-bool
-members-words none = refl
+members-words mnil = refl
 members-words (more e ms) = ap (λ l. encode-bool e ++ l) (members-words ms)
 
 two-words : (a b : BoolExpr) → encode-bool a ++ encode-bool b ≡ flat (map encode-bool (a ∷ b ∷ []))
@@ -94,7 +83,7 @@ bool-some ni e u = omega (arith, ap length (split-words e), length-append (own-w
 module _ (f : IntExpr → IntExpr → Bool) (g : IntExpr → Bool) where
   listed-test : (ms : Members) → any-comparison-members f g ms ≡ any (any-comparison f g) (listed ms)
   unfolding any-comparison
-  listed-test none = refl
+  listed-test mnil = refl
   listed-test (more e ms) = ap (λ b. any-comparison f g e || b) (listed-test ms)
 
   split-test : (e : BoolExpr) → any-comparison f g e ≡ own-test f e || any (any-comparison f g) (parts e)
@@ -113,7 +102,7 @@ module _ (f : IntExpr → IntExpr → Bool) (g : IntExpr → Bool) where
 module _ (ni : ℕ) where
   listed-usable : (ms : Members) → Usable-members ni ms → Usable-all ni (listed ms)
   unfolding EveryOf Usable-all
-  listed-usable none u = tt
+  listed-usable mnil u = tt
   listed-usable (more e ms) u = (u .0, listed-usable ms (u .1))
 
   parts-usable : (e : BoolExpr) → Usable ni e → Usable-all ni (parts e)
@@ -145,21 +134,21 @@ flat-map (e ∷ es) us = ap (λ l. encode-bool e ++ l) (flat-map es us) ∙ sym 
 
 -- ---- `rule_step`
 
-tag-word : (ni : ℕ) (ws : List ℤ) (at : ℕ) (e : BoolExpr) → Bool-at ni ws at e → getD ws at (pos 0) ≡ pos (tag e)
+code-word : (ni : ℕ) (ws : List ℤ) (at : ℕ) (e : BoolExpr) → Bool-at ni ws at e → getD ws at (pos 0) ≡ pos (bool-code e)
 unfolding encode-bool EveryOf
-tag-word ni ws at (Const b) r = has-word ws at _ _ (pos 0) (r .words)
-tag-word ni ws at (Var v) r = has-word ws at _ _ (pos 0) (r .words)
-tag-word ni ws at (NVar n) r = absurd (r .usable)
-tag-word ni ws at (And ms) r = has-word ws at _ _ (pos 0) (r .words)
-tag-word ni ws at (Or ms) r = has-word ws at _ _ (pos 0) (r .words)
-tag-word ni ws at (Not e) r = has-word ws at _ _ (pos 0) (r .words)
-tag-word ni ws at (Xor a b) r = has-word ws at _ _ (pos 0) (r .words)
-tag-word ni ws at (Iff a b) r = has-word ws at _ _ (pos 0) (r .words)
-tag-word ni ws at (Imp a b) r = has-word ws at _ _ (pos 0) (r .words)
-tag-word ni ws at (Cmp o a b) r = has-word ws at _ _ (pos 0) (r .words)
+code-word ni ws at (Const b) r = has-word ws at _ _ (pos 0) (r .words)
+code-word ni ws at (Var v) r = has-word ws at _ _ (pos 0) (r .words)
+code-word ni ws at (NVar n) r = absurd (r .usable)
+code-word ni ws at (And ms) r = has-word ws at _ _ (pos 0) (r .words)
+code-word ni ws at (Or ms) r = has-word ws at _ _ (pos 0) (r .words)
+code-word ni ws at (Not e) r = has-word ws at _ _ (pos 0) (r .words)
+code-word ni ws at (Xor a b) r = has-word ws at _ _ (pos 0) (r .words)
+code-word ni ws at (Iff a b) r = has-word ws at _ _ (pos 0) (r .words)
+code-word ni ws at (Imp a b) r = has-word ws at _ _ (pos 0) (r .words)
+code-word ni ws at (Cmp o a b) r = has-word ws at _ _ (pos 0) (r .words)
 
 listed-count : (ms : Members) → count-members ms ≡ length (listed ms)
-listed-count none = refl
+listed-count mnil = refl
 listed-count (more e ms) = ap suc (listed-count ms)
 
 module _ (ws work : List ℤ) (at ni m : ℕ) where
@@ -167,17 +156,17 @@ module _ (ws work : List ℤ) (at ni m : ℕ) where
   bool-inside r = omega (arith, has-fits ws at (encode-bool (r .it)) (r .reads .words) (bool-some ni (r .it) (r .reads .usable)), bool-some ni (r .it) (r .reads .usable))
 
   pub bool-plain : Ready-bool ws work at ni → Plain ws at
-  bool-plain r = record { inside = bool-inside r; value = tag (r .it); is = tag-word ni ws at (r .it) (r .reads) }
+  bool-plain r = record { inside = bool-inside r; value = bool-code (r .it); is = code-word ni ws at (r .it) (r .reads) }
 
   module _ (w : ℕ) (hw : getD ws at (pos 0) ≡ pos w) where
-    tag-is : (e : BoolExpr) → Bool-at ni ws at e → tag e ≡ w
-    tag-is e r = pos-eq _ _ _ (tag-word ni ws at e r) hw
+    code-is : (e : BoolExpr) → Bool-at ni ws at e → bool-code e ≡ w
+    code-is e r = pos-eq _ _ _ (code-word ni ws at e r) hw
 
     pub step-leaf : w < 12 → Step-post ws work at ni m (at + 2) 0
     unfolding EveryOf
-    step-leaf l ds e b q r = go e (tag-is e r) r
+    step-leaf l ds e b q r = go e (code-is e r) r
       where
-        go : (e : BoolExpr) → tag e ≡ w → Bool-at ni ws at e → (at + 2 ≡ cond (own-test (test-comparison m ds) e) 0 (at + head-length e)) × (0 ≡ length (parts e))
+        go : (e : BoolExpr) → bool-code e ≡ w → Bool-at ni ws at e → (at + 2 ≡ cond (own-test (test-comparison m ds) e) 0 (at + head-length e)) × (0 ≡ length (parts e))
         go (Const b) t r = (refl, refl)
         go (Var v) t r = (refl, refl)
         go (NVar n) t r = absurd (r .usable)
@@ -191,9 +180,9 @@ module _ (ws work : List ℤ) (at ni m : ℕ) where
 
     pub list-plain : (w < 12 → ⊥) → w < 14 → Ready-bool ws work at ni → Plain ws (at + 1)
     unfolding encode-bool EveryOf
-    list-plain l k y = go (y .it) (tag-is (y .it) (y .reads)) (y .reads)
+    list-plain l k y = go (y .it) (code-is (y .it) (y .reads)) (y .reads)
       where
-        go : (e : BoolExpr) → tag e ≡ w → Bool-at ni ws at e → Plain ws (at + 1)
+        go : (e : BoolExpr) → bool-code e ≡ w → Bool-at ni ws at e → Plain ws (at + 1)
         go (Const b) t r = absurd (omega arith)
         go (Var v) t r = absurd (omega arith)
         go (NVar n) t r = absurd (r .usable)
@@ -207,9 +196,9 @@ module _ (ws work : List ℤ) (at ni m : ℕ) where
 
     pub step-list : (w < 12 → ⊥) → w < 14 → (n : ℕ) → getD ws (at + 1) (pos 0) ≡ pos n → Step-post ws work at ni m (at + 2) n
     unfolding encode-bool EveryOf
-    step-list l k n hn ds e b q r = go e (tag-is e r) r
+    step-list l k n hn ds e b q r = go e (code-is e r) r
       where
-        go : (e : BoolExpr) → tag e ≡ w → Bool-at ni ws at e → (at + 2 ≡ cond (own-test (test-comparison m ds) e) 0 (at + head-length e)) × (n ≡ length (parts e))
+        go : (e : BoolExpr) → bool-code e ≡ w → Bool-at ni ws at e → (at + 2 ≡ cond (own-test (test-comparison m ds) e) 0 (at + head-length e)) × (n ≡ length (parts e))
         go (Const b) t r = absurd (omega arith)
         go (Var v) t r = absurd (omega arith)
         go (NVar n) t r = absurd (r .usable)
@@ -223,9 +212,9 @@ module _ (ws work : List ℤ) (at ni m : ℕ) where
 
     pub step-not : w ≡ 14 → Step-post ws work at ni m (at + 1) 1
     unfolding EveryOf
-    step-not z ds e b q r = go e (tag-is e r) r
+    step-not z ds e b q r = go e (code-is e r) r
       where
-        go : (e : BoolExpr) → tag e ≡ w → Bool-at ni ws at e → (at + 1 ≡ cond (own-test (test-comparison m ds) e) 0 (at + head-length e)) × (1 ≡ length (parts e))
+        go : (e : BoolExpr) → bool-code e ≡ w → Bool-at ni ws at e → (at + 1 ≡ cond (own-test (test-comparison m ds) e) 0 (at + head-length e)) × (1 ≡ length (parts e))
         go (Const b) t r = absurd (omega arith)
         go (Var v) t r = absurd (omega arith)
         go (NVar n) t r = absurd (r .usable)
@@ -239,9 +228,9 @@ module _ (ws work : List ℤ) (at ni m : ℕ) where
 
     pub step-two : (w < 14 → ⊥) → (w ≡ 14 → ⊥) → w < 18 → Step-post ws work at ni m (at + 1) 2
     unfolding EveryOf
-    step-two l z k ds e b q r = go e (tag-is e r) r
+    step-two l z k ds e b q r = go e (code-is e r) r
       where
-        go : (e : BoolExpr) → tag e ≡ w → Bool-at ni ws at e → (at + 1 ≡ cond (own-test (test-comparison m ds) e) 0 (at + head-length e)) × (2 ≡ length (parts e))
+        go : (e : BoolExpr) → bool-code e ≡ w → Bool-at ni ws at e → (at + 1 ≡ cond (own-test (test-comparison m ds) e) 0 (at + head-length e)) × (2 ≡ length (parts e))
         go (Const b) t r = absurd (omega arith)
         go (Var v) t r = absurd (omega arith)
         go (NVar n) t r = absurd (r .usable)
@@ -263,9 +252,9 @@ module _ (ws work : List ℤ) (at ni m : ℕ) where
 
     pub cmp-ready : (w < 18 → ⊥) → Ready-bool ws work at ni → Ready-pair ws work (at + 2) ni
     unfolding EveryOf
-    cmp-ready l y = go (y .it) (tag-is (y .it) (y .reads)) (y .reads)
+    cmp-ready l y = go (y .it) (code-is (y .it) (y .reads)) (y .reads)
       where
-        go : (e : BoolExpr) → tag e ≡ w → Bool-at ni ws at e → Ready-pair ws work (at + 2) ni
+        go : (e : BoolExpr) → bool-code e ≡ w → Bool-at ni ws at e → Ready-pair ws work (at + 2) ni
         go (Const b) t r = absurd (omega arith)
         go (Var v) t r = absurd (omega arith)
         go (NVar n) t r = absurd (r .usable)
@@ -279,9 +268,9 @@ module _ (ws work : List ℤ) (at ni m : ℕ) where
 
     pub step-cmp : (w < 18 → ⊥) → (x : ℕ) → Pair-post ws work (at + 2) ni m x → Step-post ws work at ni m x 0
     unfolding EveryOf
-    step-cmp l x p ds e bs q r = go e (tag-is e r) r
+    step-cmp l x p ds e bs q r = go e (code-is e r) r
       where
-        go : (e : BoolExpr) → tag e ≡ w → Bool-at ni ws at e → (x ≡ cond (own-test (test-comparison m ds) e) 0 (at + head-length e)) × (0 ≡ length (parts e))
+        go : (e : BoolExpr) → bool-code e ≡ w → Bool-at ni ws at e → (x ≡ cond (own-test (test-comparison m ds) e) 0 (at + head-length e)) × (0 ≡ length (parts e))
         go (Const b) t r = absurd (omega arith)
         go (Var v) t r = absurd (omega arith)
         go (NVar n) t r = absurd (r .usable)

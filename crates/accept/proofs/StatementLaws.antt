@@ -11,21 +11,13 @@ use Rattle.laws.specs.Slices.{Has, has-fits, has-front, has-back, has-word, has
 use Rattle.laws.specs.Ints.{pos-eq}
 use Rattle.syntax.specs.Syntax.{Domain, IntExpr, encode-int, BoolExpr, encode-bool, Cell, encode-cell, Stmt, Rule, Table, encode-stmt}
 use Rattle.syntax.specs.Lengths.{rows-length}
+use Rattle.syntax.specs.Codes.{stmt-code, stmt-code-word}
 use Rattle.domains.specs.Declared.{Plain}
 use Rattle.limits.specs.Limits.{any-comparison, any-part}
 use Rattle.accept.specs.Walk.{Bounds, test-comparison, test-column, Columns-at, Ready-columns, Columns-post, Usable-all, Bools-at, Ready-bools, Bools-post, Usable-stmt, Usable-stmts, Stmt-at, Stmts-at, Ready-stmt, Ready-stmts, test-stmt, Stmt-post, Stmts-post, check-stmts, Check-post}
 use Rattle.accept.proofs.TestLaws.{hit-of, miss-of, or-false}
 
 -- ---- `statement`
-
-abbrev tag : Stmt → ℕ
-tag (Rule e) = 1
-tag (Table es rows) = 2
-
-tag-word : (ws : List ℤ) (at : ℕ) (s : Stmt) → Has ws at (encode-stmt s) → getD ws at (pos 0) ≡ pos (tag s)
-unfolding encode-stmt
-tag-word ws at (Rule e) h = has-word ws at _ _ (pos 0) h
-tag-word ws at (Table es rows) h = has-word ws at _ _ (pos 0) h
 
 stmt-some : (s : Stmt) → 0 < length (encode-stmt s)
 unfolding encode-stmt
@@ -37,28 +29,28 @@ module _ (ws work : List ℤ) (at ni m : ℕ) where
   stmt-inside y = omega (arith, has-fits ws at (encode-stmt (y .it)) (y .reads .words) (stmt-some (y .it)), stmt-some (y .it))
 
   pub stmt-plain : Ready-stmt ws work at ni → Plain ws at
-  stmt-plain y = record { inside = stmt-inside y; value = tag (y .it); is = tag-word ws at (y .it) (y .reads .words) }
+  stmt-plain y = record { inside = stmt-inside y; value = stmt-code (y .it); is = stmt-code-word ws at (y .it) (y .reads .words) }
 
   module _ (w : ℕ) (hw : getD ws at (pos 0) ≡ pos w) where
-    tag-is : (s : Stmt) → Has ws at (encode-stmt s) → tag s ≡ w
-    tag-is s h = pos-eq _ _ _ (tag-word ws at s h) hw
+    code-is : (s : Stmt) → Has ws at (encode-stmt s) → stmt-code s ≡ w
+    code-is s h = pos-eq _ _ _ (stmt-code-word ws at s h) hw
 
     one-rule : (e : BoolExpr) → Stmt-at ni ws at (Rule e) → Bools-at ni ws (at + 1) 1 (e ∷ [])
     unfolding encode-stmt Usable-stmt Usable-all
     one-rule e r = record { words = subst (λ l. Has ws (at + 1) l) (sym (append-nil (encode-bool e))) (has-rest ws at _ _ (r .words)); usable = (r .usable, tt); size = refl }
 
     pub rule-ready : w ≡ 1 → Ready-stmt ws work at ni → Ready-bools ws work (at + 1) 1 ni
-    rule-ready z y = go (y .it) (tag-is (y .it) (y .reads .words)) (y .reads)
+    rule-ready z y = go (y .it) (code-is (y .it) (y .reads .words)) (y .reads)
       where
-        go : (s : Stmt) → tag s ≡ w → Stmt-at ni ws at s → Ready-bools ws work (at + 1) 1 ni
+        go : (s : Stmt) → stmt-code s ≡ w → Stmt-at ni ws at s → Ready-bools ws work (at + 1) 1 ni
         go (Rule e) t r = record { ds = y .ds; bounds = y .bounds; few = y .few; them = e ∷ []; reads = one-rule e r }
         go (Table es rows) t r = absurd (omega arith)
 
     pub rule-post : w ≡ 1 → (x : ℕ) → Bools-post ws work (at + 1) 1 ni m x → Stmt-post ws work at ni m x
     unfolding encode-stmt any-part
-    rule-post z x p ds s b q r = go s (tag-is s (r .words)) r
+    rule-post z x p ds s b q r = go s (code-is s (r .words)) r
       where
-        go : (s : Stmt) → tag s ≡ w → Stmt-at ni ws at s → x ≡ cond (test-stmt m ds s) 0 (at + length (encode-stmt s))
+        go : (s : Stmt) → stmt-code s ≡ w → Stmt-at ni ws at s → x ≡ cond (test-stmt m ds s) 0 (at + length (encode-stmt s))
         go (Rule e) t r =
             let a = any-comparison (test-comparison m ds) (test-column m ds) e in
             let n : at + 1 + length (encode-bool e ++ []) ≡ at + length (encode-stmt (Rule e)) = omega (arith, length-append (encode-bool e) []) in
@@ -70,7 +62,7 @@ module _ (ws work : List ℤ) (at ni m : ℕ) where
           → ((es : List IntExpr) (rows : List (List Cell)) → s ≡ Table es rows → getD ws (at + 1) (pos 0) ≡ pos (length es) → getD ws (at + 2) (pos 0) ≡ pos (length rows)
           → Columns-at ni ws (at + 3) (length es) es → at + (3 + (length (flat (map encode-int es)) + length es * length rows)) ≤ length ws → length (encode-stmt (Table es rows)) ≡ 3 + (length (flat (map encode-int es)) + length es * length rows) → X) → X
       unfolding encode-stmt Usable-stmt
-      table-inv (Rule e) r go = absurd (z (sym (tag-is (Rule e) (r .words))))
+      table-inv (Rule e) r go = absurd (z (sym (code-is (Rule e) (r .words))))
       table-inv (Table es rows) r go =
           let cs = flat (map encode-int es) in
           let rs = flat (map (map encode-cell) rows) in

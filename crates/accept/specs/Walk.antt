@@ -9,7 +9,7 @@ use lib.ListN.{length}
 use lib.Dec.{eqb}
 use Rattle.laws.specs.Lists.{any, flat}
 use Rattle.laws.specs.Slices.{Has}
-use Rattle.syntax.specs.Syntax.{Domain, lower-bound, upper-bound, domain-of, IntExpr, IConst, IVar, Linear, Terms, tnil, count-terms, encode-int, encode-terms, BoolExpr, Const, Var, NVar, And, Or, Not, Xor, Iff, Imp, Cmp, Members, none, more, encode-bool, Stmt, Rule, Table, encode-stmt}
+use Rattle.syntax.specs.Syntax.{Domain, lower-bound, upper-bound, domain-of, IntExpr, IConst, IVar, Linear, Terms, tnil, count-terms, encode-int, encode-terms, BoolExpr, Const, Var, NVar, And, Or, Not, Xor, Iff, Imp, Cmp, Members, mnil, more, encode-bool, Stmt, Rule, Table, encode-stmt}
 use Rattle.syntax.specs.Written.{EveryInt, EveryTerm, EveryColumn, EveryOf, EveryMemberOf, Any, None}
 use Rattle.syntax.specs.Lengths.{Wide}
 use Rattle.domains.specs.Declared.{bounds-words}
@@ -167,7 +167,7 @@ module _ (ni : ℕ) where
 
 -- the expressions right below
 abbrev pub listed : Members → List BoolExpr
-listed none = []
+listed mnil = []
 listed (more e ms) = e ∷ listed ms
 
 abbrev pub parts : BoolExpr → List BoolExpr

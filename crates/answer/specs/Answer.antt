@@ -1,6 +1,6 @@
 -- The answer to a set: what is fixed, the maps, the emitted integers, the clauses; and its words.
 use mathlib.Core.Bool.{Bool, true, false, cond}
-use mathlib.Core.Option.{Option, none as nothing, some}
+use mathlib.Core.Option.{Option, none, some}
 use mathlib.Core.List.{List, [], _∷_, _++_, map}
 use Prim.Native.Nat.{ℕ, suc}
 use lib.IntN.{ℤ, pos, negsuc}
@@ -63,17 +63,17 @@ normalize merge p f ss = answer-of p f (normalize-stmts (p .domains) ss (start-l
 abbrev pub fixed-word : Option Bool → ℤ
 fixed-word (some false) = pos 0
 fixed-word (some true) = pos 1
-fixed-word nothing = pos 2
+fixed-word none = pos 2
 
 -- number plus 1, or 0
 abbrev pub map-word : Option ℕ → ℤ
 map-word (some n) = pos (suc n)
-map-word nothing = pos 0
+map-word none = pos 0
 
 abbrev pub bool-word : Option BoolLit → ℤ
 bool-word (some (lit n false)) = pos (suc n)
 bool-word (some (lit n true)) = negsuc n
-bool-word nothing = pos 0
+bool-word none = pos 0
 
 abbrev pub domain-words : Domain → List ℤ
 domain-words d = lower-bound d ∷ upper-bound d ∷ num-candidates d ∷ []

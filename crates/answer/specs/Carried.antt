@@ -2,7 +2,7 @@
 -- for a log and clauses as normalising makes them, which name emitted numbers only.
 use mathlib.Core.Path.{_≡_, refl, sym, ap, _∙_}
 use mathlib.Core.Bool.{Bool, true, false, not, cond, false≢true}
-use mathlib.Core.Option.{Option, none as nothing, some}
+use mathlib.Core.Option.{Option, none, some}
 use mathlib.Core.List.{List, [], _∷_, map}
 use Prim.Native.Nat.{ℕ, zero, suc, _+_, _≤_, _<_}
 use native.Mathlib.Omega.{arith}
@@ -51,12 +51,12 @@ fixed-is (some true) false b h e = absurd (false≢true h)
 fixed-is (some false) false false h e = refl
 fixed-is (some false) false true h e = cc
 fixed-is (some false) true b h e = absurd (false≢true h)
-fixed-is nothing x b h e = let z : _≡_ {A = ℕ} 0 1 = cc in absurd (omega arith)
+fixed-is none x b h e = let z : _≡_ {A = ℕ} 0 1 = cc in absurd (omega arith)
 
 is-fixed : (o : Option Bool) (x : Bool) → ((b : Bool) → o ≡ some b → x ≡ b) → fixed-agrees (fixed-word o) x ≡ true
 is-fixed (some true) x h = h true refl
 is-fixed (some false) x h = ap not (h false refl)
-is-fixed nothing x h = refl
+is-fixed none x h = refl
 
 not-turn : (a b : Bool) → a ≡ not b → not a ≡ b
 not-turn a true h = ap not h
@@ -69,20 +69,20 @@ turn-not false b h = ap not h
 carries-is : (k : ℕ) (o : Option BoolLit) (x : Bool) (ρ : Val) (l : BoolLit) → carries-bool k (bool-word o) x ρ ≡ true → o ≡ some l → lit-true ρ l ≡ x
 carries-is k (some (lit m false)) x ρ l h e = let z : lit m false ≡ l = cc in rw (← z) (beq-eq (ρ m) x (and-r (ltb m k) _ h))
 carries-is k (some (lit m true)) x ρ l h e = let z : lit m true ≡ l = cc in rw (← z) (not-turn (ρ m) x (beq-eq (ρ m) (not x) (and-r (ltb m k) _ h)))
-carries-is k nothing x ρ l h e = let z : _≡_ {A = ℕ} 0 1 = cc in absurd (omega arith)
+carries-is k none x ρ l h e = let z : _≡_ {A = ℕ} 0 1 = cc in absurd (omega arith)
 
 is-carried : (k : ℕ) (o : Option BoolLit) (x : Bool) (ρ : Val) → ((l : BoolLit) → o ≡ some l → (number-of l < k) × (lit-true ρ l ≡ x)) → carries-bool k (bool-word o) x ρ ≡ true
 is-carried k (some (lit m false)) x ρ h = rw (lt-ltb m k (h (lit m false) refl .0), h (lit m false) refl .1) (beq-same x)
 is-carried k (some (lit m true)) x ρ h = rw (lt-ltb m k (h (lit m true) refl .0), turn-not (ρ m) x (h (lit m true) refl .1)) (beq-same (not x))
-is-carried k nothing x ρ h = refl
+is-carried k none x ρ h = refl
 
 carries-int-is : (k : ℕ) (o : Option ℕ) (x : ℤ) (ι : IVal) (n : ℕ) → carries-int k (map-word o) x ι ≡ true → o ≡ some n → ι n ≡ x
 carries-int-is k (some m) x ι n h e = let z : m ≡ n = cc in rw (← z) (eqZ-is (ι m) x (and-r (ltb m k) _ h))
-carries-int-is k nothing x ι n h e = let z : _≡_ {A = ℕ} 0 1 = cc in absurd (omega arith)
+carries-int-is k none x ι n h e = let z : _≡_ {A = ℕ} 0 1 = cc in absurd (omega arith)
 
 is-carried-int : (k : ℕ) (o : Option ℕ) (x : ℤ) (ι : IVal) → ((n : ℕ) → o ≡ some n → (n < k) × (ι n ≡ x)) → carries-int k (map-word o) x ι ≡ true
 is-carried-int k (some m) x ι h = rw (lt-ltb m k (h m refl .0)) (is-eqZ (ι m) x (h m refl .1))
-is-carried-int k nothing x ι h = refl
+is-carried-int k none x ι h = refl
 
 -- ---- clauses whose bounds are the counts name emitted numbers only
 

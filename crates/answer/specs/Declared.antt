@@ -1,12 +1,12 @@
 -- Every log that normalising makes has declared variables only, and columns whose domain is a range.
 use mathlib.Core.Path.{_≡_, refl}
 use mathlib.Core.Bool.{Bool, true, false, not, cond}
-use mathlib.Core.Option.{Option, none as nothing, some}
+use mathlib.Core.Option.{Option, none, some}
 use mathlib.Core.List.{List, [], _∷_, _++_}
 use Prim.Native.Nat.{ℕ, suc, _<_}
 use lib.Dec.{eqb}
 use Rattle.laws.specs.Lists.{any}
-use Rattle.syntax.specs.Syntax.{Domain, Range, lower-bound, upper-bound, IntExpr, IConst, IVar, Linear, Terms, tnil, tmore, BoolExpr, Const, Var, NVar, And, Or, Not, Xor, Iff, Imp, Cmp, Members, none, more, Cell, Stmt, Rule, Table}
+use Rattle.syntax.specs.Syntax.{Domain, Range, lower-bound, upper-bound, IntExpr, IConst, IVar, Linear, Terms, tnil, tmore, BoolExpr, Const, Var, NVar, And, Or, Not, Xor, Iff, Imp, Cmp, Members, mnil, more, Cell, Stmt, Rule, Table}
 use Rattle.syntax.specs.Written.{EveryInt, EveryTerm, EveryColumn, Every, EveryMember, EveryStmt, EveryStmts, EveryOf}
 use Rattle.sums.specs.LinearSum.{LinearSum, linear-sum, get-domain-linear-sum}
 use Rattle.clauses.specs.Clause.{BoolLit, LinearLit, Clause}
@@ -46,7 +46,7 @@ module _ (b i : ℕ) where
 
   bool-var-declared : (o : Option BoolLit) (v : ℕ) (s : Log) → v < b → Declared s → Declared (bool-var-at o v s .1)
   bool-var-declared (some n) v s h k = k
-  bool-var-declared nothing v s h k = (h, k)
+  bool-var-declared none v s h k = (h, k)
 
   convert-bool-declared : (v : ℕ) → v < b → Keeps (convert-bool-var v)
   unfolding convert-bool-var
@@ -54,7 +54,7 @@ module _ (b i : ℕ) where
 
   int-var-declared : (o : Option ℕ) (v : ℕ) (s : Log) → v < i → Declared s → Declared (int-var-at o v s .1)
   int-var-declared (some n) v s h k = k
-  int-var-declared nothing v s h k = (h, k)
+  int-var-declared none v s h k = (h, k)
 
   convert-int-declared : (v : ℕ) → v < i → Keeps (convert-int-var v)
   unfolding convert-int-var
@@ -151,7 +151,7 @@ module _ (b i : ℕ) where
     bool-declared (Cmp o x y) g h = λ s k. int-declared y (h .1) _ (int-declared x (h .0) s k)
 
     members-declared : (ms : Members) (g : Bool) → DeclaredMembers ms → Keeps (normalize-members ms g)
-    members-declared none g h = λ s k. k
+    members-declared mnil g h = λ s k. k
     members-declared (more e ms) g h = then-declared _ _ (bool-declared e g (h .0)) (members-declared ms g (h .1))
 
   -- ---- splitting: the rewritten rule and the extras write declared variables only
@@ -217,7 +217,7 @@ module _ (b i : ℕ) where
     split-declared (Cmp o x y) t h = λ s k. record { rules = h; extras = tt; logs = k }
 
     splits-declared : (ms : Members) (t : Bool) → DeclaredMembers ms → (s : Log) → Declared s → SplitsDeclared (tseitin-transformation-members ms t s)
-    splits-declared none t h = λ s k. record { rules = tt; extras = tt; logs = k }
+    splits-declared mnil t h = λ s k. record { rules = tt; extras = tt; logs = k }
     splits-declared (more e ms) t h = λ s k.
         let c : Split = tseitin-transformation-bool e t s in
         let x = split-declared e t (h .0) s k in
@@ -275,22 +275,22 @@ module _ (b i : ℕ) where
 
   found-declared : (o p : Option BoolLit) (x y : ℕ) (g : Bool) (s : Log) → x < b → y < b → Declared s → Declared (tie-found o p x y g s)
   found-declared (some l) (some m) x y g s h k d = d
-  found-declared (some l) nothing x y g s h k d = (k, d)
-  found-declared nothing (some m) x y g s h k d = (h, d)
-  found-declared nothing nothing x y g s h k d = (k, (h, d))
+  found-declared (some l) none x y g s h k d = (k, d)
+  found-declared none (some m) x y g s h k d = (h, d)
+  found-declared none none x y g s h k d = (k, (h, d))
 
   apart-declared : (t : Bool) (s r : Log) → Declared s → Declared r → Declared (cond t s r)
   apart-declared true s r h k = h
   apart-declared false s r h k = k
 
   abbrev DeclaredVar : Option ℕ → Type 0
-  DeclaredVar nothing = Unit {0}
+  DeclaredVar none = Unit {0}
   DeclaredVar (some v) = v < b
 
   tie-declared : (x y : Option ℕ) (g : Bool) (s : Log) → DeclaredVar x → DeclaredVar y → Declared s → Declared (tie x y g s)
   unfolding tie
-  tie-declared nothing y g s h k d = d
-  tie-declared (some x) nothing g s h k d = d
+  tie-declared none y g s h k d = d
+  tie-declared (some x) none g s h k d = d
   tie-declared (some x) (some y) g s h k d = apart-declared (eqb x y) s _ d (found-declared (get-bool-var x s) (get-bool-var y s) x y g s h k d)
 
   var-declared : (e : BoolExpr) → DeclaredExpr e → DeclaredVar (as-var e)

@@ -5,7 +5,8 @@ use mathlib.Core.List.{List, [], _++_}
 use Prim.Native.Nat.{ℕ, zero, suc, _-_}
 use lib.IntN.{ℤ, pos, negℤ}
 use lib.Dec.{ltb}
-use lib.ListN.{length, replicate}
+use lib.ListN.{length}
+use Rattle.laws.specs.Slices.{zeros}
 use Rattle.syntax.specs.Words.{max-set-words, min-work-words, max-answer-words}
 use Rattle.syntax.specs.Syntax.{Problem}
 use Rattle.read.specs.Read.{Parsed, ok, refuse, read-set}
@@ -61,9 +62,6 @@ unchosen = record { merge = false }
 
 abbrev pub call : (set : List ℤ) (out-length work-length : ℕ) → Result
 call set out-length work-length = call-with unchosen set out-length work-length
-
-abbrev pub zeros : ℕ → List ℤ
-zeros n = replicate n (pos 0)
 
 -- the slices after the call
 unfoldable pub output-after : Result → ℕ → List ℤ

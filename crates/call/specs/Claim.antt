@@ -6,7 +6,7 @@ use mathlib.Core.List.{List, [], _∷_, _++_}
 use Prim.Native.Nat.{ℕ, _<_}
 use lib.IntN.{ℤ}
 use lib.ListN.{length}
-use Rattle.syntax.specs.Syntax.{domain-of, in-domain, BoolExpr, Not, Or, Members, none, more, Stmt, Rule, Problem}
+use Rattle.syntax.specs.Syntax.{domain-of, in-domain, BoolExpr, Not, Or, Members, mnil, more, Stmt, Rule, Problem}
 use Rattle.syntax.specs.Satisfies.{Val, IVal, in-domains, satisfies}
 use Rattle.words.specs.Parse.{Parsed, ok, refuse}
 use Rattle.read.specs.Read.{read-set}
@@ -67,7 +67,7 @@ PassedBy δ ε c = Passed (c .set) (call-with (c .choices) (c .set) (c .out-leng
 
 -- a call for each member, as a rule of its own
 pub data CalledEach (p : Problem) : Members → Type 0 where
-  no-call : CalledEach p none
+  no-call : CalledEach p mnil
   one-more : {e : BoolExpr} {ms : Members} → Called p (Rule e ∷ []) → CalledEach p ms → CalledEach p (more e ms)
 
 abbrev pub PassedBySome : {p : Problem} {ms : Members} → Val → IVal → CalledEach p ms → Type 0

@@ -1,7 +1,7 @@
 -- The passes fix declared variables only.
 use mathlib.Core.Path.{_≡_, refl}
 use mathlib.Core.Bool.{Bool, true, false, cond}
-use mathlib.Core.Option.{none as nothing, some}
+use mathlib.Core.Option.{none, some}
 use mathlib.Core.List.{List, map}
 use Prim.Native.Nat.{ℕ, zero, suc, _<_}
 use native.Mathlib.Omega.{arith}
@@ -48,4 +48,4 @@ module _ (b : ℕ) (Q : ℕ → Type 0) where
 
 pub optimize-known : (p : Problem) (Q : ℕ → Type 0) → EveryStmts (λ v. v < p .bools) Q (p .stmts) → (f : Fixed) (ss : List Stmt) → optimize p ≡ settled f ss → (v : ℕ) (x : Bool) → f v ≡ some x → v < p .bools
 unfolding optimize
-optimize-known p Q h f ss e = rw e at (passes-known (p .bools) Q (p .domains) (suc (p .bools)) (λ v. nothing) (p .stmts) h (λ v x q. absurd (let z : _≡_ {A = ℕ} 0 1 = cc in omega arith)))
+optimize-known p Q h f ss e = rw e at (passes-known (p .bools) Q (p .domains) (suc (p .bools)) (λ v. none) (p .stmts) h (λ v x q. absurd (let z : _≡_ {A = ℕ} 0 1 = cc in omega arith)))

@@ -9,7 +9,7 @@ use lib.ListN.{length, length-map}
 use borrow.Author.Tests.{eq-eqb}
 use Rattle.laws.specs.Bools.{and-i}
 use Rattle.laws.specs.Lists.{all}
-use Rattle.syntax.specs.Syntax.{Domain, BoolExpr, Const, Var, NVar, And, Or, Not, Xor, Iff, Imp, Cmp, Members, none, more, Cell, Stmt, Rule, Table, Problem}
+use Rattle.syntax.specs.Syntax.{Domain, BoolExpr, Const, Var, NVar, And, Or, Not, Xor, Iff, Imp, Cmp, Members, mnil, more, Cell, Stmt, Rule, Table, Problem}
 use Rattle.syntax.specs.Written.{EveryStmt, EveryStmts, EveryOf, every-map, Any, None, EveryMemberOf}
 use Rattle.words.specs.Exact.{Each}
 use Rattle.read.specs.WellFormed.{WellRow, WellStmt, WellFormed}
@@ -50,7 +50,7 @@ module _ (P Q : ℕ → Type 0) where
     unnamed (Cmp o a b) h = omega arith
 
     members-unnamed : (ms : Members) → EveryMemberOf None P Q ms → members-bound ms ≤ 0
-    members-unnamed none h = omega arith
+    members-unnamed mnil h = omega arith
     members-unnamed (more e ms) h = omega (arith, unnamed e (h .0), members-unnamed ms (h .1))
 
 -- ---- statements: rules name no emitted number, rows are as wide as their tables

@@ -9,7 +9,7 @@ use lib.Dec.{eqb, ltb}
 use lib.IntN.{ℤ, pos, negsuc, _+ℤ_, _*ℤ_}
 use Rattle.laws.specs.Ints.{is-zero}
 use Rattle.laws.specs.Lists.{any, all, flat}
-use Rattle.syntax.specs.Syntax.{BoolExpr, Const, Var, NVar, And, Or, Not, Xor, Iff, Imp, Cmp, Members, none, more}
+use Rattle.syntax.specs.Syntax.{BoolExpr, Const, Var, NVar, And, Or, Not, Xor, Iff, Imp, Cmp, Members, mnil, more}
 use Rattle.syntax.specs.Satisfies.{Val, IVal, holds, holds-all, holds-any}
 use Rattle.sums.specs.LinearSum.{Term, term, LinearSum, linear-sum, constant, place, insert-coef, add-coef, add-terms, add-sum, mul-terms, mul-sum, sub-sum, sum-terms-value, sum-value}
 use Rattle.clauses.specs.Clause.{BoolLit, lit, LinearLit, linear, Clause, clause, lit-true, clause-true}
@@ -43,7 +43,7 @@ unfoldable mutual
   expr-bound (Cmp o a b) = 0
 
   pub members-bound : Members → ℕ
-  members-bound none = 0
+  members-bound mnil = 0
   members-bound (more e ms) = max (expr-bound e) (members-bound ms)
 
 abbrev pub exprs-bound : List BoolExpr → ℕ
@@ -189,11 +189,11 @@ module _ (n : ℕ) (ρ ρ' : Val) (same : Same n ρ ρ') where
       holds-same (Cmp o a b) h = refl
 
       holds-all-same : (ms : Members) → members-bound ms ≤ n → holds-all δ ε ρ ms ≡ holds-all δ ε ρ' ms
-      holds-all-same none h = refl
+      holds-all-same mnil h = refl
       holds-all-same (more e ms) h = rw (holds-same e (omega arith), holds-all-same ms (omega arith)) refl
 
       holds-any-same : (ms : Members) → members-bound ms ≤ n → holds-any δ ε ρ ms ≡ holds-any δ ε ρ' ms
-      holds-any-same none h = refl
+      holds-any-same mnil h = refl
       holds-any-same (more e ms) h = rw (holds-same e (omega arith), holds-any-same ms (omega arith)) refl
 
 pub sum-terms-same : (n : ℕ) (ι ι' : IVal) → Same n ι ι' → (ts : List Term) → terms-bound ts ≤ n → sum-terms-value ι ts ≡ sum-terms-value ι' ts

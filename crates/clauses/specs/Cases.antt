@@ -6,7 +6,7 @@ use mathlib.Core.Bool.{true, false}
 use mathlib.Core.List.{List, [], _∷_}
 use Prim.Native.Nat.{ℕ}
 use lib.IntN.{pos, negsuc}
-use Rattle.syntax.specs.Syntax.{Eq, Le, Gt, IConst, IVar, Linear, tnil, tmore, BoolExpr, Const, Var, And, Or, Not, Xor, Iff, Cmp, none, more}
+use Rattle.syntax.specs.Syntax.{Eq, Le, Gt, IConst, IVar, Linear, tnil, tmore, BoolExpr, Const, Var, And, Or, Not, Xor, Iff, Cmp, mnil, more}
 use Rattle.sums.specs.LinearSum.{term, linear-sum, insert-coef, add-coef, add-terms, add-sum, mul-terms, mul-sum, sub-sum}
 use Rattle.clauses.specs.Clause.{BoolLit, lit, linear, Clause, clause}
 use Rattle.clauses.specs.Log.{get-bool-var, get-int-var, convert-bool-var, convert-int-var}
@@ -26,7 +26,7 @@ abbrev literals : List BoolLit → Clause
 literals ls = clause ls []
 
 abbrev both : ℕ → ℕ → BoolExpr
-both v w = And (more (Var v) (more (Var w) none))
+both v w = And (more (Var v) (more (Var w) mnil))
 
 -- the clauses of a rule that comes first
 unfoldable pub clauses-of : BoolExpr → List Clause
@@ -36,29 +36,29 @@ clauses-of e = normalize-and-register-expr e [] .0
 -- ---- disjunctions
 
 -- P2: one new variable (number 4), negated in the first member's clauses, plain in the second's
-pub two-longer : clauses-of (Or (more (both 0 1) (more (both 2 3) none)))
+pub two-longer : clauses-of (Or (more (both 0 1) (more (both 2 3) mnil)))
     ≡ literals (plain 0 ∷ negated 4 ∷ []) ∷ literals (plain 1 ∷ negated 4 ∷ []) ∷ literals (plain 2 ∷ plain 4 ∷ []) ∷ literals (plain 3 ∷ plain 4 ∷ []) ∷ []
 unfolding clauses-of
 two-longer = refl
 
 -- P3: a new variable for each member (6, 7, 8), negated in its clauses and plain in the pool, which comes last
-pub three-longer : clauses-of (Or (more (both 0 1) (more (both 2 3) (more (both 4 5) none))))
+pub three-longer : clauses-of (Or (more (both 0 1) (more (both 2 3) (more (both 4 5) mnil))))
     ≡ literals (plain 0 ∷ negated 6 ∷ []) ∷ literals (plain 1 ∷ negated 6 ∷ []) ∷ literals (plain 2 ∷ negated 7 ∷ []) ∷ literals (plain 3 ∷ negated 7 ∷ []) ∷ literals (plain 4 ∷ negated 8 ∷ []) ∷ literals (plain 5 ∷ negated 8 ∷ [])
     ∷ literals (plain 6 ∷ plain 7 ∷ plain 8 ∷ []) ∷ []
 unfolding clauses-of
 three-longer = refl
 
 -- a member without clauses is true, and so is the disjunction
-pub satisfied-member : clauses-of (Or (more (Var 0) (more (Const true) none))) ≡ []
+pub satisfied-member : clauses-of (Or (more (Var 0) (more (Const true) mnil))) ≡ []
 unfolding clauses-of
 satisfied-member = refl
 
 -- one literal goes to the end of each clause of the one longer member; one comparison does not
-pub one-literal : clauses-of (Or (more (both 0 1) (more (Var 2) none))) ≡ literals (plain 0 ∷ plain 2 ∷ []) ∷ literals (plain 1 ∷ plain 2 ∷ []) ∷ []
+pub one-literal : clauses-of (Or (more (both 0 1) (more (Var 2) mnil))) ≡ literals (plain 0 ∷ plain 2 ∷ []) ∷ literals (plain 1 ∷ plain 2 ∷ []) ∷ []
 unfolding clauses-of
 one-literal = refl
 
-pub one-comparison : clauses-of (Or (more (both 0 1) (more (Cmp Eq (IVar 0) (IConst (pos 0))) none)))
+pub one-comparison : clauses-of (Or (more (both 0 1) (more (Cmp Eq (IVar 0) (IConst (pos 0))) mnil)))
     ≡ literals (plain 0 ∷ negated 2 ∷ []) ∷ literals (plain 1 ∷ negated 2 ∷ []) ∷ clause (plain 2 ∷ []) (linear Eq (linear-sum (pos 0) (term 0 (pos 1) ∷ [])) ∷ []) ∷ []
 unfolding clauses-of
 one-comparison = refl

@@ -2,7 +2,7 @@
 -- ε: the declared integers, for a column's domain has to hold its sum.
 use mathlib.Core.Path.{_≡_, refl, sym, ap, _∙_}
 use mathlib.Core.Bool.{Bool, true, false, not, cond}
-use mathlib.Core.Option.{Option, none as nothing, some}
+use mathlib.Core.Option.{Option, none, some}
 use mathlib.Core.List.{[], _∷_}
 use Prim.Native.Nat.{ℕ, suc, _≤_, _<_}
 use native.Mathlib.Omega.{arith}
@@ -19,12 +19,12 @@ use Rattle.clauses.specs.Valuation.{AgreesBools, AgreesInts, Agrees, Fit
 -- what may be made after s: a variable that has no number yet; clauses, a side or a sum over numbers given,
 -- the sum's value in the domain
 abbrev pub Legal : IVal → Made → Log → Type 0
-Legal ε (declared v) s = get-bool-var v s ≡ nothing
+Legal ε (declared v) s = get-bool-var v s ≡ none
 -- no tie is made once clauses are
 Legal ε (merged v w g) s = ⊥
 Legal ε (aux cs) s = clauses-bound cs ≤ next-bool s
 Legal ε (side e) s = expr-bound e ≤ next-bool s
-Legal ε (declared-int v) s = get-int-var v s ≡ nothing
+Legal ε (declared-int v) s = get-int-var v s ≡ none
 Legal ε (column l d) s = (sum-bound l ≤ next-int s) × ((ι : IVal) → AgreesInts ε ι s → in-domain (sum-value ι l) d ≡ true)
 
 pub data Grows (ε : IVal) (s : Log) : Log → Type 0 where
@@ -45,15 +45,15 @@ abbrev pub number-of : BoolLit → ℕ
 number-of (lit n g) = n
 
 abbrev LitBelow : ℕ → Option BoolLit → Type 0
-LitBelow k nothing = Unit {0}
+LitBelow k none = Unit {0}
 LitBelow k (some l) = number-of l < k
 
 below-more : (k m : ℕ) (o : Option BoolLit) → k ≤ m → LitBelow k o → LitBelow m o
-below-more k m nothing h b = tt
+below-more k m none h b = tt
 below-more k m (some l) h b = omega (arith, b)
 
 below-negated : (k : ℕ) (g : Bool) (o : Option BoolLit) → LitBelow k o → LitBelow k (negate-found g o)
-below-negated k g nothing b = tt
+below-negated k g none b = tt
 below-negated k g (some (lit n h)) b = b
 
 below-cond : (k : ℕ) (t : Bool) (o p : Option BoolLit) → LitBelow k o → LitBelow k p → LitBelow k (cond t o p)
@@ -83,7 +83,7 @@ get-int-below (side e ∷ s) v n h = get-int-below s v n h
 get-int-below (declared-int w ∷ s) v n h = get-below (next-int s) v n (get-int-var v s) (eqb v w) (get-int-below s v n) h
 get-int-below (column l d ∷ s) v n h = omega (arith, get-int-below s v n h)
 
-get-stays : {A : Type 0} (k n : A) (v w : ℕ) (o p : Option A) → (v ≡ w → o ≡ p) → p ≡ nothing → o ≡ some n → (b : Bool) → eqb v w ≡ b → cond b (some k) o ≡ some n
+get-stays : {A : Type 0} (k n : A) (v w : ℕ) (o p : Option A) → (v ≡ w → o ≡ p) → p ≡ none → o ≡ some n → (b : Bool) → eqb v w ≡ b → cond b (some k) o ≡ some n
 get-stays k n v w o p f l h false e = h
 get-stays k n v w o p f l h true e = let q : o ≡ p = f (eqb-true v w e) in cc
 
@@ -144,11 +144,11 @@ agrees-at ρ δ k v n w o new old true e h = let q : v ≡ w = eqb-true v w e in
 
 -- a variable that has a literal has its value there
 abbrev LitAgrees : Val → Bool → Option BoolLit → Type 0
-LitAgrees ρ x nothing = Unit {0}
+LitAgrees ρ x none = Unit {0}
 LitAgrees ρ x (some l) = lit-true ρ l ≡ x
 
 lit-negated : (ρ : Val) (x y g : Bool) (o : Option BoolLit) → LitAgrees ρ y o → x ≡ negate-if g y → LitAgrees ρ x (negate-found g o)
-lit-negated ρ x y g nothing a e = tt
+lit-negated ρ x y g none a e = tt
 lit-negated ρ x y true (some (lit n true)) a e = sym (not-not (ρ n)) ∙ ap not a ∙ sym e
 lit-negated ρ x y true (some (lit n false)) a e = rw e (ap not a)
 lit-negated ρ x y false (some (lit n h)) a e = a ∙ sym e

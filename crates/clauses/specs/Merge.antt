@@ -1,7 +1,7 @@
 -- Merging (merge_equivalent_variables): before any clause, rules that tie two variables give them one number, negated where they differ.
 use mathlib.Core.Path.{_≡_, refl, sym, ap, _∙_}
 use mathlib.Core.Bool.{Bool, true, false, not, cond, Bool·beq}
-use mathlib.Core.Option.{Option, none as nothing, some}
+use mathlib.Core.Option.{Option, none, some}
 use mathlib.Core.List.{List, [], _∷_}
 use Prim.Native.Nat.{ℕ}
 use lib.Dec.{eqb}
@@ -18,28 +18,28 @@ use Rattle.clauses.specs.Exist.{TiesHold}
 -- ---- the pass
 
 abbrev pub as-var : BoolExpr → Option ℕ
-as-var (Const b) = nothing
+as-var (Const b) = none
 as-var (Var v) = some v
-as-var (NVar n) = nothing
-as-var (And ms) = nothing
-as-var (Or ms) = nothing
-as-var (Not e) = nothing
-as-var (Xor a b) = nothing
-as-var (Iff a b) = nothing
-as-var (Imp a b) = nothing
-as-var (Cmp o a b) = nothing
+as-var (NVar n) = none
+as-var (And ms) = none
+as-var (Or ms) = none
+as-var (Not e) = none
+as-var (Xor a b) = none
+as-var (Iff a b) = none
+as-var (Imp a b) = none
+as-var (Cmp o a b) = none
 
 -- the one without a literal takes the other's; of two without, the first is met and the second takes its literal
 abbrev pub tie-found : Option BoolLit → Option BoolLit → ℕ → ℕ → Bool → Log → Log
 tie-found (some l) (some m) x y g s = s
-tie-found (some l) nothing x y g s = merged y x g ∷ s
-tie-found nothing (some m) x y g s = merged x y g ∷ s
-tie-found nothing nothing x y g s = merged y x g ∷ declared x ∷ s
+tie-found (some l) none x y g s = merged y x g ∷ s
+tie-found none (some m) x y g s = merged x y g ∷ s
+tie-found none none x y g s = merged y x g ∷ declared x ∷ s
 
 -- a variable and itself: passed over
 unfoldable pub tie : Option ℕ → Option ℕ → Bool → Log → Log
-tie nothing y g s = s
-tie (some x) nothing g s = s
+tie none y g s = s
+tie (some x) none g s = s
 tie (some x) (some y) g s = cond (eqb x y) s (tie-found (get-bool-var x s) (get-bool-var y s) x y g s)
 
 unfoldable pub merge-rule : BoolExpr → Log → Log
@@ -67,9 +67,9 @@ merge-stmts (t ∷ ts) s = merge-stmts ts (merge-stmt t s)
 module _ (δ : Val) where
   found-hold : (o p : Option BoolLit) (x y : ℕ) (g : Bool) (s : Log) → δ y ≡ negate-if g (δ x) → δ x ≡ negate-if g (δ y) → TiesHold δ s → TiesHold δ (tie-found o p x y g s)
   found-hold (some l) (some m) x y g s a b h = h
-  found-hold (some l) nothing x y g s a b h = (a, h)
-  found-hold nothing (some m) x y g s a b h = (b, h)
-  found-hold nothing nothing x y g s a b h = (a, h)
+  found-hold (some l) none x y g s a b h = (a, h)
+  found-hold none (some m) x y g s a b h = (b, h)
+  found-hold none none x y g s a b h = (a, h)
 
   apart-hold : (t : Bool) (s r : Log) → TiesHold δ s → TiesHold δ r → TiesHold δ (cond t s r)
   apart-hold true s r h k = h
@@ -77,13 +77,13 @@ module _ (δ : Val) where
 
   -- what as-var finds has the expression's value
   abbrev Is : Option ℕ → Bool → Type 0
-  Is nothing b = Unit {0}
+  Is none b = Unit {0}
   Is (some v) b = δ v ≡ b
 
   tie-holds : (x y : Option ℕ) (g : Bool) (s : Log) (a b : Bool) → Is x a → Is y b → b ≡ negate-if g a → a ≡ negate-if g b → TiesHold δ s → TiesHold δ (tie x y g s)
   unfolding tie
-  tie-holds nothing y g s a b p q e f h = h
-  tie-holds (some x) nothing g s a b p q e f h = h
+  tie-holds none y g s a b p q e f h = h
+  tie-holds (some x) none g s a b p q e f h = h
   tie-holds (some x) (some y) g s a b p q e f h = apart-hold (eqb x y) s _ h (found-hold (get-bool-var x s) (get-bool-var y s) x y g s (rw (p, q) e) (rw (p, q) f) h)
 
   module _ (ε : IVal) (ρ : Val) where
@@ -133,15 +133,15 @@ pub record Known (w : ℕ) (s : Log) : Type 0 where
 
 abbrev pub WellMerged : Log → Type 0
 WellMerged [] = Unit {0}
-WellMerged (declared v ∷ s) = (get-bool-var v s ≡ nothing) × WellMerged s
-WellMerged (merged v w g ∷ s) = (get-bool-var v s ≡ nothing) × (Known w s × WellMerged s)
+WellMerged (declared v ∷ s) = (get-bool-var v s ≡ none) × WellMerged s
+WellMerged (merged v w g ∷ s) = (get-bool-var v s ≡ none) × (Known w s × WellMerged s)
 WellMerged (aux cs ∷ s) = ⊥
 WellMerged (side e ∷ s) = ⊥
 WellMerged (declared-int v ∷ s) = ⊥
 WellMerged (column l d ∷ s) = ⊥
 
 -- a lookup that is not of the newest
-past : {X : Type 0} (k : X) (n : X) (v w : ℕ) (o p : Option X) → (v ≡ w → o ≡ p) → p ≡ nothing → o ≡ some n → (q : Option X) (b : Bool) → eqb v w ≡ b → cond b q o ≡ some n
+past : {X : Type 0} (k : X) (n : X) (v w : ℕ) (o p : Option X) → (v ≡ w → o ≡ p) → p ≡ none → o ≡ some n → (q : Option X) (b : Bool) → eqb v w ≡ b → cond b q o ≡ some n
 past k n v w o p f l h q false e = h
 past k n v w o p f l h q true e = let z : o ≡ p = f (eqb-true v w e) in cc
 
@@ -174,9 +174,9 @@ merged-agree δ ρ (column l d ∷ s) w f = absurd w
 found-well : (x y : ℕ) (g : Bool) (s : Log) (a b : Option BoolLit) → get-bool-var x s ≡ a → get-bool-var y s ≡ b → eqb x y ≡ false → WellMerged s → WellMerged (tie-found a b x y g s)
 unfolding get-bool-var
 found-well x y g s (some l) (some m) p q d w = w
-found-well x y g s (some l) nothing p q d w = (q, (record { literal = l; has = p }, w))
-found-well x y g s nothing (some m) p q d w = (p, (record { literal = m; has = q }, w))
-found-well x y g s nothing nothing p q d w =
+found-well x y g s (some l) none p q d w = (q, (record { literal = l; has = p }, w))
+found-well x y g s none (some m) p q d w = (p, (record { literal = m; has = q }, w))
+found-well x y g s none none p q d w =
     let e : eqb y x ≡ false = flip x y d in
     (rw e q, (record { literal = lit (next-bool s) false; has = rw (eq-eqb x x refl) refl }, (p, w)))
   where
@@ -189,8 +189,8 @@ found-well x y g s nothing nothing p q d w =
 
 tie-well : (a b : Option ℕ) (g : Bool) (s : Log) → WellMerged s → WellMerged (tie a b g s)
 unfolding tie
-tie-well nothing b g s w = w
-tie-well (some x) nothing g s w = w
+tie-well none b g s w = w
+tie-well (some x) none g s w = w
 tie-well (some x) (some y) g s w = go (eqb x y) refl
   where
     go : (t : Bool) → eqb x y ≡ t → WellMerged (cond t s (tie-found (get-bool-var x s) (get-bool-var y s) x y g s))

@@ -4,7 +4,7 @@ use mathlib.Core.List.{List, [], _∷_, _++_}
 use Prim.Native.Nat.{ℕ}
 use lib.IntN.{ℤ, pos}
 use Rattle.laws.specs.Lists.{flat}
-use Rattle.syntax.specs.Syntax.{CmpOp, Eq, Ne, Le, Lt, Ge, Gt, IntExpr, IConst, IVar, Linear, Terms, tnil, tmore, BoolExpr, Const, Var, NVar, And, Or, Not, Xor, Iff, Imp, Cmp, Members, none, more}
+use Rattle.syntax.specs.Syntax.{CmpOp, Eq, Ne, Le, Lt, Ge, Gt, IntExpr, IConst, IVar, Linear, Terms, tnil, tmore, BoolExpr, Const, Var, NVar, And, Or, Not, Xor, Iff, Imp, Cmp, Members, mnil, more}
 use Rattle.sums.specs.LinearSum.{LinearSum, constant, singleton, add-sum, mul-sum, sub-sum}
 use Rattle.clauses.specs.Clause.{negate-if, Clause, lit, linear, clause}
 use Rattle.clauses.specs.Log.{Log, negate-lit, convert-bool-var, convert-int-var}
@@ -114,5 +114,5 @@ unfoldable mutual
   normalize-bool-expr (Cmp o a b) g = normalize-comparison o g (normalize-int-expr a) (normalize-int-expr b)
 
   pub normalize-members : Members → Bool → Runs
-  normalize-members none g = no-run
+  normalize-members mnil g = no-run
   normalize-members (more e ms) g = run-then (normalize-bool-expr e g) (normalize-members ms g)

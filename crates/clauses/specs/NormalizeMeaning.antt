@@ -1,14 +1,14 @@
 -- The sum of an integer expression has the expression's value; the clauses of a Boolean expression, in either polarity, mean the expression.
 use mathlib.Core.Path.{_≡_, refl, sym, ap, _∙_}
 use mathlib.Core.Bool.{Bool, true, false, not, _&&_, _||_, Bool·beq, Bool·not-not as not-not}
-use mathlib.Core.Option.{Option, none as nothing, some}
+use mathlib.Core.Option.{Option, none, some}
 use mathlib.Core.List.{[], _∷_, _++_}
 use Prim.Native.Nat.{ℕ, _≤_, _<_}
 use native.Mathlib.Omega.{arith}
 use lib.IntN.{ℤ, pos, _+ℤ_, _*ℤ_, +ℤ-idl, +ℤ-idr, +ℤ-assoc}
 use Rattle.laws.specs.Bools.{eq1, eq2, eq4}
 use Rattle.laws.specs.Order.{leZ-not, ltZ-not}
-use Rattle.syntax.specs.Syntax.{CmpOp, Eq, Ne, Le, Lt, Ge, Gt, IntExpr, IConst, IVar, Linear, Terms, tnil, tmore, BoolExpr, Const, Var, NVar, And, Or, Not, Xor, Iff, Imp, Cmp, Members, none, more}
+use Rattle.syntax.specs.Syntax.{CmpOp, Eq, Ne, Le, Lt, Ge, Gt, IntExpr, IConst, IVar, Linear, Terms, tnil, tmore, BoolExpr, Const, Var, NVar, And, Or, Not, Xor, Iff, Imp, Cmp, Members, mnil, more}
 use Rattle.syntax.specs.Satisfies.{Val, IVal, compare, int-value, terms-value, holds, holds-all, holds-any}
 use Rattle.sums.specs.LinearSum.{LinearSum, constant, singleton, add-sum, mul-sum, sub-sum, sum-value}
 use Rattle.sums.specs.Value.{constant-value, singleton-value, add-sum-value, mul-sum-value, compare-sum}
@@ -90,7 +90,7 @@ module _ (δ : Val) (ε : IVal) (ρ : Val) (ι : IVal) where
   int-var-at-means : (v : ℕ) (s : Log) (w : Option ℕ) → get-int-var v s ≡ w → MI s (singleton (int-var-at w v s .0), int-var-at w v s .1) (ε v)
   unfolding get-int-var
   int-var-at-means v s (some n) e = record { grows = same; bounded = omega (arith, get-int-below s v n e); value = λ a. singleton-value ι n ∙ agrees-int ε ι s (a .ints) v n e }
-  int-var-at-means v s nothing e = record { grows = grow (declared-int v) e same; bounded = omega arith; value = λ a. singleton-value ι (next-int s) ∙ a .ints .0 }
+  int-var-at-means v s none e = record { grows = grow (declared-int v) e same; bounded = omega arith; value = λ a. singleton-value ι (next-int s) ∙ a .ints .0 }
 
   term-means : (s : Log) (k : ℤ) (sum : LinearSum) (a b : IntOut) (x y : ℤ) → MI s a x → (sum-bound sum ≤ next-int s → MI (a .1) b (sum-value ι (add-sum sum (mul-sum k (a .0))) +ℤ y)) → sum-bound sum ≤ next-int s → MI s b (sum-value ι sum +ℤ (k *ℤ x +ℤ y))
   term-means s k sum a b x y p q h = record {
@@ -152,8 +152,8 @@ module _ (δ : Val) (ε : IVal) (ρ : Val) (ι : IVal) where
 
   var-at-means : (s : Log) (v : ℕ) (g : Bool) (w : Option BoolLit) → get-bool-var v s ≡ w → M s (clause (negate-lit g (bool-var-at w v s .0) ∷ []) [] ∷ [], bool-var-at w v s .1) (negate-if g (δ v))
   var-at-means s v g (some (lit n h)) e = signed-means s n g h (δ v) (get-bool-below s v (lit n h) e) (λ r. agrees-bool δ ρ s (r .bools) v (lit n h) e)
-  var-at-means s v true nothing e = lit-means s (declared v ∷ s) (next-bool s) true (δ v) (grow (declared v) e same) (omega arith) (λ r. r .bools .0)
-  var-at-means s v false nothing e = lit-means s (declared v ∷ s) (next-bool s) false (δ v) (grow (declared v) e same) (omega arith) (λ r. r .bools .0)
+  var-at-means s v true none e = lit-means s (declared v ∷ s) (next-bool s) true (δ v) (grow (declared v) e same) (omega arith) (λ r. r .bools .0)
+  var-at-means s v false none e = lit-means s (declared v ∷ s) (next-bool s) false (δ v) (grow (declared v) e same) (omega arith) (λ r. r .bools .0)
 
   -- ---- runs, from every log that has the first k numbers
 
@@ -238,8 +238,8 @@ module _ (δ : Val) (ε : IVal) (ρ : Val) (ι : IVal) where
       bool-expr-runs (Cmp o a b) g h = λ s hs. comparison-means s o g (normalize-int-expr a s) (normalize-int-expr b (normalize-int-expr a s .1)) (int-value ε a) (int-value ε b) (int-expr-means a s) (int-expr-means b (normalize-int-expr a s .1))
 
       members-runs : (ms : Members) (g : Bool) → members-bound ms ≤ k → RunsMean (normalize-members ms g) (all-of g (holds-all δ ε ρ ms) (holds-any δ ε ρ ms)) (any-of g (holds-all δ ε ρ ms) (holds-any δ ε ρ ms))
-      members-runs none false h = no-run-means
-      members-runs none true h = no-run-means
+      members-runs mnil false h = no-run-means
+      members-runs mnil true h = no-run-means
       members-runs (more e ms) g h = rw (all-more g (H e) (holds-all δ ε ρ ms) (holds-any δ ε ρ ms), any-more g (H e) (holds-all δ ε ρ ms) (holds-any δ ε ρ ms)) at (run-then-means (normalize-bool-expr e g) (normalize-members ms g) _ _ _ (bool-expr-runs e g (omega arith)) (members-runs ms g (omega arith)))
 
   -- the clauses of an expression mean the expression, negated if g

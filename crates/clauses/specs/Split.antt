@@ -2,7 +2,7 @@
 use mathlib.Core.Bool.{Bool, true, false}
 use mathlib.Core.List.{List, [], _∷_, _++_}
 use Prim.Native.Nat.{suc}
-use Rattle.syntax.specs.Syntax.{BoolExpr, Const, Var, NVar, And, Or, Not, Xor, Iff, Imp, Cmp, Members, none, more}
+use Rattle.syntax.specs.Syntax.{BoolExpr, Const, Var, NVar, And, Or, Not, Xor, Iff, Imp, Cmp, Members, mnil, more}
 use Rattle.clauses.specs.Log.{Log, next-bool, side}
 use Rattle.clauses.specs.Normalize.{Run, normalize-bool-expr}
 
@@ -66,7 +66,7 @@ unfoldable mutual
   tseitin-transformation-bool (Cmp o a b) t = unsplit (Cmp o a b)
 
   pub tseitin-transformation-members : Members → Bool → Log → Splits
-  tseitin-transformation-members none t = λ s. record { rules = none; extra = []; log = s }
+  tseitin-transformation-members mnil t = λ s. record { rules = mnil; extra = []; log = s }
   tseitin-transformation-members (more e ms) t = split-more (tseitin-transformation-bool e t) (tseitin-transformation-members ms t)
 
 -- ---- normalize_and_register_expr

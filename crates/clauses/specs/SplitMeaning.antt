@@ -6,7 +6,7 @@ use Prim.Native.Nat.{ℕ, suc, _≤_, max}
 use native.Mathlib.Omega.{arith}
 use Rattle.laws.specs.Bools.{and-l, and-r, and-i, beq-eq, beq-same}
 use Rattle.laws.specs.Lists.{all, all-append}
-use Rattle.syntax.specs.Syntax.{BoolExpr, Const, Var, NVar, And, Or, Not, Xor, Iff, Imp, Cmp, Members, none, more}
+use Rattle.syntax.specs.Syntax.{BoolExpr, Const, Var, NVar, And, Or, Not, Xor, Iff, Imp, Cmp, Members, mnil, more}
 use Rattle.syntax.specs.Satisfies.{Val, IVal, holds, holds-all, holds-any}
 use Rattle.clauses.specs.Log.{side, Log, next-bool}
 use Rattle.clauses.specs.Split.{Split, Splits, unsplit, split-not, split-members, split-two, split-sides, split-more, tseitin-transformation-bool, tseitin-transformation-members}
@@ -70,7 +70,7 @@ module _ (δ : Val) (ε : IVal) (ρ : Val) (ι : IVal) where
   unfolding holds expr-bound split-members
   or-means s c x y p = record { grows = p .grows; rule-bounded = p .rules-bounded; extra-bounded = p .extra-bounded; sound = λ k. p .sound k .1; complete = p .complete }
 
-  none-mean : (s : Log) → SplitsMean s (record { rules = none; extra = []; log = s }) true false
+  none-mean : (s : Log) → SplitsMean s (record { rules = mnil; extra = []; log = s }) true false
   unfolding holds expr-bound
   none-mean s = record { grows = same; rules-bounded = omega arith; extra-bounded = omega arith; sound = λ k. (refl, refl); complete = λ f. refl }
 
@@ -185,7 +185,7 @@ module _ (δ : Val) (ε : IVal) (ρ : Val) (ι : IVal) where
       split-keeps (Cmp o a b) t h = λ s hs. unsplit-means s (Cmp o a b) (omega arith)
 
       splits-keep : (ms : Members) (t : Bool) → members-bound ms ≤ n → (s : Log) → n ≤ next-bool s → SplitsMean s (tseitin-transformation-members ms t s) (holds-all δ ε ρ ms) (holds-any δ ε ρ ms)
-      splits-keep none t h = λ s hs. none-mean s
+      splits-keep mnil t h = λ s hs. none-mean s
       splits-keep (more e ms) t h = λ s hs.
           let p = split-keeps e t (omega arith) s hs in
           more-mean s (tseitin-transformation-bool e t s) (tseitin-transformation-members ms t (tseitin-transformation-bool e t s .log)) _ _ _ p (splits-keep ms t (omega arith) (tseitin-transformation-bool e t s .log) (omega (arith, grows-bool (p .grows))))

@@ -10,7 +10,7 @@ use borrow.Author.Tests.{ltb-false}
 use Rattle.laws.specs.Bools.{or-no-l, or-no-r}
 use Rattle.laws.specs.Lists.{any, different}
 use Rattle.laws.specs.Slices.{Has}
-use Rattle.laws.specs.Writes.{cap, Wrote, wrote-length, wrote-then, wrote-to}
+use Rattle.laws.specs.Writes.{cap, Wrote, wrote-length, wrote-then, wrote-to, Open}
 use Rattle.syntax.specs.Words.{max-column-vars}
 use Rattle.syntax.specs.Lengths.{int-tag, int-tag-word, int-long, int-fits}
 use Rattle.syntax.specs.Syntax.{Domain, op-at, IntExpr, IConst, IVar, Linear, encode-int}
@@ -31,7 +31,6 @@ use Rattle.answer.specs.Answer.{linear-words}
 use Rattle.walk.specs.Item.{nat, int-number}
 use Rattle.walk.specs.Decode.{word, read-part}
 use Rattle.walk.specs.NumberingSteps.{part-short}
-use Rattle.output.specs.Suffix.{Open}
 use Rattle.walk.specs.DecodeExact.{has-part}
 use Rattle.output.proofs.Differences.{numbers, number-is}
 use Rattle.rows.specs.Emit.{Clauses, Behind}
@@ -105,21 +104,21 @@ module _ (w : List ℤ) (p : ℕ) where
   other (IVar v) h k = absurd (k (code-is (IVar v) h))
   other (Linear ts) h k = unfold column-number in refl
 
-  pub variable-passed : {out : List ℤ} {o k n : ℕ} → Behind out o k → n ≡ word (read-part w) p → n ≡ 21 → EquatedOne w p (p + 2) out o k out o k
-  variable-passed b e h = record {
+  pub variable-behind : {out : List ℤ} {o k n : ℕ} → Behind out o k → n ≡ word (read-part w) p → n ≡ 21 → EquatedOne w p (p + 2) out o k out o k
+  variable-behind b e h = record {
     clauses = λ t i. clauses-to (sym (variable t i (sym e ∙ h) .0)) (clauses-none b);
     ends = λ t i. omega (arith, variable t i (sym e ∙ h) .1);
     behind = b;
   }
 
-  pub equality-passed : {out out' : List ℤ} {o k n next o' : ℕ} → Column w p → Behind out o k → o < cap → n ≡ word (read-part w) p → (n ≡ 21 → ⊥) → Equality w p next out o out' o' → EquatedOne w p next out o k out' o' (k + 1)
-  equality-passed {out} {out'} {o} {k} {n} {next} {o'} c b l e h x =
+  pub equality-behind : {out out' : List ℤ} {o k n next o' : ℕ} → Column w p → Behind out o k → o < cap → n ≡ word (read-part w) p → (n ≡ 21 → ⊥) → Equality w p next out o out' o' → EquatedOne w p next out o k out' o' (k + 1)
+  equality-behind {out} {out'} {o} {k} {n} {next} {o'} c b l e h x =
       let y = x .wrote (c .expr) (c .words) in
       let m : o < o' = omega (arith, y .at) in
       record {
         clauses = λ t i. clauses-to (sym (other t i (λ z. h (e ∙ z)))) (clauses-one _ (b .low) m (x .wrote t i));
         ends = x .ends;
-        behind = record { room = record { place = omega (arith, y .at); part = omega (arith, wrote-length y, b .room .part) }; low = omega (arith, b .low) };
+        behind = record { room = record { low = omega (arith, y .at); room = omega (arith, wrote-length y, b .room .room) }; low = omega (arith, b .low) };
       }
 
 -- ---- one column after the other: whatever writes the clauses of the columns left writes those of all
@@ -184,7 +183,7 @@ module _ (w : List ℤ) (at count : ℕ) (out₀ : List ℤ) (o k : ℕ) where
           few = or-no-r (many-column e) _ f;
           behind = x .behind;
           same = h ∙ g .same;
-          to = λ out'' q'' c'' y. t out'' q'' c'' (clauses-then (g .behind .room .part) (x .clauses e i) (clauses-to (ap (λ (m : ℕ). columns-clauses w m es) n) y));
+          to = λ out'' q'' c'' y. t out'' q'' c'' (clauses-then (g .behind .room .room) (x .clauses e i) (clauses-to (ap (λ (m : ℕ). columns-clauses w m es) n) y));
         }
 
     pub going-next : {out' : List ℤ} {r q' c' : ℕ} → (rest ≡ 0 → ⊥) → EquatedOne w p r out q c out' q' c' → length out' ≡ length out → Going w at count out₀ o k out' r q' c' (rest - 1)

@@ -242,8 +242,8 @@ module _ (set w : List ℤ) (at count : ℕ) (out : List ℤ) (triples : ℕ) wh
       all-done : length (s .done) ≡ count
       all-done = omega (arith, s .counted, z)
 
-      none : [] ≡ column-numbers w p (s .left)
-      none = sym (none-left (s .left) (s .stands .counted) z)
+      no-numbers : [] ≡ column-numbers w p (s .left)
+      no-numbers = sym (none-left (s .left) (s .stands .counted) z)
 
       abbrev all-numbers : List ℕ
       all-numbers = map (λ t. t .number) (s .done)
@@ -259,14 +259,14 @@ module _ (set w : List ℤ) (at count : ℕ) (out : List ℤ) (triples : ℕ) wh
         numbers = λ es st.
             let e = same-columns w at count (s .whole) es (s .standing) st in
             rw (words-are, ← all-done) (numbers-read set behind (s .done))
-            ∙ (sym (append-nil all-numbers) ∙ ap (λ (l : List ℕ). all-numbers ++ l) none ∙ s .numbers)
+            ∙ (sym (append-nil all-numbers) ∙ ap (λ (l : List ℕ). all-numbers ++ l) no-numbers ∙ s .numbers)
             ∙ ap (column-numbers w at) e;
         domains = λ ds dom es d.
             let e = same-columns w at count (s .whole) es (s .standing) (d .standing) in
             let g : Declared set ds = record { words = d .declared; well = d .well; short = d .short } in
             let y = s .told ds dom g (subst (λ (fs : List IntExpr). AllKnown ds dom out triples w at fs) (sym e) (d .known)) in
             rw (words-are, ← all-done) (domains-read set behind (s .done))
-            ∙ (sym (append-nil all-domains) ∙ ap (λ (l : List ℕ). all-domains ++ map dom l) none ∙ y .1)
+            ∙ (sym (append-nil all-domains) ∙ ap (λ (l : List ℕ). all-domains ++ map dom l) no-numbers ∙ y .1)
             ∙ ap (λ (fs : List IntExpr). map dom (column-numbers w at fs)) e;
         columns = rw (words-are, ← all-done) (columns-read set behind (s .done) (s .placed));
         below = below;

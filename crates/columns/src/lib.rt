@@ -4,12 +4,11 @@ ghost use mathlib.Core.List.{List};
 ghost use Prim.Native.Nat.{ℕ, _+_, _-_, _<_};
 ghost use lib.IntN.{pos};
 ghost use lib.ListN.{length, getD};
-ghost use Rattle.laws.specs.Writes.{cap};
+ghost use Rattle.laws.specs.Writes.{cap, Open};
 ghost use Rattle.rows.specs.Emit.{Behind};
 ghost use Rattle.syntax.specs.Syntax.{Domain, domain-of, IntExpr};
 ghost use Rattle.statements.specs.Columns.{column-number};
 ghost use Rattle.walk.specs.Item.{nat};
-ghost use Rattle.output.specs.Suffix.{Open};
 ghost use Rattle.columns.specs.Describing.{At, SomeAt, Declared, SomeDeclared, Describes, Told, SomeTold, Storable, StoredColumn, SomeDescribable, Described};
 ghost use Rattle.columns.specs.Equalities.{Column, Equality, EquatedOne, Equatable, Equated};
 use rows::Written;
@@ -35,13 +34,13 @@ fn number_at(work: &[i32], i: usize) -> usize
 // ---- equality clauses
 
 // Behind a column: where the next one stands, and where the next clause goes.
-pub struct Passed {
+pub struct ColumnEnd {
     pub next: usize,
     pub at: usize,
 }
 
 // The clause of the column at p: its sum less its own variable is 0.
-fn put_equality(work: &[i32], p: usize, out: &mut [i32], o: usize) -> Passed
+fn put_equality(work: &[i32], p: usize, out: &mut [i32], o: usize) -> ColumnEnd
     requires { ⌜ Column (now work) p × Open (now out) o ⌝ }
     ensures { λ r. ⌜ Equality (now (work .entry)) p (r .next) (now (out .entry)) o (now (out .exit)) (r .at) ⌝ }
 {
@@ -54,7 +53,7 @@ fn put_equality(work: &[i32], p: usize, out: &mut [i32], o: usize) -> Passed
     let b = output::put(out, o, 0);
     let c = output::put(out, b, 1);
     let q = output::put_linear(0, false, d, out, c);
-    Passed { next: next, at: q }
+    ColumnEnd { next: next, at: q }
 }
 
 pub struct Step {

@@ -2,7 +2,7 @@
 use Prim.Native.Nat.{ℕ, zero, suc, _+_, _-_, _*_, _≤_, _<_}
 use mathlib.Core.Path.{_≡_, refl, sym, ap, _∙_}
 use mathlib.Core.Bool.{true}
-use mathlib.Core.Option.{none as nothing, some}
+use mathlib.Core.Option.{none, some}
 use mathlib.Core.List.{List, [], _∷_, map}
 use native.Mathlib.Omega.{arith}
 use lib.IntN.{ℤ, pos, negsuc, natAbs, sucℤ, _+ℤ_, _-ℤ_, +ℤ-one}
@@ -89,7 +89,7 @@ module _ (ws : List ℤ) (at : ℕ) where
       pub enum-many : (k ≡ 0 → ⊥) → (n ≡ 1 → ⊥) → (dm : Domain) → Has ws at (encode-domain dm) → One-value ws dm 0
       enum-many z e dm h = enum-inv dm h z λ xs q g. rw q (record { absent = λ w. go xs (λ l. e (sym (count-is xs g) ∙ l)); found = λ w. absurd (w refl) })
         where
-          go : (xs : List ℤ) → (length xs ≡ 1 → ⊥) → as-constant (Enumerative xs) ≡ nothing
+          go : (xs : List ℤ) → (length xs ≡ 1 → ⊥) → as-constant (Enumerative xs) ≡ none
           go [] l = refl
           go (x ∷ []) l = absurd (l refl)
           go (x ∷ y ∷ xs) l = refl
@@ -113,7 +113,7 @@ module _ (ws : List ℤ) (at : ℕ) where
         let s = ends-are low high g in
         rw q (record { absent = λ w. go low high (λ l. e (s .0 ∙ l ∙ sym (s .1))); found = λ w. absurd (w refl) })
       where
-        go : (low high : ℤ) → (low ≡ high → ⊥) → as-constant (Range low high) ≡ nothing
+        go : (low high : ℤ) → (low ≡ high → ⊥) → as-constant (Range low high) ≡ none
         go low high l = rw (not-eqZ low high l) refl
 
 -- ---- `domain_of`

@@ -1,6 +1,6 @@
 -- The declared domains in a set's words: what the functions over them ask and give. Assumes nothing.
 use mathlib.Core.Path.{_≡_, refl, _∙_}
-use mathlib.Core.Option.{none as nothing, some}
+use mathlib.Core.Option.{none, some}
 use mathlib.Core.List.{List, [], _∷_, map}
 use Prim.Native.Nat.{ℕ, zero, suc, _+_, _*_, _<_, _≤_}
 use native.Mathlib.Omega.{arith}
@@ -31,7 +31,7 @@ pub record Sized-at (ws : List ℤ) (at : ℕ) : Type 0 where
 
 -- the place of a domain's one value, or 0
 pub record One-value (ws : List ℤ) (dm : Domain) (r : ℕ) : Type 0 where
-  pub absent : r ≡ 0 → as-constant dm ≡ nothing
+  pub absent : r ≡ 0 → as-constant dm ≡ none
   pub found : (r ≡ 0 → ⊥) → (as-constant dm ≡ some (getD ws r (pos 0))) × (r < length ws)
 
 -- ---- the set's domains stand from d on

@@ -15,16 +15,16 @@ use Rattle.laws.specs.Ints.{eqZ, pos-eq}
 use Rattle.laws.specs.Order.{is-eqZ, not-eqZ}
 use Rattle.laws.specs.Signed.{same-value}
 use Rattle.laws.specs.Slices.{Has, has-front, has-back, has-rest}
-use Rattle.syntax.specs.Syntax.{Domain, CmpOp, Eq, Ne, Le, Lt, Ge, Gt, op-at, IntExpr, BoolExpr, Const, Var, Cmp, Not, Members, none, more, count-members, encode-int, encode-bool, encode-members}
+use Rattle.syntax.specs.Syntax.{Domain, CmpOp, Eq, Ne, Le, Lt, Ge, Gt, op-at, IntExpr, BoolExpr, Const, Var, Cmp, Not, Members, mnil, more, count-members, encode-int, encode-bool, encode-members}
 use Rattle.syntax.specs.Satisfies.{compare, holds}
 use Rattle.syntax.specs.Written.{EveryOf}
 use Rattle.fold.specs.Fold.{Op, op-xor, op-iff, op-imp, expr-of}
 use Rattle.fold.specs.Table.{op-num, bit}
 use Rattle.fold.specs.Forms.{list-of, list-words, binary-words, op-word, declared-list, declared-binary, bool-long}
-use Rattle.folding.proofs.BoolLaws.{not-inv, binary-inv, second, tag-low}
+use Rattle.folding.proofs.BoolLaws.{not-inv, binary-inv, second, code-low}
 use Rattle.limits.specs.Limits.{heavy, heavy-comparison, any-comparison, any-comparison-members}
 use Rattle.evaluate.specs.Contracts.{Int-at, Ready-int, Int-post, Bool-stands, Some-bool, Some-members, Skip-post, Bool-at, Members-at, Ready-bool, Ready-members, held, decided, side-value, Bool-post, Members-post}
-use Rattle.evaluate.proofs.SkipLaws.{leaf-inv, tag-is, second-is, the-list, sides, first-inv}
+use Rattle.evaluate.proofs.SkipLaws.{leaf-inv, code-is, second-is, the-list, sides, first-inv}
 
 -- ---- tests of words
 
@@ -92,9 +92,9 @@ module _ (ws values : List ℤ) (nb at : ℕ) where
       the-leaf : {X : Type 0} (ni : ℕ) (e : BoolExpr) → Bool-stands nb ni ws at e → ((b : Bool) → w ≡ 10 → e ≡ Const b → v ≡ bit b → X) → ((w ≡ 10 → ⊥) → e ≡ Var v → v < nb → X) → X
       unfolding second EveryOf
       the-leaf {X} ni e r f g =
-          let t = tag-is ws at w hw nb ni e r in
+          let t = code-is ws at w hw nb ni e r in
           let s : v ≡ second e = pos-eq _ _ _ hv (second-is ws at w hw nb ni e r (λ k. absurd (omega arith))) in
-          leaf-inv e (tag-low nb ni e (r .vars)) (omega arith)
+          leaf-inv e (code-low nb ni e (r .vars)) (omega arith)
           (λ b q. let z : 10 ≡ w = rw q at t in f b (sym z) q (s ∙ ap second q))
           (λ u q. let z : 11 ≡ w = rw q at t in let y : v ≡ u = s ∙ ap second q in let d : u < nb = rw q at (r .vars) in g (λ h. omega arith) (q ∙ ap Var (sym y)) (omega arith))
 
@@ -194,7 +194,7 @@ module _ (ws values : List ℤ) (nb at : ℕ) where
       the-member : {X : Type 0} (ds : List Domain) (e : BoolExpr) → Bool-at nb ds ws at e → ((x : BoolExpr) → e ≡ Not x → Bool-at nb ds ws (at + 1) x → X) → X
       unfolding encode-bool EveryOf any-comparison
       the-member ds e r go =
-          not-inv e (tag-is ws at w hw nb (length ds) e (r .stands) ∙ h14) λ x q.
+          not-inv e (code-is ws at w hw nb (length ds) e (r .stands) ∙ h14) λ x q.
           let g = subst (λ x. Bool-at nb ds ws at x) q (r) in
           go x q (record { stands = record { words = has-rest ws at _ _ (g .stands .words); vars = g .stands .vars }; light = g .light })
 
@@ -215,7 +215,7 @@ module _ (ws values : List ℤ) (nb at : ℕ) where
       the-two : {X : Type 0} (ds : List Domain) (e : BoolExpr) → Bool-at nb ds ws at e
           → ((o : Op) (a b : BoolExpr) → e ≡ expr-of o a b → w ≡ 15 + op-num o → Bool-at nb ds ws (at + 1) a → Bool-at nb ds ws (at + 1 + length (encode-bool a)) b → X) → X
       the-two ds e r go =
-          let t = tag-is ws at w hw nb (length ds) e (r .stands) in
+          let t = code-is ws at w hw nb (length ds) e (r .stands) in
           binary-inv e (omega arith) (λ z. n18 (sym t ∙ z)) λ o a b q to.
           let g = subst (λ x. Bool-at nb ds ws at x) q (r) in
           let h = has-rest ws at _ _ (rw (binary-words o a b) at (g .stands .words)) in
@@ -262,8 +262,8 @@ module _ (ws values : List ℤ) (nb at : ℕ) where
 
 pub members-none : (ws values : List ℤ) (nb at n : ℕ) (stop : Bool) → n ≡ 0 → Members-post ws values nb at n stop at (not stop)
 unfolding encode-bool holds
-members-none ws values nb at n true z ds none b r = (omega arith, refl)
-members-none ws values nb at n false z ds none b r = (omega arith, refl)
+members-none ws values nb at n true z ds mnil b r = (omega arith, refl)
+members-none ws values nb at n false z ds mnil b r = (omega arith, refl)
 members-none ws values nb at n stop z ds (more e ms) b r = absurd (let s : n ≡ suc (count-members ms) = r .stand .size in omega arith)
 
 module _ (ws values : List ℤ) (nb at n : ℕ) (z : n ≡ 0 → ⊥) where

@@ -19,11 +19,12 @@ use Rattle.syntax.specs.Written.{in-domains-within}
 use Rattle.words.specs.Exact.{Each}
 use Rattle.read.specs.WellFormed.{WellStmt}
 use Rattle.limits.specs.Limits.{largest, domain-weight, heavy, heavy-comparison, any-part, check}
+use Rattle.limits.specs.Admitted.{admitted, limited}
 use Rattle.reader.specs.declared.Declared.{Declared}
 use Rattle.reader.specs.declared.Set.the-variants as set
 use Rattle.accept.specs.Accepted.{accepted}
 use Rattle.accept.specs.Taken.{Taken, accepted-ok, accepted-refused, taken-set, declared-is, taken-domains, taken-stmts}
-use Rattle.evaluate.specs.Roster.{int-of, is-bit, right-count, all-inside, truth, first-broken, stops-same, judged, rostered, unless-refused, when-read, check-roster}
+use Rattle.evaluate.specs.Roster.{int-of, is-bit, right-count, all-inside, truth, first-broken, stops-same, judged, rostered, when-admitted, check-roster}
 use Rattle.evaluate.specs.Contracts.{Roster, each-inside, Ready-domains, Inside-post, Stmts-at, Ready-stmts, checked-of, Broken-post}
 use Rattle.evaluate.specs.declared.Checked.{Checked}
 use Rattle.evaluate.specs.declared.Checked.the-variants.{Refused}
@@ -79,7 +80,7 @@ module _ (ws values : List ℤ) (n : ℕ) where
   Judged r = r ≡ checked-of (check-roster ws values n)
 
   pub judge-refused : (k : ℕ) → accepted n ws ≡ set.Refused k → Judged (Refused k)
-  unfolding check-roster when-read unless-refused checked-of
+  unfolding check-roster when-admitted checked-of admitted limited
   judge-refused k h =
       accepted-refused n ws k h
       (λ a e. rw (a, e) refl)
@@ -95,7 +96,7 @@ module _ (ws values : List ℤ) (n : ℕ) where
     p = t .it
 
     past : check-roster ws values n ≡ rostered p values
-    unfolding check-roster when-read unless-refused
+    unfolding check-roster when-admitted admitted limited
     past = rw (t .enough, t .short, t .says, t .unrefused) refl
 
     bools-are : d .bools ≡ p .bools

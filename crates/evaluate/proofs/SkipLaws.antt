@@ -8,18 +8,19 @@ use lib.IntN.{ℤ, pos}
 use lib.ListN.{length, getD, length-append}
 use Rattle.laws.specs.Ints.{pos-eq}
 use Rattle.laws.specs.Slices.{Has, has-fits, has-front, has-back, has-rest}
-use Rattle.syntax.specs.Syntax.{IntExpr, CmpOp, encode-op, encode-bit, BoolExpr, Const, Var, NVar, And, Or, Not, Xor, Iff, Imp, Cmp, Members, none, more, count-members, encode-int, encode-bool, encode-members}
+use Rattle.syntax.specs.Syntax.{IntExpr, CmpOp, encode-op, encode-bit, BoolExpr, Const, Var, NVar, And, Or, Not, Xor, Iff, Imp, Cmp, Members, mnil, more, count-members, encode-int, encode-bool, encode-members}
 use Rattle.syntax.specs.Written.{EveryOf}
+use Rattle.syntax.specs.Codes.{bool-code}
 use Rattle.domains.specs.Declared.{Plain}
 use Rattle.fold.specs.Fold.{Op, op-xor, op-iff, op-imp, expr-of}
 use Rattle.fold.specs.Table.{bit}
 use Rattle.fold.specs.Forms.{list-of, Declared, Declared-members, bool-long, members-long}
-use Rattle.folding.proofs.BoolLaws.{tag, cmp-inv, not-inv, list-inv, binary-inv, first-word, second, second-word, tag-low}
+use Rattle.folding.proofs.BoolLaws.{cmp-inv, not-inv, list-inv, binary-inv, first-word, second, second-word, code-low}
 use Rattle.passes.specs.Contracts.{Some-int, Skip-post as Skip-int-post}
 use Rattle.evaluate.specs.Contracts.{Bool-stands, Members-stand, Some-bool, Some-members, own-length, inner, Step-post, Skip-post}
 
 -- a constant or a variable
-pub leaf-inv : {X : Type 0} (e : BoolExpr) → 10 ≤ tag e → tag e < 12 → ((b : Bool) → e ≡ Const b → X) → ((v : ℕ) → e ≡ Var v → X) → X
+pub leaf-inv : {X : Type 0} (e : BoolExpr) → 10 ≤ bool-code e → bool-code e < 12 → ((b : Bool) → e ≡ Const b → X) → ((v : ℕ) → e ≡ Var v → X) → X
 leaf-inv (Const b) l k f g = f b refl
 leaf-inv (Var v) l k f g = g v refl
 leaf-inv (NVar n) l k f g = absurd (omega arith)
@@ -31,17 +32,17 @@ leaf-inv (Iff a b) l k f g = absurd (omega arith)
 leaf-inv (Imp a b) l k f g = absurd (omega arith)
 leaf-inv (Cmp o a b) l k f g = absurd (omega arith)
 
-tag-high : (e : BoolExpr) → tag e ≤ 18
-tag-high (Const b) = omega arith
-tag-high (Var v) = omega arith
-tag-high (NVar n) = omega arith
-tag-high (And ms) = omega arith
-tag-high (Or ms) = omega arith
-tag-high (Not e) = omega arith
-tag-high (Xor a b) = omega arith
-tag-high (Iff a b) = omega arith
-tag-high (Imp a b) = omega arith
-tag-high (Cmp o a b) = omega arith
+code-high : (e : BoolExpr) → bool-code e ≤ 18
+code-high (Const b) = omega arith
+code-high (Var v) = omega arith
+code-high (NVar n) = omega arith
+code-high (And ms) = omega arith
+code-high (Or ms) = omega arith
+code-high (Not e) = omega arith
+code-high (Xor a b) = omega arith
+code-high (Iff a b) = omega arith
+code-high (Imp a b) = omega arith
+code-high (Cmp o a b) = omega arith
 
 -- ---- an expression's own words, and those of the expressions in it
 
@@ -57,7 +58,7 @@ own-words (Iff a b) = pos 16 ∷ []
 own-words (Imp a b) = pos 17 ∷ []
 own-words (Cmp o a b) = pos 18 ∷ encode-op o ∷ (encode-int a ++ encode-int b)
 
-two-words : (a b : BoolExpr) → encode-bool a ++ encode-bool b ≡ encode-members (more a (more b none))
+two-words : (a b : BoolExpr) → encode-bool a ++ encode-bool b ≡ encode-members (more a (more b mnil))
 unfolding encode-bool
 two-words a b = ap (λ l. encode-bool a ++ l) (sym (append-nil (encode-bool b)))
 
@@ -117,22 +118,22 @@ module _ (nb ni : ℕ) where
 -- ---- members in front of members
 
 join : Members → Members → Members
-join none us = us
+join mnil us = us
 join (more e ms) us = more e (join ms us)
 
 join-words : (ms us : Members) → encode-members (join ms us) ≡ encode-members ms ++ encode-members us
 unfolding encode-bool join
-join-words none us = refl
+join-words mnil us = refl
 join-words (more e ms) us = ap (λ l. encode-bool e ++ l) (join-words ms us) ∙ sym (append-assoc (encode-bool e) (encode-members ms) (encode-members us))
 
 join-count : (ms us : Members) → count-members (join ms us) ≡ count-members ms + count-members us
 unfolding join
-join-count none us = omega arith
+join-count mnil us = omega arith
 join-count (more e ms) us = omega (arith, join-count ms us)
 
 join-declared : (nb ni : ℕ) (ms us : Members) → Declared-members nb ni ms → Declared-members nb ni us → Declared-members nb ni (join ms us)
 unfolding EveryOf join
-join-declared nb ni none us h k = k
+join-declared nb ni mnil us h k = k
 join-declared nb ni (more e ms) us h k = (h .0, join-declared nb ni ms us (h .1) k)
 
 -- ---- `skip_step`
@@ -144,31 +145,31 @@ module _ (ws : List ℤ) (at : ℕ) where
       omega (arith, l, has-fits ws at (encode-bool (s .it)) (s .stands .words) (omega (arith, l)))
 
   pub some-first : Some-bool ws at → Plain ws at
-  some-first s = record { inside = omega (arith, some-inside s); value = tag (s .it); is = first-word (s .bools) (s .ints) ws at (s .it) (s .stands .vars) (s .stands .words) }
+  some-first s = record { inside = omega (arith, some-inside s); value = bool-code (s .it); is = first-word (s .bools) (s .ints) ws at (s .it) (s .stands .vars) (s .stands .words) }
 
   module _ (w : ℕ) (hw : getD ws at (pos 0) ≡ pos w) where
-    pub tag-is : (nb ni : ℕ) (e : BoolExpr) → Bool-stands nb ni ws at e → tag e ≡ w
-    tag-is nb ni e r = pos-eq _ _ _ (first-word nb ni ws at e (r .vars) (r .words)) hw
+    pub code-is : (nb ni : ℕ) (e : BoolExpr) → Bool-stands nb ni ws at e → bool-code e ≡ w
+    code-is nb ni e r = pos-eq _ _ _ (first-word nb ni ws at e (r .vars) (r .words)) hw
 
     -- the second word where it is an operand
     pub second-is : (nb ni : ℕ) (e : BoolExpr) → Bool-stands nb ni ws at e → (14 ≤ w → w ≡ 18) → getD ws (at + 1) (pos 0) ≡ pos (second e)
     second-is nb ni e r l =
-        let t = tag-is nb ni e r in
-        second-word ws at e (λ a b. omega (arith, tag-low nb ni e (r .vars))) (λ a. t ∙ l (omega arith)) (r .words)
+        let t = code-is nb ni e r in
+        second-word ws at e (λ a b. omega (arith, code-low nb ni e (r .vars))) (λ a. t ∙ l (omega arith)) (r .words)
 
     pub some-second : Some-bool ws at → (14 ≤ w → w ≡ 18) → Plain ws (at + 1)
     some-second s l = record { inside = omega (arith, some-inside s); value = second (s .it); is = second-is (s .bools) (s .ints) (s .it) (s .stands) l }
 
     pub step-leaf : w < 12 → Step-post ws at (at + 2) 0
     step-leaf l nb ni e r =
-        let t = tag-is nb ni e r in
-        leaf-inv e (tag-low nb ni e (r .vars)) (omega arith) (λ b q. rw q (refl, refl)) (λ v q. rw q (refl, refl))
+        let t = code-is nb ni e r in
+        leaf-inv e (code-low nb ni e (r .vars)) (omega arith) (λ b q. rw q (refl, refl)) (λ v q. rw q (refl, refl))
 
     module _ (l12 : 12 ≤ w) (l14 : w < 14) (n : ℕ) (hn : getD ws (at + 1) (pos 0) ≡ pos n) where
       pub the-list : {X : Type 0} (nb ni : ℕ) (e : BoolExpr) → Bool-stands nb ni ws at e → ((b : Bool) (ms : Members) → e ≡ list-of b ms → w ≡ 12 + bit b → n ≡ count-members ms → X) → X
       unfolding second
       the-list nb ni e r go =
-          let t = tag-is nb ni e r in
+          let t = code-is nb ni e r in
           list-inv e (omega arith) (omega arith) λ b ms q tb.
           go b ms q (omega arith) (pos-eq _ _ _ hn (second-is nb ni e r (λ l. absurd (omega arith))) ∙ ap second q ∙ second-list b ms)
         where
@@ -184,11 +185,11 @@ module _ (ws : List ℤ) (at : ℕ) where
           go true ms s = (refl, s)
 
     pub step-not : w ≡ 14 → Step-post ws at (at + 1) 1
-    step-not h nb ni e r = not-inv e (tag-is nb ni e r ∙ h) λ x q. rw q (refl, refl)
+    step-not h nb ni e r = not-inv e (code-is nb ni e r ∙ h) λ x q. rw q (refl, refl)
 
     pub step-two : 14 < w → w < 18 → Step-post ws at (at + 1) 2
     step-two l k nb ni e r =
-        let t = tag-is nb ni e r in
+        let t = code-is nb ni e r in
         binary-inv e (omega arith) (λ z. omega arith) λ o a b q tb. rw q (go o a b)
       where
         go : (o : Op) (a b : BoolExpr) → (at + 1 ≡ at + own-length (expr-of o a b)) × (2 ≡ count-members (inner (expr-of o a b)))
@@ -198,7 +199,7 @@ module _ (ws : List ℤ) (at : ℕ) where
 
     -- the last code there is
     pub at-18 : 18 ≤ w → Some-bool ws at → w ≡ 18
-    at-18 l s = let t = tag-is (s .bools) (s .ints) (s .it) (s .stands) in omega (arith, t, l, tag-high (s .it))
+    at-18 l s = let t = code-is (s .bools) (s .ints) (s .it) (s .stands) in omega (arith, t, l, code-high (s .it))
 
     module _ (h18 : w ≡ 18) where
       -- the two sides of a comparison
@@ -206,7 +207,7 @@ module _ (ws : List ℤ) (at : ℕ) where
           → ((o : CmpOp) (a b : IntExpr) → e ≡ Cmp o a b → Has ws (at + 2) (encode-int a) → Has ws (at + 2 + length (encode-int a)) (encode-int b) → X) → X
       unfolding encode-bool
       sides nb ni e r go =
-          cmp-inv e (tag-is nb ni e r ∙ h18) λ o a b q.
+          cmp-inv e (code-is nb ni e r ∙ h18) λ o a b q.
           let k : at + 2 ≡ at + 1 + 1 = omega arith in
           let g : Has ws at (pos 18 ∷ encode-op o ∷ (encode-int a ++ encode-int b)) = rw q at (r .words) in
           let h : Has ws (at + 2) (encode-int a ++ encode-int b) = rw k (has-rest ws (at + 1) _ _ (has-rest ws at _ _ g)) in
@@ -233,14 +234,14 @@ module _ (ws : List ℤ) (at : ℕ) where
 
 pub skip-none : (ws : List ℤ) (at n : ℕ) → n ≡ 0 → Skip-post ws at n at
 unfolding encode-bool
-skip-none ws at n z nb ni none r = omega arith
+skip-none ws at n z nb ni mnil r = omega arith
 skip-none ws at n z nb ni (more e ms) r = absurd (let s : n ≡ suc (count-members ms) = r .size in omega arith)
 
 pub some-room : (ws : List ℤ) (at n : ℕ) → Some-members ws at n → n ≤ length ws
 some-room ws at n s = go (s .them) (s .stand)
   where
     go : (ms : Members) → Members-stand (s .bools) (s .ints) ws at n ms → n ≤ length ws
-    go none r = omega (arith, r .size)
+    go mnil r = omega (arith, r .size)
     go (more e ms) r =
         let l = members-long (s .bools) (s .ints) (more e ms) (r .vars) in
         let k : n ≡ suc (count-members ms) = r .size in
@@ -250,7 +251,7 @@ module _ (ws : List ℤ) (at n : ℕ) (z : n ≡ 0 → ⊥) where
   pub first-inv : {X : Type 0} (nb ni : ℕ) (ms : Members) → Members-stand nb ni ws at n ms
       → ((e : BoolExpr) (us : Members) → ms ≡ more e us → Bool-stands nb ni ws at e → Members-stand nb ni ws (at + length (encode-bool e)) (n - 1) us → X) → X
   unfolding encode-bool EveryOf
-  first-inv nb ni none r go = absurd (z (r .size))
+  first-inv nb ni mnil r go = absurd (z (r .size))
   first-inv nb ni (more e us) r go =
       let s : n ≡ suc (count-members us) = r .size in
       go e us refl (record { words = has-front ws at (encode-bool e) (encode-members us) (r .words); vars = r .vars .0 })

@@ -14,6 +14,7 @@ use Rattle.laws.specs.Slices.{Has, has-fits, has-front, has-back, has-word, has
 use Rattle.syntax.specs.Syntax.{Domain, IntExpr, encode-int, BoolExpr, encode-bool, Cell, encode-cell, Stmt, Rule, Table, encode-stmt}
 use Rattle.syntax.specs.Satisfies.{int-value, permits, row-holds, stmt-holds}
 use Rattle.syntax.specs.Lengths.{int-long, rows-length}
+use Rattle.syntax.specs.Codes.{stmt-code, stmt-code-word}
 use Rattle.read.specs.Vars.{columns-vars, bool-vars, rows-wide}
 use Rattle.domains.specs.Declared.{Plain}
 use Rattle.limits.specs.Limits.{heavy, heavy-comparison, any-part}
@@ -23,15 +24,6 @@ use Rattle.evaluate.specs.declared.Checked.{Checked}
 use Rattle.evaluate.specs.declared.Checked.the-variants.{Yes, Broken}
 
 -- ---- a statement, by its first word
-
-tag : Stmt → ℕ
-tag (Rule e) = 1
-tag (Table es rows) = 2
-
-tag-word : (ws : List ℤ) (at : ℕ) (s : Stmt) → Has ws at (encode-stmt s) → getD ws at (pos 0) ≡ pos (tag s)
-unfolding encode-stmt tag
-tag-word ws at (Rule e) h = has-word ws at _ _ (pos 0) h
-tag-word ws at (Table es rows) h = has-word ws at _ _ (pos 0) h
 
 stmt-some : (s : Stmt) → 0 < length (encode-stmt s)
 unfolding encode-stmt
@@ -54,19 +46,19 @@ module _ (ws values : List ℤ) (nb at : ℕ) (work : List ℤ) where
   stmt-inside r = omega (arith, stmt-some (r .it), has-fits ws at (encode-stmt (r .it)) (r .reads .words) (stmt-some (r .it)))
 
   pub stmt-first : Ready-stmt ws values nb at work → Plain ws at
-  stmt-first r = record { inside = stmt-inside r; value = tag (r .it); is = tag-word ws at (r .it) (r .reads .words) }
+  stmt-first r = record { inside = stmt-inside r; value = stmt-code (r .it); is = stmt-code-word ws at (r .it) (r .reads .words) }
 
   module _ (w : ℕ) (hw : getD ws at (pos 0) ≡ pos w) where
-    tag-is : (s : Stmt) → Has ws at (encode-stmt s) → tag s ≡ w
-    tag-is s h = pos-eq _ _ _ (tag-word ws at s h) hw
+    code-is : (s : Stmt) → Has ws at (encode-stmt s) → stmt-code s ≡ w
+    code-is s h = pos-eq _ _ _ (stmt-code-word ws at s h) hw
 
     -- ---- a rule
 
     module _ (z : w ≡ 1) where
       the-rule : {X : Type 0} (ds : List Domain) (s : Stmt) → Stmt-at nb ds ws at s → ((e : BoolExpr) → s ≡ Rule e → Bool-at nb ds ws (at + 1) e → X) → X
-      unfolding encode-stmt any-part tag
+      unfolding encode-stmt any-part
       the-rule ds (Rule e) r go = go e refl (record { stands = record { words = has-rest ws at _ _ (r .words); vars = bool-vars nb (length ds) 64 e (r .well) }; light = r .light })
-      the-rule ds (Table es rows) r go = absurd (let t : 2 ≡ w = tag-is (Table es rows) (r .words) in omega arith)
+      the-rule ds (Table es rows) r go = absurd (let t : 2 ≡ w = code-is (Table es rows) (r .words) in omega arith)
 
       pub rule-ready : Ready-stmt ws values nb at work → Ready-bool ws values nb (at + 1)
       rule-ready r = the-rule (r .ds) (r .it) (r .reads) λ e q h. record { ds = r .ds; roster = r .roster; it = e; reads = h }
@@ -86,8 +78,8 @@ module _ (ws values : List ℤ) (nb at : ℕ) (work : List ℤ) where
           → ((es : List IntExpr) (rows : List (List Cell)) → s ≡ Table es rows → getD ws (at + 1) (pos 0) ≡ pos (length es) → getD ws (at + 2) (pos 0) ≡ pos (length rows)
           → Columns-at ds ws (at + 3) (length es) es → Rows-at ws (at + 3 + length (flat (map encode-int es))) (length es) (length rows) rows
           → at + (3 + (length (flat (map encode-int es)) + length es * length rows)) ≤ length ws → length (encode-stmt (Table es rows)) ≡ 3 + (length (flat (map encode-int es)) + length es * length rows) → X) → X
-      unfolding encode-stmt any-part tag
-      the-table ds (Rule e) r go = absurd (z (let t : 1 ≡ w = tag-is (Rule e) (r .words) in sym t))
+      unfolding encode-stmt any-part
+      the-table ds (Rule e) r go = absurd (z (let t : 1 ≡ w = code-is (Rule e) (r .words) in sym t))
       the-table ds (Table es rows) r go =
           let cs = flat (map encode-int es) in
           let rs = flat (map (map encode-cell) rows) in

@@ -9,16 +9,15 @@ use lib.ListN.{length, getD}
 use lib.Seq.{sets}
 use Rattle.laws.specs.Ints.{eqZ}
 use Rattle.laws.specs.Lists.{any, flat}
-use Rattle.laws.specs.Slices.{Has}
+use Rattle.laws.specs.Slices.{Has, zeros}
 use Rattle.syntax.specs.Words.{max-weight, star-word}
-use Rattle.syntax.specs.Syntax.{Domain, domain-of, in-domain, encode-domain, IntExpr, Terms, count-terms, encode-int, encode-terms, BoolExpr, Members, count-members, encode-bool, encode-members, Const, Var, NVar, And, Or, Not, Xor, Iff, Imp, Cmp, none, more, Cell, encode-cell, Stmt, encode-stmt}
+use Rattle.syntax.specs.Syntax.{Domain, domain-of, in-domain, encode-domain, IntExpr, Terms, count-terms, encode-int, encode-terms, BoolExpr, Members, count-members, encode-bool, encode-members, Const, Var, NVar, And, Or, Not, Xor, Iff, Imp, Cmp, mnil, more, Cell, encode-cell, Stmt, encode-stmt}
 use Rattle.syntax.specs.Satisfies.{int-value, terms-value, permits, holds, holds-all, holds-any}
 use Rattle.syntax.specs.Written.{EveryInt, EveryTerm, EveryColumn}
 use Rattle.words.specs.Exact.{Each}
 use Rattle.read.specs.WellFormed.{WellCell, WellRow, WellStmt}
 use Rattle.limits.specs.Limits.{domain-weight, terms-weight, heavy, heavy-terms, heavy-comparison, any-comparison, any-comparison-members, any-part}
 use Rattle.domains.specs.Declared.{Domains}
-use Rattle.refuse.specs.Refuse.{zeros}
 use Rattle.fold.specs.Forms.{Declared, Declared-members}
 use Rattle.evaluate.specs.Roster.{bool-of, int-of, Verdict, satisfied, broken, refused, truth, first-broken, check-roster}
 use Rattle.evaluate.specs.declared.Checked.{Checked}
@@ -101,16 +100,16 @@ own-length (Imp a b) = 1
 own-length (Cmp o a b) = 2 + (length (encode-int a) + length (encode-int b))
 
 abbrev pub inner : BoolExpr → Members
-inner (Const b) = none
-inner (Var v) = none
-inner (NVar n) = none
+inner (Const b) = mnil
+inner (Var v) = mnil
+inner (NVar n) = mnil
 inner (And ms) = ms
 inner (Or ms) = ms
-inner (Not e) = more e none
-inner (Xor a b) = more a (more b none)
-inner (Iff a b) = more a (more b none)
-inner (Imp a b) = more a (more b none)
-inner (Cmp o a b) = none
+inner (Not e) = more e mnil
+inner (Xor a b) = more a (more b mnil)
+inner (Iff a b) = more a (more b mnil)
+inner (Imp a b) = more a (more b mnil)
+inner (Cmp o a b) = mnil
 
 abbrev pub Step-post : List ℤ → ℕ → ℕ → ℕ → Type 0
 Step-post ws at next n = (nb ni : ℕ) (e : BoolExpr) → Bool-stands nb ni ws at e → (next ≡ at + own-length e) × (n ≡ count-members (inner e))

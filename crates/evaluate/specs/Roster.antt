@@ -3,19 +3,17 @@
 use mathlib.Core.Path.{_≡_, refl}
 use mathlib.Core.Bool.{Bool, true, false, not, _&&_, _||_, cond}
 use mathlib.Core.List.{List, [], _∷_, map}
-use Prim.Native.Nat.{ℕ, zero, suc, _+_}
+use Prim.Native.Nat.{ℕ, suc, _+_}
 use lib.IntN.{ℤ, pos}
-use lib.Dec.{eqb, ltb}
+use lib.Dec.{eqb}
 use lib.ListN.{length, getD}
 use Rattle.laws.specs.Ints.{eqZ, apart}
 use Rattle.laws.specs.Bools.{never}
 use Rattle.laws.specs.Lists.{all, below}
-use Rattle.syntax.specs.Words.{min-work-words, max-set-words}
 use Rattle.syntax.specs.Syntax.{Stmt, Problem}
 use Rattle.syntax.specs.Satisfies.{Val, IVal, stmt-holds, in-domains, satisfies}
 use Rattle.words.specs.Parse.{Parsed, ok, refuse}
-use Rattle.read.specs.Read.{read-set}
-use Rattle.limits.specs.Limits.{check}
+use Rattle.limits.specs.Admitted.{admitted}
 
 -- ---- the assignment that the values are
 
@@ -63,20 +61,12 @@ rostered p values =
     (cond (not (all-inside p values)) (refused 15)
     (judged p values))
 
--- the refusal that `check` gives, if any
-unfoldable pub unless-refused : ℕ → Problem → List ℤ → Verdict
-unless-refused zero p values = rostered p values
-unless-refused (suc k) p values = refused (suc k)
-
-unfoldable pub when-read : Parsed Problem → List ℤ → Verdict
-when-read (refuse k) values = refused k
-when-read (ok p r) values = unless-refused (check p) p values
+unfoldable pub when-admitted : Parsed Problem → List ℤ → Verdict
+when-admitted (refuse k) values = refused k
+when-admitted (ok p r) values = rostered p values
 
 unfoldable pub check-roster : (set values : List ℤ) (work-length : ℕ) → Verdict
-check-roster set values work-length =
-    cond (ltb work-length min-work-words) (refused 1)
-    (cond (ltb max-set-words (length set)) (refused 2)
-    (when-read (read-set set) values))
+check-roster set values work-length = when-admitted (admitted work-length set) values
 
 -- ---- stopping at the first broken statement gives the same
 

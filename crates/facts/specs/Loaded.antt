@@ -1,7 +1,7 @@
 -- Every answer of the call passes a loader's tests (Loads): for all words and lengths.
 use mathlib.Core.Path.{_≡_, refl, sym, ap, _∙_}
 use mathlib.Core.Bool.{Bool, true, false, not, _&&_, _||_, cond}
-use mathlib.Core.Option.{Option, none as nothing, some}
+use mathlib.Core.Option.{Option, none, some}
 use mathlib.Core.List.{List, [], _∷_, _++_, map, append-assoc, append-nil}
 use Prim.Native.Nat.{ℕ, zero, suc, _+_, _≤_, _<_, zero-le}
 use native.Mathlib.Omega.{arith}
@@ -60,16 +60,16 @@ module _ {A : Type 0} (fine : ℤ → Bool) (f : A → ℤ) (g : ℕ → A) (h :
 fixed-fine : (o : Option Bool) → from-to 0 2 (fixed-word o) ≡ true
 fixed-fine (some true) = refl
 fixed-fine (some false) = refl
-fixed-fine nothing = refl
+fixed-fine none = refl
 
 map-fine : (k : ℕ) (o : Option ℕ) → ((n : ℕ) → o ≡ some n → n < k) → from-to 0 k (map-word o) ≡ true
 map-fine k (some n) h = and-i (leb 0 (suc n)) (leb (suc n) k) (le-leb 0 (suc n) zero-le) (le-leb (suc n) k (h n refl))
-map-fine k nothing h = and-i (leb 0 0) (leb 0 k) (le-leb 0 0 zero-le) (le-leb 0 k zero-le)
+map-fine k none h = and-i (leb 0 0) (leb 0 k) (le-leb 0 0 zero-le) (le-leb 0 k zero-le)
 
 map-literal-fine : (k : ℕ) (o : Option BoolLit) → ((l : BoolLit) → o ≡ some l → number-of l < k) → leb (natAbs (bool-word o)) k ≡ true
 map-literal-fine k (some (lit n false)) h = le-leb (suc n) k (h (lit n false) refl)
 map-literal-fine k (some (lit n true)) h = le-leb (suc n) k (h (lit n true) refl)
-map-literal-fine k nothing h = le-leb 0 k zero-le
+map-literal-fine k none h = le-leb 0 k zero-le
 
 -- ---- records
 

@@ -1,7 +1,7 @@
 -- What a loader may rely on: the tests that a careful one makes of an answer's words, from the first word to the last.
 -- No answer of the call fails one (`answer-loads`), so a loader in C may use the words' numbers as indices without testing them.
 use mathlib.Core.Bool.{Bool, true, false, not, _&&_, cond}
-use mathlib.Core.Option.{Option, none as nothing, some}
+use mathlib.Core.Option.{Option, none, some}
 use mathlib.Core.List.{List, [], _∷_}
 use Prim.Native.Nat.{ℕ, zero, suc, _+_}
 use lib.IntN.{ℤ, pos, negsuc, natAbs}
@@ -15,12 +15,12 @@ abbrev pub Take : Type 0
 Take = List ℤ → Option (List ℤ)
 
 abbrev pub then-take : Option (List ℤ) → Take → Option (List ℤ)
-then-take nothing t = nothing
+then-take none t = none
 then-take (some ws) t = t ws
 
 unfoldable pub take-word : (ℤ → Bool) → Take
-take-word fine [] = nothing
-take-word fine (w ∷ ws) = cond (fine w) (some ws) nothing
+take-word fine [] = none
+take-word fine (w ∷ ws) = cond (fine w) (some ws) none
 
 unfoldable pub take-times : Take → ℕ → Take
 take-times t zero ws = some ws
@@ -28,9 +28,9 @@ take-times t (suc n) ws = then-take (t ws) (take-times t n)
 
 -- a count, and as many as it says
 unfoldable pub take-counted : (ℕ → Take) → Take
-take-counted t [] = nothing
+take-counted t [] = none
 take-counted t (pos n ∷ ws) = t n ws
-take-counted t (negsuc n ∷ ws) = nothing
+take-counted t (negsuc n ∷ ws) = none
 
 abbrev pub from-to : ℕ → ℕ → ℤ → Bool
 from-to low high w = leZ (pos low) w && leZ w (pos high)
@@ -65,7 +65,7 @@ unfoldable pub take-clause : ℕ → ℕ → Take
 take-clause bools ints ws = then-take (take-counted (take-times (take-literal bools)) ws) (take-counted (take-times (take-comparison ints)))
 
 abbrev pub at-end : Option (List ℤ) → Bool
-at-end nothing = false
+at-end none = false
 at-end (some []) = true
 at-end (some (w ∷ ws)) = false
 

@@ -5,8 +5,8 @@ use mathlib.Core.List.{List, [], _∷_, _++_, map}
 use Prim.Native.Nat.{ℕ, zero, suc, zero-le}
 use lib.IntN.{ℤ, pos, negℤ}
 use lib.ListN.{length}
-use Rattle.laws.specs.Lists.{any, all, filter, keep-if, flat}
-use Rattle.syntax.specs.Syntax.{Domain, domain-of, enumerate, IntExpr, IConst, IVar, Linear, Terms, tnil, tmore, BoolExpr, Const, Var, NVar, And, Or, Not, Xor, Iff, Imp, Cmp, Members, none, more, Cell, star, value, Stmt, Rule, Table}
+use Rattle.laws.specs.Lists.{any, all, select, keep-if, flat}
+use Rattle.syntax.specs.Syntax.{Domain, domain-of, enumerate, IntExpr, IConst, IVar, Linear, Terms, tnil, tmore, BoolExpr, Const, Var, NVar, And, Or, Not, Xor, Iff, Imp, Cmp, Members, mnil, more, Cell, star, value, Stmt, Rule, Table}
 use Rattle.sums.specs.LinearSum.{LinearSum, linear-sum, term, constant, add-sum, mul-sum, singleton}
 use Rattle.sums.specs.Rising.{Rises, Proper, constant-proper, singleton-proper, add-sum-proper, sub-sum-proper}
 use Rattle.clauses.specs.Clause.{BoolLit, lit, LinearLit, linear, Clause, clause, negate-if}
@@ -172,7 +172,7 @@ mutual
   bool-proper (Cmp o x y) g = λ s. ((sub-sum-proper (normalize-int-expr x s .0) (normalize-int-expr y (normalize-int-expr x s .1) .0) (int-proper x s), tt), tt)
 
   members-proper : (ms : Members) (g : Bool) → ProperRuns (normalize-members ms g)
-  members-proper none g = λ s. tt
+  members-proper mnil g = λ s. tt
   members-proper (more e ms) g = then-proper _ _ (bool-proper e g) (members-proper ms g)
 
 each-expr-proper : (es : List BoolExpr) → ProperRun (normalize-each es)
@@ -238,7 +238,7 @@ module _ (vs : List ℕ) (ds : List Domain) where
   unfolding column-clauses
   column-clauses-proper p i zero g = tt
   column-clauses-proper p i (suc m) g = kept-proper (not (all (takes i (g .1)) (enumerate (domain-of ds i)))) (column-clause vs ds p i g) (column-clauses vs ds p (suc i) m g)
-      (unfold column-clause in (linears-append (differs vs ds p (g .0)) _ (differs-proper p (g .0)) (equalities-proper (variable vs ds i) (filter (takes i (g .1)) (enumerate (domain-of ds i)))), tt))
+      (unfold column-clause in (linears-append (differs vs ds p (g .0)) _ (differs-proper p (g .0)) (equalities-proper (variable vs ds i) (select (takes i (g .1)) (enumerate (domain-of ds i)))), tt))
       (column-clauses-proper p (suc i) m g)
 
   groups-proper : (p m : ℕ) (gs : List (Row × List Row)) → ProperClauses (flat (map (column-clauses vs ds p p m) gs))
@@ -264,7 +264,7 @@ supports-proper ds vs rows s = go (any (any is-star) rows)
 
     go : (t : Bool) → ProperClauses (cond t (star-table vs rows s) (plain-table vs domains rows, s) .0)
     go true = unfold star-table in disjunction-proper (map (star-row vs) rows) (star-rows-proper vs rows) s
-    go false = unfold plain-table in plain-proper vs domains (filter (within domains) (sort-rows (map (map cell-value) rows)))
+    go false = unfold plain-table in plain-proper vs domains (select (within domains) (sort-rows (map (map cell-value) rows)))
 
 table-proper : (ds : List Domain) (es : List IntExpr) (rows : List (List Cell)) → ProperRun (normalize-table ds es rows)
 unfolding normalize-table

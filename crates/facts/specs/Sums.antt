@@ -13,7 +13,7 @@ use Rattle.laws.specs.Bools.{or-no-l, or-no-r}
 use Rattle.laws.specs.Ints.{natAbs-add, natAbs-mul}
 use Rattle.laws.specs.Lists.{any}
 use Rattle.syntax.specs.Words.{max-weight}
-use Rattle.syntax.specs.Syntax.{Domain, lower-bound, upper-bound, domain-of, IntExpr, BoolExpr, Const, Var, NVar, And, Or, Not, Xor, Iff, Imp, Cmp, Members, none, more, Stmt, Rule, Table, Problem}
+use Rattle.syntax.specs.Syntax.{Domain, lower-bound, upper-bound, domain-of, IntExpr, BoolExpr, Const, Var, NVar, And, Or, Not, Xor, Iff, Imp, Cmp, Members, mnil, more, Stmt, Rule, Table, Problem}
 use Rattle.words.specs.Exact.{Each}
 use Rattle.read.specs.Exact.{set-sound}
 use Rattle.limits.specs.Limits.{any-comparison, any-comparison-members, any-part, heavy, heavy-comparison, written, check}
@@ -54,7 +54,7 @@ module _ (P : IntExpr → IntExpr → Type 0) (C : IntExpr → Type 0) where
     EveryComparison (Cmp o a b) = P a b
 
     pub EveryMembersComparison : Members → Type 0
-    EveryMembersComparison none = Unit {0}
+    EveryMembersComparison mnil = Unit {0}
     EveryMembersComparison (more e ms) = EveryComparison e × EveryMembersComparison ms
 
   abbrev pub EveryPart : Stmt → Type 0
@@ -174,7 +174,7 @@ module _ (P : IntExpr → IntExpr → Type 0) (C : IntExpr → Type 0) (p : IntE
     comparisons-every (Cmp o a b) h = f a b h
 
     members-every : (ms : Members) → any-comparison-members p c ms ≡ false → EveryMembersComparison P C ms
-    members-every none h = tt
+    members-every mnil h = tt
     members-every (more e ms) h = (comparisons-every e (or-no-l (any-comparison p c e) (any-comparison-members p c ms) h), members-every ms (or-no-r (any-comparison p c e) (any-comparison-members p c ms) h))
 
   columns-every : (es : List IntExpr) → any c es ≡ false → Each C es

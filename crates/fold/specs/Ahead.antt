@@ -2,14 +2,14 @@
 -- for requiring is monotone and the end is the least values at rest. Assumes, of the end alone, that the statements write only Booleans below B.
 use mathlib.Core.Path.{_≡_, refl, sym, ap, _∙_}
 use mathlib.Core.Bool.{Bool, true, false, not, _||_, Bool·beq, cond}
-use mathlib.Core.Option.{Option, none as nothing, some}
+use mathlib.Core.Option.{Option, none, some}
 use mathlib.Core.List.{List, [], _∷_, _++_, map}
 use Prim.Native.Nat.{ℕ, zero, suc, _<_}
 use native.Mathlib.Omega.{arith}
 use lib.Dec.{eqb}
 use borrow.Author.Tests.{eqb-true}
 use Rattle.laws.specs.Bools.{or-no-l, or-no-r, never}
-use Rattle.syntax.specs.Syntax.{Domain, BoolExpr, Const, Var, NVar, And, Or, Not, Xor, Iff, Imp, Cmp, Members, none, more, Stmt, Rule, Table}
+use Rattle.syntax.specs.Syntax.{Domain, BoolExpr, Const, Var, NVar, And, Or, Not, Xor, Iff, Imp, Cmp, Members, mnil, more, Stmt, Rule, Table}
 use Rattle.syntax.specs.Written.{EveryStmts, any-bool}
 use Rattle.fold.specs.Fold.{Fixed, op-imp, action, act, fold-binary, has-const, kept, fold-not, fold-var, constant-folding-bool as fold, constant-folding-members as fold-members, constant-folding-stmt as fold-stmt}
 use Rattle.fold.specs.Optimize.{Status, unsatisfiable, updated, fix, set-infeasible, worst, and-then, constant-prop-bool as prop, constant-prop-members as prop-members, constant-prop-stmts as prop-stmts, Outcome, inconsistent, settled, next-pass, passes}
@@ -102,7 +102,7 @@ then-same (updated c g) next next' h = ap (worst c) (h g)
 -- the members dropped are idle
 prop-kept : (b : Bool) (ms : Members) → has-const b ms ≡ false → (g : Fixed) → prop-members (kept ms) (not b) g ≡ prop-members ms (not b) g
 unfolding prop has-const kept
-prop-kept b none h g = refl
+prop-kept b mnil h g = refl
 prop-kept b (more e ms) h g = const-or e
     (λ c q.
     let p : Bool·beq b c || has-const b ms ≡ false = rw q at h in
@@ -117,8 +117,8 @@ prop-kept b (more e ms) h g = const-or e
 
 prop-join : (b : Bool) (ms : Members) (g : Fixed) → Quiet g (prop (join b ms) (not b) g) → Quiet g (prop-members ms (not b) g)
 unfolding prop
-prop-join b none g q = refl
-prop-join b (more e none) g q = rw q refl
+prop-join b mnil g q = refl
+prop-join b (more e mnil) g q = rw q refl
 prop-join b (more e (more e' ms)) g q = sym (prop-list b (more e (more e' ms)) g) ∙ q
 
 list-quiet : (b : Bool) (ms : Members) (g : Fixed) → Quiet g (prop (fold-list b ms) (not b) g) → Quiet g (prop-members ms (not b) g)
@@ -151,11 +151,11 @@ imp-quiet a b g q = const-or a
     both false true q = never (sym (ap moved q))
     both false false q = never (sym (ap moved q))
 
-    left-known : (c : Bool) → Quiet g (prop (act (action op-imp (some c) nothing) op-imp (Const c) b) false g) → Quiet g (prop (Const c) true g) × Quiet g (prop b false g)
+    left-known : (c : Bool) → Quiet g (prop (act (action op-imp (some c) none) op-imp (Const c) b) false g) → Quiet g (prop (Const c) true g) × Quiet g (prop b false g)
     left-known true q = (refl, q)
     left-known false q = never (sym (ap moved q))
 
-    right-known : (d : Bool) → Quiet g (prop (act (action op-imp nothing (some d)) op-imp a (Const d)) false g) → Quiet g (prop a true g) × Quiet g (prop (Const d) false g)
+    right-known : (d : Bool) → Quiet g (prop (act (action op-imp none (some d)) op-imp a (Const d)) false g) → Quiet g (prop a true g) × Quiet g (prop (Const d) false g)
     right-known true q = never (sym (ap moved q))
     right-known false q = (q, refl)
 
@@ -186,7 +186,7 @@ module _ (ds : List Domain) (g : Fixed) where
       go true e q = let z : u ≡ v = eqb-true u v e in cc
 
   set-under : (k : Option Bool) (r : Fixed) (v : ℕ) (want : Bool) → r v ≡ k → g v ≡ some want → Extends r g → Under (set-infeasible k v want r)
-  set-under nothing r v want e h x = fix-under r v want h x
+  set-under none r v want e h x = fix-under r v want h x
   set-under (some b) r v want e h x = let z : g v ≡ some b = x v b e in let y : b ≡ want = cc in const-under r b want y x
 
   var-quiet : (v : ℕ) (want : Bool) → Quiet g (prop (fold-var (g v) v) want g) → g v ≡ some want
@@ -194,7 +194,7 @@ module _ (ds : List Domain) (g : Fixed) where
   var-quiet v want q = go (g v) refl q
     where
       go : (k : Option Bool) → g v ≡ k → Quiet g (prop (fold-var k v) want g) → g v ≡ some want
-      go nothing e q = let m : true ≡ false = ap moved (rw e at q) in never (sym m)
+      go none e q = let m : true ≡ false = ap moved (rw e at q) in never (sym m)
       go (some b) e q = let z : b ≡ want = const-quiet g b want q in cc
 
   mutual
@@ -218,7 +218,7 @@ module _ (ds : List Domain) (g : Fixed) where
     prop-under (Cmp o a b) want = λ r q x. x
 
     members-under : (ms : Members) (want : Bool) (r : Fixed) → Quiet g (prop-members (fold-members ds g ms) want g) → Extends r g → Under (prop-members ms want r)
-    members-under none want = λ r q x. x
+    members-under mnil want = λ r q x. x
     members-under (more e ms) want = λ r q x.
         let p = quiet-then g (fold ds g e) want (prop-members (fold-members ds g ms) want) q in
         then-under (prop e want r) (prop-members ms want) (prop-under e want r (p .0) x) (λ k y. members-under ms want k (p .1) y)
@@ -315,8 +315,8 @@ extends-both f g x y = λ i. λ v. go v (f v) (g v) refl refl i
   where
     go : (v : ℕ) (k l : Option Bool) → f v ≡ k → g v ≡ l → f v ≡ g v
     go v (some b) l p q = p ∙ sym (x v b p)
-    go v nothing (some b) p q = y v b q ∙ sym q
-    go v nothing nothing p q = p ∙ sym q
+    go v none (some b) p q = y v b q ∙ sym q
+    go v none none p q = p ∙ sym q
 
 module _ (B : ℕ) (Q : ℕ → Type 0) (ds : List Domain) (ss : List Stmt) (low : EveryStmts (λ v. v < B) Q ss) (n : ℕ) where
   -- where the passes from f settle: at rest, with all of f

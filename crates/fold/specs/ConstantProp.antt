@@ -2,14 +2,14 @@
 -- so it meets no contradiction. Assumes nothing.
 use mathlib.Core.Path.{_≡_, refl, sym, _∙_}
 use mathlib.Core.Bool.{Bool, true, false, not, _||_, Bool·beq, cond}
-use mathlib.Core.Option.{Option, none as nothing, some}
+use mathlib.Core.Option.{Option, none, some}
 use mathlib.Core.List.{List, [], _∷_}
 use Prim.Native.Nat.{ℕ}
 use lib.Dec.{eqb}
 use borrow.Author.Tests.{eqb-true}
 use Rattle.laws.specs.Bools.{and-l, and-r, never, or-no-l, or-no-r}
 use Rattle.laws.specs.Lists.{all}
-use Rattle.syntax.specs.Syntax.{BoolExpr, Const, Var, NVar, And, Or, Not, Xor, Iff, Imp, Cmp, Members, none, more, Stmt, Rule, Table}
+use Rattle.syntax.specs.Syntax.{BoolExpr, Const, Var, NVar, And, Or, Not, Xor, Iff, Imp, Cmp, Members, mnil, more, Stmt, Rule, Table}
 use Rattle.syntax.specs.Satisfies.{Val, IVal, holds, holds-all, holds-any, stmt-holds}
 use Rattle.fold.specs.Fold.{Fixed}
 use Rattle.fold.specs.Optimize.{Status, unsatisfiable, updated, fix, set-infeasible, worst, and-then, constant-prop-bool as prop, constant-prop-members as prop-members, constant-prop-stmts as prop-stmts}
@@ -54,22 +54,22 @@ module _ (δ : Val) (ε : IVal) (ρ : Val) where
       go true p q = let z : u ≡ v = eqb-true u v p in cc
 
   var-has : (k : Option Bool) (f : Fixed) (v : ℕ) (want : Bool) → f v ≡ k → Agrees δ f → δ v ≡ want → Has (set-infeasible k v want f)
-  var-has nothing f v want q h e = fix-agrees f v want h e
+  var-has none f v want q h e = fix-agrees f v want h e
   var-has (some b) f v want q h e = same-has f b want h (sym (h v b q) ∙ e)
 
   -- every member is the value
   abbrev AllAre : Bool → Members → Type 0
-  AllAre w none = Unit {0}
+  AllAre w mnil = Unit {0}
   AllAre w (more e ms) = (holds δ ε ρ e ≡ w) × AllAre w ms
 
   all-true : (ms : Members) → holds-all δ ε ρ ms ≡ true → AllAre true ms
   unfolding holds
-  all-true none h = tt
+  all-true mnil h = tt
   all-true (more e ms) h = (and-l (holds δ ε ρ e) (holds-all δ ε ρ ms) h, all-true ms (and-r (holds δ ε ρ e) (holds-all δ ε ρ ms) h))
 
   all-false : (ms : Members) → holds-any δ ε ρ ms ≡ false → AllAre false ms
   unfolding holds
-  all-false none h = tt
+  all-false mnil h = tt
   all-false (more e ms) h = (or-no-l (holds δ ε ρ e) (holds-any δ ε ρ ms) h, all-false ms (or-no-r (holds δ ε ρ e) (holds-any δ ε ρ ms) h))
 
   mutual
@@ -91,7 +91,7 @@ module _ (δ : Val) (ε : IVal) (ρ : Val) where
     prop-has (Cmp o a b) want = λ f h e. h
 
     prop-members-have : (ms : Members) (want : Bool) (f : Fixed) → Agrees δ f → AllAre want ms → Has (prop-members ms want f)
-    prop-members-have none want = λ f h e. h
+    prop-members-have mnil want = λ f h e. h
     prop-members-have (more e ms) want = λ f h q. then-has (prop e want f) (prop-members ms want) (prop-has e want f h (q .0)) (λ g k. prop-members-have ms want g k (q .1))
 
   -- all statements hold

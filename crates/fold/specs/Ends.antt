@@ -2,7 +2,7 @@
 -- Assumes that the statements write only Booleans below B.
 use mathlib.Core.Path.{_≡_, refl, sym, _∙_}
 use mathlib.Core.Bool.{Bool, true, false, not, _||_, Bool·beq, cond}
-use mathlib.Core.Option.{Option, none as nothing, some}
+use mathlib.Core.Option.{Option, none, some}
 use mathlib.Core.List.{List, [], _∷_, map}
 use Prim.Native.Nat.{ℕ, zero, suc, _+_, _≤_, _<_}
 use native.Mathlib.Omega.{arith}
@@ -10,7 +10,7 @@ use lib.Dec.{eqb}
 use lib.ListN.{length}
 use borrow.Author.Tests.{eqb-true, eqb-false}
 use Rattle.laws.specs.Bools.{or-no-l, or-no-r, never}
-use Rattle.syntax.specs.Syntax.{Domain, BoolExpr, Const, Var, NVar, And, Or, Not, Xor, Iff, Imp, Cmp, Members, none, more, Stmt, Rule, Table, Problem}
+use Rattle.syntax.specs.Syntax.{Domain, BoolExpr, Const, Var, NVar, And, Or, Not, Xor, Iff, Imp, Cmp, Members, mnil, more, Stmt, Rule, Table, Problem}
 use Rattle.syntax.specs.Written.{Every, EveryMember, EveryStmt, EveryStmts, AllDeclared, any-stmts, EveryOf}
 use Rattle.fold.specs.Fold.{Fixed, constant-folding-stmt as fold-stmt}
 use Rattle.fold.specs.Optimize.{Status, unsatisfiable, updated, fix, set-infeasible, worst, and-then, constant-prop-bool as prop, constant-prop-members as prop-members, constant-prop-stmts as prop-stmts, Outcome, inconsistent, settled, next-pass, passes, optimize}
@@ -22,7 +22,7 @@ use Rattle.fold.specs.Kept.{fold-stmts-every}
 -- a relation of the values before, whether one changed, and the values after, that every step has. P: of each variable fixed
 pub record Steps (P : ℕ → Type 0) (R : Fixed → Bool → Fixed → Type 0) : Type 0 where
   pub idle : (f : Fixed) → R f false f
-  pub one : (f : Fixed) (v : ℕ) (b : Bool) → f v ≡ nothing → P v → R f true (fix f v b)
+  pub one : (f : Fixed) (v : ℕ) (b : Bool) → f v ≡ none → P v → R f true (fix f v b)
   pub then : (f g h : Fixed) (c d : Bool) → R f c g → R g d h → R f (c || d) h
 
 abbrev pub After : (Fixed → Bool → Fixed → Type 0) → Fixed → Status → Type 0
@@ -43,7 +43,7 @@ module _ (P Q : ℕ → Type 0) (R : Fixed → Bool → Fixed → Type 0) (steps
   same-after false f = tt
 
   var-after : (k : Option Bool) (v : ℕ) (want : Bool) (f : Fixed) → f v ≡ k → P v → After R f (set-infeasible k v want f)
-  var-after nothing v want f h p = steps .one f v want h p
+  var-after none v want f h p = steps .one f v want h p
   var-after (some b) v want f h p = same-after (Bool·beq b want) f
 
   mutual
@@ -65,7 +65,7 @@ module _ (P Q : ℕ → Type 0) (R : Fixed → Bool → Fixed → Type 0) (steps
     prop-after (Cmp o a b) want = λ f h. steps .idle f
 
     prop-members-after : (ms : Members) (want : Bool) (f : Fixed) → EveryMember P Q ms → After R f (prop-members ms want f)
-    prop-members-after none want = λ f h. steps .idle f
+    prop-members-after mnil want = λ f h. steps .idle f
     prop-members-after (more e ms) want = λ f h. then-after f (prop e want f) (prop-members ms want) (prop-after e want f (h .0)) (λ g. prop-members-after ms want g (h .1))
 
   pub prop-stmts-after : (ss : List Stmt) (f : Fixed) → EveryStmts P Q ss → After R f (prop-stmts ss f)
@@ -76,7 +76,7 @@ module _ (P Q : ℕ → Type 0) (R : Fixed → Bool → Fixed → Type 0) (steps
 
 -- ---- what is fixed stays fixed, and where nothing changed all is as it was
 
-fix-extends : (f : Fixed) (v : ℕ) (b : Bool) → f v ≡ nothing → Extends f (fix f v b)
+fix-extends : (f : Fixed) (v : ℕ) (b : Bool) → f v ≡ none → Extends f (fix f v b)
 fix-extends f v b h u c q = go (eqb u v) refl
   where
     go : (t : Bool) → eqb u v ≡ t → cond t (some b) (f u) ≡ some c
@@ -110,7 +110,7 @@ prop-still ss f g h =
 -- ---- each change leaves fewer variables open
 
 abbrev is-open : Option Bool → ℕ
-is-open nothing = 1
+is-open none = 1
 is-open (some b) = 0
 
 -- how many of the first n variables are open
@@ -119,7 +119,7 @@ opens zero f = 0
 opens (suc n) f = opens n f + is-open (f n)
 
 is-open-most : (k : Option Bool) → is-open k ≤ 1
-is-open-most nothing = omega arith
+is-open-most none = omega arith
 is-open-most (some b) = omega arith
 
 pub opens-most : (n : ℕ) (f : Fixed) → opens n f ≤ n
@@ -132,7 +132,7 @@ opens-extends zero f g x = omega arith
 opens-extends (suc n) f g x = omega (arith, opens-extends n f g x, go (f n) refl)
   where
     go : (k : Option Bool) → f n ≡ k → is-open (g n) ≤ is-open (f n)
-    go nothing e = rw e (is-open-most (g n))
+    go none e = rw e (is-open-most (g n))
     go (some b) e = rw (e, x n b e) (omega arith)
 
 fix-other : (f : Fixed) (v w : ℕ) (b : Bool) → (w ≡ v → ⊥) → fix f v b w ≡ f w
@@ -146,14 +146,14 @@ opens-above : (n : ℕ) (f : Fixed) (v : ℕ) (b : Bool) → n ≤ v → opens n
 opens-above zero f v b h = refl
 opens-above (suc n) f v b h = rw (opens-above n f v b (omega arith), fix-other f v n b (omega arith)) refl
 
-opens-fix : (n : ℕ) (f : Fixed) (v : ℕ) (b : Bool) → f v ≡ nothing → v < n → suc (opens n (fix f v b)) ≡ opens n f
+opens-fix : (n : ℕ) (f : Fixed) (v : ℕ) (b : Bool) → f v ≡ none → v < n → suc (opens n (fix f v b)) ≡ opens n f
 opens-fix zero f v b h l = absurd (omega arith)
 opens-fix (suc n) f v b h l = go (eqb n v) refl (λ k. opens-fix n f v b h k)
   where
     go : (t : Bool) → eqb n v ≡ t → (v < n → suc (opens n (fix f v b)) ≡ opens n f) → suc (opens n (fix f v b) + is-open (cond t (some b) (f n))) ≡ opens n f + is-open (f n)
     go true e ih =
         let z : n ≡ v = eqb-true n v e in
-        let k : f n ≡ nothing = cc in
+        let k : f n ≡ none = cc in
         rw (opens-above n f v b (omega arith), k) (omega arith)
     go false e ih = let ne = eqb-false n v e in let k : v < n = omega arith in omega (arith, ih k)
 
@@ -237,9 +237,9 @@ module _ (p : Problem) (declared : AllDeclared p) where
   pub optimize-rests : (f : Fixed) (ss : List Stmt) → optimize p ≡ settled f ss → Rests (p .domains) (p .stmts) f ss
   unfolding optimize
   optimize-rests f ss h =
-      let r = passes-end (p .bools) (λ v. v < length (p .domains)) (p .domains) (p .stmts) (suc (p .bools)) (λ v. nothing) (p .stmts) declared (λ g e. refl) (omega (arith, opens-most (p .bools) (λ v. nothing))) in
+      let r = passes-end (p .bools) (λ v. v < length (p .domains)) (p .domains) (p .stmts) (suc (p .bools)) (λ v. none) (p .stmts) declared (λ g e. refl) (omega (arith, opens-most (p .bools) (λ v. none))) in
       rw h at r
 
-  pub optimize-more : (n : ℕ) → p .bools < n → passes (p .domains) n (λ v. nothing) (p .stmts) ≡ optimize p
+  pub optimize-more : (n : ℕ) → p .bools < n → passes (p .domains) n (λ v. none) (p .stmts) ≡ optimize p
   unfolding optimize
-  optimize-more n l = passes-more (p .bools) (λ v. v < length (p .domains)) (p .domains) n (suc (p .bools)) (λ v. nothing) (p .stmts) declared (omega (arith, opens-most (p .bools) (λ v. nothing))) l
+  optimize-more n l = passes-more (p .bools) (λ v. v < length (p .domains)) (p .domains) n (suc (p .bools)) (λ v. none) (p .stmts) declared (omega (arith, opens-most (p .bools) (λ v. none))) l

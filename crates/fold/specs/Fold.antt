@@ -1,11 +1,11 @@
 -- Folding (constant_folding_bool, constant_folding_int): fixed variables and one-value integers become constants.
 use mathlib.Core.Bool.{Bool, true, false, not, _||_, Bool·beq, cond}
-use mathlib.Core.Option.{Option, none as nothing, some}
+use mathlib.Core.Option.{Option, none, some}
 use mathlib.Core.List.{List, map}
 use Prim.Native.Nat.{ℕ}
 use lib.IntN.{ℤ, pos}
 use Rattle.laws.specs.Ints.{eqZ}
-use Rattle.syntax.specs.Syntax.{Domain, as-constant, domain-of, IntExpr, IConst, IVar, Linear, Terms, tnil, tmore, BoolExpr, Const, Var, NVar, And, Or, Not, Xor, Iff, Imp, Cmp, Members, none, more, Stmt, Rule, Table}
+use Rattle.syntax.specs.Syntax.{Domain, as-constant, domain-of, IntExpr, IConst, IVar, Linear, Terms, tnil, tmore, BoolExpr, Const, Var, NVar, And, Or, Not, Xor, Iff, Imp, Cmp, Members, mnil, more, Stmt, Rule, Table}
 
 -- the Boolean variables fixed so far
 abbrev pub Fixed : Type 0
@@ -14,15 +14,15 @@ Fixed = ℕ → Option Bool
 -- is_const
 abbrev pub is-const : BoolExpr → Option Bool
 is-const (Const b) = some b
-is-const (Var v) = nothing
-is-const (NVar n) = nothing
-is-const (And ms) = nothing
-is-const (Or ms) = nothing
-is-const (Not e) = nothing
-is-const (Xor a b) = nothing
-is-const (Iff a b) = nothing
-is-const (Imp a b) = nothing
-is-const (Cmp o a b) = nothing
+is-const (Var v) = none
+is-const (NVar n) = none
+is-const (And ms) = none
+is-const (Or ms) = none
+is-const (Not e) = none
+is-const (Xor a b) = none
+is-const (Iff a b) = none
+is-const (Imp a b) = none
+is-const (Cmp o a b) = none
 
 -- ---- the table of 27 entries
 
@@ -36,31 +36,31 @@ pub data Action : Type 0 where
 abbrev pub action : Op → Option Bool → Option Bool → Action
 action op-xor (some false) (some false) = be-false
 action op-xor (some false) (some true) = be-true
-action op-xor (some false) nothing = right
+action op-xor (some false) none = right
 action op-xor (some true) (some false) = be-true
 action op-xor (some true) (some true) = be-false
-action op-xor (some true) nothing = not-right
-action op-xor nothing (some false) = left
-action op-xor nothing (some true) = not-left
-action op-xor nothing nothing = keep
+action op-xor (some true) none = not-right
+action op-xor none (some false) = left
+action op-xor none (some true) = not-left
+action op-xor none none = keep
 action op-iff (some false) (some false) = be-true
 action op-iff (some false) (some true) = be-false
-action op-iff (some false) nothing = not-right
+action op-iff (some false) none = not-right
 action op-iff (some true) (some false) = be-false
 action op-iff (some true) (some true) = be-true
-action op-iff (some true) nothing = right
-action op-iff nothing (some false) = not-left
-action op-iff nothing (some true) = left
-action op-iff nothing nothing = keep
+action op-iff (some true) none = right
+action op-iff none (some false) = not-left
+action op-iff none (some true) = left
+action op-iff none none = keep
 action op-imp (some false) (some false) = be-true
 action op-imp (some false) (some true) = be-true
-action op-imp (some false) nothing = be-true
+action op-imp (some false) none = be-true
 action op-imp (some true) (some false) = be-false
 action op-imp (some true) (some true) = be-true
-action op-imp (some true) nothing = right
-action op-imp nothing (some false) = not-left
-action op-imp nothing (some true) = be-true
-action op-imp nothing nothing = keep
+action op-imp (some true) none = right
+action op-imp none (some false) = not-left
+action op-imp none (some true) = be-true
+action op-imp none none = keep
 
 abbrev pub expr-of : Op → BoolExpr → BoolExpr → BoolExpr
 expr-of op-xor = Xor
@@ -83,31 +83,31 @@ fold-binary o a b = act (action o (is-const a) (is-const b)) o a b
 
 -- whether a member is the constant b
 abbrev pub is-value : Bool → Option Bool → Bool
-is-value b nothing = false
+is-value b none = false
 is-value b (some c) = Bool·beq b c
 
 unfoldable pub has-const : Bool → Members → Bool
-has-const b none = false
+has-const b mnil = false
 has-const b (more e ms) = is-value b (is-const e) || has-const b ms
 
 -- the members that are no constant
 abbrev pub keep-member : Option Bool → BoolExpr → Members → Members
-keep-member nothing e ms = more e ms
+keep-member none e ms = more e ms
 keep-member (some b) e ms = ms
 
 unfoldable pub kept : Members → Members
-kept none = none
+kept mnil = mnil
 kept (more e ms) = keep-member (is-const e) e (kept ms)
 
 -- one member left replaces its parent
 abbrev pub join-and : Members → BoolExpr
-join-and none = Const true
-join-and (more e none) = e
+join-and mnil = Const true
+join-and (more e mnil) = e
 join-and (more e (more f ms)) = And (more e (more f ms))
 
 abbrev pub join-or : Members → BoolExpr
-join-or none = Const false
-join-or (more e none) = e
+join-or mnil = Const false
+join-or (more e mnil) = e
 join-or (more e (more f ms)) = Or (more e (more f ms))
 
 unfoldable pub fold-and : Members → BoolExpr
@@ -117,20 +117,20 @@ unfoldable pub fold-or : Members → BoolExpr
 fold-or ms = cond (has-const true ms) (Const true) (join-or (kept ms))
 
 abbrev pub not-of : Option Bool → BoolExpr → BoolExpr
-not-of nothing e = Not e
+not-of none e = Not e
 not-of (some b) e = Const (not b)
 
 unfoldable pub fold-not : BoolExpr → BoolExpr
 fold-not e = not-of (is-const e) e
 
 abbrev pub fold-var : Option Bool → ℕ → BoolExpr
-fold-var nothing v = Var v
+fold-var none v = Var v
 fold-var (some b) v = Const b
 
 -- ---- integers
 
 abbrev pub fold-int-var : Option ℤ → ℕ → IntExpr
-fold-int-var nothing v = IVar v
+fold-int-var none v = IVar v
 fold-int-var (some c) v = IConst c
 
 -- an empty sum is 0; a single term with coefficient 1 replaces its sum
@@ -167,7 +167,7 @@ module _ (ds : List Domain) where
       constant-folding-bool (Cmp o a b) = Cmp o (constant-folding-int a) (constant-folding-int b)
 
       pub constant-folding-members : Members → Members
-      constant-folding-members none = none
+      constant-folding-members mnil = mnil
       constant-folding-members (more e ms) = more (constant-folding-bool e) (constant-folding-members ms)
 
     unfoldable pub constant-folding-stmt : Stmt → Stmt

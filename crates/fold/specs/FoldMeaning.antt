@@ -2,7 +2,7 @@
 -- satisfies a folded expression or statement exactly if it satisfies the original.
 use mathlib.Core.Path.{_≡_, refl, sym, ap, _∙_}
 use mathlib.Core.Bool.{Bool, true, false, not, _&&_, _||_, Bool·beq, cond, and-true, or-false}
-use mathlib.Core.Option.{Option, none as nothing, some}
+use mathlib.Core.Option.{Option, none, some}
 use mathlib.Core.List.{List, [], _∷_, map}
 use Prim.Native.Nat.{ℕ}
 use lib.IntN.{ℤ, pos, one, _+ℤ_, _*ℤ_, +ℤ-idr, *ℤ-comm, *ℤ-one}
@@ -11,7 +11,7 @@ use Rattle.laws.specs.Bools.{and-l, and-r, ∀2, at2, beq-eq, never}
 use Rattle.laws.specs.Ints.{eqZ}
 use Rattle.laws.specs.Order.{eqZ-is, leZ-antisym}
 use Rattle.laws.specs.Lists.{any, all}
-use Rattle.syntax.specs.Syntax.{Domain, Range, Enumerative, as-constant, in-domain, domain-of, IntExpr, IConst, IVar, Linear, Terms, tnil, tmore, BoolExpr, Const, Var, NVar, And, Or, Not, Xor, Iff, Imp, Cmp, Members, none, more, Cell, Stmt, Rule, Table}
+use Rattle.syntax.specs.Syntax.{Domain, Range, Enumerative, as-constant, in-domain, domain-of, IntExpr, IConst, IVar, Linear, Terms, tnil, tmore, BoolExpr, Const, Var, NVar, And, Or, Not, Xor, Iff, Imp, Cmp, Members, mnil, more, Cell, Stmt, Rule, Table}
 use Rattle.syntax.specs.Satisfies.{Val, IVal, int-value, terms-value, row-holds, holds, holds-all, holds-any, stmt-holds}
 use Rattle.syntax.specs.Written.{EveryInt, EveryTerm, EveryColumn, Every, EveryMember, EveryStmt, EveryStmts, Within, EveryOf}
 use Rattle.fold.specs.Fold.{Fixed, is-const, Op, op-xor, op-iff, op-imp, Action, be-false, be-true, left, not-left, right, not-right, keep, action, act, fold-binary, is-value, has-const, keep-member, kept, join-and, join-or, fold-and, fold-or, not-of, fold-not, fold-var, fold-int-var, fold-sum, constant-folding-int as fold-int, constant-folding-terms as fold-terms, constant-folding-bool as fold, constant-folding-members as fold-members, constant-folding-stmt as fold-stmt}
@@ -23,7 +23,7 @@ use Rattle.fold.specs.Refold.{const-or}
 pub as-constant-is : (d : Domain) (c x : ℤ) → as-constant d ≡ some c → in-domain x d ≡ true → x ≡ c
 as-constant-is (Range low high) c x h k = go (eqZ low high) refl h
   where
-    go : (t : Bool) → eqZ low high ≡ t → cond t (some low) nothing ≡ some c → x ≡ c
+    go : (t : Bool) → eqZ low high ≡ t → cond t (some low) none ≡ some c → x ≡ c
     go true e q =
         let z : low ≡ high = eqZ-is low high e in
         let a : leZ x low ≡ true = rw (sym z) at (and-r (leZ low x) (leZ x high) k) in
@@ -39,7 +39,7 @@ as-constant-is (Enumerative (y ∷ z ∷ xs)) c x h k = cc
 module _ (ds : List Domain) (ε : IVal) where
   int-var-value : (v : ℕ) (k : Option ℤ) → as-constant (domain-of ds v) ≡ k → Within ds ε v → int-value ε (fold-int-var k v) ≡ ε v
   unfolding int-value
-  int-var-value v nothing h w = refl
+  int-var-value v none h w = refl
   int-var-value v (some c) h w = sym (as-constant-is (domain-of ds v) c (ε v) h w)
 
   sum-value : (ts : Terms) → int-value ε (fold-sum ts) ≡ terms-value ε ts
@@ -92,17 +92,17 @@ act-value keep o x y = op-value o x y
 
 -- a side's value, as far as it is known
 abbrev seen : Option Bool → Bool → Bool
-seen nothing x = x
+seen none x = x
 seen (some b) x = b
 
 -- every entry of the table at once
 abbrev ∀k : (Option Bool → Bool) → Bool
-∀k f = f nothing && (f (some false) && f (some true))
+∀k f = f none && (f (some false) && f (some true))
 
 at-k : (f : Option Bool → Bool) → ∀k f ≡ true → (k : Option Bool) → f k ≡ true
-at-k f h nothing = and-l _ _ h
-at-k f h (some false) = and-l _ _ (and-r (f nothing) _ h)
-at-k f h (some true) = and-r (f (some false)) _ (and-r (f nothing) _ h)
+at-k f h none = and-l _ _ h
+at-k f h (some false) = and-l _ _ (and-r (f none) _ h)
+at-k f h (some true) = and-r (f (some false)) _ (and-r (f none) _ h)
 
 abbrev entry : Op → Option Bool → Option Bool → Bool → Bool → Bool
 entry o k l x y = Bool·beq (act-value (action o k l) o (seen k x) (seen l y)) (op-value o (seen k x) (seen l y))
@@ -143,59 +143,59 @@ module _ (δ : Val) (ε : IVal) (ρ : Val) where
 
   join-and-holds : (ms : Members) → holds δ ε ρ (join-and ms) ≡ holds-all δ ε ρ ms
   unfolding holds
-  join-and-holds none = refl
-  join-and-holds (more e none) = sym (and-true (holds δ ε ρ e))
+  join-and-holds mnil = refl
+  join-and-holds (more e mnil) = sym (and-true (holds δ ε ρ e))
   join-and-holds (more e (more e' ms)) = refl
 
   join-or-holds : (ms : Members) → holds δ ε ρ (join-or ms) ≡ holds-any δ ε ρ ms
   unfolding holds
-  join-or-holds none = refl
-  join-or-holds (more e none) = sym (or-false (holds δ ε ρ e))
+  join-or-holds mnil = refl
+  join-or-holds (more e mnil) = sym (or-false (holds δ ε ρ e))
   join-or-holds (more e (more e' ms)) = refl
 
   -- a step of `has-const` and `kept`, by what is known of the member
   all-has : (k : Option Bool) (x A : Bool) (f : Bool) → (f ≡ true → A ≡ false) → is-value false k || f ≡ true → seen k x && A ≡ false
-  all-has nothing true A f p h = p h
-  all-has nothing false A f p h = refl
+  all-has none true A f p h = p h
+  all-has none false A f p h = refl
   all-has (some false) x A f p h = refl
   all-has (some true) x A f p h = p h
 
   has-all : (ms : Members) → has-const false ms ≡ true → holds-all δ ε ρ ms ≡ false
   unfolding has-const holds
-  has-all none h = sym h
+  has-all mnil h = sym h
   has-all (more e ms) h = rw (known e) at (all-has (is-const e) (holds δ ε ρ e) (holds-all δ ε ρ ms) (has-const false ms) (has-all ms) h)
 
   all-kept : (k : Option Bool) (e : BoolExpr) (ms : Members) (A : Bool) (f : Bool) → (f ≡ false → holds-all δ ε ρ ms ≡ A) → is-value false k || f ≡ false → holds-all δ ε ρ (keep-member k e ms) ≡ seen k (holds δ ε ρ e) && A
   unfolding holds
-  all-kept nothing e ms A f p h = ap (λ (x : Bool). holds δ ε ρ e && x) (p h)
+  all-kept none e ms A f p h = ap (λ (x : Bool). holds δ ε ρ e && x) (p h)
   all-kept (some false) e ms A f p h = never (sym h)
   all-kept (some true) e ms A f p h = p h
 
   kept-all : (ms : Members) → has-const false ms ≡ false → holds-all δ ε ρ (kept ms) ≡ holds-all δ ε ρ ms
   unfolding has-const kept holds
-  kept-all none h = refl
+  kept-all mnil h = refl
   kept-all (more e ms) h = rw (known e) at (all-kept (is-const e) e (kept ms) (holds-all δ ε ρ ms) (has-const false ms) (kept-all ms) h)
 
   any-has : (k : Option Bool) (x A : Bool) (f : Bool) → (f ≡ true → A ≡ true) → is-value true k || f ≡ true → seen k x || A ≡ true
-  any-has nothing true A f p h = refl
-  any-has nothing false A f p h = p h
+  any-has none true A f p h = refl
+  any-has none false A f p h = p h
   any-has (some true) x A f p h = refl
   any-has (some false) x A f p h = p h
 
   has-any : (ms : Members) → has-const true ms ≡ true → holds-any δ ε ρ ms ≡ true
   unfolding has-const holds
-  has-any none h = h
+  has-any mnil h = h
   has-any (more e ms) h = rw (known e) at (any-has (is-const e) (holds δ ε ρ e) (holds-any δ ε ρ ms) (has-const true ms) (has-any ms) h)
 
   any-kept : (k : Option Bool) (e : BoolExpr) (ms : Members) (A : Bool) (f : Bool) → (f ≡ false → holds-any δ ε ρ ms ≡ A) → is-value true k || f ≡ false → holds-any δ ε ρ (keep-member k e ms) ≡ seen k (holds δ ε ρ e) || A
   unfolding holds
-  any-kept nothing e ms A f p h = ap (λ (x : Bool). holds δ ε ρ e || x) (p h)
+  any-kept none e ms A f p h = ap (λ (x : Bool). holds δ ε ρ e || x) (p h)
   any-kept (some true) e ms A f p h = never (sym h)
   any-kept (some false) e ms A f p h = p h
 
   kept-any : (ms : Members) → has-const true ms ≡ false → holds-any δ ε ρ (kept ms) ≡ holds-any δ ε ρ ms
   unfolding has-const kept holds
-  kept-any none h = refl
+  kept-any mnil h = refl
   kept-any (more e ms) h = rw (known e) at (any-kept (is-const e) e (kept ms) (holds-any δ ε ρ ms) (has-const true ms) (kept-any ms) h)
 
   and-holds : (ms : Members) → holds δ ε ρ (fold-and ms) ≡ holds-all δ ε ρ ms
@@ -216,7 +216,7 @@ module _ (δ : Val) (ε : IVal) (ρ : Val) where
 
   not-holds : (k : Option Bool) (e : BoolExpr) → seen k (holds δ ε ρ e) ≡ holds δ ε ρ e → holds δ ε ρ (not-of k e) ≡ not (holds δ ε ρ e)
   unfolding holds
-  not-holds nothing e h = refl
+  not-holds none e h = refl
   not-holds (some b) e h = ap not h
 
 -- ---- expressions and statements
@@ -228,7 +228,7 @@ Agrees δ f = (v : ℕ) (b : Bool) → f v ≡ some b → δ v ≡ b
 module _ (ds : List Domain) (f : Fixed) (δ : Val) (ε : IVal) (ρ : Val) (agrees : Agrees δ f) where
   var-holds : (k : Option Bool) (v : ℕ) → f v ≡ k → holds δ ε ρ (fold-var k v) ≡ δ v
   unfolding holds
-  var-holds nothing v h = refl
+  var-holds none v h = refl
   var-holds (some b) v h = sym (agrees v b h)
 
   module _ (P : ℕ → Type 0) where
@@ -248,11 +248,11 @@ module _ (ds : List Domain) (f : Fixed) (δ : Val) (ε : IVal) (ρ : Val) (agree
       fold-holds (Cmp o a b) w = rw (fold-int-value ds ε a (w .0), fold-int-value ds ε b (w .1)) refl
 
       pub fold-members-all : (ms : Members) → EveryMember P (Within ds ε) ms → holds-all δ ε ρ (fold-members ds f ms) ≡ holds-all δ ε ρ ms
-      fold-members-all none w = refl
+      fold-members-all mnil w = refl
       fold-members-all (more e ms) w = rw (fold-holds e (w .0), fold-members-all ms (w .1)) refl
 
       pub fold-members-any : (ms : Members) → EveryMember P (Within ds ε) ms → holds-any δ ε ρ (fold-members ds f ms) ≡ holds-any δ ε ρ ms
-      fold-members-any none w = refl
+      fold-members-any mnil w = refl
       fold-members-any (more e ms) w = rw (fold-holds e (w .0), fold-members-any ms (w .1)) refl
 
     pub fold-stmt-holds : (s : Stmt) → EveryStmt P (Within ds ε) s → stmt-holds δ ε ρ (fold-stmt ds f s) ≡ stmt-holds δ ε ρ s

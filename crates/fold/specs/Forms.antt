@@ -7,7 +7,7 @@ use mathlib.Core.List.{List, _∷_, _++_}
 use native.Mathlib.Omega.{arith}
 use lib.IntN.{pos}
 use lib.ListN.{length, length-append}
-use Rattle.syntax.specs.Syntax.{Domain, CmpOp, Eq, Ne, Le, Lt, Ge, Gt, encode-op, IntExpr, Terms, BoolExpr, Const, Var, NVar, And, Or, Not, Xor, Iff, Imp, Cmp, Members, none, more, count-members, encode-bool, encode-members, encode-bit}
+use Rattle.syntax.specs.Syntax.{Domain, CmpOp, Eq, Ne, Le, Lt, Ge, Gt, encode-op, IntExpr, Terms, BoolExpr, Const, Var, NVar, And, Or, Not, Xor, Iff, Imp, Cmp, Members, mnil, more, count-members, encode-bool, encode-members, encode-bit}
 use Rattle.syntax.specs.Written.{EveryInt, EveryTerm, EveryOf, EveryMemberOf, None}
 use Rattle.fold.specs.Fold.{Fixed, Op, op-xor, op-iff, op-imp, expr-of, fold-binary, has-const, kept, join-and, join-or, fold-and, fold-or, constant-folding-bool, constant-folding-members}
 use Rattle.fold.specs.Table.{op-num, bit}
@@ -19,21 +19,21 @@ list-of false = And
 list-of true = Or
 
 abbrev pub join : Bool → Members → BoolExpr
-join b none = Const (not b)
-join b (more e none) = e
+join b mnil = Const (not b)
+join b (more e mnil) = e
 join b (more e (more f ms)) = list-of b (more e (more f ms))
 
 unfoldable pub fold-list : Bool → Members → BoolExpr
 fold-list b ms = cond (has-const b ms) (Const b) (join b (kept ms))
 
 join-is-and : (ms : Members) → join false ms ≡ join-and ms
-join-is-and none = refl
-join-is-and (more e none) = refl
+join-is-and mnil = refl
+join-is-and (more e mnil) = refl
 join-is-and (more e (more f ms)) = refl
 
 join-is-or : (ms : Members) → join true ms ≡ join-or ms
-join-is-or none = refl
-join-is-or (more e none) = refl
+join-is-or mnil = refl
+join-is-or (more e mnil) = refl
 join-is-or (more e (more f ms)) = refl
 
 pub list-folding : (ds : List Domain) (f : Fixed) (b : Bool) (ms : Members) → constant-folding-bool ds f (list-of b ms) ≡ fold-list b (constant-folding-members ds f ms)
@@ -123,5 +123,5 @@ mutual
   bool-long nb ni (Cmp o a b) h = omega arith
 
   pub members-long : (nb ni : ℕ) (ms : Members) → Declared-members nb ni ms → count-members ms ≤ length (encode-members ms)
-  members-long nb ni none h = omega arith
+  members-long nb ni mnil h = omega arith
   members-long nb ni (more e ms) h = omega (arith, bool-long nb ni e (h .0), members-long nb ni ms (h .1), length-append (encode-bool e) (encode-members ms))

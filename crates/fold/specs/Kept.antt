@@ -1,7 +1,7 @@
 -- What folding keeps: it writes no variable that was not written, no more words, and no deeper levels. Assumes nothing.
 use mathlib.Core.Path.{_≡_, refl, ap}
 use mathlib.Core.Bool.{Bool, true, false, cond}
-use mathlib.Core.Option.{Option, none as nothing, some}
+use mathlib.Core.Option.{Option, none, some}
 use mathlib.Core.List.{List, [], _∷_, map}
 use Prim.Native.Nat.{ℕ, suc, _+_, _≤_, max}
 use native.Mathlib.Omega.{arith}
@@ -9,7 +9,7 @@ use lib.IntN.{ℤ, pos}
 use lib.ListN.{length, length-append}
 use Rattle.laws.specs.Ints.{eqZ}
 use Rattle.laws.specs.Lists.{flat}
-use Rattle.syntax.specs.Syntax.{Domain, as-constant, domain-of, IntExpr, IConst, IVar, Linear, Terms, tnil, tmore, BoolExpr, Const, Var, NVar, And, Or, Not, Xor, Iff, Imp, Cmp, Members, none, more, Stmt, Rule, Table, encode-int, encode-terms, encode-bool, encode-members, encode-cell, encode-stmt}
+use Rattle.syntax.specs.Syntax.{Domain, as-constant, domain-of, IntExpr, IConst, IVar, Linear, Terms, tnil, tmore, BoolExpr, Const, Var, NVar, And, Or, Not, Xor, Iff, Imp, Cmp, Members, mnil, more, Stmt, Rule, Table, encode-int, encode-terms, encode-bool, encode-members, encode-cell, encode-stmt}
 use Rattle.syntax.specs.Written.{EveryInt, EveryTerm, EveryColumn, EveryStmt, EveryStmts, EveryOf, EveryMemberOf, Any}
 use Rattle.syntax.specs.Depth.{depth-int, depth-terms, depth, depth-members}
 use Rattle.fold.specs.Fold.{Fixed, is-const, Op, op-xor, op-iff, op-imp, Action, be-false, be-true, left, not-left, right, not-right, keep, action, act, fold-binary, has-const, keep-member, kept, join-and, join-or, fold-and, fold-or, not-of, fold-not, fold-var, fold-int-var, fold-sum, constant-folding-int as fold-int, constant-folding-terms as fold-terms, constant-folding-bool as fold, constant-folding-members as fold-members, constant-folding-stmt as fold-stmt}
@@ -21,7 +21,7 @@ use Rattle.fold.specs.Forms.{join, fold-list, list-folding, list-words}
 module _ (Q : ℕ → Type 0) (ds : List Domain) where
   int-var-every : (k : Option ℤ) (v : ℕ) → Q v → EveryInt Q (fold-int-var k v)
   unfolding EveryInt
-  int-var-every nothing v h = h
+  int-var-every none v h = h
   int-var-every (some c) v h = tt
 
   pub sum-every : (ts : Terms) → EveryTerm Q ts → EveryInt Q (fold-sum ts)
@@ -70,24 +70,24 @@ module _ (N P Q : ℕ → Type 0) where
 
   keep-every : (k : Option Bool) (e : BoolExpr) (ms : Members) → EveryOf N P Q e → EveryMemberOf N P Q ms → EveryMemberOf N P Q (keep-member k e ms)
   unfolding EveryOf
-  keep-every nothing e ms h g = (h, g)
+  keep-every none e ms h g = (h, g)
   keep-every (some b) e ms h g = g
 
   kept-every : (ms : Members) → EveryMemberOf N P Q ms → EveryMemberOf N P Q (kept ms)
   unfolding kept EveryOf
-  kept-every none h = tt
+  kept-every mnil h = tt
   kept-every (more e ms) h = keep-every (is-const e) e (kept ms) (h .0) (kept-every ms (h .1))
 
   join-and-every : (ms : Members) → EveryMemberOf N P Q ms → EveryOf N P Q (join-and ms)
   unfolding EveryOf
-  join-and-every none h = tt
-  join-and-every (more e none) h = h .0
+  join-and-every mnil h = tt
+  join-and-every (more e mnil) h = h .0
   join-and-every (more e (more e' ms)) h = h
 
   join-or-every : (ms : Members) → EveryMemberOf N P Q ms → EveryOf N P Q (join-or ms)
   unfolding EveryOf
-  join-or-every none h = tt
-  join-or-every (more e none) h = h .0
+  join-or-every mnil h = tt
+  join-or-every (more e mnil) h = h .0
   join-or-every (more e (more e' ms)) h = h
 
   pub and-every : (ms : Members) → EveryMemberOf N P Q ms → EveryOf N P Q (fold-and ms)
@@ -108,12 +108,12 @@ module _ (N P Q : ℕ → Type 0) where
 
   pub not-every : (k : Option Bool) (e : BoolExpr) → EveryOf N P Q e → EveryOf N P Q (not-of k e)
   unfolding EveryOf
-  not-every nothing e h = h
+  not-every none e h = h
   not-every (some b) e h = tt
 
   var-every : (k : Option Bool) (v : ℕ) → P v → EveryOf N P Q (fold-var k v)
   unfolding EveryOf
-  var-every nothing v h = h
+  var-every none v h = h
   var-every (some b) v h = tt
 
   module _ (ds : List Domain) (f : Fixed) where
@@ -133,7 +133,7 @@ module _ (N P Q : ℕ → Type 0) where
       fold-every (Cmp o a b) h = (fold-int-every Q ds a (h .0), fold-int-every Q ds b (h .1))
 
       pub fold-members-every : (ms : Members) → EveryMemberOf N P Q ms → EveryMemberOf N P Q (fold-members ds f ms)
-      fold-members-every none h = tt
+      fold-members-every mnil h = tt
       fold-members-every (more e ms) h = (fold-every e (h .0), fold-members-every ms (h .1))
 
 module _ (P Q : ℕ → Type 0) where
@@ -153,7 +153,7 @@ module _ (P Q : ℕ → Type 0) where
 module _ (ds : List Domain) where
   int-var-size : (k : Option ℤ) (v : ℕ) → length (encode-int (fold-int-var k v)) ≤ 2
   unfolding encode-int
-  int-var-size nothing v = omega arith
+  int-var-size none v = omega arith
   int-var-size (some c) v = omega arith
 
   sum-size : (ts : Terms) → length (encode-int (fold-sum ts)) ≤ 2 + length (encode-terms ts)
@@ -184,18 +184,18 @@ module _ (ds : List Domain) where
 
 keep-size : (k : Option Bool) (e : BoolExpr) (ms : Members) → length (encode-members (keep-member k e ms)) ≤ length (encode-bool e) + length (encode-members ms)
 unfolding encode-bool
-keep-size nothing e ms = omega (arith, length-append (encode-bool e) (encode-members ms))
+keep-size none e ms = omega (arith, length-append (encode-bool e) (encode-members ms))
 keep-size (some b) e ms = omega arith
 
 pub kept-size : (ms : Members) → length (encode-members (kept ms)) ≤ length (encode-members ms)
 unfolding kept encode-bool
-kept-size none = omega arith
+kept-size mnil = omega arith
 kept-size (more e ms) = omega (arith, keep-size (is-const e) e (kept ms), kept-size ms, length-append (encode-bool e) (encode-members ms))
 
 join-size : (b : Bool) (ms : Members) → length (encode-bool (join b ms)) ≤ 2 + length (encode-members ms)
 unfolding encode-bool
-join-size b none = omega arith
-join-size b (more e none) = omega (arith, length-append (encode-bool e) [])
+join-size b mnil = omega arith
+join-size b (more e mnil) = omega (arith, length-append (encode-bool e) [])
 join-size b (more e (more f ms)) = omega (arith, ap length (list-words b (more e (more f ms))))
 
 pub fold-list-size : (b : Bool) (ms : Members) → length (encode-bool (fold-list b ms)) ≤ 2 + length (encode-members ms)
@@ -223,7 +223,7 @@ act-size keep op-xor a b h = omega (arith, length-append (encode-bool a) (encode
 act-size keep op-iff a b h = omega (arith, length-append (encode-bool a) (encode-bool b))
 act-size keep op-imp a b h = omega (arith, length-append (encode-bool a) (encode-bool b))
 
-unknown-size : (o : Op) (a b : BoolExpr) → length (encode-bool (act (action o nothing nothing) o a b)) ≤ suc (length (encode-bool a) + length (encode-bool b))
+unknown-size : (o : Op) (a b : BoolExpr) → length (encode-bool (act (action o none none) o a b)) ≤ suc (length (encode-bool a) + length (encode-bool b))
 unfolding encode-bool
 unknown-size op-xor a b = omega (arith, length-append (encode-bool a) (encode-bool b))
 unknown-size op-iff a b = omega (arith, length-append (encode-bool a) (encode-bool b))
@@ -242,7 +242,7 @@ binary-size o a b = const-or a (λ c q. at (omega (arith, const-size a c q))) (�
 
 var-size : (k : Option Bool) (v : ℕ) → length (encode-bool (fold-var k v)) ≤ 2
 unfolding encode-bool
-var-size nothing v = omega arith
+var-size none v = omega arith
 var-size (some b) v = omega arith
 
 module _ (ds : List Domain) (f : Fixed) where
@@ -262,7 +262,7 @@ module _ (ds : List Domain) (f : Fixed) where
     fold-size (Cmp o a b) = omega (arith, fold-int-size ds a, fold-int-size ds b, length-append (encode-int a) (encode-int b), length-append (encode-int (fold-int ds a)) (encode-int (fold-int ds b)))
 
     pub fold-members-size : (ms : Members) → length (encode-members (fold-members ds f ms)) ≤ length (encode-members ms)
-    fold-members-size none = omega arith
+    fold-members-size mnil = omega arith
     fold-members-size (more e ms) = omega (arith, fold-size e, fold-members-size ms, length-append (encode-bool e) (encode-members ms), length-append (encode-bool (fold ds f e)) (encode-members (fold-members ds f ms)))
 
   pub fold-stmt-size : (s : Stmt) → length (encode-stmt (fold-stmt ds f s)) ≤ length (encode-stmt s)
@@ -279,7 +279,7 @@ module _ (ds : List Domain) (f : Fixed) where
 module _ (ds : List Domain) where
   int-var-depth : (k : Option ℤ) (v : ℕ) → depth-int (fold-int-var k v) ≤ 1
   unfolding depth-int
-  int-var-depth nothing v = omega arith
+  int-var-depth none v = omega arith
   int-var-depth (some c) v = omega arith
 
   sum-depth : (ts : Terms) → depth-int (fold-sum ts) ≤ suc (depth-terms ts)
@@ -306,24 +306,24 @@ module _ (ds : List Domain) where
 
 keep-depth : (k : Option Bool) (e : BoolExpr) (ms : Members) → depth-members (keep-member k e ms) ≤ max (depth e) (depth-members ms)
 unfolding depth
-keep-depth nothing e ms = omega arith
+keep-depth none e ms = omega arith
 keep-depth (some b) e ms = omega arith
 
 kept-depth : (ms : Members) → depth-members (kept ms) ≤ depth-members ms
 unfolding kept depth
-kept-depth none = omega arith
+kept-depth mnil = omega arith
 kept-depth (more e ms) = omega (arith, keep-depth (is-const e) e (kept ms), kept-depth ms)
 
 join-and-depth : (ms : Members) → depth (join-and ms) ≤ suc (depth-members ms)
 unfolding depth
-join-and-depth none = omega arith
-join-and-depth (more e none) = omega arith
+join-and-depth mnil = omega arith
+join-and-depth (more e mnil) = omega arith
 join-and-depth (more e (more e' ms)) = omega arith
 
 join-or-depth : (ms : Members) → depth (join-or ms) ≤ suc (depth-members ms)
 unfolding depth
-join-or-depth none = omega arith
-join-or-depth (more e none) = omega arith
+join-or-depth mnil = omega arith
+join-or-depth (more e mnil) = omega arith
 join-or-depth (more e (more e' ms)) = omega arith
 
 and-depth : (ms : Members) → depth (fold-and ms) ≤ suc (depth-members ms)
@@ -344,7 +344,7 @@ or-depth ms = go (has-const true ms)
 
 not-depth : (k : Option Bool) (e : BoolExpr) → depth (not-of k e) ≤ suc (depth e)
 unfolding depth
-not-depth nothing e = omega arith
+not-depth none e = omega arith
 not-depth (some b) e = omega arith
 
 act-depth : (k : Action) (o : Op) (a b : BoolExpr) → depth (act k o a b) ≤ suc (max (depth a) (depth b))
@@ -365,7 +365,7 @@ binary-depth o a b = act-depth (action o (is-const a) (is-const b)) o a b
 
 var-depth : (k : Option Bool) (v : ℕ) → depth (fold-var k v) ≤ 1
 unfolding depth
-var-depth nothing v = omega arith
+var-depth none v = omega arith
 var-depth (some b) v = omega arith
 
 module _ (ds : List Domain) (f : Fixed) where
@@ -385,5 +385,5 @@ module _ (ds : List Domain) (f : Fixed) where
     fold-depth (Cmp o a b) = omega (arith, fold-int-depth ds a, fold-int-depth ds b)
 
     pub fold-members-depth : (ms : Members) → depth-members (fold-members ds f ms) ≤ depth-members ms
-    fold-members-depth none = omega arith
+    fold-members-depth mnil = omega arith
     fold-members-depth (more e ms) = omega (arith, fold-depth e, fold-members-depth ms)

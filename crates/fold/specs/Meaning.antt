@@ -3,7 +3,7 @@
 use mathlib.Core.Path.{_≡_, refl, sym, _∙_}
 use mathlib.Core.Logic.{_↔_}
 use mathlib.Core.Bool.{Bool, true, false}
-use mathlib.Core.Option.{none as nothing}
+use mathlib.Core.Option.{none}
 use mathlib.Core.List.{List, map}
 use Prim.Native.Nat.{ℕ, zero, suc, _<_}
 use Rattle.laws.specs.Lists.{all}
@@ -48,17 +48,17 @@ module _ (δ : Val) (ε : IVal) (ρ : Val) where
 -- ---- the whole
 
 module _ (p : Problem) (declared : AllDeclared p) (δ : Val) (ε : IVal) (inside : in-domains p ε ≡ true) where
-  tells : (ρ : Val) → Tells δ ε ρ (λ v. nothing) (p .stmts) (optimize p)
+  tells : (ρ : Val) → Tells δ ε ρ (λ v. none) (p .stmts) (optimize p)
   unfolding optimize
-  tells ρ = passes-tell δ ε ρ (p .domains) (λ v. v < p .bools) (suc (p .bools)) (λ v. nothing) (p .stmts) (in-domains-every p ε inside declared)
+  tells ρ = passes-tell δ ε ρ (p .domains) (λ v. v < p .bools) (suc (p .bools)) (λ v. none) (p .stmts) (in-domains-every p ε inside declared)
 
-  free : Agrees δ (λ v. nothing)
+  free : Agrees δ (λ v. none)
   free v b q = cc
 
   -- for any values of emitted numbers, which a set does not write
   pub optimize-means : (f : Fixed) (ss : List Stmt) → optimize p ≡ settled f ss → (ρ : Val) → (all (stmt-holds δ ε ρ) (p .stmts) ≡ true) ↔ (Agrees δ f × (all (stmt-holds δ ε ρ) ss ≡ true))
   optimize-means f ss h ρ =
-      let t : (Agrees δ (λ v. nothing) × (all (stmt-holds δ ε ρ) (p .stmts) ≡ true)) ↔ (Agrees δ f × (all (stmt-holds δ ε ρ) ss ≡ true)) = rw h at (tells ρ) in
+      let t : (Agrees δ (λ v. none) × (all (stmt-holds δ ε ρ) (p .stmts) ≡ true)) ↔ (Agrees δ f × (all (stmt-holds δ ε ρ) ss ≡ true)) = rw h at (tells ρ) in
       ((λ x. t .0 (free, x)), (λ y. t .1 y .1))
 
   pub optimize-satisfies : (f : Fixed) (ss : List Stmt) → optimize p ≡ settled f ss → (satisfies p δ ε ≡ true) ↔ (Agrees δ f × (all (stmt-holds δ ε (λ n. false)) ss ≡ true))
@@ -71,6 +71,6 @@ module _ (p : Problem) (declared : AllDeclared p) (δ : Val) (ε : IVal) (inside
     where
       go : (t : Bool) → satisfies p δ ε ≡ t → t ≡ false
       go true q =
-          let t : Agrees δ (λ v. nothing) → all (stmt-holds δ ε (λ n. false)) (p .stmts) ≡ true → ⊥ = rw h at (tells (λ n. false)) in
+          let t : Agrees δ (λ v. none) → all (stmt-holds δ ε (λ n. false)) (p .stmts) ≡ true → ⊥ = rw h at (tells (λ n. false)) in
           absurd (t free q)
       go false q = refl

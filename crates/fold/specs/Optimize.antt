@@ -1,10 +1,10 @@
 -- Requiring each rule to be true (constant_prop_bool), and the passes of folding and requiring (optimize).
 use mathlib.Core.Bool.{Bool, true, false, not, _||_, Bool·beq, cond}
-use mathlib.Core.Option.{Option, none as nothing, some}
+use mathlib.Core.Option.{Option, none, some}
 use mathlib.Core.List.{List, [], _∷_, map}
 use Prim.Native.Nat.{ℕ, zero, suc}
 use lib.Dec.{eqb}
-use Rattle.syntax.specs.Syntax.{Domain, BoolExpr, Const, Var, NVar, And, Or, Not, Xor, Iff, Imp, Cmp, Members, none, more, Stmt, Rule, Table, Problem}
+use Rattle.syntax.specs.Syntax.{Domain, BoolExpr, Const, Var, NVar, And, Or, Not, Xor, Iff, Imp, Cmp, Members, mnil, more, Stmt, Rule, Table, Problem}
 use Rattle.fold.specs.Fold.{Fixed, constant-folding-stmt}
 
 -- unsatisfiable; or whether a variable changed, and what is fixed now
@@ -17,7 +17,7 @@ fix f v b = λ w. cond (eqb w v) (some b) (f w)
 
 -- set_infeasible
 abbrev pub set-infeasible : Option Bool → ℕ → Bool → Fixed → Status
-set-infeasible nothing v want f = updated true (fix f v want)
+set-infeasible none v want f = updated true (fix f v want)
 set-infeasible (some b) v want f = cond (Bool·beq b want) (updated false f) unsatisfiable
 
 -- the worst counts
@@ -46,7 +46,7 @@ unfoldable mutual
   constant-prop-bool (Cmp o a b) want = λ f. updated false f
 
   pub constant-prop-members : Members → Bool → Fixed → Status
-  constant-prop-members none want = λ f. updated false f
+  constant-prop-members mnil want = λ f. updated false f
   constant-prop-members (more e ms) want = λ f. and-then (constant-prop-bool e want f) (constant-prop-members ms want)
 
 unfoldable pub constant-prop-stmts : List Stmt → Fixed → Status
@@ -73,4 +73,4 @@ passes ds (suc n) f ss =
     next-pass (constant-prop-stmts folded f) folded (λ g. passes ds n g folded)
 
 unfoldable pub optimize : Problem → Outcome
-optimize p = passes (p .domains) (suc (p .bools)) (λ v. nothing) (p .stmts)
+optimize p = passes (p .domains) (suc (p .bools)) (λ v. none) (p .stmts)

@@ -1,13 +1,13 @@
 -- Folding what is folded already, under more fixed values, is folding the original under them. Assumes nothing else.
 use mathlib.Core.Path.{_≡_, refl, sym, ap, _∙_}
 use mathlib.Core.Bool.{Bool, true, false, _||_, Bool·beq, cond}
-use mathlib.Core.Option.{Option, none as nothing, some}
+use mathlib.Core.Option.{Option, none, some}
 use mathlib.Core.List.{List, [], _∷_, map}
 use Prim.Native.Nat.{ℕ}
 use lib.IntN.{ℤ, pos}
 use Rattle.laws.specs.Bools.{or-r, or-no-l, or-no-r}
 use Rattle.laws.specs.Ints.{eqZ}
-use Rattle.syntax.specs.Syntax.{Domain, as-constant, domain-of, IntExpr, IConst, IVar, Linear, Terms, tnil, tmore, BoolExpr, Const, Var, NVar, And, Or, Not, Xor, Iff, Imp, Cmp, Members, none, more, Stmt, Rule, Table}
+use Rattle.syntax.specs.Syntax.{Domain, as-constant, domain-of, IntExpr, IConst, IVar, Linear, Terms, tnil, tmore, BoolExpr, Const, Var, NVar, And, Or, Not, Xor, Iff, Imp, Cmp, Members, mnil, more, Stmt, Rule, Table}
 use Rattle.fold.specs.Fold.{Fixed, is-const, Op, op-xor, op-iff, op-imp, Action, be-false, be-true, left, not-left, right, not-right, keep, action, expr-of, act, fold-binary, is-value, has-const, kept, join-and, join-or, fold-and, fold-or, fold-not, fold-var, fold-int-var, fold-sum, constant-folding-int as fold-int, constant-folding-terms as fold-terms, constant-folding-bool as fold, constant-folding-members as fold-members, constant-folding-stmt as fold-stmt}
 
 -- g has every fixed value of f
@@ -15,7 +15,7 @@ abbrev pub Extends : Fixed → Fixed → Type 0
 Extends f g = (v : ℕ) (b : Bool) → f v ≡ some b → g v ≡ some b
 
 -- an expression is a constant, or is none
-pub const-or : {X : Type 0} (e : BoolExpr) → ((b : Bool) → e ≡ Const b → X) → (is-const e ≡ nothing → X) → X
+pub const-or : {X : Type 0} (e : BoolExpr) → ((b : Bool) → e ≡ Const b → X) → (is-const e ≡ none → X) → X
 const-or (Const b) on-const on-other = on-const b refl
 const-or (Var v) on-const on-other = on-other refl
 const-or (NVar n) on-const on-other = on-other refl
@@ -32,7 +32,7 @@ const-or (Cmp o a b) on-const on-other = on-other refl
 module _ (ds : List Domain) where
   int-var-again : (v : ℕ) (k : Option ℤ) → as-constant (domain-of ds v) ≡ k → fold-int ds (fold-int-var k v) ≡ fold-int-var (as-constant (domain-of ds v)) v
   unfolding fold-int
-  int-var-again v nothing h = refl
+  int-var-again v none h = refl
   int-var-again v (some c) h = rw h refl
 
   sum-again : (ts : Terms) → fold-int ds (fold-sum ts) ≡ fold-sum (fold-terms ds ts)
@@ -73,11 +73,11 @@ redo right o a b = b
 redo not-right o a b = fold-not b
 redo keep o a b = fold-binary o a b
 
-redo-left : (o : Op) (c : Bool) (z : BoolExpr) → redo (action o (some c) nothing) o (Const c) z ≡ fold-binary o (Const c) z
+redo-left : (o : Op) (c : Bool) (z : BoolExpr) → redo (action o (some c) none) o (Const c) z ≡ fold-binary o (Const c) z
 unfolding fold-binary fold-not
 redo-left o c z = const-or z (λ d e. rw e (known o c d)) (λ e. unknown o c e)
   where
-    known : (o : Op) (c d : Bool) → redo (action o (some c) nothing) o (Const c) (Const d) ≡ fold-binary o (Const c) (Const d)
+    known : (o : Op) (c d : Bool) → redo (action o (some c) none) o (Const c) (Const d) ≡ fold-binary o (Const c) (Const d)
     known op-xor false false = refl
     known op-xor false true = refl
     known op-xor true false = refl
@@ -91,7 +91,7 @@ redo-left o c z = const-or z (λ d e. rw e (known o c d)) (λ e. unknown o c e)
     known op-imp true false = refl
     known op-imp true true = refl
 
-    unknown : (o : Op) (c : Bool) → is-const z ≡ nothing → redo (action o (some c) nothing) o (Const c) z ≡ fold-binary o (Const c) z
+    unknown : (o : Op) (c : Bool) → is-const z ≡ none → redo (action o (some c) none) o (Const c) z ≡ fold-binary o (Const c) z
     unknown op-xor false e = rw e refl
     unknown op-xor true e = rw e refl
     unknown op-iff false e = rw e refl
@@ -99,11 +99,11 @@ redo-left o c z = const-or z (λ d e. rw e (known o c d)) (λ e. unknown o c e)
     unknown op-imp false e = rw e refl
     unknown op-imp true e = rw e refl
 
-redo-right : (o : Op) (c : Bool) (z : BoolExpr) → redo (action o nothing (some c)) o z (Const c) ≡ fold-binary o z (Const c)
+redo-right : (o : Op) (c : Bool) (z : BoolExpr) → redo (action o none (some c)) o z (Const c) ≡ fold-binary o z (Const c)
 unfolding fold-binary fold-not
 redo-right o c z = const-or z (λ d e. rw e (known o c d)) (λ e. unknown o c e)
   where
-    known : (o : Op) (c d : Bool) → redo (action o nothing (some c)) o (Const d) (Const c) ≡ fold-binary o (Const d) (Const c)
+    known : (o : Op) (c d : Bool) → redo (action o none (some c)) o (Const d) (Const c) ≡ fold-binary o (Const d) (Const c)
     known op-xor false false = refl
     known op-xor false true = refl
     known op-xor true false = refl
@@ -117,7 +117,7 @@ redo-right o c z = const-or z (λ d e. rw e (known o c d)) (λ e. unknown o c e)
     known op-imp true false = refl
     known op-imp true true = refl
 
-    unknown : (o : Op) (c : Bool) → is-const z ≡ nothing → redo (action o nothing (some c)) o z (Const c) ≡ fold-binary o z (Const c)
+    unknown : (o : Op) (c : Bool) → is-const z ≡ none → redo (action o none (some c)) o z (Const c) ≡ fold-binary o z (Const c)
     unknown op-xor false e = rw e refl
     unknown op-xor true e = rw e refl
     unknown op-iff false e = rw e refl
@@ -146,19 +146,19 @@ or-both : (x y z : Bool) → (y ≡ true → z ≡ true) → x || y ≡ true →
 or-both true y z f h = refl
 or-both false y z f h = f h
 
-and-one : (e : BoolExpr) → fold-and (more e none) ≡ e
+and-one : (e : BoolExpr) → fold-and (more e mnil) ≡ e
 unfolding fold-and has-const kept
 and-one e = const-or e (λ c q. rw q (go c)) (λ q. rw q refl)
   where
-    go : (c : Bool) → fold-and (more (Const c) none) ≡ Const c
+    go : (c : Bool) → fold-and (more (Const c) mnil) ≡ Const c
     go true = refl
     go false = refl
 
-or-one : (e : BoolExpr) → fold-or (more e none) ≡ e
+or-one : (e : BoolExpr) → fold-or (more e mnil) ≡ e
 unfolding fold-or has-const kept
 or-one e = const-or e (λ c q. rw q (go c)) (λ q. rw q refl)
   where
-    go : (c : Bool) → fold-or (more (Const c) none) ≡ Const c
+    go : (c : Bool) → fold-or (more (Const c) mnil) ≡ Const c
     go true = refl
     go false = refl
 
@@ -181,7 +181,7 @@ module _ (ds : List Domain) (g : Fixed) where
   keep-again op-iff a b = refl
   keep-again op-imp a b = refl
 
-  unknown-again : (o : Op) (a b : BoolExpr) → fold ds g (act (action o nothing nothing) o a b) ≡ fold-binary o (fold ds g a) (fold ds g b)
+  unknown-again : (o : Op) (a b : BoolExpr) → fold ds g (act (action o none none) o a b) ≡ fold-binary o (fold ds g a) (fold ds g b)
   unknown-again op-xor a b = keep-again op-xor a b
   unknown-again op-iff a b = keep-again op-iff a b
   unknown-again op-imp a b = keep-again op-imp a b
@@ -190,8 +190,8 @@ module _ (ds : List Domain) (g : Fixed) where
   unfolding fold-binary fold
   binary-again o a b =
       const-or a
-      (λ c ea. const-or b (λ d eb. rw (ea, eb) (act-again (action o (some c) (some d)) o (Const c) (Const d) ∙ redo-both o c d)) (λ eb. rw (ea, eb) (act-again (action o (some c) nothing) o (Const c) b ∙ redo-left o c (fold ds g b))))
-      (λ ea. const-or b (λ d eb. rw (eb, ea) (act-again (action o nothing (some d)) o a (Const d) ∙ redo-right o d (fold ds g a))) (λ eb. rw (ea, eb) (unknown-again o a b)))
+      (λ c ea. const-or b (λ d eb. rw (ea, eb) (act-again (action o (some c) (some d)) o (Const c) (Const d) ∙ redo-both o c d)) (λ eb. rw (ea, eb) (act-again (action o (some c) none) o (Const c) b ∙ redo-left o c (fold ds g b))))
+      (λ ea. const-or b (λ d eb. rw (eb, ea) (act-again (action o none (some d)) o a (Const d) ∙ redo-right o d (fold ds g a))) (λ eb. rw (ea, eb) (unknown-again o a b)))
 
   not-again : (e : BoolExpr) → fold ds g (fold-not e) ≡ fold-not (fold ds g e)
   unfolding fold-not fold
@@ -200,33 +200,33 @@ module _ (ds : List Domain) (g : Fixed) where
   -- what is dropped is a constant, and stays one
   has-again : (b : Bool) (ms : Members) → has-const b ms ≡ true → has-const b (fold-members ds g ms) ≡ true
   unfolding has-const fold
-  has-again b none h = h
+  has-again b mnil h = h
   has-again b (more e ms) h = const-or e
       (λ c q. rw q (or-both (Bool·beq b c) (has-const b ms) (has-const b (fold-members ds g ms)) (has-again b ms) (rw q at h)))
       (λ q. or-r (is-value b (is-const (fold ds g e))) (has-const b (fold-members ds g ms)) (has-again b ms (rw q at h)))
 
   has-kept : (b : Bool) (ms : Members) → has-const b ms ≡ false → has-const b (fold-members ds g (kept ms)) ≡ has-const b (fold-members ds g ms)
   unfolding has-const kept fold
-  has-kept b none h = refl
+  has-kept b mnil h = refl
   has-kept b (more e ms) h = const-or e
       (λ c q. let p : Bool·beq b c || has-const b ms ≡ false = rw q at h in rw (q, or-no-l (Bool·beq b c) (has-const b ms) p) (has-kept b ms (or-no-r (Bool·beq b c) (has-const b ms) p)))
       (λ q. let p : has-const b ms ≡ false = rw q at h in rw (q, has-kept b ms p) refl)
 
   kept-kept : (ms : Members) → kept (fold-members ds g (kept ms)) ≡ kept (fold-members ds g ms)
   unfolding kept fold
-  kept-kept none = refl
+  kept-kept mnil = refl
   kept-kept (more e ms) = const-or e (λ c q. rw q (kept-kept ms)) (λ q. rw (q, kept-kept ms) refl)
 
   join-and-again : (ms : Members) → fold ds g (join-and ms) ≡ fold-and (fold-members ds g ms)
   unfolding fold fold-and has-const kept
-  join-and-again none = refl
-  join-and-again (more e none) = sym (and-one (fold ds g e))
+  join-and-again mnil = refl
+  join-and-again (more e mnil) = sym (and-one (fold ds g e))
   join-and-again (more e (more e' ms)) = refl
 
   join-or-again : (ms : Members) → fold ds g (join-or ms) ≡ fold-or (fold-members ds g ms)
   unfolding fold fold-or has-const kept
-  join-or-again none = refl
-  join-or-again (more e none) = sym (or-one (fold ds g e))
+  join-or-again mnil = refl
+  join-or-again (more e mnil) = sym (or-one (fold ds g e))
   join-or-again (more e (more e' ms)) = refl
 
   and-again : (ms : Members) → fold ds g (fold-and ms) ≡ fold-and (fold-members ds g ms)
@@ -248,7 +248,7 @@ module _ (ds : List Domain) (g : Fixed) where
   module _ (f : Fixed) (extends : Extends f g) where
     var-again : (v : ℕ) (k : Option Bool) → f v ≡ k → fold ds g (fold-var k v) ≡ fold-var (g v) v
     unfolding fold
-    var-again v nothing h = refl
+    var-again v none h = refl
     var-again v (some b) h = rw (extends v b h) refl
 
     mutual
@@ -267,7 +267,7 @@ module _ (ds : List Domain) (g : Fixed) where
       refold (Cmp o a b) = rw (refold-int ds a, refold-int ds b) refl
 
       pub refold-members : (ms : Members) → fold-members ds g (fold-members ds f ms) ≡ fold-members ds g ms
-      refold-members none = refl
+      refold-members mnil = refl
       refold-members (more e ms) = rw (refold e, refold-members ms) refl
 
     pub refold-stmt : (s : Stmt) → fold-stmt ds g (fold-stmt ds f s) ≡ fold-stmt ds g s

@@ -2,11 +2,11 @@
 -- Where the passes settle, a root constant is true, and a comparison's sides and a table's columns are folded.
 use mathlib.Core.Path.{_≡_, refl}
 use mathlib.Core.Bool.{Bool, true, false, cond}
-use mathlib.Core.Option.{Option, none as nothing, some}
+use mathlib.Core.Option.{Option, none, some}
 use mathlib.Core.List.{List, [], _∷_, map}
 use Prim.Native.Nat.{ℕ, _≤_}
 use native.Mathlib.Omega.{arith}
-use Rattle.syntax.specs.Syntax.{Domain, BoolExpr, Const, Var, NVar, And, Or, Not, Xor, Iff, Imp, Cmp, Members, none, more, count-members, Stmt, Rule, Table, Problem}
+use Rattle.syntax.specs.Syntax.{Domain, BoolExpr, Const, Var, NVar, And, Or, Not, Xor, Iff, Imp, Cmp, Members, mnil, more, count-members, Stmt, Rule, Table, Problem}
 use Rattle.syntax.specs.Written.{AllDeclared}
 use Rattle.fold.specs.Fold.{Fixed, is-const, Op, op-xor, op-iff, op-imp, action, act, fold-binary, has-const, kept, join-and, join-or, fold-and, fold-or, fold-not, fold-var, constant-folding-int as fold-int, constant-folding-bool as fold, constant-folding-members as fold-members, constant-folding-stmt as fold-stmt}
 use Rattle.fold.specs.Optimize.{Status, unsatisfiable, updated, worst, and-then, constant-prop-bool as prop, constant-prop-stmts as prop-stmts, settled, optimize}
@@ -29,22 +29,22 @@ module _ (ds : List Domain) where
     Solid (Cmp o a b) = (fold-int ds a ≡ a) × (fold-int ds b ≡ b)
 
     pub SolidMembers : Members → Type 0
-    SolidMembers none = Unit {0}
+    SolidMembers mnil = Unit {0}
     SolidMembers (more e ms) = Solid e × SolidMembers ms
 
   -- a constant, or solid
   abbrev Root : Option Bool → BoolExpr → Type 0
   Root (some b) e = Unit {0}
-  Root nothing e = Solid e
+  Root none e = Solid e
 
   abbrev pub Folded : BoolExpr → Type 0
   Folded e = Root (is-const e) e
 
   unfoldable pub FoldedMembers : Members → Type 0
-  FoldedMembers none = Unit {0}
+  FoldedMembers mnil = Unit {0}
   FoldedMembers (more e ms) = Folded e × FoldedMembers ms
 
-  solid : (e : BoolExpr) → Folded e → is-const e ≡ nothing → Solid e
+  solid : (e : BoolExpr) → Folded e → is-const e ≡ none → Solid e
   solid e h q = rw q at h
 
   solid-folded : (e : BoolExpr) → Solid e → Folded e
@@ -67,7 +67,7 @@ module _ (ds : List Domain) where
   known-folded op-imp true false = tt
   known-folded op-imp true true = tt
 
-  left-folded : (o : Op) (c : Bool) (e : BoolExpr) → Solid e → Folded (act (action o (some c) nothing) o (Const c) e)
+  left-folded : (o : Op) (c : Bool) (e : BoolExpr) → Solid e → Folded (act (action o (some c) none) o (Const c) e)
   unfolding Solid
   left-folded op-xor false e h = solid-folded e h
   left-folded op-xor true e h = h
@@ -76,7 +76,7 @@ module _ (ds : List Domain) where
   left-folded op-imp false e h = tt
   left-folded op-imp true e h = solid-folded e h
 
-  right-folded : (o : Op) (c : Bool) (e : BoolExpr) → Solid e → Folded (act (action o nothing (some c)) o e (Const c))
+  right-folded : (o : Op) (c : Bool) (e : BoolExpr) → Solid e → Folded (act (action o none (some c)) o e (Const c))
   unfolding Solid
   right-folded op-xor false e h = solid-folded e h
   right-folded op-xor true e h = h
@@ -85,7 +85,7 @@ module _ (ds : List Domain) where
   right-folded op-imp false e h = h
   right-folded op-imp true e h = tt
 
-  unknown-folded : (o : Op) (a b : BoolExpr) → Solid a → Solid b → Folded (act (action o nothing nothing) o a b)
+  unknown-folded : (o : Op) (a b : BoolExpr) → Solid a → Solid b → Folded (act (action o none none) o a b)
   unfolding Solid
   unknown-folded op-xor a b h g = (h, g)
   unknown-folded op-iff a b h g = (h, g)
@@ -104,21 +104,21 @@ module _ (ds : List Domain) where
 
   kept-solid : (ms : Members) → FoldedMembers ms → SolidMembers (kept ms)
   unfolding kept FoldedMembers Solid
-  kept-solid none h = tt
+  kept-solid mnil h = tt
   kept-solid (more e ms) h =
       let rest = kept-solid ms (h .1) in
       const-or e (λ b q. rw q rest) (λ q. let s = solid e (h .0) q in rw q (s, rest))
 
   join-and-folded : (ms : Members) → SolidMembers ms → Folded (join-and ms)
   unfolding Solid
-  join-and-folded none h = tt
-  join-and-folded (more e none) h = solid-folded e (h .0)
+  join-and-folded mnil h = tt
+  join-and-folded (more e mnil) h = solid-folded e (h .0)
   join-and-folded (more e (more e' ms)) h = (omega arith, h)
 
   join-or-folded : (ms : Members) → SolidMembers ms → Folded (join-or ms)
   unfolding Solid
-  join-or-folded none h = tt
-  join-or-folded (more e none) h = solid-folded e (h .0)
+  join-or-folded mnil h = tt
+  join-or-folded (more e mnil) h = solid-folded e (h .0)
   join-or-folded (more e (more e' ms)) h = (omega arith, h)
 
   and-folded : (ms : Members) → FoldedMembers ms → Folded (fold-and ms)
@@ -139,7 +139,7 @@ module _ (ds : List Domain) where
 
   var-folded : (k : Option Bool) (v : ℕ) → Folded (fold-var k v)
   unfolding Solid
-  var-folded nothing v = tt
+  var-folded none v = tt
   var-folded (some b) v = tt
 
   module _ (f : Fixed) where
@@ -159,7 +159,7 @@ module _ (ds : List Domain) where
       fold-folded (Cmp o a b) = (refold-int ds a, refold-int ds b)
 
       fold-members-folded : (ms : Members) → FoldedMembers (fold-members ds f ms)
-      fold-members-folded none = tt
+      fold-members-folded mnil = tt
       fold-members-folded (more e ms) = (fold-folded e, fold-members-folded ms)
 
   -- ---- where the passes settle
@@ -167,7 +167,7 @@ module _ (ds : List Domain) where
   -- the constant true, or solid
   abbrev SettledRoot : Option Bool → BoolExpr → Type 0
   SettledRoot (some b) e = b ≡ true
-  SettledRoot nothing e = Solid e
+  SettledRoot none e = Solid e
 
   unfoldable pub SettledStmts : List Stmt → Type 0
   SettledStmts [] = Unit {0}

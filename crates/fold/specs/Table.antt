@@ -3,7 +3,7 @@
 use Prim.Native.Nat.{ℕ, _+_, _*_, _<_, _/_, _%_, _^_}
 use mathlib.Core.Path.{_≡_, refl, _∙_}
 use mathlib.Core.Bool.{Bool, true, false, _&&_}
-use mathlib.Core.Option.{Option, none as nothing, some}
+use mathlib.Core.Option.{Option, none, some}
 use mathlib.Core.List.{List, [], _∷_}
 use native.Mathlib.Omega.{arith}
 use lib.Dec.{eqb}
@@ -34,7 +34,7 @@ bit true = 1
 abbrev pub state-num : Option Bool → ℕ
 state-num (some false) = 0
 state-num (some true) = 1
-state-num nothing = 2
+state-num none = 2
 
 pub op-small : (o : Op) → op-num o < 3
 op-small op-xor = omega arith
@@ -46,7 +46,7 @@ bit-small false = omega arith
 bit-small true = omega arith
 
 pub state-small : (k : Option Bool) → state-num k < 3
-state-small nothing = omega arith
+state-small none = omega arith
 state-small (some false) = omega arith
 state-small (some true) = omega arith
 
@@ -76,12 +76,12 @@ at-op f h op-iff = and-l _ _ (and-r (f op-xor) _ h)
 at-op f h op-imp = and-r (f op-iff) _ (and-r (f op-xor) _ h)
 
 abbrev ∀side : (Option Bool → Bool) → Bool
-∀side f = f nothing && (f (some false) && f (some true))
+∀side f = f none && (f (some false) && f (some true))
 
 at-side : (f : Option Bool → Bool) → ∀side f ≡ true → (k : Option Bool) → f k ≡ true
-at-side f h nothing = and-l _ _ h
-at-side f h (some false) = and-l _ _ (and-r (f nothing) _ h)
-at-side f h (some true) = and-r (f (some false)) _ (and-r (f nothing) _ h)
+at-side f h none = and-l _ _ h
+at-side f h (some false) = and-l _ _ (and-r (f none) _ h)
+at-side f h (some true) = and-r (f (some false)) _ (and-r (f none) _ h)
 
 -- a test at all 27 pairs of an operator and its sides' states
 abbrev ∀pair : (Op → Option Bool → Option Bool → Bool) → Bool

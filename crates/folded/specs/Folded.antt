@@ -1,7 +1,7 @@
 -- What refusals 9, 10 and 11 leave is kept by folding: a folded expression weighs no more, writes no other variable and spans no more.
 use mathlib.Core.Path.{_≡_, refl, sym, _∙_}
 use mathlib.Core.Bool.{Bool, true, false, _||_, cond}
-use mathlib.Core.Option.{Option, none as nothing, some}
+use mathlib.Core.Option.{Option, none, some}
 use mathlib.Core.List.{List, [], _∷_, _++_, map}
 use Prim.Native.Nat.{ℕ, _+_, _*_, _≤_, max, zero-le}
 use native.Mathlib.Nat.{mul-le-mul-left, le-trans}
@@ -14,7 +14,7 @@ use Rattle.laws.specs.Ints.{eqZ}
 use Rattle.laws.specs.Order.{eqZ-is}
 use Rattle.laws.specs.Lists.{any, any-append, different}
 use Rattle.syntax.specs.Words.{max-weight, max-comparison-vars, max-column-vars}
-use Rattle.syntax.specs.Syntax.{Domain, Range, Enumerative, as-constant, domain-of, IntExpr, IConst, IVar, Linear, Terms, tnil, tmore, BoolExpr, Const, Var, NVar, And, Or, Not, Xor, Iff, Imp, Cmp, Members, none, more, Stmt, Rule, Table}
+use Rattle.syntax.specs.Syntax.{Domain, Range, Enumerative, as-constant, domain-of, IntExpr, IConst, IVar, Linear, Terms, tnil, tmore, BoolExpr, Const, Var, NVar, And, Or, Not, Xor, Iff, Imp, Cmp, Members, mnil, more, Stmt, Rule, Table}
 use Rattle.limits.specs.Limits.{any-comparison, any-comparison-members, any-part, domain-weight, weight, terms-weight, heavy, heavy-terms, heavy-comparison, written, written-terms, many-comparison, many-column}
 use Rattle.fold.specs.Fold.{Fixed, is-const, has-const, keep-member, kept, join-and, join-or, fold-and, fold-or, not-of, fold-not, fold-var, fold-binary, act, action, Op, op-xor, op-iff, op-imp, Action, be-false, be-true, left, not-left, right, not-right, keep, fold-int-var, fold-sum, constant-folding-int, constant-folding-terms, constant-folding-bool, constant-folding-members, constant-folding-stmt}
 use Rattle.sums.specs.Rising.{Among, among-left, among-right, different-part}
@@ -25,7 +25,7 @@ use Rattle.sums.specs.Bounds.{heavy-weight}
 constant-weight : (d : Domain) (c : ℤ) → as-constant d ≡ some c → natAbs c ≤ domain-weight d
 constant-weight (Range low high) c e = go (eqZ low high) e
   where
-    go : (t : Bool) → cond t (some low) nothing ≡ some c → natAbs c ≤ max 1 (max (natAbs low) (natAbs high))
+    go : (t : Bool) → cond t (some low) none ≡ some c → natAbs c ≤ max 1 (max (natAbs low) (natAbs high))
     go true e = let z : low ≡ c = cc in rw (← z) (omega arith)
     go false e = let z : _≡_ {A = ℕ} 0 1 = cc in absurd (omega arith)
 constant-weight (Enumerative []) c e = let z : _≡_ {A = ℕ} 0 1 = cc in absurd (omega arith)
@@ -52,7 +52,7 @@ module _ (ds : List Domain) where
 
   var-weight : (v : ℕ) (o : Option ℤ) → as-constant (domain-of ds v) ≡ o → weight ds (fold-int-var o v) ≤ domain-weight (domain-of ds v)
   unfolding weight
-  var-weight v nothing e = omega arith
+  var-weight v none e = omega arith
   var-weight v (some c) e = constant-weight (domain-of ds v) c e
 
   mutual
@@ -82,7 +82,7 @@ module _ (ds : List Domain) where
 
   var-light : (v : ℕ) (o : Option ℤ) → as-constant (domain-of ds v) ≡ o → heavy ds (IVar v) ≡ false → heavy ds (fold-int-var o v) ≡ false
   unfolding heavy weight
-  var-light v nothing e h = h
+  var-light v none e h = h
   var-light v (some c) e h = within (natAbs c) (domain-weight (domain-of ds v)) (constant-weight (domain-of ds v) c e) h
 
   mutual
@@ -119,7 +119,7 @@ module _ (ds : List Domain) where
 
   var-written : (u : ℕ) (o : Option ℤ) (v : ℕ) → Among (written (fold-int-var o u)) v → Among (u ∷ []) v
   unfolding written
-  var-written u nothing v m = m
+  var-written u none v m = m
   var-written u (some c) v m = never m
 
   mutual
@@ -156,23 +156,23 @@ module _ (P : IntExpr → IntExpr → Bool) (C : IntExpr → Bool) where
 
   kept-no : (ms : Members) → Nos ms → Nos (kept ms)
   unfolding kept any-comparison
-  kept-no none h = refl
+  kept-no mnil h = refl
   kept-no (more e ms) h = go (is-const e) (kept-no ms (or-no-r (any-comparison P C e) (any-comparison-members P C ms) h))
     where
       go : (o : Option Bool) → Nos (kept ms) → Nos (keep-member o e (kept ms))
-      go nothing q = rw (or-no-l (any-comparison P C e) (any-comparison-members P C ms) h) q
+      go none q = rw (or-no-l (any-comparison P C e) (any-comparison-members P C ms) h) q
       go (some b) q = q
 
   join-and-no : (ms : Members) → Nos ms → No (join-and ms)
   unfolding any-comparison
-  join-and-no none h = refl
-  join-and-no (more e none) h = or-no-l (any-comparison P C e) false h
+  join-and-no mnil h = refl
+  join-and-no (more e mnil) h = or-no-l (any-comparison P C e) false h
   join-and-no (more e (more f ms)) h = h
 
   join-or-no : (ms : Members) → Nos ms → No (join-or ms)
   unfolding any-comparison
-  join-or-no none h = refl
-  join-or-no (more e none) h = or-no-l (any-comparison P C e) false h
+  join-or-no mnil h = refl
+  join-or-no (more e mnil) h = or-no-l (any-comparison P C e) false h
   join-or-no (more e (more f ms)) h = h
 
   fold-and-no : (ms : Members) → Nos ms → No (fold-and ms)
@@ -196,12 +196,12 @@ module _ (P : IntExpr → IntExpr → Bool) (C : IntExpr → Bool) where
   fold-not-no e h = go (is-const e)
     where
       go : (o : Option Bool) → No (not-of o e)
-      go nothing = h
+      go none = h
       go (some b) = refl
 
   fold-var-no : (o : Option Bool) (v : ℕ) → No (fold-var o v)
   unfolding any-comparison
-  fold-var-no nothing v = refl
+  fold-var-no none v = refl
   fold-var-no (some b) v = refl
 
   act-no : (x : Action) (o : Op) (a b : BoolExpr) → No a → No b → No (act x o a b)
@@ -237,7 +237,7 @@ module _ (P : IntExpr → IntExpr → Bool) (C : IntExpr → Bool) where
       fold-no (Cmp o a b) h = keeps a b h
 
       fold-members-no : (ms : Members) → Nos ms → Nos (constant-folding-members ds f ms)
-      fold-members-no none h = refl
+      fold-members-no mnil h = refl
       fold-members-no (more e ms) h = rw (fold-no e (or-no-l (any-comparison P C e) (any-comparison-members P C ms) h), fold-members-no ms (or-no-r (any-comparison P C e) (any-comparison-members P C ms) h)) refl
 
     columns-no : ((e : IntExpr) → C e ≡ false → C (constant-folding-int ds e) ≡ false) → (es : List IntExpr) → any C es ≡ false → any C (map (constant-folding-int ds) es) ≡ false

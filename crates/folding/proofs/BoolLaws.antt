@@ -2,7 +2,7 @@
 use Prim.Native.Nat.{ℕ, zero, suc, _+_, _-_, _≤_, _<_}
 use mathlib.Core.Path.{_≡_, refl, sym, ap, _∙_, subst}
 use mathlib.Core.Bool.{Bool, true, false, _||_, cond}
-use mathlib.Core.Option.{Option, none as nothing, some}
+use mathlib.Core.Option.{Option, none, some}
 use mathlib.Core.List.{List, [], _∷_, _++_, append-nil}
 use native.Mathlib.Omega.{arith}
 use lib.Dec.{eqb}
@@ -12,8 +12,9 @@ use lib.Seq.{slice, getD-take}
 use Rattle.laws.specs.Slices.{Has, has-fits, has-front, has-back, has-word, has-rest, Pushed, pushed-below, pushed-slice, pushed-then, pushed-over, pushed-none, Stored, drop-up}
 use Rattle.laws.specs.Ints.{pos-eq}
 use Rattle.syntax.specs.Words.{max-bools}
-use Rattle.syntax.specs.Syntax.{CmpOp, encode-op, IntExpr, BoolExpr, Const, Var, NVar, And, Or, Not, Xor, Iff, Imp, Cmp, Members, none, more, count-members, encode-int, encode-bool, encode-members}
+use Rattle.syntax.specs.Syntax.{CmpOp, encode-op, IntExpr, BoolExpr, Const, Var, NVar, And, Or, Not, Xor, Iff, Imp, Cmp, Members, mnil, more, count-members, encode-int, encode-bool, encode-members}
 use Rattle.syntax.specs.Written.{EveryOf, None}
+use Rattle.syntax.specs.Codes.{bool-code}
 use Rattle.fold.specs.Fold.{is-const, Op, op-xor, op-iff, op-imp, expr-of, action, act, fold-binary, has-const, keep-member, kept, fold-not, not-of, fold-var, constant-folding-int, constant-folding-bool, constant-folding-members}
 use Rattle.fold.specs.Table.{op-num, action-num, bit, state-num, op-small, bit-small, state-small}
 use Rattle.fold.specs.Forms.{list-of, fold-list, list-folding, binary-folding, list-words, binary-words, bit-word, op-word, op-word-is, Declared, declared-list, declared-binary, bool-long, members-long}
@@ -23,20 +24,8 @@ use Rattle.folding.specs.Steps.{state-of, fixed-of, fixed-in, var-step, 
 
 -- ---- the form, from the first word
 
-abbrev pub tag : BoolExpr → ℕ
-tag (Const b) = 10
-tag (Var v) = 11
-tag (NVar n) = 0
-tag (And ms) = 12
-tag (Or ms) = 13
-tag (Not e) = 14
-tag (Xor a b) = 15
-tag (Iff a b) = 16
-tag (Imp a b) = 17
-tag (Cmp o a b) = 18
-
 module _ {X : Type 0} where
-  pub const-inv : (e : BoolExpr) → tag e ≡ 10 → ((b : Bool) → e ≡ Const b → X) → X
+  pub const-inv : (e : BoolExpr) → bool-code e ≡ 10 → ((b : Bool) → e ≡ Const b → X) → X
   const-inv (Const b) h go = go b refl
   const-inv (Var v) h go = absurd (omega arith)
   const-inv (NVar n) h go = absurd (omega arith)
@@ -48,7 +37,7 @@ module _ {X : Type 0} where
   const-inv (Imp a b) h go = absurd (omega arith)
   const-inv (Cmp o a b) h go = absurd (omega arith)
 
-  pub var-inv : (e : BoolExpr) → tag e ≡ 11 → ((v : ℕ) → e ≡ Var v → X) → X
+  pub var-inv : (e : BoolExpr) → bool-code e ≡ 11 → ((v : ℕ) → e ≡ Var v → X) → X
   var-inv (Const b) h go = absurd (omega arith)
   var-inv (Var v) h go = go v refl
   var-inv (NVar n) h go = absurd (omega arith)
@@ -60,7 +49,7 @@ module _ {X : Type 0} where
   var-inv (Imp a b) h go = absurd (omega arith)
   var-inv (Cmp o a b) h go = absurd (omega arith)
 
-  pub cmp-inv : (e : BoolExpr) → tag e ≡ 18 → ((o : CmpOp) (a b : IntExpr) → e ≡ Cmp o a b → X) → X
+  pub cmp-inv : (e : BoolExpr) → bool-code e ≡ 18 → ((o : CmpOp) (a b : IntExpr) → e ≡ Cmp o a b → X) → X
   cmp-inv (Const b) h go = absurd (omega arith)
   cmp-inv (Var v) h go = absurd (omega arith)
   cmp-inv (NVar n) h go = absurd (omega arith)
@@ -72,7 +61,7 @@ module _ {X : Type 0} where
   cmp-inv (Imp a b) h go = absurd (omega arith)
   cmp-inv (Cmp o a b) h go = go o a b refl
 
-  pub not-inv : (e : BoolExpr) → tag e ≡ 14 → ((x : BoolExpr) → e ≡ Not x → X) → X
+  pub not-inv : (e : BoolExpr) → bool-code e ≡ 14 → ((x : BoolExpr) → e ≡ Not x → X) → X
   not-inv (Const b) h go = absurd (omega arith)
   not-inv (Var v) h go = absurd (omega arith)
   not-inv (NVar n) h go = absurd (omega arith)
@@ -84,7 +73,7 @@ module _ {X : Type 0} where
   not-inv (Imp a b) h go = absurd (omega arith)
   not-inv (Cmp o a b) h go = absurd (omega arith)
 
-  pub list-inv : (e : BoolExpr) → 11 < tag e → tag e < 14 → ((b : Bool) (ms : Members) → e ≡ list-of b ms → tag e ≡ 12 + bit b → X) → X
+  pub list-inv : (e : BoolExpr) → 11 < bool-code e → bool-code e < 14 → ((b : Bool) (ms : Members) → e ≡ list-of b ms → bool-code e ≡ 12 + bit b → X) → X
   list-inv (Const b) h k go = absurd (omega arith)
   list-inv (Var v) h k go = absurd (omega arith)
   list-inv (NVar n) h k go = absurd (omega arith)
@@ -96,7 +85,7 @@ module _ {X : Type 0} where
   list-inv (Imp a b) h k go = absurd (omega arith)
   list-inv (Cmp o a b) h k go = absurd (omega arith)
 
-  pub binary-inv : (e : BoolExpr) → 14 < tag e → (tag e ≡ 18 → ⊥) → ((o : Op) (a b : BoolExpr) → e ≡ expr-of o a b → tag e ≡ 15 + op-num o → X) → X
+  pub binary-inv : (e : BoolExpr) → 14 < bool-code e → (bool-code e ≡ 18 → ⊥) → ((o : Op) (a b : BoolExpr) → e ≡ expr-of o a b → bool-code e ≡ 15 + op-num o → X) → X
   binary-inv (Const b) h k go = absurd (omega arith)
   binary-inv (Var v) h k go = absurd (omega arith)
   binary-inv (NVar n) h k go = absurd (omega arith)
@@ -111,7 +100,7 @@ module _ {X : Type 0} where
 -- ---- the first two words
 
 module _ (nb ni : ℕ) (ws : List ℤ) (at : ℕ) where
-  pub first-word : (e : BoolExpr) → Declared nb ni e → Has ws at (encode-bool e) → getD ws at (pos 0) ≡ pos (tag e)
+  pub first-word : (e : BoolExpr) → Declared nb ni e → Has ws at (encode-bool e) → getD ws at (pos 0) ≡ pos (bool-code e)
   unfolding encode-bool EveryOf
   first-word (Const b) v h = has-word ws at _ _ (pos 0) h
   first-word (Var i) v h = has-word ws at _ _ (pos 0) h
@@ -137,7 +126,7 @@ second (Iff a b) = 0
 second (Imp a b) = 0
 second (Cmp o a b) = op-word o
 
-pub second-word : (ws : List ℤ) (at : ℕ) (e : BoolExpr) → (tag e < 14 → tag e ≡ 0 → ⊥) → (14 ≤ tag e → tag e ≡ 18) → Has ws at (encode-bool e) → getD ws (at + 1) (pos 0) ≡ pos (second e)
+pub second-word : (ws : List ℤ) (at : ℕ) (e : BoolExpr) → (bool-code e < 14 → bool-code e ≡ 0 → ⊥) → (14 ≤ bool-code e → bool-code e ≡ 18) → Has ws at (encode-bool e) → getD ws (at + 1) (pos 0) ≡ pos (second e)
 unfolding encode-bool second
 second-word ws at (Const b) k l h = has-word ws (at + 1) _ _ (pos 0) (has-rest ws at _ _ h) ∙ bit-word b
 second-word ws at (Var v) k l h = has-word ws (at + 1) _ _ (pos 0) (has-rest ws at _ _ h)
@@ -150,18 +139,18 @@ second-word ws at (Iff a b) k l h = absurd (let z = l (omega arith) in omega ari
 second-word ws at (Imp a b) k l h = absurd (let z = l (omega arith) in omega arith)
 second-word ws at (Cmp o a b) k l h = has-word ws (at + 1) _ _ (pos 0) (has-rest ws at _ _ h) ∙ op-word-is o
 
-pub tag-low : (nb ni : ℕ) (e : BoolExpr) → Declared nb ni e → 10 ≤ tag e
+pub code-low : (nb ni : ℕ) (e : BoolExpr) → Declared nb ni e → 10 ≤ bool-code e
 unfolding EveryOf
-tag-low nb ni (Const b) h = omega arith
-tag-low nb ni (Var i) h = omega arith
-tag-low nb ni (NVar n) h = absurd h
-tag-low nb ni (And ms) h = omega arith
-tag-low nb ni (Or ms) h = omega arith
-tag-low nb ni (Not e) h = omega arith
-tag-low nb ni (Xor a b) h = omega arith
-tag-low nb ni (Iff a b) h = omega arith
-tag-low nb ni (Imp a b) h = omega arith
-tag-low nb ni (Cmp o a b) h = omega arith
+code-low nb ni (Const b) h = omega arith
+code-low nb ni (Var i) h = omega arith
+code-low nb ni (NVar n) h = absurd h
+code-low nb ni (And ms) h = omega arith
+code-low nb ni (Or ms) h = omega arith
+code-low nb ni (Not e) h = omega arith
+code-low nb ni (Xor a b) h = omega arith
+code-low nb ni (Iff a b) h = omega arith
+code-low nb ni (Imp a b) h = omega arith
+code-low nb ni (Cmp o a b) h = omega arith
 
 -- ---- the parts stand where they are looked for
 
@@ -207,7 +196,7 @@ module _ (ws : List ℤ) (d at : ℕ) (out : List ℤ) (o : ℕ) (r : Ready ws d
   ready-inside = (omega (arith, inside (length (r .ds)) ws at (r .it) (r .reads), reads-long _ ws at (r .it) (r .reads)), omega (arith, r .room, reads-long _ ws at (r .it) (r .reads)))
 
   pub ready-first : Plain ws at
-  ready-first = record { inside = omega (arith, ready-inside .0); value = tag (r .it); is = first-word max-bools _ ws at (r .it) (r .reads .vars) (r .reads .words) }
+  ready-first = record { inside = omega (arith, ready-inside .0); value = bool-code (r .it); is = first-word max-bools _ ws at (r .it) (r .reads .vars) (r .reads .words) }
 
 -- the fixed values are below what is written
 pub same-fixed : (out out' : List ℤ) → take max-bools out' ≡ take max-bools out → fixed-in out' ≡ fixed-in out
@@ -228,16 +217,16 @@ above-both : (n : ℕ) (out mid out' : List ℤ) (a b : ℕ) → drop a mid ≡ 
 above-both n out mid out' a b p q h k = drop-up b n out' mid q k ∙ drop-up a n mid out p h
 
 module _ (ws : List ℤ) (d at : ℕ) (out : List ℤ) (o w : ℕ) (hw : getD ws at (pos 0) ≡ pos w) where
-  pub tag-is : (ni : ℕ) (e : BoolExpr) → Reads ni ws at e → tag e ≡ w
-  tag-is ni e r = pos-eq _ _ _ (first-word max-bools ni ws at e (r .vars) (r .words)) hw
+  pub code-is : (ni : ℕ) (e : BoolExpr) → Reads ni ws at e → bool-code e ≡ w
+  code-is ni e r = pos-eq _ _ _ (first-word max-bools ni ws at e (r .vars) (r .words)) hw
 
   pub low-tag : Ready ws d at out o → 10 ≤ w
-  low-tag r = omega (arith, tag-low max-bools _ (r .it) (r .reads .vars), tag-is _ (r .it) (r .reads))
+  low-tag r = omega (arith, code-low max-bools _ (r .it) (r .reads .vars), code-is _ (r .it) (r .reads))
 
   pub ready-second : Ready ws d at out o → (14 ≤ w → w ≡ 18) → Plain ws (at + 1)
   ready-second r l =
-      let t : tag (r .it) ≡ w = tag-is _ (r .it) (r .reads) in
-      record { inside = omega (arith, ready-inside ws d at out o r .0); value = second (r .it); is = second-word ws at (r .it) (λ a b. omega (arith, tag-low max-bools _ (r .it) (r .reads .vars))) (λ a. t ∙ l (omega arith)) (r .reads .words) }
+      let t : bool-code (r .it) ≡ w = code-is _ (r .it) (r .reads) in
+      record { inside = omega (arith, ready-inside ws d at out o r .0); value = second (r .it); is = second-word ws at (r .it) (λ a b. omega (arith, code-low max-bools _ (r .it) (r .reads .vars))) (λ a. t ∙ l (omega arith)) (r .reads .words) }
 
   two-above : (out' : List ℤ) (end : ℕ) (us : List ℤ) → length us ≡ 2 → Stored out o us out' end → drop (o + 2) out' ≡ drop (o + 2) out
   two-above out' end us l s = let e : end ≡ o + length us = s .pushed .end in let f : o + 2 ≡ end = omega arith in ap (λ n. drop n out') f ∙ s .above ∙ ap (λ n. drop n out) (sym f)
@@ -255,20 +244,20 @@ module _ (ws : List ℤ) (d at : ℕ) (out : List ℤ) (o w : ℕ) (hw : getD ws
   module _ (v : ℕ) (hv : getD ws (at + 1) (pos 0) ≡ pos v) where
     second-is : (ni : ℕ) (e : BoolExpr) → Reads ni ws at e → (14 ≤ w → w ≡ 18) → second e ≡ v
     second-is ni e r l =
-        let t : tag e ≡ w = tag-is ni e r in
-        pos-eq _ _ _ (second-word ws at e (λ a b. omega (arith, tag-low max-bools ni e (r .vars))) (λ a. t ∙ l (omega arith)) (r .words)) hv
+        let t : bool-code e ≡ w = code-is ni e r in
+        pos-eq _ _ _ (second-word ws at e (λ a b. omega (arith, code-low max-bools ni e (r .vars))) (λ a. t ∙ l (omega arith)) (r .words)) hv
 
     pub const-folds : (out' : List ℤ) (end : ℕ) → w ≡ 10 → Stored out o (pos 10 ∷ pos v ∷ []) out' end → Fold-post ws d at out o out' (at + 2) end v
     unfolding encode-bool second constant-folding-bool
     const-folds out' end h s ds e hd r =
-        const-inv e (tag-is _ e r ∙ h) λ b q.
+        const-inv e (code-is _ e r ∙ h) λ b q.
         let z : bit b ≡ v = rw q at (second-is _ e r (λ l. omega arith)) in
         rw q (record { nexts = refl; states = sym z ∙ bit-state b; pushed = rw (bit-word b, z) (s .pushed); above = two-above out' end _ refl s })
 
     pub var-below : Ready ws d at out o → w < 12 → (w ≡ 10 → ⊥) → v < max-bools
     unfolding second EveryOf
     var-below r h n =
-        let t = tag-is _ (r .it) (r .reads) in
+        let t = code-is _ (r .it) (r .reads) in
         let m = low-tag r in
         var-inv (r .it) (omega arith) λ i q.
         let z : i ≡ v = rw q at (second-is _ (r .it) (r .reads) (λ l. omega arith)) in
@@ -278,7 +267,7 @@ module _ (ws : List ℤ) (d at : ℕ) (out : List ℤ) (o w : ℕ) (hw : getD ws
     pub var-folds : (s : ℕ) (out' : List ℤ) (end : ℕ) → Ready ws d at out o → w < 12 → (w ≡ 10 → ⊥) → s ≡ state-num (state-of (getD out v (pos 0))) → Stored out o (var-step s v) out' end → Fold-post ws d at out o out' (at + 2) end s
     unfolding encode-bool second constant-folding-bool
     var-folds s out' end rd h n hs st ds e hd r =
-        let t = tag-is _ e r in
+        let t = code-is _ e r in
         let m = low-tag rd in
         var-inv e (omega arith) λ i q.
         let z : i ≡ v = rw q at (second-is _ e r (λ l. omega arith)) in
@@ -286,7 +275,7 @@ module _ (ws : List ℤ) (d at : ℕ) (out : List ℤ) (o w : ℕ) (hw : getD ws
         rw (q, z) (record { nexts = refl; states = f ∙ go (fixed-in out v); pushed = rw (← var-words (fixed-in out v) v, ← f) (st .pushed); above = two-above out' end _ (var-length s v) st })
       where
         go : (k : Option Bool) → state-num k ≡ state-num (is-const (fold-var k v))
-        go nothing = refl
+        go none = refl
         go (some b) = refl
 
   -- ---- comparisons
@@ -295,7 +284,7 @@ module _ (ws : List ℤ) (d at : ℕ) (out : List ℤ) (o w : ℕ) (hw : getD ws
     pub left-side : (v m : ℕ) (mid : List ℤ) → Ready ws d at out o → length mid ≡ length out → Stored out o (pos 18 ∷ pos v ∷ []) mid m → Ready-int ws d (at + 2) mid m
     unfolding encode-bool
     left-side v m mid r l s =
-        cmp-inv (r .it) (tag-is _ (r .it) (r .reads) ∙ h18) λ p a b q.
+        cmp-inv (r .it) (code-is _ (r .it) (r .reads) ∙ h18) λ p a b q.
         let z : o + suc (suc (length (encode-int a ++ encode-int b))) ≤ length out = rw q at (r .room) in
         let me : m ≡ o + 2 = s .pushed .end in
         record { ds = r .ds; domains = r .domains; it = a; reads = reads-sides _ ws at p a b (rw q at (r .reads)) .0; room = omega (arith, length-append (encode-int a) (encode-int b)) }
@@ -304,7 +293,7 @@ module _ (ws : List ℤ) (d at : ℕ) (out : List ℤ) (o w : ℕ) (hw : getD ws
       pub right-side : Ready ws d at out o → length mid ≡ length out → length mid' ≡ length mid → Ready-int ws d next mid' end
       unfolding encode-bool
       right-side r l l' =
-          cmp-inv (r .it) (tag-is _ (r .it) (r .reads) ∙ h18) λ x a b q.
+          cmp-inv (r .it) (code-is _ (r .it) (r .reads) ∙ h18) λ x a b q.
           let z : o + suc (suc (length (encode-int a ++ encode-int b))) ≤ length out = rw q at (r .room) in
           let me : m ≡ o + 2 = s .pushed .end in
           let rs = reads-sides _ ws at x a b (rw q at (r .reads)) in
@@ -316,7 +305,7 @@ module _ (ws : List ℤ) (d at : ℕ) (out : List ℤ) (o w : ℕ) (hw : getD ws
       pub cmp-folds : (out' : List ℤ) (next' end' : ℕ) → Int-post ws d next mid' end out' next' end' → Fold-post ws d at out o out' next' end' 2
       unfolding encode-bool second constant-folding-bool
       cmp-folds out' next' end' p' ds e hd r =
-          cmp-inv e (tag-is _ e r ∙ h18) λ x a b q.
+          cmp-inv e (code-is _ e r ∙ h18) λ x a b q.
           let rs = reads-sides _ ws at x a b (rw q at r) in
           let ov : op-word x ≡ v = rw q at (second-is v hv _ e r (λ l. h18)) in
           let y = p ds a hd (rs .0) in
@@ -340,7 +329,7 @@ module _ (ws : List ℤ) (d at : ℕ) (out : List ℤ) (o w : ℕ) (hw : getD ws
   pub not-ready : Ready ws d at out o → w ≡ 14 → Ready ws d (at + 1) out (o + 1)
   unfolding encode-bool
   not-ready r h =
-      not-inv (r .it) (tag-is _ (r .it) (r .reads) ∙ h) λ x q.
+      not-inv (r .it) (code-is _ (r .it) (r .reads) ∙ h) λ x q.
       let z : o + suc (length (encode-bool x)) ≤ length out = rw q at (r .room) in
       let lo : max-bools ≤ o = r .low in
       record { ds = r .ds; domains = r .domains; it = x; reads = reads-not _ ws at x (rw q at (r .reads)); low = omega arith; room = omega arith }
@@ -349,7 +338,7 @@ module _ (ws : List ℤ) (d at : ℕ) (out : List ℤ) (o w : ℕ) (hw : getD ws
     pub not-closes : Ready ws d at out o → w ≡ 14 → length mid ≡ length out → (o + 2 ≤ end) × (end ≤ length mid) × (state < 3)
     unfolding encode-bool
     not-closes r h l =
-        not-inv (r .it) (tag-is _ (r .it) (r .reads) ∙ h) λ x q.
+        not-inv (r .it) (code-is _ (r .it) (r .reads) ∙ h) λ x q.
         let rd = reads-not _ ws at x (rw q at (r .reads)) in
         let f = p (r .ds) x (r .domains) rd in
         let y = constant-folding-bool (r .ds) (fixed-in out) x in
@@ -362,7 +351,7 @@ module _ (ws : List ℤ) (d at : ℕ) (out : List ℤ) (o w : ℕ) (hw : getD ws
         → Fold-post ws d at out o out' next' end' state'
     unfolding encode-bool constant-folding-bool fold-not
     not-folds out' next' end' state' rd h hn hs st ds e hd r =
-        not-inv e (tag-is _ e r ∙ h) λ x q.
+        not-inv e (code-is _ e r ∙ h) λ x q.
         let rx = reads-not _ ws at x (rw q at r) in
         let f = p ds x hd rx in
         let y = constant-folding-bool ds (fixed-in out) x in
@@ -384,7 +373,7 @@ module _ (ws : List ℤ) (d at : ℕ) (out : List ℤ) (o w : ℕ) (hw : getD ws
     the-list : {X : Type 0} (ni : ℕ) (e : BoolExpr) → Reads ni ws at e → ((b : Bool) (ms : Members) → e ≡ list-of b ms → w - 12 ≡ bit b → Reads-members ni ws (at + 2) v ms → count-members ms ≡ v → X) → X
     unfolding second
     the-list ni e r go =
-        let t = tag-is ni e r in
+        let t = code-is ni e r in
         list-inv e (omega arith) (omega arith) λ b ms q tb.
         let s : count-members ms ≡ v = sym (second-list b ms) ∙ sym (ap second q) ∙ second-is v hv ni e r (λ l. absurd (omega arith)) in
         let g = reads-list ni ws at b ms (rw q at r) in
@@ -439,7 +428,7 @@ module _ (ws : List ℤ) (d at : ℕ) (out : List ℤ) (o w : ℕ) (hw : getD ws
   module _ (l14 : 14 < w) (n18 : w ≡ 18 → ⊥) where
     the-binary : {X : Type 0} (ni : ℕ) (e : BoolExpr) → Reads ni ws at e → ((y : Op) (a b : BoolExpr) → e ≡ expr-of y a b → w - 15 ≡ op-num y → Reads ni ws (at + 1) a → Reads ni ws (at + 1 + length (encode-bool a)) b → X) → X
     the-binary ni e r go =
-        let t = tag-is ni e r in
+        let t = code-is ni e r in
         binary-inv e (omega arith) (λ x. n18 (sym t ∙ x)) λ y a b q ty.
         let g = rw q at r in
         go y a b q (omega arith) (reads-left ni ws at y a b g) (reads-right ni ws at y a b g)
@@ -530,12 +519,12 @@ module _ (ws : List ℤ) (d at : ℕ) (out : List ℤ) (o w : ℕ) (hw : getD ws
 
 pub members-none : (ws : List ℤ) (d at n : ℕ) (out : List ℤ) (o b : ℕ) → n ≡ 0 → Members-post ws d at n out o b out at o false 0
 unfolding encode-members constant-folding-members has-const kept
-members-none ws d at n out o b h ds c none hb hd r = record { nexts = omega arith; hits = refl; sizes = refl; pushed = pushed-none out o; above = refl }
+members-none ws d at n out o b h ds c mnil hb hd r = record { nexts = omega arith; hits = refl; sizes = refl; pushed = pushed-none out o; above = refl }
 members-none ws d at n out o b h ds c (more e ms) hb hd r = absurd (let s : n ≡ suc (count-members ms) = r .size in omega arith)
 
 module _ (ws : List ℤ) (d at n : ℕ) (out : List ℤ) (o : ℕ) (z : n ≡ 0 → ⊥) where
   pub more-inv : {X : Type 0} (ms : Members) → n ≡ count-members ms → ((e : BoolExpr) (ns : Members) → ms ≡ more e ns → X) → X
-  more-inv none h go = absurd (z h)
+  more-inv mnil h go = absurd (z h)
   more-inv (more e ns) h go = go e ns refl
 
   pub first-ready : Ready-members ws d at n out o → Ready ws d at out o
@@ -547,20 +536,20 @@ module _ (ws : List ℤ) (d at n : ℕ) (out : List ℤ) (o : ℕ) (z : n ≡ 0 
 
   module _ (mid : List ℤ) (next end state : ℕ) (p : Fold-post ws d at out o mid next end state) (from : ℕ) (hf : from ≡ cond (eqb state 2) end o) where
     -- the end of what is kept of a member
-    kept-at : (k : Option Bool) (E : BoolExpr) → state ≡ state-num k → Pushed out o (encode-bool E) mid end → o ≤ length out → Pushed out o (encode-members (keep-member k E none)) mid from
+    kept-at : (k : Option Bool) (E : BoolExpr) → state ≡ state-num k → Pushed out o (encode-bool E) mid end → o ≤ length out → Pushed out o (encode-members (keep-member k E mnil)) mid from
     unfolding encode-members
-    kept-at nothing E s w l = let g : from ≡ end = hf ∙ rw s refl in rw g (record { end = w .end ∙ omega (arith, length-append (encode-bool E) []); words = w .words ∙ ap (λ x. take o out ++ x) (sym (append-nil (encode-bool E))) })
+    kept-at none E s w l = let g : from ≡ end = hf ∙ rw s refl in rw g (record { end = w .end ∙ omega (arith, length-append (encode-bool E) []); words = w .words ∙ ap (λ x. take o out ++ x) (sym (append-nil (encode-bool E))) })
     kept-at (some false) E s w l = let g : from ≡ o = hf ∙ rw s refl in rw g (record { end = omega arith; words = pushed-below out o (encode-bool E) mid end o w (omega arith) l ∙ sym (append-nil (take o out)) })
     kept-at (some true) E s w l = let g : from ≡ o = hf ∙ rw s refl in rw g (record { end = omega arith; words = pushed-below out o (encode-bool E) mid end o w (omega arith) l ∙ sym (append-nil (take o out)) })
 
-    kept-split : (k : Option Bool) (E : BoolExpr) (ns : Members) → encode-members (keep-member k E ns) ≡ encode-members (keep-member k E none) ++ encode-members ns
+    kept-split : (k : Option Bool) (E : BoolExpr) (ns : Members) → encode-members (keep-member k E ns) ≡ encode-members (keep-member k E mnil) ++ encode-members ns
     unfolding encode-members
-    kept-split nothing E ns = ap (λ x. x ++ encode-members ns) (sym (append-nil (encode-bool E)))
+    kept-split none E ns = ap (λ x. x ++ encode-members ns) (sym (append-nil (encode-bool E)))
     kept-split (some b) E ns = refl
 
-    kept-one-size : (k : Option Bool) (E : BoolExpr) → length (encode-members (keep-member k E none)) ≤ length (encode-bool E)
+    kept-one-size : (k : Option Bool) (E : BoolExpr) → length (encode-members (keep-member k E mnil)) ≤ length (encode-bool E)
     unfolding encode-members
-    kept-one-size nothing E = omega (arith, length-append (encode-bool E) [])
+    kept-one-size none E = omega (arith, length-append (encode-bool E) [])
     kept-one-size (some b) E = omega arith
 
     pub rest-ready : Ready-members ws d at n out o → length mid ≡ length out → Ready-members ws d next (n - 1) mid from × (at < next)
@@ -574,7 +563,7 @@ module _ (ws : List ℤ) (d at n : ℕ) (out : List ℤ) (o : ℕ) (z : n ≡ 0 
         let nx : next ≡ at + length (encode-bool e) = f .nexts in
         let E = constant-folding-bool (r .ds) (fixed-in out) e in
         let kf = kept-at (is-const E) E (f .states) (f .pushed) (omega arith) in
-        let ke : from ≡ o + length (encode-members (keep-member (is-const E) E none)) = kf .end in
+        let ke : from ≡ o + length (encode-members (keep-member (is-const E) E mnil)) = kf .end in
         let lo : max-bools ≤ o = r .low in (
           record { ds = r .ds; domains = r .domains; them = ns; reads = rw nx (reads-rest _ ws at n e ns rd); low = omega arith; room = omega (arith, length-append (encode-bool e) (encode-members ns), kept-one-size (is-const E) E, fold-size (r .ds) (fixed-in out) e) },
           omega (arith, reads-long _ ws at e re),
@@ -599,12 +588,12 @@ module _ (ws : List ℤ) (d at n : ℕ) (out : List ℤ) (o : ℕ) (z : n ≡ 0 
         let gh : hit ≡ has-const c N = rw sf at (g .hits) in
         let gs : size ≡ count-members (kept N) = rw sf at (g .sizes) in
         let gn : next' ≡ next + length (encode-members ns) = g .nexts in
-        let ke : from ≡ o + length (encode-members (keep-member (is-const E) E none)) = kf .end in
+        let ke : from ≡ o + length (encode-members (keep-member (is-const E) E mnil)) = kf .end in
         rw q (record {
           nexts = omega (arith, length-append (encode-bool e) (encode-members ns));
           hits = rw (f .states, hb, gh, hit-one (is-const E) c) refl;
           sizes = rw (f .states, gs) (count-one (is-const E) E (kept N));
-          pushed = rw (kept-split (is-const E) E (kept N)) (pushed-then out o (encode-members (keep-member (is-const E) E none)) mid from (encode-members (kept N)) out' end' kf gw);
+          pushed = rw (kept-split (is-const E) E (kept N)) (pushed-then out o (encode-members (keep-member (is-const E) E mnil)) mid from (encode-members (kept N)) out' end' kf gw);
           above = drop-up (from + length (encode-members ns)) (o + length (encode-bool e ++ encode-members ns)) out' mid (g .above) (omega (arith, length-append (encode-bool e) (encode-members ns), kept-one-size (is-const E) E, fold-size ds (fixed-in out) e))
               ∙ drop-up (o + length (encode-bool e)) (o + length (encode-bool e ++ encode-members ns)) mid out (f .above) (omega (arith, length-append (encode-bool e) (encode-members ns)));
         })

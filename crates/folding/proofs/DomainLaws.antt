@@ -1,7 +1,7 @@
 -- What folding an integer variable asks and gives, over variables. Assumes nothing.
 use Prim.Native.Nat.{ℕ, _+_, _≤_, _<_}
 use mathlib.Core.Path.{_≡_}
-use mathlib.Core.Option.{none as nothing, some}
+use mathlib.Core.Option.{none, some}
 use mathlib.Core.List.{List, [], _∷_}
 use lib.IntN.{ℤ, pos}
 use lib.ListN.{length, getD, set}
@@ -21,7 +21,7 @@ module _ (ws : List ℤ) (d : ℕ) (out : List ℤ) (o v at p : ℕ) (pa : Domai
 
   pub var-kept : (out' : List ℤ) (r : ℕ) → p ≡ 0 → Stored out o (pos 21 ∷ pos v ∷ []) out' r → Int-var-post ws d out o v out' r
   unfolding encode-int
-  var-kept out' r z s ds h l = let a : as-constant (domain-of ds v) ≡ nothing = pc (domain-of ds v) (pa ds h l) .absent z in rw a s
+  var-kept out' r z s ds h l = let a : as-constant (domain-of ds v) ≡ none = pc (domain-of ds v) (pa ds h l) .absent z in rw a s
 
   pub var-constant : (out' : List ℤ) → (p ≡ 0 → ⊥) → o + 2 ≤ length out → out' ≡ set (set out o (pos 20)) (o + 1) (getD ws p (pos 0)) → Int-var-post ws d out o v out' (o + 2)
   unfolding encode-int

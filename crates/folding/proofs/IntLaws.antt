@@ -70,22 +70,22 @@ module _ (ws : List ℤ) (d at : ℕ) (out : List ℤ) (o : ℕ) where
   two-above out' end us l s = let e : end ≡ o + length us = s .pushed .end in let f : o + 2 ≡ end = omega arith in ap (λ n. drop n out') f ∙ s .above ∙ ap (λ n. drop n out) (sym f)
 
   module _ (w : ℕ) (hw : getD ws at (pos 0) ≡ pos w) where
-    tag-is : (ni : ℕ) (e : IntExpr) → Reads-int ni ws at e → int-tag e ≡ w
-    tag-is ni e r = pos-eq _ _ _ (int-tag-word ws at e (r .words)) hw
+    code-is : (ni : ℕ) (e : IntExpr) → Reads-int ni ws at e → int-tag e ≡ w
+    code-is ni e r = pos-eq _ _ _ (int-tag-word ws at e (r .words)) hw
 
     pub int-second : Ready-int ws d at out o → (w ≡ 20 → ⊥) → Plain ws (at + 1)
     unfolding encode-int
     int-second r h = go (r .it) (r .reads)
       where
         go : (e : IntExpr) → Reads-int (length (r .ds)) ws at e → Plain ws (at + 1)
-        go (IConst c) g = absurd (h (sym (tag-is _ (IConst c) g)))
+        go (IConst c) g = absurd (h (sym (code-is _ (IConst c) g)))
         go (IVar v) g = record { inside = omega (arith, int-inside r .0); value = v; is = has-word ws (at + 1) _ _ (pos 0) (has-rest ws at _ _ (g .words)) }
         go (Linear ts) g = record { inside = omega (arith, int-inside r .0); value = count-terms ts; is = has-word ws (at + 1) _ _ (pos 0) (has-rest ws at _ _ (g .words)) }
 
     pub const-folds : (out' : List ℤ) → w ≡ 20 → o + 2 ≤ length out → out' ≡ set (set out o (pos 20)) (o + 1) (getD ws (at + 1) (pos 0)) → Int-post ws d at out o out' (at + 2) (o + 2)
     unfolding encode-int constant-folding-int
     const-folds out' h l ho ds e hd r =
-        const-inv e (tag-is _ e r ∙ h) λ c q.
+        const-inv e (code-is _ e r ∙ h) λ c q.
         let g = rw q at r in
         let z : getD ws (at + 1) (pos 0) ≡ c = has-word ws (at + 1) _ _ (pos 0) (has-rest ws at _ _ (g .words)) in
         let s : Stored out o (pos 20 ∷ c ∷ []) out' (o + 2) = rw (ho, z) (stored-two out o (pos 20) c l) in
@@ -95,7 +95,7 @@ module _ (ws : List ℤ) (d at : ℕ) (out : List ℤ) (o : ℕ) where
       pub var-below : Ready-int ws d at out o → w ≡ 21 → Domain-below ws d v
       unfolding encode-int EveryInt
       var-below r h =
-          var-inv (r .it) (tag-is _ (r .it) (r .reads) ∙ h) λ i q.
+          var-inv (r .it) (code-is _ (r .it) (r .reads) ∙ h) λ i q.
           let g = rw q at (r .reads) in
           let z : i ≡ v = pos-eq _ _ _ (has-word ws (at + 1) _ _ (pos 0) (has-rest ws at _ _ (g .words))) hv in
           let t : i < length (r .ds) = g .vars in
@@ -112,7 +112,7 @@ module _ (ws : List ℤ) (d at : ℕ) (out : List ℤ) (o : ℕ) where
       pub var-folds : (out' : List ℤ) (end : ℕ) → w ≡ 21 → Int-var-post ws d out o v out' end → Int-post ws d at out o out' (at + 2) end
       unfolding encode-int constant-folding-int EveryInt
       var-folds out' end h p ds e hd r =
-          var-inv e (tag-is _ e r ∙ h) λ i q.
+          var-inv e (code-is _ e r ∙ h) λ i q.
           let g = rw q at r in
           let z : i ≡ v = pos-eq _ _ _ (has-word ws (at + 1) _ _ (pos 0) (has-rest ws at _ _ (g .words))) hv in
           let t : i < length ds = g .vars in
@@ -125,7 +125,7 @@ module _ (ws : List ℤ) (d at : ℕ) (out : List ℤ) (o : ℕ) where
 
       module _ (n20 : w ≡ 20 → ⊥) (n21 : w ≡ 21 → ⊥) where
         the-sum : {X : Type 0} (ni : ℕ) (e : IntExpr) → Reads-int ni ws at e → ((ts : Terms) → e ≡ Linear ts → Reads-int ni ws at (Linear ts) → count-terms ts ≡ v → X) → X
-        the-sum ni e r go = sum-inv e (λ h. n20 (sym (tag-is ni e r) ∙ h)) (λ h. n21 (sym (tag-is ni e r) ∙ h)) λ ts q. let g = rw q at r in go ts q g (size-is ni ts g)
+        the-sum ni e r go = sum-inv e (λ h. n20 (sym (code-is ni e r) ∙ h)) (λ h. n21 (sym (code-is ni e r) ∙ h)) λ ts q. let g = rw q at r in go ts q g (size-is ni ts g)
 
         pub empty-folds : (out' : List ℤ) (end : ℕ) → v ≡ 0 → Stored out o (pos 20 ∷ pos 0 ∷ []) out' end → Int-post ws d at out o out' (at + 2) end
         unfolding encode-int constant-folding-int

@@ -2,7 +2,7 @@
 use Prim.Native.Nat.{ℕ, zero, suc, _+_, _-_, _≤_, _<_}
 use mathlib.Core.Path.{_≡_, refl, sym, ap, _∙_}
 use mathlib.Core.Bool.{Bool, true, false, not, cond}
-use mathlib.Core.Option.{Option, none as nothing, some}
+use mathlib.Core.Option.{Option, none, some}
 use mathlib.Core.List.{List, [], _∷_, _++_, append-nil}
 use native.Mathlib.Omega.{arith}
 use native.Mathlib.Numerals.{add-one}
@@ -13,7 +13,7 @@ use lib.ListN.{length, take, drop, getD}
 use Rattle.laws.specs.Ints.{eqZ}
 use Rattle.laws.specs.Slices.{Has, Pushed, Stored}
 use Rattle.syntax.specs.Words.{max-bools}
-use Rattle.syntax.specs.Syntax.{Domain, as-constant, domain-of, IntExpr, Terms, BoolExpr, Const, Members, none, more, count-terms, count-members, encode-int, encode-terms, encode-bool, encode-members}
+use Rattle.syntax.specs.Syntax.{Domain, as-constant, domain-of, IntExpr, Terms, BoolExpr, Const, Members, mnil, more, count-terms, count-members, encode-int, encode-terms, encode-bool, encode-members}
 use Rattle.domains.specs.Declared.{Domains}
 use Rattle.fold.specs.Fold.{Fixed, is-const, Op, op-xor, op-iff, op-imp, Action, be-false, be-true, left, not-left, right, not-right, keep, action, act, fold-binary, is-value, has-const, keep-member, kept, not-of, fold-var, fold-int-var, constant-folding-int, constant-folding-terms, constant-folding-bool, constant-folding-members}
 use Rattle.fold.specs.Refold.{const-or}
@@ -25,8 +25,8 @@ use Rattle.fold.specs.Forms.{list-of, join, fold-list, list-words, binary-words
 unfoldable pub state-of : ℤ → Option Bool
 state-of (pos zero) = some false
 state-of (pos (suc zero)) = some true
-state-of (pos (suc (suc n))) = nothing
-state-of (negsuc n) = nothing
+state-of (pos (suc (suc n))) = none
+state-of (negsuc n) = none
 
 -- what the words of a list fix
 unfoldable pub fixed-of : List ℤ → Fixed
@@ -167,19 +167,19 @@ Members-post ws d at n out o b out' next end hit size = (ds : List Domain) (c : 
 
 pub var-words : (k : Option Bool) (v : ℕ) → var-step (state-num k) v ≡ encode-bool (fold-var k v)
 unfolding var-step encode-bool
-var-words nothing v = refl
+var-words none v = refl
 var-words (some false) v = refl
 var-words (some true) v = refl
 
 pub not-words : (k : Option Bool) (e : BoolExpr) → not-step (state-num k) (encode-bool e) ≡ encode-bool (not-of k e)
 unfolding not-step encode-bool
-not-words nothing e = refl
+not-words none e = refl
 not-words (some false) e = refl
 not-words (some true) e = refl
 
 pub not-state-is : (k : Option Bool) (e : BoolExpr) → not-state (state-num k) ≡ state-num (is-const (not-of k e))
 unfolding not-state
-not-state-is nothing e = refl
+not-state-is none e = refl
 not-state-is (some false) e = refl
 not-state-is (some true) e = refl
 
@@ -193,8 +193,8 @@ bit-state true = refl
 
 join-words : (b : Bool) (ms : Members) → list-step (bit b) false (count-members ms) (encode-members ms) ≡ encode-bool (join b ms)
 unfolding list-step encode-bool
-join-words b none = rw (one-bit b, bit-word (not b)) refl
-join-words b (more e none) = append-nil (encode-bool e)
+join-words b mnil = rw (one-bit b, bit-word (not b)) refl
+join-words b (more e mnil) = append-nil (encode-bool e)
 join-words b (more e (more f ms)) = rw (ne-eqb (suc (suc (count-members ms))) 0 (λ h. omega arith), ne-eqb (suc (suc (count-members ms))) 1 (λ h. omega arith), list-words b (more e (more f ms))) refl
 
 pub fold-list-words : (b : Bool) (ms : Members) → list-step (bit b) (has-const b ms) (count-members (kept ms)) (encode-members (kept ms)) ≡ encode-bool (fold-list b ms)
@@ -206,19 +206,19 @@ fold-list-words b ms = go (has-const b ms)
     go false = join-words b (kept ms)
 
 -- the one member that is left is no constant
-one-kept : (ms : Members) (e : BoolExpr) → kept ms ≡ more e none → is-const e ≡ nothing
+one-kept : (ms : Members) (e : BoolExpr) → kept ms ≡ more e mnil → is-const e ≡ none
 unfolding kept
-one-kept none e h = absurd (let z : _≡_ {A = ℕ} 0 1 = ap count-members h in omega arith)
-one-kept (more x ms) e h = const-or x (λ c q. one-kept ms e (rw q at h)) (λ q. let p : more x (kept ms) ≡ more e none = rw q at h in let z : x ≡ e = cc in cc)
+one-kept mnil e h = absurd (let z : _≡_ {A = ℕ} 0 1 = ap count-members h in omega arith)
+one-kept (more x ms) e h = const-or x (λ c q. one-kept ms e (rw q at h)) (λ q. let p : more x (kept ms) ≡ more e mnil = rw q at h in let z : x ≡ e = cc in cc)
 
-list-no-const : (b : Bool) (ms : Members) → is-const (list-of b ms) ≡ nothing
+list-no-const : (b : Bool) (ms : Members) → is-const (list-of b ms) ≡ none
 list-no-const false ms = refl
 list-no-const true ms = refl
 
-join-state : (b : Bool) (ms : Members) → ((e : BoolExpr) → ms ≡ more e none → is-const e ≡ nothing) → list-state (bit b) false (count-members ms) ≡ state-num (is-const (join b ms))
+join-state : (b : Bool) (ms : Members) → ((e : BoolExpr) → ms ≡ more e mnil → is-const e ≡ none) → list-state (bit b) false (count-members ms) ≡ state-num (is-const (join b ms))
 unfolding list-state
-join-state b none h = one-bit b ∙ bit-state (not b)
-join-state b (more e none) h = rw (h e refl) refl
+join-state b mnil h = one-bit b ∙ bit-state (not b)
+join-state b (more e mnil) h = rw (h e refl) refl
 join-state b (more e (more f ms)) h = rw (ne-eqb (suc (suc (count-members ms))) 0 (λ h. omega arith), list-no-const b (more e (more f ms))) refl
 
 pub fold-list-state : (b : Bool) (ms : Members) → list-state (bit b) (has-const b ms) (count-members (kept ms)) ≡ state-num (is-const (fold-list b ms))
@@ -244,31 +244,31 @@ binary-state-at : (o : Op) (k l : Option Bool) (a b : BoolExpr) → is-const a �
 unfolding binary-state
 binary-state-at op-xor (some false) (some false) a b p q = refl
 binary-state-at op-xor (some false) (some true) a b p q = refl
-binary-state-at op-xor (some false) nothing a b p q = rw q refl
+binary-state-at op-xor (some false) none a b p q = rw q refl
 binary-state-at op-xor (some true) (some false) a b p q = refl
 binary-state-at op-xor (some true) (some true) a b p q = refl
-binary-state-at op-xor (some true) nothing a b p q = refl
-binary-state-at op-xor nothing (some false) a b p q = rw p refl
-binary-state-at op-xor nothing (some true) a b p q = refl
-binary-state-at op-xor nothing nothing a b p q = refl
+binary-state-at op-xor (some true) none a b p q = refl
+binary-state-at op-xor none (some false) a b p q = rw p refl
+binary-state-at op-xor none (some true) a b p q = refl
+binary-state-at op-xor none none a b p q = refl
 binary-state-at op-iff (some false) (some false) a b p q = refl
 binary-state-at op-iff (some false) (some true) a b p q = refl
-binary-state-at op-iff (some false) nothing a b p q = refl
+binary-state-at op-iff (some false) none a b p q = refl
 binary-state-at op-iff (some true) (some false) a b p q = refl
 binary-state-at op-iff (some true) (some true) a b p q = refl
-binary-state-at op-iff (some true) nothing a b p q = rw q refl
-binary-state-at op-iff nothing (some false) a b p q = refl
-binary-state-at op-iff nothing (some true) a b p q = rw p refl
-binary-state-at op-iff nothing nothing a b p q = refl
+binary-state-at op-iff (some true) none a b p q = rw q refl
+binary-state-at op-iff none (some false) a b p q = refl
+binary-state-at op-iff none (some true) a b p q = rw p refl
+binary-state-at op-iff none none a b p q = refl
 binary-state-at op-imp (some false) (some false) a b p q = refl
 binary-state-at op-imp (some false) (some true) a b p q = refl
-binary-state-at op-imp (some false) nothing a b p q = refl
+binary-state-at op-imp (some false) none a b p q = refl
 binary-state-at op-imp (some true) (some false) a b p q = refl
 binary-state-at op-imp (some true) (some true) a b p q = refl
-binary-state-at op-imp (some true) nothing a b p q = rw q refl
-binary-state-at op-imp nothing (some false) a b p q = refl
-binary-state-at op-imp nothing (some true) a b p q = refl
-binary-state-at op-imp nothing nothing a b p q = refl
+binary-state-at op-imp (some true) none a b p q = rw q refl
+binary-state-at op-imp none (some false) a b p q = refl
+binary-state-at op-imp none (some true) a b p q = refl
+binary-state-at op-imp none none a b p q = refl
 
 pub fold-binary-state : (o : Op) (a b : BoolExpr) → binary-state (action-num (action o (is-const a) (is-const b))) ≡ state-num (is-const (fold-binary o a b))
 unfolding fold-binary
@@ -277,28 +277,28 @@ fold-binary-state o a b = binary-state-at o (is-const a) (is-const b) a b refl r
 -- ---- a member
 
 pub hit-one : (k : Option Bool) (b : Bool) → eqb (state-num k) (bit b) ≡ is-value b k
-hit-one nothing false = refl
-hit-one nothing true = refl
+hit-one none false = refl
+hit-one none true = refl
 hit-one (some false) false = refl
 hit-one (some false) true = refl
 hit-one (some true) false = refl
 hit-one (some true) true = refl
 
 pub count-one : (k : Option Bool) (e : BoolExpr) (ms : Members) → cond (eqb (state-num k) 2) (count-members ms + 1) (count-members ms) ≡ count-members (keep-member k e ms)
-count-one nothing e ms = add-one (count-members ms)
+count-one none e ms = add-one (count-members ms)
 count-one (some false) e ms = refl
 count-one (some true) e ms = refl
 
 keep-fewer : (k : Option Bool) (e : BoolExpr) (ms : Members) → count-members (keep-member k e ms) ≤ suc (count-members ms)
-keep-fewer nothing e ms = omega arith
+keep-fewer none e ms = omega arith
 keep-fewer (some b) e ms = omega arith
 
 pub kept-fewer : (ms : Members) → count-members (kept ms) ≤ count-members ms
 unfolding kept
-kept-fewer none = omega arith
+kept-fewer mnil = omega arith
 kept-fewer (more e ms) = omega (arith, keep-fewer (is-const e) e (kept ms), kept-fewer ms)
 
 pub members-count : (ds : List Domain) (f : Fixed) (ms : Members) → count-members (constant-folding-members ds f ms) ≡ count-members ms
 unfolding constant-folding-members
-members-count ds f none = refl
+members-count ds f mnil = refl
 members-count ds f (more e ms) = ap suc (members-count ds f ms)

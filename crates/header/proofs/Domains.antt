@@ -11,13 +11,12 @@ use lib.Seq.{take-suc, take-all, take-set-le, getD-set-same, getD-set-other}
 use lib.Dec.{ltb}
 use borrow.Author.Tests.{ltb-true, ltb-false}
 use Rattle.laws.specs.Lists.{flat}
-use Rattle.laws.specs.Writes.{cap, Wrote, wrote-none, wrote-then, wrote-length, wrote-to}
+use Rattle.laws.specs.Writes.{cap, Wrote, wrote-none, wrote-then, wrote-length, wrote-to, Open}
 use Rattle.syntax.specs.Syntax.{Domain, Range, lower-bound, upper-bound, num-candidates, domain-of, Stmt, Problem, encode}
 use Rattle.fold.specs.Fold.{Fixed}
 use Rattle.tables.specs.Emitted.{length-emitted}
 use Rattle.answer.specs.Answer.{domain-words}
 use Rattle.walk.specs.declared.Counters.{Counters}
-use Rattle.output.specs.Suffix.{Open}
 use Rattle.output.proofs.Laws.{open-next}
 use Rattle.statements.specs.Stages.{log-of, NumberedSet}
 use Rattle.statements.specs.NumberedKeeps.{free-from, ready-keeps}

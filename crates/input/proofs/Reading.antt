@@ -17,7 +17,7 @@ use mir.Facts.{toZ-ofZ}
 use Rattle.laws.specs.Writes.{sets-append}
 use Rattle.decimal.specs.Bytes.{comma, line-feed}
 use Rattle.decimal.specs.Decimal.{read-number}
-use Rattle.input.specs.ReadText.{onto, split, after, join, single, read-numbers, Reader, count-of, count-line, lines}
+use Rattle.input.specs.ReadText.{onto, split, after, join, single, read-numbers, Reader, one-number, count-line, lines}
 use Rattle.decimal.specs.Numbers.{number-of, number-read}
 use Rattle.input.specs.Input.{fill, filled, Found, left-at, left-step, left-line, InWords, Filled, Stepped, Lined}
 use Rattle.decimal.specs.declared.Number.{Number}
@@ -32,55 +32,55 @@ use Rattle.decimal.specs.Puts.{cons-at}
 differ : {X : Type 0} → _≡_ {A = ℕ} 0 1 → X
 differ z = absurd (omega arith)
 
--- ---- finding a byte: xs is what was passed
+-- ---- finding a byte: xs is what lies before it
 
-pub passed : List ℕ → List (List ℕ) → List (List ℕ)
-passed [] ps = ps
-passed (x ∷ xs) ps = onto x (passed xs ps)
+pub before : List ℕ → List (List ℕ) → List (List ℕ)
+before [] ps = ps
+before (x ∷ xs) ps = onto x (before xs ps)
 
-passed-snoc : (xs : List ℕ) (x : ℕ) (ps : List (List ℕ)) → passed (xs ++ (x ∷ [])) ps ≡ passed xs (onto x ps)
-unfolding passed
-passed-snoc [] x ps = refl
-passed-snoc (y ∷ xs) x ps = ap (onto y) (passed-snoc xs x ps)
+before-snoc : (xs : List ℕ) (x : ℕ) (ps : List (List ℕ)) → before (xs ++ (x ∷ [])) ps ≡ before xs (onto x ps)
+unfolding before
+before-snoc [] x ps = refl
+before-snoc (y ∷ xs) x ps = ap (onto y) (before-snoc xs x ps)
 
-passed-part : (xs : List ℕ) (ps : List (List ℕ)) → passed xs ([] ∷ ps) ≡ xs ∷ ps
-unfolding passed
-passed-part [] ps = refl
-passed-part (x ∷ xs) ps = rw (passed-part xs ps) refl
+before-part : (xs : List ℕ) (ps : List (List ℕ)) → before xs ([] ∷ ps) ≡ xs ∷ ps
+unfolding before
+before-part [] ps = refl
+before-part (x ∷ xs) ps = rw (before-part xs ps) refl
 
 -- from `at` to i no byte is s
-pub record Passed (s : ℕ) (text : List ℕ) (at i : ℕ) : Type 0 where
+pub record Absent (s : ℕ) (text : List ℕ) (at i : ℕ) : Type 0 where
   pub low : at ≤ i
   pub high : i ≤ length text
-  pub parts : split s (drop at text) ≡ passed (take (i - at) (drop at text)) (split s (drop i text))
+  pub parts : split s (drop at text) ≡ before (take (i - at) (drop at text)) (split s (drop i text))
 
 module _ (s : ℕ) (text : List ℕ) (at : ℕ) where
-  pub passed-none : at ≤ length text → Passed s text at at
-  unfolding passed
-  passed-none h = record { low = omega arith; high = h; parts = let e : at - at ≡ 0 = omega arith in rw e refl }
+  pub absent-none : at ≤ length text → Absent s text at at
+  unfolding before
+  absent-none h = record { low = omega arith; high = h; parts = let e : at - at ≡ 0 = omega arith in rw e refl }
 
-  pub passed-more : (i : ℕ) → Passed s text at i → i < length text → (getD text i 0 ≡ s → ⊥) → Passed s text at (i + 1)
+  pub absent-more : (i : ℕ) → Absent s text at i → i < length text → (getD text i 0 ≡ s → ⊥) → Absent s text at (i + 1)
   unfolding split
-  passed-more i p h z =
+  absent-more i p h z =
       let l : at ≤ i = p .low in
       let e : i + 1 - at ≡ suc (i - at) = omega arith in
       let g : getD (drop at text) (i - at) 0 ≡ getD text i 0 = getD-drop at text (i - at) 0 ∙ ap (λ n. getD text n 0) (omega arith) in
       let t : take (suc (i - at)) (drop at text) ≡ take (i - at) (drop at text) ++ (getD text i 0 ∷ []) = rw (← g) (take-suc (drop at text) (i - at) 0 (omega (arith, length-drop at text))) in
       let q : split s (drop i text) ≡ onto (getD text i 0) (split s (drop (i + 1) text)) = rw (cons-at text i h, ne-eqb (getD text i 0) s z) refl in
-      record { low = omega arith; high = omega arith; parts = p .parts ∙ ap (passed (take (i - at) (drop at text))) q ∙ rw (e, t) (sym (passed-snoc (take (i - at) (drop at text)) (getD text i 0) (split s (drop (i + 1) text)))) }
+      record { low = omega arith; high = omega arith; parts = p .parts ∙ ap (before (take (i - at) (drop at text))) q ∙ rw (e, t) (sym (before-snoc (take (i - at) (drop at text)) (getD text i 0) (split s (drop (i + 1) text)))) }
 
-  pub found-at : (i : ℕ) → Passed s text at i → i < length text → getD text i 0 ≡ s → Found s text at i
+  pub found-at : (i : ℕ) → Absent s text at i → i < length text → getD text i 0 ≡ s → Found s text at i
   unfolding split
   found-at i p h z =
       let q : split s (drop i text) ≡ [] ∷ split s (drop (i + 1) text) = rw (cons-at text i h, eq-eqb (getD text i 0) s z) refl in
       record {
         low = p .low;
         high = p .high;
-        more = λ l. p .parts ∙ ap (passed (take (i - at) (drop at text))) q ∙ passed-part (take (i - at) (drop at text)) (split s (drop (i + 1) text));
+        more = λ l. p .parts ∙ ap (before (take (i - at) (drop at text))) q ∙ before-part (take (i - at) (drop at text)) (split s (drop (i + 1) text));
         last = λ e. absurd (omega arith);
       }
 
-  pub found-none : (i : ℕ) → Passed s text at i → length text ≤ i → Found s text at i
+  pub found-none : (i : ℕ) → Absent s text at i → length text ≤ i → Found s text at i
   unfolding split
   found-none i p h =
       let q : split s (drop i text) ≡ [] ∷ [] = rw (drop-of-length-le text h) refl in
@@ -88,7 +88,7 @@ module _ (s : ℕ) (text : List ℕ) (at : ℕ) where
         low = p .low;
         high = p .high;
         more = λ l. absurd (omega arith);
-        last = λ e. p .parts ∙ ap (passed (take (i - at) (drop at text))) q ∙ passed-part (take (i - at) (drop at text)) [];
+        last = λ e. p .parts ∙ ap (before (take (i - at) (drop at text))) q ∙ before-part (take (i - at) (drop at text)) [];
       }
 
 -- ---- matching a key
@@ -214,7 +214,7 @@ module _ (text : List ℕ) (at e : ℕ) (f : Found line-feed text at e) (key : L
 
   pub count-last : e ≡ length text → Stepped (count-line key) text out at k out step.Unread
   unfolding left-at left-step count-line
-  count-last l = record { inside = tt; size = refl; left = λ next z. rw (f .last l, z) (fill-ended out k (count-of (after key first))) }
+  count-last l = record { inside = tt; size = refl; left = λ next z. rw (f .last l, z) (fill-ended out k (one-number (after key first))) }
 
   module _ (l : e < length text) where
     pub count-other : after key first ≡ none → Stepped (count-line key) text out at k out step.Unread

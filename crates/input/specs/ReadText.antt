@@ -49,13 +49,13 @@ abbrev pub Reader : Type 0
 Reader = List (List ℕ) → Option (List ℤ)
 
 -- a line with the key and one number
-abbrev pub count-of : Option (List ℕ) → Option (List ℤ)
-count-of none = none
-count-of (some r) = single (read-number r)
+abbrev pub one-number : Option (List ℕ) → Option (List ℤ)
+one-number none = none
+one-number (some r) = single (read-number r)
 
 unfoldable pub count-line : List ℕ → Reader → Reader
 count-line key next [] = none
-count-line key next (p ∷ ps) = join (count-of (after key p)) (next ps)
+count-line key next (p ∷ ps) = join (one-number (after key p)) (next ps)
 
 -- every line with the key, of any number of numbers but none
 abbrev pub line-or : Option (List ℕ) → Option (List ℤ) → Option (List ℤ) → Option (List ℤ)

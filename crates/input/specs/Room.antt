@@ -11,7 +11,7 @@ use lib.ListN.{length, length-append}
 use borrow.Author.Tests.{ltb-false}
 use Rattle.decimal.specs.Bytes.{comma, line-feed, bools-key, ints-key, int-key, statements-key, statement-key}
 use Rattle.decimal.specs.Decimal.{read-number}
-use Rattle.input.specs.ReadText.{onto, split, after, join, single, read-numbers, Reader, count-of, count-line, line-or, lines, end, read-lines, max-bytes, read-text}
+use Rattle.input.specs.ReadText.{onto, split, after, join, single, read-numbers, Reader, one-number, count-line, line-or, lines, end, read-lines, max-bytes, read-text}
 
 differ : {X : Type 0} → _≡_ {A = ℕ} 0 1 → X
 differ z = absurd (omega arith)
@@ -77,9 +77,9 @@ module _ (key : List ℕ) (filled : 0 < length key) (next : Reader) (few : Few n
   count-few : Few (count-line key next)
   unfolding count-line sized
   count-few [] ws h = differ (cc)
-  count-few (p ∷ ps) ws h = joined (count-of (after key p)) (next ps) ws h (λ xs ys a b e. let c = one (after key p) refl xs a in let u = c .0 in let v = c .1 in let w = few ps ys b in omega arith)
+  count-few (p ∷ ps) ws h = joined (one-number (after key p)) (next ps) ws h (λ xs ys a b e. let c = one (after key p) refl xs a in let u = c .0 in let v = c .1 in let w = few ps ys b in omega arith)
     where
-      one : (o : Option (List ℕ)) → after key p ≡ o → (xs : List ℤ) → count-of o ≡ some xs → (length xs ≡ 1) × (0 < length p)
+      one : (o : Option (List ℕ)) → after key p ≡ o → (xs : List ℤ) → one-number o ≡ some xs → (length xs ≡ 1) × (0 < length p)
       one none e xs h = differ (cc)
       one (some r) e xs h = (single-one (read-number r) xs h, omega (arith, after-length key p r e))
 

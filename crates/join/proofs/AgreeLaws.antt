@@ -15,13 +15,14 @@ use Rattle.syntax.specs.Words.{min-work-words, max-set-words}
 use Rattle.syntax.specs.Syntax.{Problem, encode-stmt, encode}
 use Rattle.words.specs.Parse.{Parsed, ok, refuse}
 use Rattle.read.specs.Read.{read-set}
+use Rattle.limits.specs.Admitted.{limited, admitted}
 use Rattle.reader.specs.declared.Declared.{Declared}
 use Rattle.reader.specs.declared.Set.the-variants as set
 use Rattle.domains.specs.Declared.{bounds-words}
 use Rattle.accept.specs.Walk.{bounds-place, Bounds}
 use Rattle.accept.specs.Accepted.{accepted, table-read, table-after}
 use Rattle.accept.specs.Taken.{Taken, accepted-ok, accepted-refused, taken-set, taken-bounds, declared-is}
-use Rattle.join.specs.Join.{limited, admitted, declaration-words, same-words, both, Agreement, agreed, refusal, compared, agree-read, agreement}
+use Rattle.join.specs.Join.{declaration-words, same-words, both, Agreement, agreed, refusal, compared, agree-read, agreement}
 use Rattle.join.specs.Joined.{same-is, is-admitted, encode-parts, agreement-is}
 use Rattle.join.specs.Steps.{pair-of, agreed-of, Ready-both, Compare-post, Agree-post}
 use Rattle.join.specs.declared.Pair.{Pair}

@@ -47,8 +47,8 @@ place-is r s from to a b c = rw (← a, ← b, ← c) refl
 
 -- ---- `find`
 
-abbrev none : Place
-none = record { set = 0; from = 0; to = 0 }
+abbrev no-place : Place
+no-place = record { set = 0; from = 0; to = 0 }
 
 module _ (first second work : List ℤ) (d : Pair) (y : Ready-find first second work d) where
   it : Agrees (length work) first second (y .left) (y .right)
@@ -99,7 +99,7 @@ module _ (first second work : List ℤ) (d : Pair) (y : Ready-find first second 
       let r : statements-place (y .right) ≡ statements-place (y .left) = sym at-right ∙ at-left in
       rw (y .agrees, at-left, r) refl
 
-  pub find-zero : (number : ℕ) → number ≡ 0 → none ≡ place-of (statement-at first second (length work) number)
+  pub find-zero : (number : ℕ) → number ≡ 0 → no-place ≡ place-of (statement-at first second (length work) number)
   unfolding statement-at place-of
   find-zero number z = rw z refl
 
@@ -128,7 +128,7 @@ module _ (first second work : List ℤ) (d : Pair) (y : Ready-find first second 
           let f : statement-at first second (length work) number ≡ in-second (r .from) (x .it) = numbered ∙ over ∙ x .found in-second in
           place-is r 2 (r .from) (r .from + length (encode-stmt (x .it))) s refl (x .end) ∙ sym (ap place-of f)
 
-      pub find-beyond : d .second ≤ number - 1 - d .first → none ≡ place-of (statement-at first second (length work) number)
+      pub find-beyond : d .second ≤ number - 1 - d .first → no-place ≡ place-of (statement-at first second (length work) number)
       unfolding place-of
       find-beyond b =
           let f : statement-at first second (length work) number ≡ nowhere = numbered ∙ over ∙ List·getD-eq-default rights nowhere (omega (arith, count-second, placed-length in-second (d .at) (y .right .stmts))) in
@@ -137,11 +137,11 @@ module _ (first second work : List ℤ) (d : Pair) (y : Ready-find first second 
 -- ---- `find_place`
 
 module _ (first second work : List ℤ) where
-  pub find-refused : (k : ℕ) (number : ℕ) (work' : List ℤ) (r : declared-agreed.Agreed) → r ≡ agreed-as.Refused k → Agree-post first second work work' r → none ≡ place-of (statement-at first second (length work) number)
+  pub find-refused : (k : ℕ) (number : ℕ) (work' : List ℤ) (r : declared-agreed.Agreed) → r ≡ agreed-as.Refused k → Agree-post first second work work' r → no-place ≡ place-of (statement-at first second (length work) number)
   unfolding statement-at statements-of place-of
   find-refused k number work' r e h = rw (refused-is (agreement first second (length work)) k (sym (h .answer) ∙ e)) (go number)
     where
-      go : (n : ℕ) → none ≡ place-of (getD (nowhere ∷ []) n nowhere)
+      go : (n : ℕ) → no-place ≡ place-of (getD (nowhere ∷ []) n nowhere)
       go zero = refl
       go (suc n) = refl
 

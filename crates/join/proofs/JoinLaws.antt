@@ -7,8 +7,8 @@ use lib.IntN.{ℤ, pos}
 use lib.ListN.{length, length-replicate}
 use lib.Seq.{sets}
 use borrow.Author.Tests.{lt-ltb, le-ltb}
+use Rattle.laws.specs.Slices.{zeros}
 use Rattle.syntax.specs.Syntax.{Problem, encode}
-use Rattle.refuse.specs.Refuse.{zeros}
 use Rattle.join.specs.Join.{both, agreed, refusal, agreement, Joining, joined, refused, sized, join, buffer-after}
 use Rattle.join.specs.Steps.{pair-of, Agree-post, Ready-write, Write-post}
 use Rattle.join.specs.Contract.{answer-of, Joins}

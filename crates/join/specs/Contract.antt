@@ -4,8 +4,8 @@ use mathlib.Core.List.{List}
 use Prim.Native.Nat.{ℕ, _+_}
 use lib.IntN.{ℤ}
 use lib.ListN.{length}
+use Rattle.laws.specs.Slices.{zeros}
 use Rattle.syntax.specs.Syntax.{encode-stmt}
-use Rattle.refuse.specs.Refuse.{zeros}
 use Rattle.join.specs.Join.{Joining, joined, refused, join, buffer-after, Found, in-first, in-second, nowhere, statement-at}
 use Rattle.join.specs.declared.Joined.{Joined}
 use Rattle.join.specs.declared.Joined.the-variants.{Words, Refused}

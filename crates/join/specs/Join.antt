@@ -1,31 +1,17 @@
 -- Two sets with identical declarations as one, and a joined statement by its number (document 02, 2.8), for any words and lengths.
 use mathlib.Core.Bool.{Bool, true, false, _&&_, cond}
 use mathlib.Core.List.{List, [], _∷_, _++_}
-use Prim.Native.Nat.{ℕ, zero, suc, _+_, _-_, _*_}
+use Prim.Native.Nat.{ℕ, _+_, _-_, _*_}
 use lib.IntN.{ℤ, pos}
 use lib.Dec.{ltb}
 use lib.ListN.{length, getD}
 use Rattle.laws.specs.Ints.{eqZ}
 use Rattle.laws.specs.Lists.{counted}
-use Rattle.syntax.specs.Words.{min-work-words, max-set-words}
+use Rattle.laws.specs.Slices.{zeros}
+use Rattle.syntax.specs.Words.{max-set-words}
 use Rattle.syntax.specs.Syntax.{Problem, encode-domain, Stmt, encode-stmt, encode}
-use Rattle.words.specs.Parse.{Parsed, ok, refuse, Parser, bind}
-use Rattle.read.specs.Read.{read-set}
-use Rattle.limits.specs.Limits.{check}
-use Rattle.refuse.specs.Refuse.{zeros}
-
--- ---- refusals 1 to 11 of a set, or what it says
-
--- the refusal that `check` gives, if any
-unfoldable pub limited : ℕ → Problem → Parser Problem
-limited zero p r = ok p r
-limited (suc k) p r = refuse (suc k)
-
-unfoldable pub admitted : ℕ → List ℤ → Parsed Problem
-admitted work-length set =
-    cond (ltb work-length min-work-words) (refuse 1)
-    (cond (ltb max-set-words (length set)) (refuse 2)
-    (bind (read-set set) (λ p. limited (check p) p)))
+use Rattle.words.specs.Parse.{Parsed, ok, refuse}
+use Rattle.limits.specs.Admitted.{admitted}
 
 -- ---- two sets that can be joined, the buffer aside
 

@@ -14,13 +14,14 @@ use Rattle.laws.specs.Order.{eqZ-is, eqZ-refl}
 use Rattle.laws.specs.Lists.{any, flat, counted, any-append}
 use Rattle.syntax.specs.Words.{min-work-words, max-set-words}
 use Rattle.syntax.specs.Syntax.{Problem, Domain, Stmt, Rule, Table, encode-domain, encode-stmt, encode}
-use Rattle.words.specs.Parse.{Parsed, ok, refuse, bind}
+use Rattle.words.specs.Parse.{Parsed, ok, refuse, parse-then}
 use Rattle.words.specs.Exact.{Each}
 use Rattle.read.specs.Read.{read-set}
 use Rattle.read.specs.WellFormed.{WellStmt, WellFormed}
 use Rattle.read.specs.Exact.{set-sound, set-complete, set-unique}
 use Rattle.limits.specs.Limits.{any-part, heavy, heavy-comparison, many-comparison, many-column, wide-column, check}
-use Rattle.join.specs.Join.{limited, admitted, declaration-words, same-words, both, Agreement, agreed, refusal, compared, agree-read, agreement, joined, refused, sized, join}
+use Rattle.limits.specs.Admitted.{limited, admitted}
+use Rattle.join.specs.Join.{declaration-words, same-words, both, Agreement, agreed, refusal, compared, agree-read, agreement, joined, refused, sized, join}
 
 -- ---- the same words
 
@@ -58,7 +59,7 @@ admitted-is n ws p r = go (ltb n min-work-words) refl (ltb max-set-words (length
         rw (← z) (record { enough = a; short = b; says = e ∙ ap (ok q) (sym (i .2)); unrefused = c; well = i .1; words = i .0 })
 
     go : (s : Bool) → ltb n min-work-words ≡ s → (t : Bool) → ltb max-set-words (length ws) ≡ t → (q : Parsed Problem) → read-set ws ≡ q
-        → cond s (refuse 1) (cond t (refuse 2) (bind q (λ p. limited (check p) p))) ≡ ok p r → Admitted n ws p
+        → cond s (refuse 1) (cond t (refuse 2) (parse-then q (λ p. limited (check p) p))) ≡ ok p r → Admitted n ws p
     go true a t b q e h = apart (cc)
     go false a true b q e h = apart (cc)
     go false a false b (refuse k) e h = apart (cc)

@@ -5,7 +5,7 @@ ghost use mathlib.Core.Path.{_≡_};
 ghost use Prim.Native.Nat.{_+_, _-_, _≤_};
 ghost use lib.ListN.{length, take, drop};
 ghost use lib.Seq.{sets};
-ghost use Rattle.refuse.specs.Refuse.{zeros};
+ghost use Rattle.laws.specs.Slices.{zeros};
 ghost use Rattle.join.specs.Join.{same-words, statement-at, words-of, address-of};
 ghost use Rattle.join.specs.Steps.{Ready-both, Compare-post, Agree-post, Ready-write, Write-post, Ready-nth, Nth-post, Part-post, Ready-find};
 ghost use Rattle.join.specs.Contract.{Joins, place-of, Finds};

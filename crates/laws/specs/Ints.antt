@@ -19,6 +19,11 @@ eqZ (negsuc a) (negsuc b) = eqb a b
 abbrev pub is-zero : ℤ → Bool
 is-zero z = eqZ z (pos 0)
 
+-- a word as a count: 0 where it is negative
+abbrev pub count-of : ℤ → ℕ
+count-of (pos n) = n
+count-of (negsuc n) = 0
+
 -- a coefficient times an interval: its lowest and its highest value
 abbrev pub times-low : ℤ → ℤ → ℤ → ℤ
 times-low (pos k) low high = pos k *ℤ low

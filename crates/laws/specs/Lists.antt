@@ -23,9 +23,9 @@ module _ {A : Type 0} where
   keep-if true x xs = x ∷ xs
   keep-if false x xs = xs
 
-  abbrev pub filter : (A → Bool) → List A → List A
-  filter f [] = []
-  filter f (x ∷ xs) = keep-if (f x) x (filter f xs)
+  abbrev pub select : (A → Bool) → List A → List A
+  select f [] = []
+  select f (x ∷ xs) = keep-if (f x) x (select f xs)
 
   abbrev pub flat : List (List A) → List A
   flat [] = []
@@ -92,20 +92,20 @@ module _ {A : Type 0} where
   none-of f g [] h k = refl
   none-of f g (x ∷ xs) h k = rw (h x (and-l (f x) (all f xs) k), none-of f g xs h (and-r (f x) (all f xs) k))
 
-  pub length-filter : (f : A → Bool) (xs : List A) → length (filter f xs) ≤ length xs
-  length-filter f [] = omega arith
-  length-filter f (x ∷ xs) = go (f x) (length-filter f xs)
+  pub length-select : (f : A → Bool) (xs : List A) → length (select f xs) ≤ length xs
+  length-select f [] = omega arith
+  length-select f (x ∷ xs) = go (f x) (length-select f xs)
     where
-      go : (t : Bool) → length (filter f xs) ≤ length xs → length (keep-if t x (filter f xs)) ≤ suc (length xs)
+      go : (t : Bool) → length (select f xs) ≤ length xs → length (keep-if t x (select f xs)) ≤ suc (length xs)
       go true h = omega arith
       go false h = omega arith
 
-  pub all-filter : (f g : A → Bool) (xs : List A) → all f xs ≡ true → all f (filter g xs) ≡ true
-  all-filter f g [] h = refl
-  all-filter f g (x ∷ xs) h = go (g x) (all-filter f g xs (and-r (f x) (all f xs) h))
+  pub all-select : (f g : A → Bool) (xs : List A) → all f xs ≡ true → all f (select g xs) ≡ true
+  all-select f g [] h = refl
+  all-select f g (x ∷ xs) h = go (g x) (all-select f g xs (and-r (f x) (all f xs) h))
     where
-      go : (t : Bool) → all f (filter g xs) ≡ true → all f (keep-if t x (filter g xs)) ≡ true
-      go true q = and-i (f x) (all f (filter g xs)) (and-l (f x) (all f xs) h) q
+      go : (t : Bool) → all f (select g xs) ≡ true → all f (keep-if t x (select g xs)) ≡ true
+      go true q = and-i (f x) (all f (select g xs)) (and-l (f x) (all f xs) h) q
       go false q = q
 
   pub all-take : (f : A → Bool) (k : ℕ) (xs : List A) → all f xs ≡ true → all f (take k xs) ≡ true

@@ -8,9 +8,14 @@ use native.Mathlib.Omega.{arith}
 use native.Mathlib.Numerals.{add-one}
 use lib.Dec.{ltb}
 use borrow.Author.Tests.{ltb-true, ltb-false}
-use lib.IntN.{ℤ}
-use lib.ListN.{take-append-drop, length, take, drop, getD, set, length-append, length-take, length-drop, length-set}
+use lib.IntN.{ℤ, pos}
+use lib.ListN.{replicate, take-append-drop, length, take, drop, getD, set, length-append, length-take, length-drop, length-set}
 use lib.Seq.{take-suc, take-suc-set, drop-append-le, take-take, take-append-le, take-append-add, drop-at, drop-drop, take-add, drop-append-seam, take-append-seam, length-take-le, sets, sets-eq, slice, slice-empty, take-set-le, take-set-lt, drop-set-lt, getD-drop, drop-cons, getD-take}
+
+-- ---- a cleared slice
+
+abbrev pub zeros : ℕ → List ℤ
+zeros n = replicate n (pos 0)
 
 -- ---- standing
 

@@ -14,6 +14,11 @@ use borrow.Author.Tests.{leb-true, leb-false}
 abbrev pub cap : ℕ
 cap = 16777217
 
+-- the next word goes to o
+pub record Open (out : List ℤ) (o : ℕ) : Type 0 where
+  pub low : o ≤ cap
+  pub room : length out ≤ cap
+
 pub record Wrote (out : List ℤ) (o : ℕ) (vs : List ℤ) (out' : List ℤ) (o' : ℕ) : Type 0 where
   pub words : out' ≡ sets out o vs
   pub at : o' ≡ min (o + length vs) cap

@@ -2,3 +2,4 @@ pub mod Limits
 pub mod Cases
 pub mod Total
 pub mod Count
+pub mod Admitted

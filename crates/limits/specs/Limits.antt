@@ -7,7 +7,7 @@ use lib.Dec.{ltb}
 use Rattle.laws.specs.Ints.{times-low, times-high}
 use Rattle.laws.specs.Lists.{any, different}
 use Rattle.syntax.specs.Words.{max-weight, max-comparison-vars, max-column-vars, max-span}
-use Rattle.syntax.specs.Syntax.{Domain, Range, Enumerative, lower-bound, upper-bound, domain-of, IntExpr, IConst, IVar, Linear, Terms, tnil, tmore, BoolExpr, Const, Var, NVar, And, Or, Not, Xor, Iff, Imp, Cmp, Members, none, more, Stmt, Rule, Table, Problem}
+use Rattle.syntax.specs.Syntax.{Domain, Range, Enumerative, lower-bound, upper-bound, domain-of, IntExpr, IConst, IVar, Linear, Terms, tnil, tmore, BoolExpr, Const, Var, NVar, And, Or, Not, Xor, Iff, Imp, Cmp, Members, mnil, more, Stmt, Rule, Table, Problem}
 
 -- a test of every comparison and every column of a set
 module _ (onCmp : IntExpr → IntExpr → Bool) (onColumn : IntExpr → Bool) where
@@ -25,7 +25,7 @@ module _ (onCmp : IntExpr → IntExpr → Bool) (onColumn : IntExpr → Bool) wh
     any-comparison (Cmp o a b) = onCmp a b
 
     pub any-comparison-members : Members → Bool
-    any-comparison-members none = false
+    any-comparison-members mnil = false
     any-comparison-members (more e ms) = any-comparison e || any-comparison-members ms
 
   unfoldable pub any-part : Stmt → Bool

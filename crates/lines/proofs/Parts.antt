@@ -12,10 +12,11 @@ use lib.Seq.{drop-drop, take-all, length-take-le}
 use borrow.Author.Tests.{ltb-true}
 use mir.Syntax.{w32}
 use mir.Val.{SFits}
+use Rattle.laws.specs.Ints.{count-of}
 use Rattle.decimal.specs.Bytes.{comma}
 use Rattle.decimal.specs.Decimal.{print-number}
 use Rattle.decimal.specs.Puts.{puts, Puts, puts-left, puts-then, puts-none, puts-as}
-use Rattle.lines.specs.Lines.{plain, count-word, print-more, print-numbers, print-line}
+use Rattle.lines.specs.Lines.{count-word, print-more, print-numbers, print-line}
 use Rattle.lines.specs.Output.{Printed, Stops, part-of, line-of, cons-word}
 
 -- ---- numbers parted by commas: i of them are written
@@ -75,14 +76,14 @@ module _ (ws : List ℤ) (at : ℕ) where
     pub count-negative : ltZ (getD ws at (pos 0)) (pos 0) ≡ true → 0 ≡ count-word (drop at ws)
     count-negative l = rw (cons-word ws at h) (go (getD ws at (pos 0)) l)
       where
-        go : (z : ℤ) → ltZ z (pos 0) ≡ true → 0 ≡ plain z
+        go : (z : ℤ) → ltZ z (pos 0) ≡ true → 0 ≡ count-of z
         go (pos n) l = absurd (let m = ltb-true n 0 l in omega arith)
         go (negsuc n) l = refl
 
     pub count-plain : T (nonNeg (getD ws at (pos 0))) → natAbs (getD ws at (pos 0)) ≡ count-word (drop at ws)
     count-plain l = rw (cons-word ws at h) (go (getD ws at (pos 0)) l)
       where
-        go : (z : ℤ) → T (nonNeg z) → natAbs z ≡ plain z
+        go : (z : ℤ) → T (nonNeg z) → natAbs z ≡ count-of z
         go (pos n) l = refl
         go (negsuc n) l = absurd l
 

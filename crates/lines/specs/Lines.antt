@@ -1,8 +1,9 @@
 -- The lines of a listing, as printed from the words of an answer: numbers parted by commas, domains, clauses. Where the words end early, what is there is printed. Assumes nothing.
 use mathlib.Core.List.{List, [], _∷_, _++_}
 use Prim.Native.Nat.{ℕ, zero, suc, _+_}
-use lib.IntN.{ℤ, pos, negsuc}
+use lib.IntN.{ℤ}
 use lib.ListN.{length, take, drop}
+use Rattle.laws.specs.Ints.{count-of}
 use Rattle.decimal.specs.Bytes.{comma, semicolon, colon, line-feed, domain-key, clause-key}
 use Rattle.decimal.specs.Decimal.{print-number}
 
@@ -26,14 +27,9 @@ pub record Shown : Type 0 where
   pub text : List ℕ
   pub rest : List ℤ
 
--- a count word; a negative one counts nothing
-abbrev pub plain : ℤ → ℕ
-plain (pos n) = n
-plain (negsuc n) = 0
-
 abbrev pub count-word : List ℤ → ℕ
 count-word [] = 0
-count-word (w ∷ ws) = plain w
+count-word (w ∷ ws) = count-of w
 
 -- n of them, as long as there are words
 unfoldable pub times : (List ℤ → Shown) → ℕ → List ℤ → Shown

@@ -1,6 +1,6 @@
 -- What the code does at each of its returns and turns, over plain lists and numbers. Assumes nothing.
 use mathlib.Core.Path.{_≡_, refl, sym, ap, _∙_}
-use mathlib.Core.Bool.{true, false, _||_}
+use mathlib.Core.Bool.{true, false}
 use mathlib.Core.List.{List, [], _∷_, _++_, map}
 use Prim.Native.Nat.{ℕ, zero, suc, _+_, _-_, _*_, _<_, _≤_, _^_}
 use native.Mathlib.Nat.{mul-le-mul-left}
@@ -9,29 +9,28 @@ use lib.Dec.{T, ltb}
 use lib.IntN.{ℤ, pos, negsuc, natAbs}
 use lib.Signed.{ltZ, nonNeg}
 use lib.ListN.{length, getD, length-append}
-use borrow.Author.Tests.{ltb-true, ltb-false, ne-eqb}
+use borrow.Author.Tests.{ltb-true, ne-eqb}
 use mir.Syntax.{w32}
 use mir.Val.{SFits, ofZ}
 use Rattle.laws.specs.Bools.{or-no-l, or-no-r}
-use Rattle.laws.specs.Ints.{eqZ}
-use Rattle.laws.specs.Lists.{different}
+use Rattle.laws.specs.Ints.{eqZ, count-of}
 use Rattle.laws.specs.Slices.{Has, has-front, has-back, has-word, has-rest}
 use Rattle.syntax.specs.Words.{max-weight}
 use Rattle.syntax.specs.Syntax.{IntExpr, IConst, IVar, Linear as Total, Terms, tnil, tmore, count-terms, encode-int, encode-terms}
 use Rattle.syntax.specs.Unique.{int-unique}
 use Rattle.syntax.specs.Lengths.{int-long, int-fits}
-use Rattle.limits.specs.Limits.{weight, terms-weight, heavy, heavy-terms, heavy-comparison, many-comparison, written, written-terms}
-use Rattle.sums.specs.LinearSum.{LinearSum, constant, singleton, add-sum, mul-sum, sub-sum}
-use Rattle.sums.specs.Rising.{terms-of, constant-proper, add-sum-proper, Each, constant-each, singleton-each, add-sum-each, mul-sum-each, sub-sum-each, Among, among-left, among-right}
+use Rattle.limits.specs.Limits.{weight, terms-weight, heavy, heavy-terms, written, written-terms}
+use Rattle.sums.specs.LinearSum.{LinearSum, constant, singleton, add-sum, mul-sum}
+use Rattle.sums.specs.Rising.{terms-of, constant-proper, add-sum-proper, Each, constant-each, singleton-each, add-sum-each, mul-sum-each, Among, among-left, among-right}
 use Rattle.sums.specs.Linear.{linear-of, linear-terms, linear-of-among}
 use Rattle.sums.specs.Norm.{load, constant-load, add-sum-load, mul-sum-load}
-use Rattle.sums.specs.Bounds.{size, heavy-weight, linear-of-size, Room, room-among, comparison-room}
+use Rattle.sums.specs.Bounds.{size, heavy-weight, linear-of-size, Room, room-among}
 use Rattle.sums.specs.Rising.{different-map}
 use Rattle.sums.specs.Struct.{terms, sum-of, Stands}
 use Rattle.sums.specs.declared.LinearSum.{LinearSum as Sum}
 use Rattle.sums.proofs.Laws.{is-own, stands-sum, stands-to}
-use Rattle.nest.specs.Numbers.{count-of, number-at, leaf-of}
-use Rattle.nest.specs.Nest.{Ready, Word, Linear, Ready-comparison, Difference, Going}
+use Rattle.nest.specs.Numbers.{number-at, leaf-of}
+use Rattle.nest.specs.Nest.{Ready, Word, Linear, Going}
 
 -- ---- counts
 
@@ -292,78 +291,3 @@ module _ (ws numbers : List ℤ) (at rest p : ℕ) (s : Sum) (g : Going ws numbe
 
     pub member-end : p + 3 ≡ p + 1 + length (encode-int (t .expr))
     member-end = omega (arith, leaf-right ws numbers (p + 1) h (t .expr) (t .has-expr) .1)
-
--- ---- the two sides of a comparison
-
-module _ (ws numbers : List ℤ) (at : ℕ) (r : Ready-comparison ws at) where
-  abbrev Sides : List ℕ
-  Sides = written (r .left) ++ written (r .right)
-
-  few-sides : different Sides ≤ 64
-  unfolding many-comparison
-  few-sides = ltb-false 64 (different Sides) (r .few)
-
-  pub left-ready : Ready ws at
-  unfolding heavy-comparison
-  left-ready = record {
-    tree = r .left;
-    has = has-front ws at (encode-int (r .left)) (encode-int (r .right)) (r .has);
-    domains = r .domains;
-    light = or-no-l (heavy (r .domains) (r .left)) (heavy (r .domains) (r .right) || ltb max-weight (weight (r .domains) (r .left) + weight (r .domains) (r .right))) (r .light);
-    vars = Sides;
-    few = few-sides;
-    among = λ v m. among-left v (written (r .left)) (written (r .right)) m;
-  }
-
-  module _ (p : ℕ) (s : Sum) (o : Linear ws numbers at p s) where
-    left-has : Has ws at (encode-int (r .left))
-    left-has = has-front ws at (encode-int (r .left)) (encode-int (r .right)) (r .has)
-
-    right-has : Has ws p (encode-int (r .right))
-    right-has = rw (o .right (r .left) left-has .1) (has-back ws at (encode-int (r .left)) (encode-int (r .right)) (r .has))
-
-    pub right-ready : Ready ws p
-    unfolding heavy-comparison
-    right-ready = record {
-      tree = r .right;
-      has = right-has;
-      domains = r .domains;
-      light = or-no-l (heavy (r .domains) (r .right)) (ltb max-weight (weight (r .domains) (r .left) + weight (r .domains) (r .right))) (or-no-r (heavy (r .domains) (r .left)) (heavy (r .domains) (r .right) || ltb max-weight (weight (r .domains) (r .left) + weight (r .domains) (r .right))) (r .light));
-      vars = Sides;
-      few = few-sides;
-      among = λ v m. among-right v (written (r .left)) (written (r .right)) m;
-    }
-
-    module _ (q : ℕ) (t : Sum) (i : Linear ws numbers p q t) where
-      s-is : sum-of s ≡ linear-of (number-at numbers) (r .left)
-      s-is = stands-sum s _ (o .right (r .left) left-has .0)
-
-      t-is : sum-of t ≡ linear-of (number-at numbers) (r .right)
-      t-is = stands-sum t _ (i .right (r .right) right-has .0)
-
-      total-light : weight (r .domains) (r .left) + weight (r .domains) (r .right) ≤ max-weight
-      unfolding heavy-comparison
-      total-light = ltb-false max-weight _ (or-no-r (heavy (r .domains) (r .right)) (ltb max-weight (weight (r .domains) (r .left) + weight (r .domains) (r .right))) (or-no-r (heavy (r .domains) (r .left)) (heavy (r .domains) (r .right) || ltb max-weight (weight (r .domains) (r .left) + weight (r .domains) (r .right))) (r .light)))
-
-      sizes : size (sum-of s) + size (sum-of t) ≤ max-weight
-      sizes = rw (s-is, t-is) (omega (arith, linear-of-size (r .domains) (number-at numbers) (r .left), linear-of-size (r .domains) (number-at numbers) (r .right), total-light))
-
-      right-room : Room (terms s) (terms-of (mul-sum (negsuc 0) (sum-of t)))
-      right-room = rw (o .right (r .left) left-has .0 .same, t-is) (comparison-room (number-at numbers) (r .left) (r .right) (r .few))
-
-      pub difference-asks : (s .count ≤ 64) × (t .count ≤ 64) × Room (terms s) (terms-of (mul-sum (negsuc 0) (sum-of t))) × (size (sum-of s) + size (sum-of t) < 2 ^ 31)
-      difference-asks = (o .right (r .left) left-has .0 .room, i .right (r .right) right-has .0 .room, right-room, omega (arith, sizes))
-
--- what the three calls leave
-module _ (ws numbers : List ℤ) (at p q : ℕ) (s t d : Sum) (o : Linear ws numbers at p s) (i : Linear ws numbers p q t) (j : Stands d (sub-sum (sum-of s) (sum-of t))) where
-  difference-right : (a b : IntExpr) → Has ws at (encode-int a ++ encode-int b) → Stands d (sub-sum (linear-of (number-at numbers) a) (linear-of (number-at numbers) b)) × (q ≡ at + length (encode-int a ++ encode-int b))
-  difference-right a b h =
-      let x = o .right a (has-front ws at (encode-int a) (encode-int b) h) in
-      let e : p ≡ at + length (encode-int a) = x .1 in
-      let y = i .right b (rw e (has-back ws at (encode-int a) (encode-int b) h)) in (
-        stands-to d _ _ j (ap (λ (l : LinearSum). sub-sum l (sum-of t)) (stands-sum s _ (x .0)) ∙ ap (sub-sum (linear-of (number-at numbers) a)) (stands-sum t _ (y .0))),
-        simp length-append (omega (arith, e, y .1)),
-      )
-
-  pub difference : Difference ws numbers at q d
-  difference = record { right = difference-right; words = rw (j .same) (sub-sum-each Word (sum-of s) (sum-of t) (o .words) (i .words)); inside = i .inside }

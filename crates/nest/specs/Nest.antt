@@ -1,7 +1,7 @@
 -- What the recursion over an integer expression's words asks and gives.
 use mathlib.Core.Path.{_≡_}
 use mathlib.Core.Bool.{false}
-use mathlib.Core.List.{List, _++_, map}
+use mathlib.Core.List.{List, map}
 use Prim.Native.Nat.{ℕ, _+_, _≤_, _<_}
 use lib.IntN.{ℤ}
 use lib.ListN.{length}
@@ -9,8 +9,7 @@ use Rattle.laws.specs.Lists.{different}
 use Rattle.laws.specs.Slices.{Has}
 use Rattle.syntax.specs.Words.{max-weight}
 use Rattle.syntax.specs.Syntax.{Domain, IntExpr, Terms, count-terms, encode-int, encode-terms}
-use Rattle.limits.specs.Limits.{heavy, heavy-terms, heavy-comparison, many-comparison, terms-weight, written, written-terms}
-use Rattle.sums.specs.LinearSum.{sub-sum}
+use Rattle.limits.specs.Limits.{heavy, heavy-terms, terms-weight, written, written-terms}
 use Rattle.sums.specs.Rising.{Rises, Each, Among}
 use Rattle.sums.specs.Linear.{linear-of, linear-terms}
 use Rattle.sums.specs.Bounds.{size}
@@ -35,22 +34,6 @@ Word v = v < 2147483648
 -- s is the linear sum of the expression at `at`, which ends at `next`
 pub record Linear (ws numbers : List ℤ) (at next : ℕ) (s : Sum) : Type 0 where
   pub right : (e : IntExpr) → Has ws at (encode-int e) → Stands s (linear-of (number-at numbers) e) × (next ≡ at + length (encode-int e))
-  pub words : Each Word (terms s)
-  pub inside : next ≤ length ws
-
--- the two sides of a comparison stand at `at`, within refusals 9 and 10
-pub record Ready-comparison (ws : List ℤ) (at : ℕ) : Type 0 where
-  pub left : IntExpr
-  pub right : IntExpr
-  pub has : Has ws at (encode-int left ++ encode-int right)
-  pub domains : List Domain
-  pub light : heavy-comparison domains left right ≡ false
-  pub few : many-comparison left right ≡ false
-
--- s is the left side's sum minus the right one's
-pub record Difference (ws numbers : List ℤ) (at next : ℕ) (s : Sum) : Type 0 where
-  pub right : (a b : IntExpr) → Has ws at (encode-int a ++ encode-int b)
-      → Stands s (sub-sum (linear-of (number-at numbers) a) (linear-of (number-at numbers) b)) × (next ≡ at + length (encode-int a ++ encode-int b))
   pub words : Each Word (terms s)
   pub inside : next ≤ length ws
 

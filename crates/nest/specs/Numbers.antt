@@ -3,16 +3,11 @@ use mathlib.Core.Path.{_≡_, ap}
 use Prim.Native.Nat.{ℕ, _+_, _-_}
 use mathlib.Core.Bool.{cond}
 use mathlib.Core.List.{List}
-use lib.IntN.{ℤ, pos, negsuc}
+use lib.IntN.{ℤ, pos}
 use lib.ListN.{getD, drop}
 use lib.Seq.{getD-drop}
-use Rattle.laws.specs.Ints.{eqZ}
+use Rattle.laws.specs.Ints.{eqZ, count-of}
 use Rattle.sums.specs.LinearSum.{LinearSum, constant, singleton}
-
--- a word as a count: 0 where it is negative
-abbrev pub count-of : ℤ → ℕ
-count-of (pos n) = n
-count-of (negsuc n) = 0
 
 -- the emitted number of the declared variable v, where `numbers` is the map
 unfoldable pub number-at : List ℤ → ℕ → ℕ

@@ -4,14 +4,14 @@ ghost use mathlib.Core.Path.{_≡_};
 ghost use Prim.Native.Nat.{_+_, _*_, _<_, _≤_, _^_};
 ghost use lib.IntN.{pos, negsuc, natAbs};
 ghost use lib.ListN.{length, getD};
-ghost use Rattle.laws.specs.Ints.{times-low};
+ghost use Rattle.laws.specs.Ints.{times-low, count-of};
 ghost use Rattle.syntax.specs.Syntax.{Range, lower-bound, upper-bound};
 ghost use Rattle.sums.specs.LinearSum.{singleton, add-sum, mul-sum, sub-sum, lowest, get-domain-linear-sum};
 ghost use Rattle.sums.specs.Rising.{terms-of, Each};
 ghost use Rattle.sums.specs.Bounds.{size, Room, reach};
 ghost use Rattle.sums.specs.Struct.{terms, sum-of, Stands};
-ghost use Rattle.nest.specs.Numbers.{count-of, number-at, leaf-of};
-ghost use Rattle.nest.specs.Nest.{Ready, Word, Linear, Ready-comparison, Difference};
+ghost use Rattle.nest.specs.Numbers.{number-at, leaf-of};
+ghost use Rattle.nest.specs.Nest.{Ready, Word, Linear};
 ghost use Rattle.nest.specs.Ranges.{domain-at, Bounded};
 
 pub struct Nested {
@@ -107,21 +107,6 @@ pub fn linear_of(ws: &[i32], at: usize, numbers: &[i32]) -> Nested
         p = o.next;
     }
     Nested { sum: sum, next: p }
-}
-
-// The two sides of a comparison: left minus right.
-pub fn difference_of(ws: &[i32], at: usize, numbers: &[i32]) -> Nested
-    requires { ⌜ Ready-comparison (now ws) at ⌝ }
-    ensures { λ r. ⌜ Difference (now (ws .entry)) (now (numbers .entry)) at (r .next) (r .sum) ⌝ }
-{
-    let left = linear_of(ws, at, numbers);
-    let p = left.next;
-    let right = linear_of(ws, p, numbers);
-    let s = left.sum;
-    let t = right.sum;
-    let q = right.next;
-    let d = sums::sub_sum(s, t);
-    Nested { sum: d, next: q }
 }
 
 // A column's sum minus its new variable.

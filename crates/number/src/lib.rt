@@ -1,4 +1,4 @@
-// Numbers at first meeting and creation: the numbering pass over the folded words.
+// Numbers at first meeting and creation: the numbering walk over the folded words.
 ghost use mathlib.Core.Path.{_≡_};
 ghost use mathlib.Core.Bool.{true};
 ghost use Prim.Native.Nat.{_+_, _≤_, _<_};
@@ -144,8 +144,8 @@ fn found(c: Counters, s: Surveyed) -> Numbered
     }
 }
 
-// The counter passes so many new numbers.
-fn pass(c: Counters, k: usize) -> Counters
+// The counters behind so many new Booleans.
+fn advance(c: Counters, k: usize) -> Counters
     ensures { λ r. ⌜ r ≡ record { bools = bump-of (c .bools) k; ints = c .ints } ⌝ }
 {
     let n = bump(c.bools, k);
@@ -162,7 +162,7 @@ fn number_disj(m: Numbered) -> Numbered
     let c = m.counters;
     let s = m.seen;
     Numbered {
-        counters: pass(c, fresh(s.longs, s.lits, s.cmps)),
+        counters: advance(c, fresh(s.longs, s.lits, s.cmps)),
         seen: close_disj(s),
     }
 }
@@ -173,9 +173,9 @@ fn number_cross(a: Surveyed, b: Numbered) -> Numbered
 {
     let c = b.counters;
     let s = b.seen;
-    let d = pass(c, fresh(a.longs, a.lits, a.cmps));
+    let d = advance(c, fresh(a.longs, a.lits, a.cmps));
     Numbered {
-        counters: pass(d, fresh(s.longs, s.lits, s.cmps)),
+        counters: advance(d, fresh(s.longs, s.lits, s.cmps)),
         seen: close_cross(a, s),
     }
 }

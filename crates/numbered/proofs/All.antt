@@ -27,7 +27,7 @@ use Rattle.statements.specs.Columns.{ColumnRecord}
 use Rattle.statements.specs.Statements.{meet-stmt, meet-stmts, LegalStmts, AllInPlace, StmtWalks, stmt-walks, stmts-grow, StmtsWalks}
 use Rattle.statements.specs.Settled.{settled-legal}
 use Rattle.statements.specs.Bounds.{start-low}
-use Rattle.statements.specs.Whole.{start, roomy, low, passes}
+use Rattle.statements.specs.Whole.{start, roomy, low, set-walks}
 use Rattle.statements.specs.Stages.{stmts-words, log-of, StmtFacts, settled-facts, settled-short, Started, NumberedSet, SomeStarted}
 use Rattle.numbered.specs.Stands.{Numerable, Stands, SomeStmt, StmtEnds, StmtMet}
 use Rattle.numbered.specs.Numbered.{NumberedAll}
@@ -114,8 +114,8 @@ module _ (merge : Bool) (p : Problem) (f : Fixed) (ss : List Stmt) (w : List ℤ
   log-roomy : next-int (log-of merge p ss) < max-emitted
   log-roomy = roomy merge p (h .set .well) f ss (h .set .ends) (h .set .unrefused) F (h .stands) short few w n (h .numbered)
 
-  all-passes : StmtsWalks F ds 512 ss (start w n) (start-log merge ss)
-  all-passes = passes merge p (h .set .well) f ss (h .set .ends) (h .set .unrefused) F (h .stands) short few w n (h .numbered)
+  all-walks : StmtsWalks F ds 512 ss (start w n) (start-log merge ss)
+  all-walks = set-walks merge p (h .set .well) f ss (h .set .ends) (h .set .unrefused) F (h .stands) short few w n (h .numbered)
 
   module _ (end : ℕ) (w' : List ℤ) (c : Counters) (q : ℕ) where
     module _ (t : Stmt) (ts : List Stmt) (x : Left merge p ss w end n w' c q (t ∷ ts)) where
@@ -182,10 +182,10 @@ module _ (merge : Bool) (p : Problem) (f : Fixed) (ss : List Stmt) (w : List ℤ
         let i : w' ≡ meet-stmts 512 ss (start w n) .work = ap (λ (s : State). s .work) e in
         record {
           set = h .set;
-          values = λ v k. ap (λ (l : List ℤ). getD l v (pos 0)) i ∙ all-passes .grown .below v (omega arith) ∙ h .values v k;
+          values = λ v k. ap (λ (l : List ℤ). getD l v (pos 0)) i ∙ all-walks .grown .below v (omega arith) ∙ h .values v k;
           stands = subst (λ (l : List ℤ). Has l 512 (stmts-words ss)) (sym part) (h .stands);
-          numbered = subst (λ (l : List ℤ). Numbered (ColumnRecord l ds) (state-of w' c) (log-of merge p ss)) (sym part) (subst (λ (s : State). Numbered (ColumnRecord F ds) s (log-of merge p ss)) (sym e) (all-passes .numbered));
-          placed = subst (λ (l : List ℤ). AllInPlace l ds w' 512 ss (start-log merge ss)) (sym part) (subst (λ (l : List ℤ). AllInPlace F ds l 512 ss (start-log merge ss)) (sym i) (all-passes .placed));
+          numbered = subst (λ (l : List ℤ). Numbered (ColumnRecord l ds) (state-of w' c) (log-of merge p ss)) (sym part) (subst (λ (s : State). Numbered (ColumnRecord F ds) s (log-of merge p ss)) (sym e) (all-walks .numbered));
+          placed = subst (λ (l : List ℤ). AllInPlace l ds w' 512 ss (start-log merge ss)) (sym part) (subst (λ (l : List ℤ). AllInPlace F ds l 512 ss (start-log merge ss)) (sym i) (all-walks .placed));
         }
     ready (t ∷ ts) x part l = absurd (omega (arith, x .ends, some-word t, length-append (encode-stmt t) (stmts-words ts)))
 

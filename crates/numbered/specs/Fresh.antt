@@ -11,7 +11,7 @@ use lib.Seq.{drop-drop}
 use borrow.Author.Tests.{le-leb}
 use Rattle.laws.specs.Bools.{and-i}
 use Rattle.laws.specs.Ints.{eqZ}
-use Rattle.laws.specs.Lists.{any, all, keep-if, filter}
+use Rattle.laws.specs.Lists.{any, all, keep-if, select}
 use Rattle.laws.specs.Slices.{Has, has-front, has-back}
 use Rattle.syntax.specs.Words.{max-value, star-word}
 use Rattle.syntax.specs.Syntax.{Cell, star, value, encode-cell}
@@ -59,22 +59,22 @@ cells-stand w at n (cs ∷ rows) h k =
 
 -- ---- their counts
 
-filter-values : (n : ℕ) (cs : List Cell) → length cs ≡ n → length (filter (λ c. not (is-star c)) cs) ≡ values n cs
-filter-values zero [] h = refl
-filter-values (suc n) [] h = refl
-filter-values zero (c ∷ cs) h = absurd (omega (arith, h))
-filter-values (suc n) (star ∷ cs) h = filter-values n cs (omega (arith, h))
-filter-values (suc n) (value x ∷ cs) h = ap suc (filter-values n cs (omega (arith, h)))
+select-values : (n : ℕ) (cs : List Cell) → length cs ≡ n → length (select (λ c. not (is-star c)) cs) ≡ values n cs
+select-values zero [] h = refl
+select-values (suc n) [] h = refl
+select-values zero (c ∷ cs) h = absurd (omega (arith, h))
+select-values (suc n) (star ∷ cs) h = select-values n cs (omega (arith, h))
+select-values (suc n) (value x ∷ cs) h = ap suc (select-values n cs (omega (arith, h)))
 
 row-values : (n : ℕ) (cs : List Cell) → WellRow n cs → values-in (map encode-cell cs) ≡ values n cs
-row-values n cs h = values-stand cs (well-cells cs (h .1)) ∙ filter-values n cs (h .0)
+row-values n cs h = values-stand cs (well-cells cs (h .1)) ∙ select-values n cs (h .0)
 
 -- one row more
 count-step : (f : ℕ → Bool) (r : Row) (rs : List Row) → count-rows f (r ∷ rs) ≡ cond (f (values-in r)) (suc (count-rows f rs)) (count-rows f rs)
 unfolding count-rows
 count-step f r rs = go (f (values-in r))
   where
-    go : (t : Bool) → length (keep-if t r (filter (λ x. f (values-in x)) rs)) ≡ cond t (suc (length (filter (λ x. f (values-in x)) rs))) (length (filter (λ x. f (values-in x)) rs))
+    go : (t : Bool) → length (keep-if t r (select (λ x. f (values-in x)) rs)) ≡ cond t (suc (length (select (λ x. f (values-in x)) rs))) (length (select (λ x. f (values-in x)) rs))
     go true = refl
     go false = refl
 

@@ -28,7 +28,7 @@ pub record Stands (w : List ℤ) (at n : ℕ) (t : Stmt) : Type 0 where
   pub words : Has (read-part w) at (encode-stmt t)
   pub numerable : Numerable n t
 
--- what a pass over a statement is lent: some statement stands there
+-- what a walk over a statement is lent: some statement stands there
 pub record SomeStmt (w : List ℤ) (at n : ℕ) : Type 0 where
   pub stmt : Stmt
   pub stands : Stands w at n stmt

@@ -1,4 +1,4 @@
-// The numbering pass over all folded statements of the work slice.
+// The numbering walk over all folded statements of the work slice.
 ghost use mathlib.Core.Path.{_≡_};
 ghost use Prim.Native.Nat.{_+_, _*_, _≤_};
 ghost use lib.ListN.{length};

@@ -11,6 +11,7 @@ use borrow.Author.Tests.{ltb-false}
 use Rattle.laws.specs.Bools.{or-no-l, or-no-r}
 use Rattle.laws.specs.Lists.{different}
 use Rattle.laws.specs.Slices.{Has, has-front, has-back}
+use Rattle.laws.specs.Ints.{count-of}
 use Rattle.syntax.specs.Words.{max-weight, max-comparison-vars}
 use Rattle.syntax.specs.Syntax.{Domain, IntExpr, IConst, IVar, Linear, Terms, tnil, tmore, encode-int}
 use Rattle.limits.specs.Limits.{weight, heavy, heavy-comparison, written, many-comparison}
@@ -21,7 +22,7 @@ use Rattle.sums.specs.Bounds.{size, Room, linear-of-size, comparison-room}
 use Rattle.sums.specs.Struct.{terms, sum-of, Stands}
 use Rattle.sums.specs.declared.LinearSum.{LinearSum as Sum}
 use Rattle.sums.proofs.Laws.{stands-sum}
-use Rattle.nest.specs.Numbers.{count-of, number-at}
+use Rattle.nest.specs.Numbers.{number-at}
 use Rattle.nest.specs.Nest.{Ready, Word, Linear as Linears}
 use Rattle.walk.specs.Item.{nat, int-entry, int-number}
 use Rattle.output.specs.ComparisonsFit.{Compares, Subtracted}

@@ -14,7 +14,7 @@ use mir.Syntax.{w32}
 use mir.Val.{SFits, ofZ, toZ}
 use mir.Facts.{toZ-ofZ}
 use Rattle.laws.specs.Lists.{flat}
-use Rattle.laws.specs.Writes.{cap, Wrote, wrote-none, wrote-then, wrote-length, wrote-low}
+use Rattle.laws.specs.Writes.{cap, Wrote, wrote-none, wrote-then, wrote-length, wrote-low, Open}
 use Rattle.syntax.specs.Syntax.{op-at, encode-op}
 use Rattle.sums.specs.LinearSum.{Term, term, LinearSum, sub-sum}
 use Rattle.sums.specs.Linear.{linear-of}
@@ -27,7 +27,7 @@ use Rattle.answer.specs.Answer.{term-words, linear-words}
 use Rattle.sums.proofs.Laws.{stands-sum}
 use Rattle.walk.specs.Item.{limit, is-none, int-number, word-of, clause-text, comparison, block}
 use Rattle.output.specs.declared.Suffix.{Suffix}
-use Rattle.output.specs.Suffix.{Stacked, suffix, Open}
+use Rattle.output.specs.Suffix.{Stacked, suffix}
 use Rattle.output.specs.ComparisonsFit.{Compares, Subtracted, Compared}
 use Rattle.survey.proofs.Leaves.{pos-is, minus-is}
 

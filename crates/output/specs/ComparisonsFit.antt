@@ -44,11 +44,11 @@ unfoldable mutual
   ComparisonsFit w (var v g) = Unit {0}
   ComparisonsFit w (num n g) = Unit {0}
   ComparisonsFit w (cmp p o a b g) = Sides w (p + 2) a b
-  ComparisonsFit w (conj ts) = Fines w ts
-  ComparisonsFit w (disj ts) = Fines w ts
-  ComparisonsFit w (cross ts us) = Fines w ts × Fines w us
+  ComparisonsFit w (conj ts) = AllComparisonsFit w ts
+  ComparisonsFit w (disj ts) = AllComparisonsFit w ts
+  ComparisonsFit w (cross ts us) = AllComparisonsFit w ts × AllComparisonsFit w us
   ComparisonsFit w (tied v t u) = ComparisonsFit w t × ComparisonsFit w u
 
-  pub Fines : List ℤ → Trees → Type 0
-  Fines w nil = Unit {0}
-  Fines w (cons t ts) = ComparisonsFit w t × Fines w ts
+  pub AllComparisonsFit : List ℤ → Trees → Type 0
+  AllComparisonsFit w nil = Unit {0}
+  AllComparisonsFit w (cons t ts) = ComparisonsFit w t × AllComparisonsFit w ts

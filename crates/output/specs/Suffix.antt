@@ -5,7 +5,6 @@ use mathlib.Core.List.{List, [], _∷_}
 use Prim.Native.Nat.{ℕ, _≤_}
 use lib.IntN.{ℤ}
 use lib.ListN.{length, drop}
-use Rattle.laws.specs.Writes.{cap}
 use Rattle.output.specs.declared.Suffix.{Suffix}
 use Rattle.output.specs.declared.Extra.{Extra}
 
@@ -21,8 +20,3 @@ pub record Stacked (s : Suffix) (k : ℕ) : Type 0 where
 
 abbrev pub extra-lits : Extra → List ℤ
 extra-lits x = cond (x .some) (x .lit ∷ []) []
-
--- the next word goes to o
-pub record Open (out : List ℤ) (o : ℕ) : Type 0 where
-  pub low : o ≤ cap
-  pub room : length out ≤ cap

@@ -4,7 +4,7 @@ ghost use mathlib.Core.List.{[], _∷_, _++_, map};
 ghost use Prim.Native.Nat.{_+_, _*_, _-_, _≤_};
 ghost use lib.ListN.{length};
 ghost use Rattle.laws.specs.Lists.{flat};
-ghost use Rattle.laws.specs.Writes.{Wrote};
+ghost use Rattle.laws.specs.Writes.{Wrote, Open};
 ghost use Rattle.syntax.specs.Syntax.{op-at, encode-op};
 ghost use Rattle.sums.specs.Rising.{Each};
 ghost use Rattle.sums.specs.Struct.{terms, sum-of};
@@ -13,7 +13,7 @@ ghost use Rattle.clauses.specs.Clause.{linear};
 ghost use Rattle.clauses.specs.Normalize.{negate-op-if};
 ghost use Rattle.answer.specs.Answer.{term-words, linear-words};
 ghost use Rattle.walk.specs.Item.{limit, word-of, clause-text, extra, block as block-of};
-ghost use Rattle.output.specs.Suffix.{suffix, Stacked, extra-lits, Open};
+ghost use Rattle.output.specs.Suffix.{suffix, Stacked, extra-lits};
 ghost use Rattle.output.specs.ComparisonsFit.{Compares, Subtracted, Compared};
 use sums::LinearSum;
 use walk::Mode;
@@ -240,7 +240,7 @@ pub fn pushed(s: Suffix, x: Extra, k: usize) -> Suffix
     let mode = x.mode;
     match mode {
         Mode::Pool => s,
-        Mode::Pass => {
+        Mode::One => {
             if x.some {
                 return push(s, x.lit);
             }

@@ -2,7 +2,7 @@
 use Prim.Native.Nat.{ℕ, zero, suc, _+_, _-_, _≤_, _<_, max}
 use mathlib.Core.Path.{_≡_, refl, sym, ap, _∙_, subst}
 use mathlib.Core.Bool.{Bool, true, false, _||_, cond}
-use mathlib.Core.Option.{Option, none as nothing, some}
+use mathlib.Core.Option.{Option, none, some}
 use mathlib.Core.List.{List}
 use native.Mathlib.Omega.{arith}
 use lib.Dec.{eqb, ltb}
@@ -13,16 +13,17 @@ use lib.Seq.{drop-set-lt, getD-set-same, getD-set-other}
 use Rattle.laws.specs.Slices.{Has, drop-up}
 use Rattle.laws.specs.Ints.{pos-eq}
 use Rattle.syntax.specs.Words.{max-bools}
-use Rattle.syntax.specs.Syntax.{CmpOp, IntExpr, BoolExpr, Const, Var, Cmp, Members, none, more, count-members, encode-int, encode-bool, encode-members}
+use Rattle.syntax.specs.Syntax.{CmpOp, IntExpr, BoolExpr, Const, Var, Cmp, Members, mnil, more, count-members, encode-int, encode-bool, encode-members}
 use Rattle.syntax.specs.Written.{EveryOf}
+use Rattle.syntax.specs.Codes.{bool-code}
 use Rattle.fold.specs.Fold.{Fixed, Op, expr-of}
 use Rattle.fold.specs.Optimize.{Status, unsatisfiable, updated, fix, worst, and-then, constant-prop-bool, constant-prop-members}
 use Rattle.fold.specs.Table.{op-num, bit, state-num}
 use Rattle.fold.specs.Forms.{list-of, list-words, binary-words}
 use Rattle.domains.specs.Declared.{Plain}
 use Rattle.folding.specs.Steps.{state-of, Reads, Reads-members}
-use Rattle.folding.proofs.BoolLaws.{tag, const-inv, var-inv, cmp-inv, not-inv, list-inv, binary-inv, first-word, second, second-word, tag-low, inside, reads-long, reads-not, reads-list, reads-left, reads-right, reads-first, reads-rest, reads-sides}
-use Rattle.passes.specs.Want.{prop-want, members-want, flip, pass-list, left-want, right-want, want-not, want-list, want-binary, want-more, status-num, worst-num, clash-num, set-status, set-words, flip-num, pass-num, left-num, right-num, flip-is, pass-is, left-is, right-is, status-small, worst-two, worst-is, Values, Propagates}
+use Rattle.folding.proofs.BoolLaws.{const-inv, var-inv, cmp-inv, not-inv, list-inv, binary-inv, first-word, second, second-word, code-low, inside, reads-long, reads-not, reads-list, reads-left, reads-right, reads-first, reads-rest, reads-sides}
+use Rattle.passes.specs.Want.{prop-want, members-want, flip, member-want, left-want, right-want, want-not, want-list, want-binary, want-more, status-num, worst-num, clash-num, set-status, set-words, flip-num, member-num, left-num, right-num, flip-is, member-is, left-is, right-is, status-small, worst-two, worst-is, Values, Propagates}
 use Rattle.passes.specs.Contracts.{Some-int, Skip-post, Stands, Stand-members, Comparison-post, Prop-post, Members-post}
 
 -- ---- statuses
@@ -87,14 +88,14 @@ members-up ni out out' at n ms d h r = record { words = has-up out out' at (enco
 pub want-of : {X : Type 0} (w : ℕ) → w < 3 → ((k : Option Bool) → w ≡ state-num k → X) → X
 want-of zero h go = go (some false) refl
 want-of (suc zero) h go = go (some true) refl
-want-of (suc (suc zero)) h go = go nothing refl
+want-of (suc (suc zero)) h go = go none refl
 want-of (suc (suc (suc w))) h go = absurd (omega arith)
 
 -- ---- leaves
 
 pub state-back : (k : Option Bool) → state-of (pos (state-num k)) ≡ k
 unfolding state-of
-state-back nothing = refl
+state-back none = refl
 state-back (some false) = refl
 state-back (some true) = refl
 
@@ -110,24 +111,24 @@ set-values out f v b vs h l = record { cells = λ u k. cell u k (eqb u v) refl; 
     cell u k true t = let e : u ≡ v = eqb-true u v t in rw (t, e, getD-set-same out v (pos (bit b)) (pos 0) l) (ap pos (bit-num b))
     cell u k false t = rw (t, getD-set-other out v u (pos (bit b)) (pos 0) (λ e. eqb-false u v t e)) (vs .cells u k)
 
-    other : (u : ℕ) → max-bools ≤ u → (t : Bool) → eqb u v ≡ t → cond (eqb u v) (some b) (f u) ≡ nothing
+    other : (u : ℕ) → max-bools ≤ u → (t : Bool) → eqb u v ≡ t → cond (eqb u v) (some b) (f u) ≡ none
     other u k true t = absurd (let e : u ≡ v = eqb-true u v t in omega arith)
     other u k false t = rw t (vs .others u k)
 
 module _ (out : List ℤ) (f : Fixed) (vs : Values out f) (v : ℕ) (h : v < max-bools) (l : v < length out) where
   sets : (k s : Option Bool) → f v ≡ s → Propagates (prop-want k (Var v) f) out (set-words (state-num s) v (state-num k) out) (set-status (state-num s) (state-num k))
   unfolding constant-prop-bool set-words set-status
-  sets nothing s e = still out f vs
-  sets (some true) nothing e = rw e (record { statuses = refl; after = fix f v true; values = set-values out f v true vs h l; same = λ c g w. updated-same true c _ g w; high = drop-set-lt max-bools out v _ h })
-  sets (some false) nothing e = rw e (record { statuses = refl; after = fix f v false; values = set-values out f v false vs h l; same = λ c g w. updated-same true c _ g w; high = drop-set-lt max-bools out v _ h })
+  sets none s e = still out f vs
+  sets (some true) none e = rw e (record { statuses = refl; after = fix f v true; values = set-values out f v true vs h l; same = λ c g w. updated-same true c _ g w; high = drop-set-lt max-bools out v _ h })
+  sets (some false) none e = rw e (record { statuses = refl; after = fix f v false; values = set-values out f v false vs h l; same = λ c g w. updated-same true c _ g w; high = drop-set-lt max-bools out v _ h })
   sets (some true) (some true) e = rw e (agrees out f vs true)
   sets (some true) (some false) e = rw e (agrees out f vs false)
   sets (some false) (some true) e = rw e (agrees out f vs false)
   sets (some false) (some false) e = rw e (agrees out f vs true)
 
 module _ (out : List ℤ) (at w : ℕ) (hw : getD out at (pos 0) ≡ pos w) where
-  tag-is : (ni : ℕ) (e : BoolExpr) → Reads ni out at e → tag e ≡ w
-  tag-is ni e r = pos-eq _ _ _ (first-word max-bools ni out at e (r .vars) (r .words)) hw
+  code-is : (ni : ℕ) (e : BoolExpr) → Reads ni out at e → bool-code e ≡ w
+  code-is ni e r = pos-eq _ _ _ (first-word max-bools ni out at e (r .vars) (r .words)) hw
 
   pub stands-inside : Stands out at → (at + 2 ≤ length out) × (max-bools ≤ length out)
   stands-inside s =
@@ -136,25 +137,25 @@ module _ (out : List ℤ) (at w : ℕ) (hw : getD out at (pos 0) ≡ pos w) wher
 
   pub stands-second : Stands out at → (14 ≤ w → w ≡ 18) → Plain out (at + 1)
   stands-second s l =
-      let t : tag (s .it) ≡ w = tag-is _ (s .it) (s .reads) in
-      record { inside = omega (arith, stands-inside s .0); value = second (s .it); is = second-word out at (s .it) (λ a b. omega (arith, tag-low max-bools _ (s .it) (s .reads .vars))) (λ a. t ∙ l (omega arith)) (s .reads .words) }
+      let t : bool-code (s .it) ≡ w = code-is _ (s .it) (s .reads) in
+      record { inside = omega (arith, stands-inside s .0); value = second (s .it); is = second-word out at (s .it) (λ a b. omega (arith, code-low max-bools _ (s .it) (s .reads .vars))) (λ a. t ∙ l (omega arith)) (s .reads .words) }
 
   module _ (v : ℕ) (hv : getD out (at + 1) (pos 0) ≡ pos v) where
     second-is : (ni : ℕ) (e : BoolExpr) → Reads ni out at e → (14 ≤ w → w ≡ 18) → second e ≡ v
     second-is ni e r l =
-        let t : tag e ≡ w = tag-is ni e r in
-        pos-eq _ _ _ (second-word out at e (λ a b. omega (arith, tag-low max-bools ni e (r .vars))) (λ a. t ∙ l (omega arith)) (r .words)) hv
+        let t : bool-code e ≡ w = code-is ni e r in
+        pos-eq _ _ _ (second-word out at e (λ a b. omega (arith, code-low max-bools ni e (r .vars))) (λ a. t ∙ l (omega arith)) (r .words)) hv
 
     pub const-props : (want s : ℕ) → w ≡ 10 → s ≡ clash-num v want → Prop-post out at want out (at + 2) s
     unfolding second encode-bool constant-prop-bool clash-num
     const-props want s h hs ni f e k vs r lo hk =
-        const-inv e (tag-is ni e r ∙ h) λ b q.
+        const-inv e (code-is ni e r ∙ h) λ b q.
         let z : bit b ≡ v = rw q at (second-is ni e r (λ l. omega arith)) in
         let c : s ≡ clash-num (bit b) (state-num k) = hs ∙ rw (z, hk) refl in
         rw q (record { nexts = refl; props = rw c (go b k) })
       where
         go : (b : Bool) (k : Option Bool) → Propagates (prop-want k (Const b) f) out out (clash-num (bit b) (state-num k))
-        go b nothing = still out f vs
+        go b none = still out f vs
         go true (some true) = agrees out f vs true
         go true (some false) = agrees out f vs false
         go false (some true) = agrees out f vs false
@@ -163,8 +164,8 @@ module _ (out : List ℤ) (at w : ℕ) (hw : getD out at (pos 0) ≡ pos w) wher
     leaf-var : (ni : ℕ) (e : BoolExpr) → Reads ni out at e → w < 12 → (w ≡ 10 → ⊥) → (e ≡ Var v) × (v < max-bools)
     unfolding second EveryOf
     leaf-var ni e r h n =
-        let t = tag-is ni e r in
-        let m = tag-low max-bools ni e (r .vars) in
+        let t = code-is ni e r in
+        let m = code-low max-bools ni e (r .vars) in
         var-inv e (omega arith) λ i q.
         let z : i ≡ v = rw q at (second-is ni e r (λ l. omega arith)) in
         let u : i < max-bools = rw q at (r .vars) in
@@ -186,12 +187,12 @@ module _ (out : List ℤ) (at w : ℕ) (hw : getD out at (pos 0) ≡ pos w) wher
 
   module _ (h18 : w ≡ 18) where
     pub left-int : Stands out at → Some-int out (at + 2)
-    left-int s = cmp-inv (s .it) (tag-is _ (s .it) (s .reads) ∙ h18) λ o a b q. record { it = a; stands = record { words = reads-sides _ out at o a b (rw q at (s .reads)) .0 .words } }
+    left-int s = cmp-inv (s .it) (code-is _ (s .it) (s .reads) ∙ h18) λ o a b q. record { it = a; stands = record { words = reads-sides _ out at o a b (rw q at (s .reads)) .0 .words } }
 
     module _ (m : ℕ) (p : Skip-post out (at + 2) m) where
       pub right-int : Stands out at → Some-int out m
       right-int s =
-          cmp-inv (s .it) (tag-is _ (s .it) (s .reads) ∙ h18) λ o a b q.
+          cmp-inv (s .it) (code-is _ (s .it) (s .reads) ∙ h18) λ o a b q.
           let g = reads-sides _ out at o a b (rw q at (s .reads)) in
           let e : m ≡ at + 2 + length (encode-int a) = p a (record { words = g .0 .words }) in
           record { it = b; stands = record { words = rw e (g .1 .words) } }
@@ -199,7 +200,7 @@ module _ (out : List ℤ) (at w : ℕ) (hw : getD out at (pos 0) ≡ pos w) wher
       pub both-ints : (r : ℕ) → Skip-post out m r → Comparison-post out at r
       unfolding encode-bool
       both-ints r p' ni e rd =
-          cmp-inv e (tag-is ni e rd ∙ h18) λ o a b q.
+          cmp-inv e (code-is ni e rd ∙ h18) λ o a b q.
           let g = reads-sides ni out at o a b (rw q at rd) in
           let em : m ≡ at + 2 + length (encode-int a) = p a (record { words = g .0 .words }) in
           let er : r ≡ m + length (encode-int b) = p' b (record { words = rw em (g .1 .words) }) in
@@ -209,24 +210,24 @@ module _ (out : List ℤ) (at w : ℕ) (hw : getD out at (pos 0) ≡ pos w) wher
     unfolding constant-prop-bool
     cmp-props want next p ni f e k vs r lo hk =
         let n : next ≡ at + length (encode-bool e) = p ni e r in
-        cmp-inv e (tag-is ni e r ∙ h18) λ o a b q.
+        cmp-inv e (code-is ni e r ∙ h18) λ o a b q.
         record { nexts = n; props = rw q (go k o a b) }
       where
         go : (k : Option Bool) (o : CmpOp) (a b : IntExpr) → Propagates (prop-want k (Cmp o a b) f) out out 0
-        go nothing o a b = still out f vs
+        go none o a b = still out f vs
         go (some c) o a b = still out f vs
 
   -- ---- Not
 
   pub not-stands : Stands out at → w ≡ 14 → Stands out (at + 1)
   not-stands s h =
-      not-inv (s .it) (tag-is _ (s .it) (s .reads) ∙ h) λ x q.
+      not-inv (s .it) (code-is _ (s .it) (s .reads) ∙ h) λ x q.
       record { fixed = s .fixed; values = s .values; ints = s .ints; it = x; reads = reads-not _ out at x (rw q at (s .reads)); low = omega (arith, s .low) }
 
   pub not-props : (want k' : ℕ) (out' : List ℤ) (next s : ℕ) → w ≡ 14 → k' ≡ flip-num want → Prop-post out (at + 1) k' out' next s → Prop-post out at want out' next s
   unfolding encode-bool
   not-props want k' out' next s h hk' p ni f e k vs r lo hk =
-      not-inv e (tag-is ni e r ∙ h) λ x q.
+      not-inv e (code-is ni e r ∙ h) λ x q.
       let g = p ni f x (flip k) vs (reads-not ni out at x (rw q at r)) (omega arith) (hk' ∙ rw hk (flip-is k)) in
       rw q (record { nexts = g .nexts ∙ omega arith; props = as-status _ _ out out' s (want-not k x f) (g .props) })
 
@@ -236,7 +237,7 @@ module _ (out : List ℤ) (at w : ℕ) (hw : getD out at (pos 0) ≡ pos w) wher
     the-list : {X : Type 0} (ni : ℕ) (e : BoolExpr) → Reads ni out at e → ((b : Bool) (ms : Members) → e ≡ list-of b ms → w - 12 ≡ bit b → Reads-members ni out (at + 2) v ms → X) → X
     unfolding second
     the-list ni e r go =
-        let t = tag-is ni e r in
+        let t = code-is ni e r in
         list-inv e (omega arith) (omega arith) λ b ms q tb.
         let s : count-members ms ≡ v = sym (second-list b ms) ∙ sym (ap second q) ∙ second-is v hv ni e r (λ l. absurd (omega arith)) in
         let g = reads-list ni out at b ms (rw q at r) in
@@ -249,10 +250,10 @@ module _ (out : List ℤ) (at w : ℕ) (hw : getD out at (pos 0) ≡ pos w) wher
     pub list-stand : Stands out at → Stand-members out (at + 2) v
     list-stand s = the-list _ (s .it) (s .reads) λ b ms q sb g. record { fixed = s .fixed; values = s .values; ints = s .ints; them = ms; reads = g; low = omega (arith, s .low) }
 
-    pub list-props : (want k' : ℕ) (out' : List ℤ) (next s : ℕ) → k' ≡ pass-num (w - 12) want → Members-post out (at + 2) v k' out' next s → Prop-post out at want out' next s
+    pub list-props : (want k' : ℕ) (out' : List ℤ) (next s : ℕ) → k' ≡ member-num (w - 12) want → Members-post out (at + 2) v k' out' next s → Prop-post out at want out' next s
     list-props want k' out' next s hk' p ni f e k vs r lo hk =
         the-list ni e r λ b ms q sb g.
-        let y = p ni f ms (pass-list b k) vs g (omega arith) (hk' ∙ rw (sb, hk) (pass-is b k)) in
+        let y = p ni f ms (member-want b k) vs g (omega arith) (hk' ∙ rw (sb, hk) (member-is b k)) in
         let n : next ≡ at + 2 + length (encode-members ms) = y .nexts in
         rw q (record { nexts = omega (arith, ap length (list-words b ms)); props = as-status _ _ out out' s (want-list k b ms f) (y .props) })
 
@@ -261,7 +262,7 @@ module _ (out : List ℤ) (at w : ℕ) (hw : getD out at (pos 0) ≡ pos w) wher
   module _ (l14 : 14 < w) (n18 : w ≡ 18 → ⊥) where
     the-binary : {X : Type 0} (ni : ℕ) (e : BoolExpr) → Reads ni out at e → ((y : Op) (a b : BoolExpr) → e ≡ expr-of y a b → 15 + op-num y ≡ w → Reads ni out (at + 1) a → Reads ni out (at + 1 + length (encode-bool a)) b → X) → X
     the-binary ni e r go =
-        let t = tag-is ni e r in
+        let t = code-is ni e r in
         binary-inv e (omega arith) (λ x. n18 (sym t ∙ x)) λ y a b q ty.
         let g = rw q at r in
         go y a b q (omega arith) (reads-left ni out at y a b g) (reads-right ni out at y a b g)
@@ -294,13 +295,13 @@ module _ (out : List ℤ) (at w : ℕ) (hw : getD out at (pos 0) ≡ pos w) wher
 
 pub members-none : (out : List ℤ) (at n want : ℕ) → n ≡ 0 → Members-post out at n want out at 0
 unfolding constant-prop-members encode-members
-members-none out at n want h ni f none nothing vs r lo hk = record { nexts = omega arith; props = still out f vs }
-members-none out at n want h ni f none (some b) vs r lo hk = record { nexts = omega arith; props = still out f vs }
+members-none out at n want h ni f mnil none vs r lo hk = record { nexts = omega arith; props = still out f vs }
+members-none out at n want h ni f mnil (some b) vs r lo hk = record { nexts = omega arith; props = still out f vs }
 members-none out at n want h ni f (more e ms) k vs r lo hk = absurd (let s : n ≡ suc (count-members ms) = r .size in omega arith)
 
 module _ (out : List ℤ) (at n want : ℕ) (z : n ≡ 0 → ⊥) where
   more-inv : {X : Type 0} (ms : Members) → n ≡ count-members ms → ((e : BoolExpr) (ns : Members) → ms ≡ more e ns → X) → X
-  more-inv none h go = absurd (z h)
+  more-inv mnil h go = absurd (z h)
   more-inv (more e ns) h go = go e ns refl
 
   pub first-stands : Stand-members out at n → Stands out at
@@ -364,7 +365,7 @@ module _ (out : List ℤ) (at n want : ℕ) (out' : List ℤ) (next : ℕ) where
   status-end t p = subst (Members-post out at n want out' next) (worst-none t) p
 
 pub stands-first : (out : List ℤ) (at : ℕ) → Stands out at → Plain out at
-stands-first out at s = record { inside = omega (arith, inside (s .ints) out at (s .it) (s .reads), reads-long _ out at (s .it) (s .reads)); value = tag (s .it); is = first-word max-bools _ out at (s .it) (s .reads .vars) (s .reads .words) }
+stands-first out at s = record { inside = omega (arith, inside (s .ints) out at (s .it) (s .reads), reads-long _ out at (s .it) (s .reads)); value = bool-code (s .it); is = first-word max-bools _ out at (s .it) (s .reads .vars) (s .reads .words) }
 
 -- ---- a part's want is a want
 
@@ -376,9 +377,9 @@ pub flip-small : (want k : ℕ) → want < 3 → k ≡ flip-num want → k < 3
 unfolding flip-num
 flip-small want k h e = rw e (pick-small (eqb want 2) 2 (1 - want) (omega arith) (omega arith))
 
-pub pass-small : (b want k : ℕ) → want < 3 → k ≡ pass-num b want → k < 3
-unfolding pass-num
-pass-small b want k h e = rw e (pick-small (eqb want b) 2 want (omega arith) h)
+pub member-small : (b want k : ℕ) → want < 3 → k ≡ member-num b want → k < 3
+unfolding member-num
+member-small b want k h e = rw e (pick-small (eqb want b) 2 want (omega arith) h)
 
 pub left-small : (w want k : ℕ) → k ≡ left-num w want → k < 3
 unfolding left-num

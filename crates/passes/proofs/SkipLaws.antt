@@ -28,12 +28,12 @@ module _ (ws : List ℤ) (at : ℕ) where
   some-first s = record { inside = omega (arith, some-inside s); value = int-tag (s .it); is = int-tag-word ws at (s .it) (s .stands .words) }
 
   module _ (w : ℕ) (hw : getD ws at (pos 0) ≡ pos w) where
-    tag-is : (e : IntExpr) → Int-at ws at e → int-tag e ≡ w
-    tag-is e h = pos-eq _ _ _ (int-tag-word ws at e (h .words)) hw
+    code-is : (e : IntExpr) → Int-at ws at e → int-tag e ≡ w
+    code-is e h = pos-eq _ _ _ (int-tag-word ws at e (h .words)) hw
 
     sum-inv : {X : Type 0} (e : IntExpr) → Int-at ws at e → w ≡ 22 → ((ts : Terms) → e ≡ Linear ts → Int-at ws at (Linear ts) → X) → X
-    sum-inv (IConst c) h z go = absurd (let t : 20 ≡ w = tag-is (IConst c) h in omega arith)
-    sum-inv (IVar v) h z go = absurd (let t : 21 ≡ w = tag-is (IVar v) h in omega arith)
+    sum-inv (IConst c) h z go = absurd (let t : 20 ≡ w = code-is (IConst c) h in omega arith)
+    sum-inv (IVar v) h z go = absurd (let t : 21 ≡ w = code-is (IVar v) h in omega arith)
     sum-inv (Linear ts) h z go = go ts refl h
 
     pub sum-second : Some-int ws at → w ≡ 22 → Plain ws (at + 1)
@@ -47,7 +47,7 @@ module _ (ws : List ℤ) (at : ℕ) where
     pub none-counts : (w ≡ 22 → ⊥) → Count-post ws at 0
     none-counts z (IConst c) h = refl
     none-counts z (IVar v) h = refl
-    none-counts z (Linear ts) h = absurd (z (sym (tag-is (Linear ts) h)))
+    none-counts z (Linear ts) h = absurd (z (sym (code-is (Linear ts) h)))
 
   -- ---- `skip_int`
 

@@ -14,6 +14,7 @@ use Rattle.syntax.specs.Words.{max-bools}
 use Rattle.syntax.specs.Syntax.{IntExpr, BoolExpr, Cell, Stmt, Rule, Table, encode-int, encode-bool, encode-cell, encode-stmt}
 use Rattle.syntax.specs.Lengths.{rows-length}
 use Rattle.syntax.specs.Written.{EveryColumn}
+use Rattle.syntax.specs.Codes.{stmt-code}
 use Rattle.fold.specs.Fold.{constant-folding-int, constant-folding-bool, constant-folding-stmt}
 use Rattle.fold.specs.Forms.{bool-long}
 use Rattle.fold.specs.Kept.{fold-columns-size, fold-stmt-size, fold-int-size}
@@ -100,17 +101,13 @@ module _ (ws : List ℤ) (d at n : ℕ) (out : List ℤ) (o : ℕ) (z : n ≡ 0 
 
 -- ---- one statement
 
-abbrev pub code : Stmt → ℕ
-code (Rule e) = 1
-code (Table es rows) = 2
-
 stmt-long : (ni : ℕ) (s : Stmt) → Declared-stmt max-bools ni s → 3 ≤ length (encode-stmt s)
 unfolding encode-stmt Declared-stmt
 stmt-long ni (Rule e) h = omega (arith, bool-long max-bools ni e h)
 stmt-long ni (Table es rows) h = omega arith
 
 module _ (ni : ℕ) (ws : List ℤ) (at : ℕ) where
-  pub code-word : (s : Stmt) → Reads-stmt ni ws at s → getD ws at (pos 0) ≡ pos (code s)
+  pub code-word : (s : Stmt) → Reads-stmt ni ws at s → getD ws at (pos 0) ≡ pos (stmt-code s)
   unfolding encode-stmt
   code-word (Rule e) r = has-word ws at _ _ (pos 0) (r .words)
   code-word (Table es rows) r = has-word ws at _ _ (pos 0) (r .words)
@@ -122,7 +119,7 @@ module _ (ni : ℕ) (ws : List ℤ) (at : ℕ) where
   stmt-length s r = stmt-long ni s (r .vars)
 
   pub stmt-plain : (s : Stmt) → Reads-stmt ni ws at s → Plain ws at
-  stmt-plain s r = record { inside = omega (arith, stmt-inside s r, stmt-length s r); value = code s; is = code-word s r }
+  stmt-plain s r = record { inside = omega (arith, stmt-inside s r, stmt-length s r); value = stmt-code s; is = code-word s r }
 
   pub rule-inv : {X : Type 0} (s : Stmt) → Reads-stmt ni ws at s → (w : ℕ) → getD ws at (pos 0) ≡ pos w → w ≡ 1 → ((e : BoolExpr) → s ≡ Rule e → Reads ni ws (at + 1) e → X) → X
   unfolding encode-stmt Declared-stmt

@@ -7,7 +7,7 @@ ghost use lib.ListN.{length, take, drop, getD};
 ghost use Rattle.laws.specs.Slices.{Stored};
 ghost use Rattle.fold.specs.Table.{state-num};
 ghost use Rattle.folding.specs.Steps.{state-of};
-ghost use Rattle.passes.specs.Want.{worst-num, clash-num, set-status, set-words, flip-num, pass-num, left-num, right-num};
+ghost use Rattle.passes.specs.Want.{worst-num, clash-num, set-status, set-words, flip-num, member-num, left-num, right-num};
 ghost use Rattle.passes.specs.Contracts.{Some-int, Some-terms, Count-post, Skip-post, Skip-terms-post, Stands, Stand-members, Comparison-post, Prop-post, Members-post};
 ghost use Rattle.passes.specs.Statements.{Ready-columns, Columns-post, Ready-stmt, Stmt-post, Ready-stmts, Stmts-post, Stands-stmt, Prop-stmt-post, Stand-stmts, Prop-stmts-post, Some-columns, Skip-columns-post, Skip-table-post};
 
@@ -82,8 +82,8 @@ fn flip(want: usize) -> usize
     if want == 2 { 2 } else { 1 - want }
 }
 
-fn pass(b: usize, want: usize) -> usize
-    ensures { λ r. ⌜ r ≡ pass-num b want ⌝ }
+fn member_want(b: usize, want: usize) -> usize
+    ensures { λ r. ⌜ r ≡ member-num b want ⌝ }
 {
     if want == b { 2 } else { want }
 }
@@ -194,7 +194,7 @@ fn constant_prop_bool(work: &mut [i32], at: usize, want: usize) -> Required
         return constant_prop_bool(work, at + 1, k);
     }
     if w < 14 {
-        let k = pass(w - 12, want);
+        let k = member_want(w - 12, want);
         let n = domains::number(work, at + 1);
         return constant_prop_members(work, at + 2, n, k);
     }

@@ -17,11 +17,12 @@ use Rattle.syntax.specs.Satisfies.{in-domains, satisfies}
 use Rattle.words.specs.Parse.{Parsed, ok, refuse}
 use Rattle.read.specs.Read.{read-set}
 use Rattle.limits.specs.Limits.{check}
+use Rattle.limits.specs.Admitted.{admitted, limited}
 use Rattle.call.specs.Call.{Result, contradiction, refused, checked, when-read, call-with}
 use Rattle.call.specs.declared.Choices.{Choices}
 use Rattle.call.specs.Claim.{of-set, within, satisfied as meets, Passed, NotRefused}
 use Rattle.call.specs.Demand.{demand-3}
-use Rattle.evaluate.specs.Roster.{bool-of, int-of, is-bit, right-count, all-inside, satisfied, refused as refuses, judged, rostered, unless-refused, when-read as judge-read, check-roster, judged-satisfied, satisfied-judged, Breaks, judged-breaks}
+use Rattle.evaluate.specs.Roster.{bool-of, int-of, is-bit, right-count, all-inside, satisfied, refused as refuses, judged, rostered, when-admitted, check-roster, judged-satisfied, satisfied-judged, Breaks, judged-breaks}
 
 -- how many Booleans the set declares, and the integers' values behind theirs
 abbrev pub declared-bools : List ℤ → ℕ
@@ -58,7 +59,7 @@ module _ (c : Choices) (set : List ℤ) (out-length work-length : ℕ) (n : NotR
 
 module _ (set values : List ℤ) (w : ℕ) (enough : ltb w min-work-words ≡ false) (p : Problem) (r : List ℤ) (short : ltb max-set-words (length set) ≡ false) (read : read-set set ≡ ok p r) (c : check p ≡ 0) where
   check-is : check-roster set values w ≡ rostered p values
-  unfolding check-roster judge-read unless-refused
+  unfolding check-roster when-admitted admitted limited
   check-is = rw (enough, short, read, c) refl
 
   roster-is : is-roster set values ≡ (right-count p values && all-inside p values)

@@ -6,6 +6,7 @@ use Prim.Native.Nat.{ℕ, zero, suc, _+_}
 use lib.IntN.{ℤ, pos}
 use lib.Dec.{ltb}
 use lib.ListN.{length, length-replicate}
+use Rattle.laws.specs.Slices.{zeros}
 use Rattle.syntax.specs.Words.{max-set-words, min-work-words}
 use Rattle.syntax.specs.Syntax.{Stmt, Problem, encode}
 use Rattle.words.specs.Parse.{Parsed, ok, refuse}
@@ -15,7 +16,7 @@ use Rattle.limits.specs.Limits.{check}
 use Rattle.fold.specs.Fold.{Fixed}
 use Rattle.fold.specs.Optimize.{Outcome, inconsistent, settled, optimize}
 use Rattle.answer.specs.Answer.{layout, normalize}
-use Rattle.call.specs.Call.{contradiction, refused, measured, answered, checked, when-read, call-with, output-after, zeros}
+use Rattle.call.specs.Call.{contradiction, refused, measured, answered, checked, when-read, call-with, output-after}
 use Rattle.call.specs.declared.Choices.{Choices}
 use Rattle.statements.specs.Stages.{stmts-words}
 use Rattle.settle.specs.declared.Places.{Places}

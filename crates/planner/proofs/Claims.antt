@@ -8,8 +8,9 @@ use lib.IntN.{ℤ}
 use lib.ListN.{length, take}
 use lib.Seq.{take-at}
 use Rattle.laws.specs.Ints.{apart}
+use Rattle.laws.specs.Slices.{zeros}
 use Rattle.syntax.specs.Satisfies.{Val, IVal}
-use Rattle.call.specs.Call.{Result, compiled, contradiction, refused, call-with, output-after, zeros}
+use Rattle.call.specs.Call.{Result, compiled, contradiction, refused, call-with, output-after}
 use Rattle.call.specs.declared.Choices.{Choices}
 use Rattle.call.specs.Claim.{within, satisfied, Passed, NotRefused}
 use Rattle.call.specs.Demand.{demand-3, demand-3-consequences}

@@ -10,12 +10,13 @@ use lib.Seq.{sets, length-take-le}
 use lib.Dec.{ltb}
 use borrow.Author.Tests.{lt-ltb, le-ltb, ltb-false}
 use Rattle.laws.specs.Writes.{cap, Wrote, wrote-length}
+use Rattle.laws.specs.Slices.{zeros}
 use Rattle.syntax.specs.Words.{max-answer-words}
 use Rattle.syntax.specs.Syntax.{Stmt, Problem}
 use Rattle.fold.specs.Fold.{Fixed}
 use Rattle.clauses.specs.Log.{next-int}
 use Rattle.answer.specs.Answer.{layout, normalize}
-use Rattle.call.specs.Call.{Result, compiled, refused, measured, output-after, zeros}
+use Rattle.call.specs.Call.{Result, compiled, refused, measured, output-after}
 use Rattle.walk.specs.declared.Counters.{Counters}
 use Rattle.rows.specs.Emit.{Clauses, clauses-words}
 use Rattle.statements.specs.Stages.{clauses-of, log-of, head-words, layout-head, Started, NumberedSet, SomeStarted}
@@ -76,7 +77,7 @@ module _ {merge : Bool} {p : Problem} {f : Fixed} {ss : List Stmt} {c : Counters
       first = h .first;
       domains = rw (wr .words, h .bools, h .ints) (head-domains merge p f ss out (omega (arith, head-fits)));
       behind = omega (arith, head-at, head-is);
-      room = record { room = record { place = omega (arith, head-at, head-fits, h .part); part = omega (arith, wrote-length wr, h .part) }; low = omega arith };
+      room = record { room = record { low = omega (arith, head-at, head-fits, h .part); room = omega (arith, wrote-length wr, h .part) }; low = omega arith };
     }
 
     module _ (out' : List ℤ) (end' k : ℕ) (cl : Clauses mid (at + 1) 0 (clauses-of merge p ss) out' end' k) where

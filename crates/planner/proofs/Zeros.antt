@@ -8,7 +8,7 @@ use lib.IntN.{ℤ, pos}
 use lib.ListN.{length, take, drop, set, length-replicate, replicate-append-replicate}
 use lib.Seq.{sets, sets-eq, set-comm}
 use Rattle.laws.specs.Writes.{sets-append}
-use Rattle.call.specs.Call.{zeros}
+use Rattle.laws.specs.Slices.{zeros}
 
 pub set-below : (l : List ℤ) (i : ℕ) (x : ℤ) (o : ℕ) (vs : List ℤ) → i < o → set (sets l o vs) i x ≡ sets (set l i x) o vs
 set-below l i x o [] h = refl

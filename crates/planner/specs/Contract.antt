@@ -7,8 +7,9 @@ use mathlib.Core.List.{List}
 use Prim.Native.Nat.{ℕ}
 use lib.IntN.{ℤ}
 use lib.ListN.{length, take}
+use Rattle.laws.specs.Slices.{zeros}
 use Rattle.syntax.specs.Satisfies.{Val, IVal}
-use Rattle.call.specs.Call.{Result, compiled, contradiction, refused, call-with, output-after, zeros}
+use Rattle.call.specs.Call.{Result, compiled, contradiction, refused, call-with, output-after}
 use Rattle.call.specs.declared.Choices.{Choices}
 use Rattle.call.specs.Claim.{within, satisfied, Passed, Consequences}
 use Rattle.planner.specs.declared.Answer.{Answer}

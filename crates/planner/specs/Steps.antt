@@ -7,12 +7,13 @@ use lib.IntN.{ℤ}
 use lib.ListN.{length}
 use lib.Seq.{sets}
 use Rattle.laws.specs.Writes.{cap}
+use Rattle.laws.specs.Slices.{zeros}
 use Rattle.syntax.specs.Words.{max-answer-words}
 use Rattle.syntax.specs.Syntax.{Stmt, Problem, encode}
 use Rattle.fold.specs.Fold.{Fixed}
 use Rattle.clauses.specs.Log.{next-bool}
 use Rattle.answer.specs.Answer.{start-log, layout, normalize}
-use Rattle.call.specs.Call.{Result, measured, output-after, zeros}
+use Rattle.call.specs.Call.{Result, measured, output-after}
 use Rattle.walk.specs.declared.Counters.{Counters}
 use Rattle.statements.specs.Stages.{stmts-words, Folded, NumberedSet}
 use Rattle.planner.specs.declared.Answer.{Answer}

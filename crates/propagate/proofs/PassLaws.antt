@@ -2,7 +2,7 @@
 use Prim.Native.Nat.{ℕ, zero, suc, _+_, _-_, _≤_, _<_}
 use mathlib.Core.Path.{_≡_, refl, sym, ap, _∙_}
 use mathlib.Core.Bool.{Bool, true, false, cond}
-use mathlib.Core.Option.{none as nothing}
+use mathlib.Core.Option.{none}
 use mathlib.Core.List.{List, [], _∷_, _++_, map}
 use native.Mathlib.Omega.{arith}
 use lib.Dec.{eqb, ltb}
@@ -41,7 +41,7 @@ getD-out (suc n) [] v d h = refl
 getD-out (suc n) (x ∷ l) zero d h = absurd (omega arith)
 getD-out (suc n) (x ∷ l) (suc v) d h = getD-out n l v d (omega arith)
 
-high-open : (out : List ℤ) (v : ℕ) → max-bools ≤ v → fixed-in out v ≡ nothing
+high-open : (out : List ℤ) (v : ℕ) → max-bools ≤ v → fixed-in out v ≡ none
 unfolding fixed-in fixed-of state-of
 high-open out v h = ap state-of (getD-out max-bools out v (pos 2) h)
 
@@ -76,7 +76,7 @@ opening-next out₀ out i out' h l e o = record {
 pub opening-end : (out₀ out : List ℤ) (i : ℕ) → max-bools ≤ i → Opening out₀ out i → Opened out₀ out
 opening-end out₀ out i h o = record { cells = λ v k. o .cells v (omega arith); high = o .high }
 
-pub opened-values : (out out' : List ℤ) → Opened out out' → Values out' (λ v. nothing)
+pub opened-values : (out out' : List ℤ) → Opened out out' → Values out' (λ v. none)
 opened-values out out' o = record { cells = λ v h. o .cells v h; others = λ v h. refl }
 
 -- ---- `domains_end`
@@ -306,12 +306,12 @@ module _ (words : List ℤ) (p : Problem) (is : words ≡ encode p) (well : Well
         stmts-here = record { words = rw at-is (has-rest words (2 + length domain-words) (pos (length (p .stmts))) stmt-words behind); vars = well-stmts p well max-bools (well .few-bools); size = pos-eq _ _ _ hc count-here }
 
         pub passes-ready : (work mid : List ℤ) → length words ≤ max-set-words → min-work-words ≤ length work → length mid ≡ length work → Opened work mid → Ready-passes words (at + 1) count mid
-        passes-ready work mid s r l o = record { fixed = λ v. nothing; values = opened-values work mid o; ready = record { ds = p .domains; domains = domains-here; them = p .stmts; reads = stmts-here; low = omega arith; room = omega (arith, set-fits) } }
+        passes-ready work mid s r l o = record { fixed = λ v. none; values = opened-values work mid o; ready = record { ds = p .domains; domains = domains-here; them = p .stmts; reads = stmts-here; low = omega arith; room = omega (arith, set-fits) } }
 
         pub optimized : (work mid work' : List ℤ) (status end : ℕ) → length words ≤ max-set-words → min-work-words ≤ length work → length mid ≡ length work → Opened work mid → Passes-post words (at + 1) count mid work' status end → Settles (optimize p) max-set-words work work' status end
         optimized work mid work' status end s r l o q =
-            let g = q (p .domains) (p .stmts) (λ v. nothing) max-bools domains-here stmts-here (omega (arith, set-fits)) (opened-values work mid o) (open-most (λ v. nothing)) in
-            let e : optimize p ≡ passes (p .domains) (suc max-bools) (λ v. nothing) (p .stmts) = sym (optimize-more p (stmts-every (p .bools) (length (p .domains)) (p .stmts) (well-stmts p well (p .bools) (omega arith))) (suc max-bools) (omega (arith, well .few-bools))) in
+            let g = q (p .domains) (p .stmts) (λ v. none) max-bools domains-here stmts-here (omega (arith, set-fits)) (opened-values work mid o) (open-most (λ v. none)) in
+            let e : optimize p ≡ passes (p .domains) (suc max-bools) (λ v. none) (p .stmts) = sym (optimize-more p (stmts-every (p .bools) (length (p .domains)) (p .stmts) (well-stmts p well (p .bools) (omega arith))) (suc max-bools) (omega (arith, well .few-bools))) in
             record {
               fixed = g .fixed;
               folded = g .folded;

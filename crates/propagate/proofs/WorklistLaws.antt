@@ -183,7 +183,7 @@ step-fits ws at out out' end status s q l =
 
 module _ (ws : List ℤ) (at n : ℕ) where
   pub advanced-none : (out : List ℤ) (status : ℕ) → (status ≡ 2 → ⊥) → Worklist-post ws at n out out status
-  advanced-none out status h ds ss f hd r room vs = record { now = f; values = vs; ahead = λ k. (λ v b e. e, λ g e a. e); none = λ k. absurd (h k); above = refl }
+  advanced-none out status h ds ss f hd r room vs = record { now = f; values = vs; ahead = λ k. (λ v b e. e, λ g e a. e); no-rest = λ k. absurd (h k); above = refl }
 
   pub advanced-then : (out mid out' : List ℤ) (a b : ℕ) → (a ≡ 2 → ⊥) → length mid ≡ length out → Worklist-post ws at n out mid a → Worklist-post ws at n mid out' b → Worklist-post ws at n out out' b
   advanced-then out mid out' a b na l p q ds ss f hd r room vs =
@@ -194,14 +194,14 @@ module _ (ws : List ℤ) (at n : ℕ) where
         now = y .now;
         values = y .values;
         ahead = λ nb. (λ v c e. y .ahead nb .0 v c (xe .0 v c e), λ g e k. y .ahead nb .1 g (xe .1 g e k) k);
-        none = λ eb g e k. y .none eb g (xe .1 g e k) k;
+        no-rest = λ eb g e k. y .no-rest eb g (xe .1 g e k) k;
         above = y .above ∙ x .above;
       }
 
   pub advanced-as : (out out' : List ℤ) (a b : ℕ) → (a ≡ 2 → ⊥) → (b ≡ 2 → ⊥) → Worklist-post ws at n out out' a → Worklist-post ws at n out out' b
   advanced-as out out' a b na nb p ds ss f hd r room vs =
       let x = p ds ss f hd r room vs in
-      record { now = x .now; values = x .values; ahead = λ k. x .ahead na; none = λ k. absurd (nb k); above = x .above }
+      record { now = x .now; values = x .values; ahead = λ k. x .ahead na; no-rest = λ k. absurd (nb k); above = x .above }
 
   pub advanced-step : (out out' : List ℤ) (p end status : ℕ) → Place-in ws at n p → Step-post ws p out out' end status → Worklist-post ws at n out out' status
   advanced-step out out' p end status h q ds ss f hd r room vs =
@@ -214,12 +214,12 @@ module _ (ws : List ℤ) (at n : ℕ) where
       go : (x : Place at ss p) (y : Steps-to ds (x .it) f out out' end status) (t : Status) → prop-stmt (constant-folding-stmt ds f (x .it)) f ≡ t → Propagates t (y .folded) out' status → drop (max-bools + length (flat (map encode-stmt (x .front ++ (x .it ∷ x .back))))) out' ≡ drop (max-bools + length (flat (map encode-stmt (x .front ++ (x .it ∷ x .back))))) out → Advanced ds (x .front ++ (x .it ∷ x .back)) f out out' status
       go x y unsatisfiable e pr ab =
           let s2 : status ≡ 2 = pr .statuses in
-          record { now = pr .after; values = pr .values; ahead = λ k. absurd (k s2); none = λ k. step-none ds (x .front) (x .it) (x .back) f f (λ g d a. d) e; above = ab }
+          record { now = pr .after; values = pr .values; ahead = λ k. absurd (k s2); no-rest = λ k. step-none ds (x .front) (x .it) (x .back) f f (λ g d a. d) e; above = ab }
       go x y (updated c g) e pr ab =
           let st : status ≡ status-num (updated c g) = pr .statuses in
           let sm : pr .after ≡ g = pr .same c g refl in
           let below = step-below ds (x .front) (x .it) (x .back) f f g c (λ g d a. d) e in
-          record { now = g; values = rw sm at (pr .values); ahead = λ k. below; none = λ k. absurd (low c (sym st ∙ k)); above = ab }
+          record { now = g; values = rw sm at (pr .values); ahead = λ k. below; no-rest = λ k. absurd (low c (sym st ∙ k)); above = ab }
         where
           low : (c : Bool) → status-num (updated c g) ≡ 2 → ⊥
           low true h = absurd (omega arith)
@@ -419,7 +419,7 @@ module _ (ws : List ℤ) (at n : ℕ) (out : List ℤ) (status end : ℕ) (out' 
           record {
             fixed = y .now;
             folded = [];
-            is = g .same ∙ pass-none (length ds) ds ss (rd .vars) (suc (g .left)) (g .now) (omega (arith, g .enough)) (y .none h2) ∙ sym (ap (λ (k : ℕ). outcome k (y .now) []) h2);
+            is = g .same ∙ pass-none (length ds) ds ss (rd .vars) (suc (g .left)) (g .now) (omega (arith, g .enough)) (y .no-rest h2) ∙ sym (ap (λ (k : ℕ). outcome k (y .now) []) h2);
             values = y .values;
             words = refl;
             ends = omega arith;

@@ -64,7 +64,7 @@ pub record Advanced (ds : List Domain) (ss : List Stmt) (f : Fixed) (out out' : 
   pub now : Fixed
   pub values : Values out' now
   pub ahead : (status ≡ 2 → ⊥) → Extends f now × Below ds ss f now
-  pub none : status ≡ 2 → NoRest ds ss f
+  pub no-rest : status ≡ 2 → NoRest ds ss f
   pub above : drop (max-bools + length (flat (map encode-stmt ss))) out' ≡ drop (max-bools + length (flat (map encode-stmt ss))) out
 
 abbrev pub Worklist-post : List ℤ → ℕ → ℕ → List ℤ → List ℤ → ℕ → Type 0

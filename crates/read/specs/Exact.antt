@@ -15,8 +15,8 @@ use Rattle.laws.specs.Order.{eqZ-is, not-eqZ, leZ-not}
 use Rattle.laws.specs.Lists.{flat, counted}
 use Rattle.syntax.specs.Words.{star-word, max-bools, max-ints, max-count, max-value, max-depth}
 use Rattle.syntax.specs.Syntax.{encode-domain, encode-int, encode-cell, encode-stmt, encode, Domain, Range, Enumerative, IntExpr, Cell, star, value, Stmt, Rule, Table, Problem}
-use Rattle.words.specs.Parse.{Parsed, ok, refuse, bind, times, word, up-to, count, in-value-range, number}
-use Rattle.words.specs.Exact.{Exact, refuse-ok, bind-ok, cond-ok, word-ok, number-words, Value, up-to-exact, count-exact, number-exact, Each, times-exact}
+use Rattle.words.specs.Parse.{Parsed, ok, refuse, parse-then, times, word, up-to, count, in-value-range, number}
+use Rattle.words.specs.Exact.{Exact, refuse-ok, parse-then-ok, cond-ok, word-ok, number-words, Value, up-to-exact, count-exact, number-exact, Each, times-exact}
 use Rattle.read.specs.Read.{read-range, size-at, size-of, read-rising, read-enumerative, read-domain, read-cell, read-int, read-bool, read-table, read-stmt, at-end, read-problem, read-set}
 use Rattle.read.specs.WellFormed.{RisingFrom, Rising, WellDomain, WellInt, WellCell, WellRow, WellStmt, WellFormed}
 use Rattle.read.specs.ExactExpr.{int-exact, bool-exact}
@@ -33,8 +33,8 @@ past false q k a r h go = go refl h
 range-sound : (xs : List ℤ) (d : Domain) (r : List ℤ) → read-range xs ≡ ok d r → (pos 0 ∷ xs ≡ encode-domain d ++ r) × WellDomain d
 unfolding read-range
 range-sound xs d r h =
-    bind-ok (number xs) _ d r h λ low s hl h1.
-    bind-ok (number s) _ d r h1 λ high t hh h2.
+    parse-then-ok (number xs) _ d r h λ low s hl h1.
+    parse-then-ok (number s) _ d r h1 λ high t hh h2.
     past (ltZ high low) (ok (Range low high) t) 7 d r h2 λ le h3.
     let m : Range low high ≡ d = cc in
     let q : t ≡ r = cc in
@@ -53,7 +53,7 @@ range-complete low high r h =
 
 pub size-exact : Exact number-words (λ n. (0 < n) × (n ≤ max-count)) size-of
 size-exact = record {
-  sound = λ xs n r h. bind-ok (word xs) size-at n r h λ w s hw hs. rw (word-ok xs w s hw) (at w s n r hs);
+  sound = λ xs n r h. parse-then-ok (word xs) size-at n r h λ w s hw hs. rw (word-ok xs w s hw) (at w s n r hs);
   complete = back;
 }
   where
@@ -73,9 +73,9 @@ rising-sound zero before xs l r h =
     let e : xs ≡ r = cc in
     rw (e, ← m) (refl, (refl, (tt, tt)))
 rising-sound (suc n) before xs l r h =
-    bind-ok (number xs) _ l r h λ x s hx h1.
+    parse-then-ok (number xs) _ l r h λ x s hx h1.
     cond-ok (ltZ before x) _ 7 l r h1 λ lt h2.
-    bind-ok (read-rising n x s) _ l r h2 λ ys t hy h3.
+    parse-then-ok (read-rising n x s) _ l r h2 λ ys t hy h3.
     let m : x ∷ ys ≡ l = cc in
     let e : t ≡ r = cc in
     let i = number-exact .sound xs x s hx in
@@ -103,8 +103,8 @@ rising-star (x ∷ l) h k = (above-star x (h .0), k)
 enumerative-sound : (xs : List ℤ) (d : Domain) (r : List ℤ) → read-enumerative xs ≡ ok d r → (pos 1 ∷ xs ≡ encode-domain d ++ r) × WellDomain d
 unfolding read-enumerative
 enumerative-sound xs d r h =
-    bind-ok (size-of xs) _ d r h λ n s hn h1.
-    bind-ok (read-rising n star-word s) _ d r h1 λ l t hl h2.
+    parse-then-ok (size-of xs) _ d r h λ n s hn h1.
+    parse-then-ok (read-rising n star-word s) _ d r h1 λ l t hl h2.
     let m : Enumerative l ≡ d = cc in
     let q : t ≡ r = cc in
     let i = size-exact .sound xs n s hn in
@@ -119,7 +119,7 @@ enumerative-complete l r h =
 pub domain-exact : Exact encode-domain WellDomain read-domain
 unfolding read-domain
 domain-exact = record {
-  sound = λ xs d r h. bind-ok (word xs) _ d r h λ w s hw hs. rw (word-ok xs w s hw) (zero-or w s d r (eqZ w (pos 0)) refl hs);
+  sound = λ xs d r h. parse-then-ok (word xs) _ d r h λ w s hw hs. rw (word-ok xs w s hw) (zero-or w s d r (eqZ w (pos 0)) refl hs);
   complete = back;
 }
   where
@@ -147,7 +147,7 @@ value-not-star z h = not-eqZ z star-word λ e. absurd (omega (arith, rw e at h))
 pub cell-exact : Exact cell-words WellCell read-cell
 unfolding read-cell
 cell-exact = record {
-  sound = λ xs c r h. bind-ok (word xs) _ c r h λ w s hw hs. rw (word-ok xs w s hw) (star-or w s c r (eqZ w star-word) refl hs);
+  sound = λ xs c r h. parse-then-ok (word xs) _ c r h λ w s hw hs. rw (word-ok xs w s hw) (star-or w s c r (eqZ w star-word) refl hs);
   complete = back;
 }
   where
@@ -190,10 +190,10 @@ module _ (nb ni : ℕ) where
   table-sound : (xs : List ℤ) (c : Stmt) (r : List ℤ) → read-table ni xs ≡ ok c r → (pos 2 ∷ xs ≡ encode-stmt c ++ r) × WellStmt nb ni c
   unfolding read-table encode-stmt
   table-sound xs c r h =
-      bind-ok (count xs) _ c r h λ n s hn h1.
-      bind-ok (count s) _ c r h1 λ k t hk h2.
-      bind-ok (times n (read-int ni max-depth) t) _ c r h2 λ es u he h3.
-      bind-ok (times k (times n read-cell) u) _ c r h3 λ rs v hr h4.
+      parse-then-ok (count xs) _ c r h λ n s hn h1.
+      parse-then-ok (count s) _ c r h1 λ k t hk h2.
+      parse-then-ok (times n (read-int ni max-depth) t) _ c r h2 λ es u he h3.
+      parse-then-ok (times k (times n read-cell) u) _ c r h3 λ rs v hr h4.
       let m : Table es rs ≡ c = cc in
       let q : v ≡ r = cc in
       let i = count-exact .sound xs n s hn in
@@ -213,13 +213,13 @@ module _ (nb ni : ℕ) where
   pub stmt-exact : Exact encode-stmt (WellStmt nb ni) (read-stmt nb ni)
   unfolding read-stmt encode-stmt
   stmt-exact = record {
-    sound = λ xs c r h. bind-ok (word xs) _ c r h λ w s hw hs. rw (word-ok xs w s hw) (rule-or w s c r (eqZ w (pos 1)) refl hs);
+    sound = λ xs c r h. parse-then-ok (word xs) _ c r h λ w s hw hs. rw (word-ok xs w s hw) (rule-or w s c r (eqZ w (pos 1)) refl hs);
     complete = back;
   }
     where
-      rule : (s : List ℤ) (c : Stmt) (r : List ℤ) → bind (read-bool nb ni max-depth s) (λ e t. ok (Rule e) t) ≡ ok c r → (pos 1 ∷ s ≡ encode-stmt c ++ r) × WellStmt nb ni c
+      rule : (s : List ℤ) (c : Stmt) (r : List ℤ) → parse-then (read-bool nb ni max-depth s) (λ e t. ok (Rule e) t) ≡ ok c r → (pos 1 ∷ s ≡ encode-stmt c ++ r) × WellStmt nb ni c
       rule s c r h =
-          bind-ok (read-bool nb ni max-depth s) _ c r h λ e t he h1.
+          parse-then-ok (read-bool nb ni max-depth s) _ c r h λ e t he h1.
           let m : Rule e ≡ c = cc in
           let q : t ≡ r = cc in
           let i = bool-exact nb ni max-depth .sound s e t he in
@@ -230,7 +230,7 @@ module _ (nb ni : ℕ) where
       table-or w s c r false e h = refuse-ok 5 c r h
 
       rule-or : (w : ℤ) (s : List ℤ) (c : Stmt) (r : List ℤ) (t : Bool) → eqZ w (pos 1) ≡ t
-          → cond t (bind (read-bool nb ni max-depth s) (λ e t. ok (Rule e) t)) (cond (eqZ w (pos 2)) (read-table ni s) (refuse 5)) ≡ ok c r → (w ∷ s ≡ encode-stmt c ++ r) × WellStmt nb ni c
+          → cond t (parse-then (read-bool nb ni max-depth s) (λ e t. ok (Rule e) t)) (cond (eqZ w (pos 2)) (read-table ni s) (refuse 5)) ≡ ok c r → (w ∷ s ≡ encode-stmt c ++ r) × WellStmt nb ni c
       rule-or w s c r true e h = rw (eqZ-is w (pos 1) e) (rule s c r h)
       rule-or w s c r false e h = table-or w s c r (eqZ w (pos 2)) refl h
 
@@ -249,11 +249,11 @@ pub set-sound : (xs : List ℤ) (p : Problem) (r : List ℤ) → read-set xs ≡
 unfolding read-set encode
 set-sound xs p r h =
     end-ok (read-problem xs) p r h λ h0 end.
-    bind-ok (up-to max-bools 4 xs) _ p [] h0 λ b s hb h1.
-    bind-ok (up-to max-ints 4 s) _ p [] h1 λ i t hi h2.
-    bind-ok (times i read-domain t) _ p [] h2 λ ds u hd h3.
-    bind-ok (count u) _ p [] h3 λ n v hn h4.
-    bind-ok (times n (read-stmt b i) v) _ p [] h4 λ ss x hs h5.
+    parse-then-ok (up-to max-bools 4 xs) _ p [] h0 λ b s hb h1.
+    parse-then-ok (up-to max-ints 4 s) _ p [] h1 λ i t hi h2.
+    parse-then-ok (times i read-domain t) _ p [] h2 λ ds u hd h3.
+    parse-then-ok (count u) _ p [] h3 λ n v hn h4.
+    parse-then-ok (times n (read-stmt b i) v) _ p [] h4 λ ss x hs h5.
     let m : record { bools = b; domains = ds; stmts = ss } ≡ p = cc in
     let q : x ≡ [] = cc in
     let eb = up-to-exact max-bools 4 .sound xs b s hb in

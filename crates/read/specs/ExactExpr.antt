@@ -10,9 +10,9 @@ use native.Mathlib.Numerals.{sub-one}
 use lib.IntN.{ℤ, pos}
 use Rattle.laws.specs.Ints.{eqZ}
 use Rattle.laws.specs.Order.{eqZ-is}
-use Rattle.syntax.specs.Syntax.{op-at, encode-op, encode-int, encode-terms, encode-bool, encode-members, encode-bit, count-terms, count-members, CmpOp, Eq, Ne, Le, Lt, Ge, Gt, IntExpr, IConst, IVar, Linear, Terms, tnil, tmore, BoolExpr, Const, Var, NVar, And, Or, Not, Xor, Iff, Imp, Cmp, Members, none, more}
-use Rattle.words.specs.Parse.{ok, Parser, bind, seq-parser, word, up-to, count, index, number}
-use Rattle.words.specs.Exact.{Exact, refuse-ok, bind-ok, word-ok, up-to-exact, count-exact, index-exact, number-exact}
+use Rattle.syntax.specs.Syntax.{op-at, encode-op, encode-int, encode-terms, encode-bool, encode-members, encode-bit, count-terms, count-members, CmpOp, Eq, Ne, Le, Lt, Ge, Gt, IntExpr, IConst, IVar, Linear, Terms, tnil, tmore, BoolExpr, Const, Var, NVar, And, Or, Not, Xor, Iff, Imp, Cmp, Members, mnil, more}
+use Rattle.words.specs.Parse.{ok, Parser, parse-then, seq-parser, word, up-to, count, index, number}
+use Rattle.words.specs.Exact.{Exact, refuse-ok, parse-then-ok, word-ok, up-to-exact, count-exact, index-exact, number-exact}
 use Rattle.read.specs.Read.{kind-int, IntKind, i-const, i-var, i-sum, i-unknown, kind-bool, BoolKind, k-const, k-var, k-and, k-or, k-not, k-xor, k-iff, k-imp, k-cmp, k-unknown, bit-at, read-terms, read-members, step-int, read-int, step-bool, read-bool}
 use Rattle.read.specs.WellFormed.{WellInt, WellTerms, WellBool, WellMembers}
 
@@ -68,9 +68,9 @@ module _ (ni left : ℕ) (p : Parser IntExpr) (x : Exact encode-int (WellInt ni 
       let e : xs ≡ r = cc in
       rw (e, ← m) (refl, (refl, tt))
   terms-sound (suc n) xs ts r h =
-      bind-ok (number xs) _ ts r h λ k s hk h1.
-      bind-ok (p s) _ ts r h1 λ a t ha h2.
-      bind-ok (read-terms p n t) _ ts r h2 λ us u hu h3.
+      parse-then-ok (number xs) _ ts r h λ k s hk h1.
+      parse-then-ok (p s) _ ts r h1 λ a t ha h2.
+      parse-then-ok (read-terms p n t) _ ts r h2 λ us u hu h3.
       let m : tmore k a us ≡ ts = cc in
       let e : u ≡ r = cc in
       let i = number-exact .sound xs k s hk in
@@ -93,20 +93,20 @@ module _ (ni left : ℕ) (p : Parser IntExpr) (x : Exact encode-int (WellInt ni 
   step-int-sound : (k : IntKind) (xs : List ℤ) (e : IntExpr) (r : List ℤ) → step-int ni p k xs ≡ ok e r → (code-int k ∷ xs ≡ encode-int e ++ r) × WellInt ni (suc left) e
   unfolding step-int encode-int WellInt
   step-int-sound i-const xs e r h =
-      bind-ok (number xs) _ e r h λ c s hc h1.
+      parse-then-ok (number xs) _ e r h λ c s hc h1.
       let m : IConst c ≡ e = cc in
       let q : s ≡ r = cc in
       let i = number-exact .sound xs c s hc in
       rw (← m, ← q) (ap (λ v. pos 20 ∷ v) (i .0), (omega arith, i .1))
   step-int-sound i-var xs e r h =
-      bind-ok (index ni xs) _ e r h λ v s hv h1.
+      parse-then-ok (index ni xs) _ e r h λ v s hv h1.
       let m : IVar v ≡ e = cc in
       let q : s ≡ r = cc in
       let i = index-exact ni .sound xs v s hv in
       rw (← m, ← q) (ap (λ v. pos 21 ∷ v) (i .0), (omega arith, i .1))
   step-int-sound i-sum xs e r h =
-      bind-ok (count xs) _ e r h λ n s hn h1.
-      bind-ok (read-terms p n s) _ e r h1 λ ts t ht h2.
+      parse-then-ok (count xs) _ e r h λ n s hn h1.
+      parse-then-ok (read-terms p n s) _ e r h1 λ ts t ht h2.
       let m : Linear ts ≡ e = cc in
       let q : t ≡ r = cc in
       let i = count-exact .sound xs n s hn in
@@ -114,7 +114,7 @@ module _ (ni left : ℕ) (p : Parser IntExpr) (x : Exact encode-int (WellInt ni 
       rw (← m, ← q, sub-one, j .1 .0) (ap (λ v. pos 22 ∷ v) (i .0 ∙ ap (λ v. pos n ∷ v) (j .0)), (omega arith, i .1, j .1 .1))
   step-int-sound i-unknown xs e r h = refuse-ok 5 e r h
 
-  step-int-complete : (e : IntExpr) (r : List ℤ) → WellInt ni (suc left) e → bind (word (encode-int e ++ r)) (λ w s. step-int ni p (kind-int w) s) ≡ ok e r
+  step-int-complete : (e : IntExpr) (r : List ℤ) → WellInt ni (suc left) e → parse-then (word (encode-int e ++ r)) (λ w s. step-int ni p (kind-int w) s) ≡ ok e r
   unfolding step-int kind-int encode-int WellInt
   step-int-complete (IConst c) r h = rw (number-exact .complete c r (h .1)) refl
   step-int-complete (IVar v) r h = rw (index-exact ni .complete v r (h .1)) refl
@@ -125,10 +125,10 @@ module _ (ni left : ℕ) (p : Parser IntExpr) (x : Exact encode-int (WellInt ni 
   unfolding step-int
   int-accepted w xs e r h = ⊎-elim (λ u. refuse-ok 5 e r (rw u at h)) (λ c. c) (int-coded w)
 
-  step-int-exact : Exact encode-int (WellInt ni (suc left)) (λ xs. bind (word xs) (λ w s. step-int ni p (kind-int w) s))
+  step-int-exact : Exact encode-int (WellInt ni (suc left)) (λ xs. parse-then (word xs) (λ w s. step-int ni p (kind-int w) s))
   step-int-exact = record {
     sound = λ xs e r h.
-        bind-ok (word xs) _ e r h λ w s hw hs.
+        parse-then-ok (word xs) _ e r h λ w s hw hs.
         let m = step-int-sound (kind-int w) s e r hs in
         (word-ok xs w s hw ∙ ap (λ v. v ∷ s) (int-accepted w s e r hs) ∙ m .0, m .1);
     complete = step-int-complete;
@@ -143,7 +143,7 @@ int-no-level ni (Linear ts) h = omega (arith, h .0)
 pub int-exact : (ni left : ℕ) → Exact encode-int (WellInt ni left) (read-int ni left)
 unfolding read-int
 int-exact ni zero = record {
-  sound = λ xs e r h. bind-ok (word xs) _ e r h λ w s hw h1. refuse-ok _ e r h1;
+  sound = λ xs e r h. parse-then-ok (word xs) _ e r h λ w s hw h1. refuse-ok _ e r h1;
   complete = λ e r h. absurd (int-no-level ni e h);
 }
 int-exact ni (suc left) = step-int-exact ni left (read-int ni left) (int-exact ni left)
@@ -155,7 +155,7 @@ bit-code zero h = refl
 bit-code (suc zero) h = refl
 bit-code (suc (suc b)) h = absurd (omega arith)
 
-bit-back : (b : Bool) (r : List ℤ) → bind (up-to 1 4 (encode-bit b ∷ r)) (λ n s. ok (Const (bit-at n)) s) ≡ ok (Const b) r
+bit-back : (b : Bool) (r : List ℤ) → parse-then (up-to 1 4 (encode-bit b ∷ r)) (λ n s. ok (Const (bit-at n)) s) ≡ ok (Const b) r
 unfolding up-to
 bit-back false r = refl
 bit-back true r = refl
@@ -169,7 +169,7 @@ op-code (suc (suc (suc (suc zero)))) h = refl
 op-code (suc (suc (suc (suc (suc zero))))) h = refl
 op-code (suc (suc (suc (suc (suc (suc o)))))) h = absurd (omega arith)
 
-op-back : {A : Type 0} (o : CmpOp) (r : List ℤ) (f : CmpOp → Parser A) → bind (up-to 5 4 (encode-op o ∷ r)) (λ n. f (op-at n)) ≡ f o r
+op-back : {A : Type 0} (o : CmpOp) (r : List ℤ) (f : CmpOp → Parser A) → parse-then (up-to 5 4 (encode-op o ∷ r)) (λ n. f (op-at n)) ≡ f o r
 unfolding up-to
 op-back Eq r f = refl
 op-back Ne r f = refl
@@ -184,12 +184,12 @@ module _ (nb ni left : ℕ) (p : Parser BoolExpr) (x : Exact encode-bool (WellBo
   members-sound : (n : ℕ) (xs : List ℤ) (ms : Members) (r : List ℤ) → read-members p n xs ≡ ok ms r → (xs ≡ encode-members ms ++ r) × ((count-members ms ≡ n) × WellMembers nb ni left ms)
   unfolding read-members encode-bool WellBool
   members-sound zero xs ms r h =
-      let m : none ≡ ms = cc in
+      let m : mnil ≡ ms = cc in
       let e : xs ≡ r = cc in
       rw (e, ← m) (refl, (refl, tt))
   members-sound (suc n) xs ms r h =
-      bind-ok (p xs) _ ms r h λ a s ha h1.
-      bind-ok (read-members p n s) _ ms r h1 λ ns t hn h2.
+      parse-then-ok (p xs) _ ms r h λ a s ha h1.
+      parse-then-ok (read-members p n s) _ ms r h1 λ ns t hn h2.
       let m : more a ns ≡ ms = cc in
       let e : t ≡ r = cc in
       let j = x .sound xs a s ha in
@@ -198,7 +198,7 @@ module _ (nb ni left : ℕ) (p : Parser BoolExpr) (x : Exact encode-bool (WellBo
 
   members-complete : (ms : Members) (r : List ℤ) → WellMembers nb ni left ms → read-members p (count-members ms) (encode-members ms ++ r) ≡ ok ms r
   unfolding read-members encode-bool WellBool
-  members-complete none r h = refl
+  members-complete mnil r h = refl
   members-complete (more e ms) r h =
       rw (append-assoc (encode-bool e) (encode-members ms) r, x .complete e (encode-members ms ++ r) (h .0), members-complete ms r (h .1)) refl
 
@@ -212,8 +212,8 @@ module _ (nb ni left : ℕ) (p : Parser BoolExpr) (x : Exact encode-bool (WellBo
   pair-sound : {X : Type 0} (make : BoolExpr → BoolExpr → BoolExpr) (xs : List ℤ) (e : BoolExpr) (r : List ℤ) → seq-parser make p (λ a. p) xs ≡ ok e r
       → ((a b : BoolExpr) → make a b ≡ e → xs ≡ (encode-bool a ++ encode-bool b) ++ r → WellBool nb ni left a → WellBool nb ni left b → X) → X
   pair-sound make xs e r h go =
-      bind-ok (p xs) _ e r h λ a s ha h1.
-      bind-ok (p s) _ e r h1 λ b t hb h2.
+      parse-then-ok (p xs) _ e r h λ a s ha h1.
+      parse-then-ok (p s) _ e r h1 λ b t hb h2.
       let i = x .sound xs a s ha in
       let j = x .sound s b t hb in
       let q : t ≡ r = cc in
@@ -228,35 +228,35 @@ module _ (nb ni left : ℕ) (p : Parser BoolExpr) (x : Exact encode-bool (WellBo
     step-bool-sound : (k : BoolKind) (xs : List ℤ) (e : BoolExpr) (r : List ℤ) → step-bool nb ni p q k xs ≡ ok e r → (code-bool k ∷ xs ≡ encode-bool e ++ r) × WellBool nb ni (suc left) e
     unfolding step-bool encode-bool WellBool
     step-bool-sound k-const xs e r h =
-        bind-ok (up-to 1 4 xs) _ e r h λ b s hb h1.
+        parse-then-ok (up-to 1 4 xs) _ e r h λ b s hb h1.
         let m : Const (bit-at b) ≡ e = cc in
         let q : s ≡ r = cc in
         let i = up-to-exact 1 4 .sound xs b s hb in
         rw (← m, ← q, bit-code b (i .1)) (ap (λ v. pos 10 ∷ v) (i .0), omega arith)
     step-bool-sound k-var xs e r h =
-        bind-ok (index nb xs) _ e r h λ v s hv h1.
+        parse-then-ok (index nb xs) _ e r h λ v s hv h1.
         let m : Var v ≡ e = cc in
         let q : s ≡ r = cc in
         let i = index-exact nb .sound xs v s hv in
         rw (← m, ← q) (ap (λ v. pos 11 ∷ v) (i .0), (omega arith, i .1))
     step-bool-sound k-and xs e r h =
-        bind-ok (count xs) _ e r h λ n s hn h1.
-        bind-ok (read-members p n s) _ e r h1 λ ms t ht h2.
+        parse-then-ok (count xs) _ e r h λ n s hn h1.
+        parse-then-ok (read-members p n s) _ e r h1 λ ms t ht h2.
         let m : And ms ≡ e = cc in
         let q : t ≡ r = cc in
         let i = count-exact .sound xs n s hn in
         let j = members-sound n s ms t ht in
         rw (← m, ← q, sub-one, j .1 .0) (ap (λ v. pos 12 ∷ v) (i .0 ∙ ap (λ v. pos n ∷ v) (j .0)), (omega arith, i .1, j .1 .1))
     step-bool-sound k-or xs e r h =
-        bind-ok (count xs) _ e r h λ n s hn h1.
-        bind-ok (read-members p n s) _ e r h1 λ ms t ht h2.
+        parse-then-ok (count xs) _ e r h λ n s hn h1.
+        parse-then-ok (read-members p n s) _ e r h1 λ ms t ht h2.
         let m : Or ms ≡ e = cc in
         let q : t ≡ r = cc in
         let i = count-exact .sound xs n s hn in
         let j = members-sound n s ms t ht in
         rw (← m, ← q, sub-one, j .1 .0) (ap (λ v. pos 13 ∷ v) (i .0 ∙ ap (λ v. pos n ∷ v) (j .0)), (omega arith, i .1, j .1 .1))
     step-bool-sound k-not xs e r h =
-        bind-ok (p xs) _ e r h λ a s ha h1.
+        parse-then-ok (p xs) _ e r h λ a s ha h1.
         let m : Not a ≡ e = cc in
         let q : s ≡ r = cc in
         let i = x .sound xs a s ha in
@@ -271,9 +271,9 @@ module _ (nb ni left : ℕ) (p : Parser BoolExpr) (x : Exact encode-bool (WellBo
         pair-sound Imp xs e r h λ a b m q i j.
         rw (← m, sub-one) (ap (λ v. pos 17 ∷ v) q, (omega arith, i, j))
     step-bool-sound k-cmp xs e r h =
-        bind-ok (up-to 5 4 xs) _ e r h λ o s ho h1.
-        bind-ok (q s) _ e r h1 λ a t ha h2.
-        bind-ok (q t) _ e r h2 λ b u hb h3.
+        parse-then-ok (up-to 5 4 xs) _ e r h λ o s ho h1.
+        parse-then-ok (q s) _ e r h1 λ a t ha h2.
+        parse-then-ok (q t) _ e r h2 λ b u hb h3.
         let m : Cmp (op-at o) a b ≡ e = cc in
         let z : u ≡ r = cc in
         let i = up-to-exact 5 4 .sound xs o s ho in
@@ -283,7 +283,7 @@ module _ (nb ni left : ℕ) (p : Parser BoolExpr) (x : Exact encode-bool (WellBo
         (ap (λ v. pos 18 ∷ v) (i .0 ∙ ap (λ v. pos o ∷ v) (j .0 ∙ ap (λ v. encode-int a ++ v) (l .0) ∙ sym (append-assoc (encode-int a) (encode-int b) u))), (omega arith, j .1, l .1))
     step-bool-sound k-unknown xs e r h = refuse-ok 5 e r h
 
-    step-bool-complete : (e : BoolExpr) (r : List ℤ) → WellBool nb ni (suc left) e → bind (word (encode-bool e ++ r)) (λ w s. step-bool nb ni p q (kind-bool w) s) ≡ ok e r
+    step-bool-complete : (e : BoolExpr) (r : List ℤ) → WellBool nb ni (suc left) e → parse-then (word (encode-bool e ++ r)) (λ w s. step-bool nb ni p q (kind-bool w) s) ≡ ok e r
     unfolding step-bool kind-bool encode-bool WellBool
     step-bool-complete (Const b) r h = bit-back b r
     step-bool-complete (Var v) r h = rw (index-exact nb .complete v r (h .1)) refl
@@ -302,10 +302,10 @@ module _ (nb ni left : ℕ) (p : Parser BoolExpr) (x : Exact encode-bool (WellBo
     unfolding step-bool
     bool-accepted w xs e r h = ⊎-elim (λ u. refuse-ok 5 e r (rw u at h)) (λ c. c) (bool-coded w)
 
-    step-bool-exact : Exact encode-bool (WellBool nb ni (suc left)) (λ xs. bind (word xs) (λ w s. step-bool nb ni p q (kind-bool w) s))
+    step-bool-exact : Exact encode-bool (WellBool nb ni (suc left)) (λ xs. parse-then (word xs) (λ w s. step-bool nb ni p q (kind-bool w) s))
     step-bool-exact = record {
       sound = λ xs e r h.
-          bind-ok (word xs) _ e r h λ w s hw hs.
+          parse-then-ok (word xs) _ e r h λ w s hw hs.
           let m = step-bool-sound (kind-bool w) s e r hs in
           (word-ok xs w s hw ∙ ap (λ v. v ∷ s) (bool-accepted w s e r hs) ∙ m .0, m .1);
       complete = step-bool-complete;
@@ -327,7 +327,7 @@ bool-no-level nb ni (Cmp o a b) h = omega (arith, h .0)
 pub bool-exact : (nb ni left : ℕ) → Exact encode-bool (WellBool nb ni left) (read-bool nb ni left)
 unfolding read-bool
 bool-exact nb ni zero = record {
-  sound = λ xs e r h. bind-ok (word xs) _ e r h λ w s hw h1. refuse-ok _ e r h1;
+  sound = λ xs e r h. parse-then-ok (word xs) _ e r h λ w s hw h1. refuse-ok _ e r h1;
   complete = λ e r h. absurd (bool-no-level nb ni e h);
 }
 bool-exact nb ni (suc left) = step-bool-exact nb ni left (read-bool nb ni left) (bool-exact nb ni left) (read-int ni left) (int-exact ni left)

@@ -7,16 +7,16 @@ use lib.Signed.{ltZ}
 use lib.Dec.{leb}
 use Rattle.laws.specs.Ints.{eqZ}
 use Rattle.syntax.specs.Words.{star-word, max-bools, max-ints, max-count, max-depth}
-use Rattle.syntax.specs.Syntax.{op-at, Domain, Range, Enumerative, IntExpr, IConst, IVar, Linear, Terms, tnil, tmore, BoolExpr, Const, Var, And, Or, Not, Xor, Iff, Imp, Cmp, Members, none, more, Cell, star, value, Stmt, Rule, Table, Problem}
+use Rattle.syntax.specs.Syntax.{op-at, Domain, Range, Enumerative, IntExpr, IConst, IVar, Linear, Terms, tnil, tmore, BoolExpr, Const, Var, And, Or, Not, Xor, Iff, Imp, Cmp, Members, mnil, more, Cell, star, value, Stmt, Rule, Table, Problem}
 pub use Rattle.words.specs.Parse.{Parsed, ok, refuse}
 unfoldable pub use Rattle.words.specs.Parse.{times, up-to, count, index, number}
-use Rattle.words.specs.Parse.{Parser, bind, seq-parser, map-parser, word, in-value-range}
+use Rattle.words.specs.Parse.{Parser, parse-then, seq-parser, map-parser, word, in-value-range}
 
 -- ---- domains
 
 -- low above high is 7 at high's word
 unfoldable pub read-range : Parser Domain
-read-range xs = bind (number xs) (λ low r. bind (number r) (λ high s. cond (ltZ high low) (refuse 7) (ok (Range low high) s)))
+read-range xs = parse-then (number xs) (λ low r. parse-then (number r) (λ high s. cond (ltZ high low) (refuse 7) (ok (Range low high) s)))
 
 -- a count below 1 is 7, above 4096 is 4
 abbrev pub size-at : ℤ → Parser ℕ
@@ -25,19 +25,19 @@ size-at (pos (suc n)) r = cond (leb (suc n) max-count) (ok (suc n) r) (refuse 4)
 size-at (negsuc n) r = refuse 7
 
 abbrev pub size-of : Parser ℕ
-size-of xs = bind (word xs) size-at
+size-of xs = parse-then (word xs) size-at
 
 -- n values, each above the one before it
 unfoldable pub read-rising : ℕ → ℤ → Parser (List ℤ)
 read-rising zero before xs = ok [] xs
-read-rising (suc n) before xs = bind (number xs) (λ x r. cond (ltZ before x) (bind (read-rising n x r) (λ l s. ok (x ∷ l) s)) (refuse 7))
+read-rising (suc n) before xs = parse-then (number xs) (λ x r. cond (ltZ before x) (parse-then (read-rising n x r) (λ l s. ok (x ∷ l) s)) (refuse 7))
 
 -- every value is above starWord
 unfoldable pub read-enumerative : Parser Domain
-read-enumerative xs = bind (size-of xs) (λ n r. bind (read-rising n star-word r) (λ l s. ok (Enumerative l) s))
+read-enumerative xs = parse-then (size-of xs) (λ n r. parse-then (read-rising n star-word r) (λ l s. ok (Enumerative l) s))
 
 unfoldable pub read-domain : Parser Domain
-read-domain xs = bind (word xs) (λ w r. cond (eqZ w (pos 0)) (read-range r) (cond (eqZ w (pos 1)) (read-enumerative r) (refuse 5)))
+read-domain xs = parse-then (word xs) (λ w r. cond (eqZ w (pos 0)) (read-range r) (cond (eqZ w (pos 1)) (read-enumerative r) (refuse 5)))
 
 -- ---- expressions
 
@@ -87,10 +87,10 @@ too-deep-int i-unknown = 5
 -- as many terms as the count says, each a coefficient and an expression read by p
 unfoldable pub read-terms : Parser IntExpr → ℕ → Parser Terms
 read-terms p zero xs = ok tnil xs
-read-terms p (suc n) xs = bind (number xs) (λ k r. bind (p r) (λ e s. bind (read-terms p n s) (λ ts t. ok (tmore k e ts) t)))
+read-terms p (suc n) xs = parse-then (number xs) (λ k r. parse-then (p r) (λ e s. parse-then (read-terms p n s) (λ ts t. ok (tmore k e ts) t)))
 
 unfoldable pub read-members : Parser BoolExpr → ℕ → Parser Members
-read-members p zero xs = ok none xs
+read-members p zero xs = ok mnil xs
 read-members p (suc n) xs = seq-parser more p (λ e. read-members p n) xs
 
 abbrev pub bit-at : ℕ → Bool
@@ -98,7 +98,7 @@ bit-at zero = false
 bit-at (suc n) = true
 
 unfoldable pub read-cell : Parser Cell
-read-cell xs = bind (word xs) (λ w r. cond (eqZ w star-word) (ok star r) (cond (in-value-range w) (ok (value w) r) (refuse 4)))
+read-cell xs = parse-then (word xs) (λ w r. cond (eqZ w star-word) (ok star r) (cond (in-value-range w) (ok (value w) r) (refuse 4)))
 
 -- nb and ni: how many Boolean and integer variables are declared
 module _ (ni : ℕ) where
@@ -106,48 +106,48 @@ module _ (ni : ℕ) where
   unfoldable pub step-int : Parser IntExpr → IntKind → Parser IntExpr
   step-int p i-const xs = map-parser IConst number xs
   step-int p i-var xs = map-parser IVar (index ni) xs
-  step-int p i-sum xs = bind (count xs) (λ n r. map-parser Linear (read-terms p n) r)
+  step-int p i-sum xs = parse-then (count xs) (λ n r. map-parser Linear (read-terms p n) r)
   step-int p i-unknown xs = refuse 5
 
   -- an integer expression with `left` levels left
   unfoldable pub read-int : ℕ → Parser IntExpr
-  read-int zero xs = bind (word xs) (λ w r. refuse (too-deep-int (kind-int w)))
-  read-int (suc left) xs = bind (word xs) (λ w r. step-int (read-int left) (kind-int w) r)
+  read-int zero xs = parse-then (word xs) (λ w r. refuse (too-deep-int (kind-int w)))
+  read-int (suc left) xs = parse-then (word xs) (λ w r. step-int (read-int left) (kind-int w) r)
 
   -- columns n, rows k, n expressions, k rows of n cells
   unfoldable pub read-table : Parser Stmt
-  read-table xs = bind (count xs) (λ n r. bind (count r) (λ k s. seq-parser Table (times n (read-int max-depth)) (λ es. times k (times n read-cell)) s))
+  read-table xs = parse-then (count xs) (λ n r. parse-then (count r) (λ k s. seq-parser Table (times n (read-int max-depth)) (λ es. times k (times n read-cell)) s))
 
 module _ (nb ni : ℕ) where
   -- what follows a Boolean code; p and q read a part one level down
   unfoldable pub step-bool : Parser BoolExpr → Parser IntExpr → BoolKind → Parser BoolExpr
   step-bool p q k-const xs = map-parser (λ b. Const (bit-at b)) (up-to 1 4) xs
   step-bool p q k-var xs = map-parser Var (index nb) xs
-  step-bool p q k-and xs = bind (count xs) (λ n r. map-parser And (read-members p n) r)
-  step-bool p q k-or xs = bind (count xs) (λ n r. map-parser Or (read-members p n) r)
+  step-bool p q k-and xs = parse-then (count xs) (λ n r. map-parser And (read-members p n) r)
+  step-bool p q k-or xs = parse-then (count xs) (λ n r. map-parser Or (read-members p n) r)
   step-bool p q k-not xs = map-parser Not p xs
   step-bool p q k-xor xs = seq-parser Xor p (λ a. p) xs
   step-bool p q k-iff xs = seq-parser Iff p (λ a. p) xs
   step-bool p q k-imp xs = seq-parser Imp p (λ a. p) xs
-  step-bool p q k-cmp xs = bind (up-to 5 4 xs) (λ o r. seq-parser (Cmp (op-at o)) q (λ a. q) r)
+  step-bool p q k-cmp xs = parse-then (up-to 5 4 xs) (λ o r. seq-parser (Cmp (op-at o)) q (λ a. q) r)
   step-bool p q k-unknown xs = refuse 5
 
   unfoldable pub read-bool : ℕ → Parser BoolExpr
-  read-bool zero xs = bind (word xs) (λ w r. refuse (too-deep-bool (kind-bool w)))
-  read-bool (suc left) xs = bind (word xs) (λ w r. step-bool (read-bool left) (read-int ni left) (kind-bool w) r)
+  read-bool zero xs = parse-then (word xs) (λ w r. refuse (too-deep-bool (kind-bool w)))
+  read-bool (suc left) xs = parse-then (word xs) (λ w r. step-bool (read-bool left) (read-int ni left) (kind-bool w) r)
 
   unfoldable pub read-stmt : Parser Stmt
-  read-stmt xs = bind (word xs) (λ w r. cond (eqZ w (pos 1)) (map-parser Rule (read-bool max-depth) r) (cond (eqZ w (pos 2)) (read-table ni r) (refuse 5)))
+  read-stmt xs = parse-then (word xs) (λ w r. cond (eqZ w (pos 1)) (map-parser Rule (read-bool max-depth) r) (cond (eqZ w (pos 2)) (read-table ni r) (refuse 5)))
 
 -- ---- the set
 
 abbrev pub read-problem : Parser Problem
 read-problem xs =
-    bind (up-to max-bools 4 xs) (λ b r.
-    bind (up-to max-ints 4 r) (λ i s.
-    bind (times i read-domain s) (λ ds t.
-    bind (count t) (λ n u.
-    bind (times n (read-stmt b i) u) (λ ss v.
+    parse-then (up-to max-bools 4 xs) (λ b r.
+    parse-then (up-to max-ints 4 r) (λ i s.
+    parse-then (times i read-domain s) (λ ds t.
+    parse-then (count t) (λ n u.
+    parse-then (times n (read-stmt b i) u) (λ ss v.
     ok (record { bools = b; domains = ds; stmts = ss }) v)))))
 
 -- words after the last statement are 3

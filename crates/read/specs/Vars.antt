@@ -1,7 +1,7 @@
 -- What reading accepts writes declared variables only and no emitted number, and its rows are as wide as their tables.
 use mathlib.Core.List.{List, [], _∷_}
 use Prim.Native.Nat.{ℕ, _-_, _<_}
-use Rattle.syntax.specs.Syntax.{IntExpr, IConst, IVar, Linear, Terms, tnil, tmore, BoolExpr, Const, Var, NVar, And, Or, Not, Xor, Iff, Imp, Cmp, Members, none, more, Cell}
+use Rattle.syntax.specs.Syntax.{IntExpr, IConst, IVar, Linear, Terms, tnil, tmore, BoolExpr, Const, Var, NVar, And, Or, Not, Xor, Iff, Imp, Cmp, Members, mnil, more, Cell}
 use Rattle.syntax.specs.Written.{EveryInt, EveryTerm, EveryColumn, EveryOf, EveryMemberOf, None}
 use Rattle.syntax.specs.Lengths.{Wide}
 use Rattle.words.specs.Exact.{Each}
@@ -42,7 +42,7 @@ module _ (nb ni : ℕ) where
     bool-vars left (Cmp o a b) h = (int-vars ni (left - 1) a (h .1), int-vars ni (left - 1) b (h .2))
 
     members-vars : (left : ℕ) (ms : Members) → WellMembers nb ni left ms → EveryMemberOf None (λ v. v < nb) (λ v. v < ni) ms
-    members-vars left none h = tt
+    members-vars left mnil h = tt
     members-vars left (more e ms) h = (bool-vars left e (h .0), members-vars left ms (h .1))
 
 pub rows-wide : (n : ℕ) (rows : List (List Cell)) → Each (WellRow n) rows → Wide n rows

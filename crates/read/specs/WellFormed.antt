@@ -8,7 +8,7 @@ use lib.IntN.{ℤ}
 use lib.Signed.{ltZ, leZ}
 use lib.ListN.{length}
 use Rattle.syntax.specs.Words.{max-bools, max-ints, max-count, max-depth}
-use Rattle.syntax.specs.Syntax.{count-terms, count-members, Domain, Range, Enumerative, IntExpr, IConst, IVar, Linear, Terms, tnil, tmore, BoolExpr, Const, Var, NVar, And, Or, Not, Xor, Iff, Imp, Cmp, Members, none, more, Cell, star, value, Stmt, Rule, Table, Problem}
+use Rattle.syntax.specs.Syntax.{count-terms, count-members, Domain, Range, Enumerative, IntExpr, IConst, IVar, Linear, Terms, tnil, tmore, BoolExpr, Const, Var, NVar, And, Or, Not, Xor, Iff, Imp, Cmp, Members, mnil, more, Cell, star, value, Stmt, Rule, Table, Problem}
 use Rattle.words.specs.Exact.{Value, Each}
 
 -- each value above the one before it
@@ -52,7 +52,7 @@ module _ (nb ni : ℕ) where
     WellBool left (Cmp o a b) = (0 < left) × WellInt ni (left - 1) a × WellInt ni (left - 1) b
 
     pub WellMembers : ℕ → Members → Type 0
-    WellMembers left none = Unit {0}
+    WellMembers left mnil = Unit {0}
     WellMembers left (more e ms) = WellBool left e × WellMembers left ms
 
 abbrev pub WellCell : Cell → Type 0

@@ -7,7 +7,7 @@ use native.Mathlib.Numerals.{sub-one}
 use lib.IntN.{ℤ, pos}
 use lib.ListN.{length, drop}
 use Rattle.syntax.specs.Syntax.{op-at, encode-bool, BoolExpr, Const, Var, NVar, And, Or, Not, Xor, Iff, Imp, Cmp, more}
-use Rattle.words.specs.Parse.{refuse, Parser, bind, seq-parser, word, up-to, count, index}
+use Rattle.words.specs.Parse.{refuse, Parser, parse-then, seq-parser, word, up-to, count, index}
 use Rattle.words.specs.Exact.{word-ok, up-to-exact, count-exact, index-exact}
 use Rattle.words.specs.Cursor.{cursor, next-at, counted-at}
 use Rattle.words.specs.declared.Cursor.{Cursor}
@@ -19,8 +19,8 @@ use Rattle.read.specs.Read.{BoolKind, k-const, k-var, k-and, k-or, k-not, k-xor
 use Rattle.read.specs.WellFormed.{WellBool}
 use Rattle.read.specs.ExactExpr.{int-exact, members-exact, bool-exact}
 use Rattle.reader.specs.Position.{read-at, reads, list-of, pair-of, comparison-of}
-use Rattle.reader.proofs.Tails.{Shortens, exact-shortens, ok-shortens, refuse-shortens, bind-shortens}
-use Rattle.reader.proofs.Laws.{reads-refused, bind-refused, reads-then, number-refused, number-then, word-refused, word-then, map-same, seq-same, reads-falls}
+use Rattle.reader.proofs.Tails.{Shortens, exact-shortens, ok-shortens, refuse-shortens, parse-then-shortens}
+use Rattle.reader.proofs.Laws.{reads-refused, parse-then-refused, reads-then, number-refused, number-then, word-refused, word-then, map-same, seq-same, reads-falls}
 
 -- ---- comparisons
 
@@ -33,21 +33,21 @@ module _ (ni left at : ℕ) (ws : List ℤ) where
 
   sides-shortens : (o : ℕ) → Shortens (sides-of o)
   unfolding sides-of
-  sides-shortens o = bind-shortens (read-int ni left) _ int-shortens (λ a. bind-shortens (read-int ni left) _ int-shortens (λ b. ok-shortens (Cmp (op-at o) a b)))
+  sides-shortens o = parse-then-shortens (read-int ni left) _ int-shortens (λ a. parse-then-shortens (read-int ni left) _ int-shortens (λ b. ok-shortens (Cmp (op-at o) a b)))
 
   pub comparison-no-operator : (k : ℕ) → counted-at at (up-to 5 4 (drop at ws)) ≡ counted.Refused k → read.Refused k ≡ reads (comparison-of (read-int ni left)) at ws
   unfolding comparison-of sides-of
   comparison-no-operator k h = number-refused (up-to 5 4) (up-to-exact 5 4) sides-of at ws k h
 
   module _ (o : ℕ) (d : Cursor) (h : counted-at at (up-to 5 4 (drop at ws)) ≡ counted.Number o d) where
-    sides-then : (v : Read) → v ≡ reads (λ xs. bind (read-int ni left xs) (λ a. read-int ni left)) (d .at) ws → v ≡ reads (comparison-of (read-int ni left)) at ws
+    sides-then : (v : Read) → v ≡ reads (λ xs. parse-then (read-int ni left xs) (λ a. read-int ni left)) (d .at) ws → v ≡ reads (comparison-of (read-int ni left)) at ws
     unfolding comparison-of sides-of
     sides-then v hv =
         number-then (up-to 5 4) (up-to-exact 5 4) sides-of at ws o d v (sides-shortens o) h
         (hv ∙ seq-same (Cmp (op-at o)) (read-int ni left) (λ a. read-int ni left) (d .at) ws)
 
     pub comparison-no-left : (k : ℕ) → reads (read-int ni left) (d .at) ws ≡ read.Refused k → read.Refused k ≡ reads (comparison-of (read-int ni left)) at ws
-    comparison-no-left k g = sides-then (read.Refused k) (bind-refused (read-int ni left) (λ a. read-int ni left) (d .at) ws k (reads-refused (read-int ni left) (d .at) ws k g))
+    comparison-no-left k g = sides-then (read.Refused k) (parse-then-refused (read-int ni left) (λ a. read-int ni left) (d .at) ws k (reads-refused (read-int ni left) (d .at) ws k g))
 
     pub comparison-right : (e : Cursor) (v : Read) → reads (read-int ni left) (d .at) ws ≡ read.Ok e → v ≡ reads (read-int ni left) (e .at) ws → v ≡ reads (comparison-of (read-int ni left)) at ws
     comparison-right e v g hv = sides-then v (reads-then (read-int ni left) (λ a. read-int ni left) (d .at) ws e v int-shortens (λ a. int-shortens) g (λ a. hv))
@@ -68,14 +68,14 @@ module _ (nb ni left : ℕ) where
   unfolding reads read-at read-members
   members-none n d ws h = rw h (ap (λ k. read.Ok (cursor k)) (omega arith))
 
-  members-suc : (n at : ℕ) (ws : List ℤ) → (n ≡ 0 → ⊥) → reads (λ xs. bind (part xs) (λ e. read-members part (n - 1))) at ws ≡ reads (read-members part n) at ws
+  members-suc : (n at : ℕ) (ws : List ℤ) → (n ≡ 0 → ⊥) → reads (λ xs. parse-then (part xs) (λ e. read-members part (n - 1))) at ws ≡ reads (read-members part n) at ws
   unfolding read-members
   members-suc zero at ws h = absurd (h refl)
   members-suc (suc n) at ws h = rw sub-one (seq-same more part (λ e. read-members part n) at ws)
 
   module _ (n at : ℕ) (ws : List ℤ) (z : n ≡ 0 → ⊥) where
     pub members-refused : (k : ℕ) → reads (read-bool nb ni left) at ws ≡ read.Refused k → read.Refused k ≡ reads (read-members (read-bool nb ni left) n) at ws
-    members-refused k g = bind-refused part (λ e. read-members part (n - 1)) at ws k (reads-refused part at ws k g) ∙ members-suc n at ws z
+    members-refused k g = parse-then-refused part (λ e. read-members part (n - 1)) at ws k (reads-refused part at ws k g) ∙ members-suc n at ws z
 
     pub members-more : (d : Cursor) → reads (read-bool nb ni left) at ws ≡ read.Ok d → reads (read-members (read-bool nb ni left) (n - 1)) (d .at) ws ≡ reads (read-members (read-bool nb ni left) n) at ws
     members-more d g = reads-then part (λ e. read-members part (n - 1)) at ws d _ part-shortens (λ e. members-shortens (n - 1)) g (λ e. refl) ∙ members-suc n at ws z
@@ -91,7 +91,7 @@ module _ (nb ni left : ℕ) where
 
     pub pair-refused : (k : ℕ) → reads (read-bool nb ni left) at ws ≡ read.Refused k → read.Refused k ≡ reads (pair-of (read-bool nb ni left)) at ws
     unfolding pair-of
-    pair-refused k g = bind-refused part (λ a. part) at ws k (reads-refused part at ws k g) ∙ seq-same (λ a b. (a, b)) part (λ a. part) at ws
+    pair-refused k g = parse-then-refused part (λ a. part) at ws k (reads-refused part at ws k g) ∙ seq-same (λ a b. (a, b)) part (λ a. part) at ws
 
     pub pair-second : (d : Cursor) (v : Read) → reads (read-bool nb ni left) at ws ≡ read.Ok d → v ≡ reads (read-bool nb ni left) (d .at) ws → v ≡ reads (pair-of (read-bool nb ni left)) at ws
     unfolding pair-of
@@ -106,20 +106,20 @@ pair-same p make at ws = sym (seq-same (λ a b. (a, b)) p (λ a. p) at ws) ∙ s
 
 step-shortens : (nb ni left : ℕ) (k : BoolKind) → Shortens (step-bool nb ni (read-bool nb ni left) (read-int ni left) k)
 unfolding step-bool
-step-shortens nb ni left k-const = bind-shortens (up-to 1 4) _ (exact-shortens (up-to-exact 1 4)) (λ b. ok-shortens (Const (bit-at b)))
-step-shortens nb ni left k-var = bind-shortens (index nb) _ (exact-shortens (index-exact nb)) (λ v. ok-shortens (Var v))
-step-shortens nb ni left k-and = bind-shortens count _ (exact-shortens count-exact) (λ n. bind-shortens (read-members (read-bool nb ni left) n) _ (members-shortens nb ni left n) (λ ms. ok-shortens (And ms)))
-step-shortens nb ni left k-or = bind-shortens count _ (exact-shortens count-exact) (λ n. bind-shortens (read-members (read-bool nb ni left) n) _ (members-shortens nb ni left n) (λ ms. ok-shortens (Or ms)))
-step-shortens nb ni left k-not = bind-shortens (read-bool nb ni left) _ (part-shortens nb ni left) (λ e. ok-shortens (Not e))
-step-shortens nb ni left k-xor = bind-shortens (read-bool nb ni left) _ (part-shortens nb ni left) (λ a. bind-shortens (read-bool nb ni left) _ (part-shortens nb ni left) (λ b. ok-shortens (Xor a b)))
-step-shortens nb ni left k-iff = bind-shortens (read-bool nb ni left) _ (part-shortens nb ni left) (λ a. bind-shortens (read-bool nb ni left) _ (part-shortens nb ni left) (λ b. ok-shortens (Iff a b)))
-step-shortens nb ni left k-imp = bind-shortens (read-bool nb ni left) _ (part-shortens nb ni left) (λ a. bind-shortens (read-bool nb ni left) _ (part-shortens nb ni left) (λ b. ok-shortens (Imp a b)))
+step-shortens nb ni left k-const = parse-then-shortens (up-to 1 4) _ (exact-shortens (up-to-exact 1 4)) (λ b. ok-shortens (Const (bit-at b)))
+step-shortens nb ni left k-var = parse-then-shortens (index nb) _ (exact-shortens (index-exact nb)) (λ v. ok-shortens (Var v))
+step-shortens nb ni left k-and = parse-then-shortens count _ (exact-shortens count-exact) (λ n. parse-then-shortens (read-members (read-bool nb ni left) n) _ (members-shortens nb ni left n) (λ ms. ok-shortens (And ms)))
+step-shortens nb ni left k-or = parse-then-shortens count _ (exact-shortens count-exact) (λ n. parse-then-shortens (read-members (read-bool nb ni left) n) _ (members-shortens nb ni left n) (λ ms. ok-shortens (Or ms)))
+step-shortens nb ni left k-not = parse-then-shortens (read-bool nb ni left) _ (part-shortens nb ni left) (λ e. ok-shortens (Not e))
+step-shortens nb ni left k-xor = parse-then-shortens (read-bool nb ni left) _ (part-shortens nb ni left) (λ a. parse-then-shortens (read-bool nb ni left) _ (part-shortens nb ni left) (λ b. ok-shortens (Xor a b)))
+step-shortens nb ni left k-iff = parse-then-shortens (read-bool nb ni left) _ (part-shortens nb ni left) (λ a. parse-then-shortens (read-bool nb ni left) _ (part-shortens nb ni left) (λ b. ok-shortens (Iff a b)))
+step-shortens nb ni left k-imp = parse-then-shortens (read-bool nb ni left) _ (part-shortens nb ni left) (λ a. parse-then-shortens (read-bool nb ni left) _ (part-shortens nb ni left) (λ b. ok-shortens (Imp a b)))
 step-shortens nb ni left k-cmp =
-    bind-shortens (up-to 5 4) _ (exact-shortens (up-to-exact 5 4)) (λ o. bind-shortens (read-int ni left) _ (exact-shortens (int-exact ni left)) (λ a. bind-shortens (read-int ni left) _ (exact-shortens (int-exact ni left)) (λ b. ok-shortens (Cmp (op-at o) a b))))
+    parse-then-shortens (up-to 5 4) _ (exact-shortens (up-to-exact 5 4)) (λ o. parse-then-shortens (read-int ni left) _ (exact-shortens (int-exact ni left)) (λ a. parse-then-shortens (read-int ni left) _ (exact-shortens (int-exact ni left)) (λ b. ok-shortens (Cmp (op-at o) a b))))
 step-shortens nb ni left k-unknown = refuse-shortens 5
 
 abbrev next-bool : ℕ → ℕ → ℕ → Parser BoolExpr
-next-bool nb ni left xs = bind (word xs) (λ w r. step-bool nb ni (read-bool nb ni left) (read-int ni left) (kind-bool w) r)
+next-bool nb ni left xs = parse-then (word xs) (λ w r. step-bool nb ni (read-bool nb ni left) (read-int ni left) (kind-bool w) r)
 
 bool-suc : (nb ni left at : ℕ) (ws : List ℤ) → (left ≡ 0 → ⊥) → reads (next-bool nb ni (left - 1)) at ws ≡ reads (read-bool nb ni left) at ws
 unfolding read-bool reads

@@ -12,7 +12,7 @@ use borrow.Author.Tests.{le-leb, lt-leb}
 use Rattle.laws.specs.Ints.{eqZ}
 use Rattle.syntax.specs.Words.{star-word}
 use Rattle.syntax.specs.Syntax.{Domain, Range, Enumerative}
-use Rattle.words.specs.Parse.{Parsed, ok, refuse, Parser, bind, map-parser, word, number}
+use Rattle.words.specs.Parse.{Parsed, ok, refuse, Parser, parse-then, map-parser, word, number}
 use Rattle.words.specs.Exact.{word-ok, number-exact}
 use Rattle.words.specs.Cursor.{cursor, plain-of, next-at, counted-at, next-refused, next-word, plain-number}
 use Rattle.words.specs.declared.Cursor.{Cursor}
@@ -24,7 +24,7 @@ use Rattle.reader.specs.declared.Read.the-variants as read
 use Rattle.read.specs.Read.{read-range, size-at, size-of, read-rising, read-enumerative, read-domain}
 use Rattle.read.specs.Exact.{size-exact}
 use Rattle.reader.specs.Position.{read-at, reads}
-use Rattle.reader.proofs.Tails.{Shortens, exact-shortens, ok-shortens, refuse-shortens, bind-shortens, cond-shortens}
+use Rattle.reader.proofs.Tails.{Shortens, exact-shortens, ok-shortens, refuse-shortens, parse-then-shortens, cond-shortens}
 use Rattle.reader.proofs.Laws.{number-refused, number-then, word-refused, word-then, map-same, value-front}
 
 -- ---- a range
@@ -33,7 +33,7 @@ range-end : ℤ → ℤ → Parser Domain
 range-end low high s = cond (ltZ high low) (refuse 7) (ok (Range low high) s)
 
 range-high : ℤ → Parser Domain
-range-high low r = bind (number r) (range-end low)
+range-high low r = parse-then (number r) (range-end low)
 
 range-end-shortens : (low high : ℤ) → Shortens (range-end low high)
 unfolding range-end
@@ -41,7 +41,7 @@ range-end-shortens low high = cond-shortens (ltZ high low) _ _ (refuse-shortens 
 
 range-high-shortens : (low : ℤ) → Shortens (range-high low)
 unfolding range-high
-range-high-shortens low = bind-shortens number _ (exact-shortens number-exact) (range-end-shortens low)
+range-high-shortens low = parse-then-shortens number _ (exact-shortens number-exact) (range-end-shortens low)
 
 module _ (at : ℕ) (ws : List ℤ) where
   pub range-no-low : (k : ℕ) → next-at at (number (drop at ws)) ≡ next.Refused k → read.Refused k ≡ reads read-range at ws
@@ -117,7 +117,7 @@ rising-shortens : (n : ℕ) (before : ℤ) → Shortens (read-rising n before)
 unfolding read-rising
 rising-shortens zero before = ok-shortens []
 rising-shortens (suc n) before =
-    bind-shortens number _ (exact-shortens number-exact) (λ x. cond-shortens (ltZ before x) _ _ (bind-shortens (read-rising n x) _ (rising-shortens n x) (λ l. ok-shortens (x ∷ l))) (refuse-shortens 7))
+    parse-then-shortens number _ (exact-shortens number-exact) (λ x. cond-shortens (ltZ before x) _ _ (parse-then-shortens (read-rising n x) _ (rising-shortens n x) (λ l. ok-shortens (x ∷ l))) (refuse-shortens 7))
 
 rising-next-shortens : (n : ℕ) (before x : ℤ) → Shortens (rising-next n before x)
 unfolding rising-next
@@ -127,21 +127,21 @@ pub rising-none : (n : ℕ) (before : ℤ) (d : Cursor) (ws : List ℤ) → n �
 unfolding reads read-at read-rising
 rising-none n before d ws h = rw h (ap (λ k. read.Ok (cursor k)) (omega arith))
 
-rising-suc : (n : ℕ) (before : ℤ) (at : ℕ) (ws : List ℤ) → (n ≡ 0 → ⊥) → reads (λ xs. bind (number xs) (rising-next (n - 1) before)) at ws ≡ reads (read-rising n before) at ws
+rising-suc : (n : ℕ) (before : ℤ) (at : ℕ) (ws : List ℤ) → (n ≡ 0 → ⊥) → reads (λ xs. parse-then (number xs) (rising-next (n - 1) before)) at ws ≡ reads (read-rising n before) at ws
 unfolding reads read-at read-rising rising-next
 rising-suc zero before at ws h = absurd (h refl)
 rising-suc (suc n) before at ws h = rw sub-one (first (number (drop at ws)))
   where
-    third : (x : ℤ) (q : Parsed (List ℤ)) → read-at at (drop at ws) q ≡ read-at at (drop at ws) (bind q (λ l s. ok (x ∷ l) s))
+    third : (x : ℤ) (q : Parsed (List ℤ)) → read-at at (drop at ws) q ≡ read-at at (drop at ws) (parse-then q (λ l s. ok (x ∷ l) s))
     third x (ok l s) = refl
     third x (refuse j) = refl
 
-    second : (t : Bool) (x : ℤ) (r : List ℤ) → read-at at (drop at ws) (cond t (read-rising n x r) (refuse 7)) ≡ read-at at (drop at ws) (cond t (bind (read-rising n x r) (λ l s. ok (x ∷ l) s)) (refuse 7))
+    second : (t : Bool) (x : ℤ) (r : List ℤ) → read-at at (drop at ws) (cond t (read-rising n x r) (refuse 7)) ≡ read-at at (drop at ws) (cond t (parse-then (read-rising n x r) (λ l s. ok (x ∷ l) s)) (refuse 7))
     second true x r = third x (read-rising n x r)
     second false x r = refl
 
-    first : (q : Parsed ℤ) → read-at at (drop at ws) (bind q (λ x r. cond (ltZ before x) (read-rising n x r) (refuse 7)))
-        ≡ read-at at (drop at ws) (bind q (λ x r. cond (ltZ before x) (bind (read-rising n x r) (λ l s. ok (x ∷ l) s)) (refuse 7)))
+    first : (q : Parsed ℤ) → read-at at (drop at ws) (parse-then q (λ x r. cond (ltZ before x) (read-rising n x r) (refuse 7)))
+        ≡ read-at at (drop at ws) (parse-then q (λ x r. cond (ltZ before x) (parse-then (read-rising n x r) (λ l s. ok (x ∷ l) s)) (refuse 7)))
     first (ok x r) = second (ltZ before x) x r
     first (refuse j) = refl
 
@@ -165,7 +165,7 @@ values-of n = map-parser Enumerative (read-rising n star-word)
 
 values-shortens : (n : ℕ) → Shortens (values-of n)
 unfolding values-of
-values-shortens n = bind-shortens (read-rising n star-word) _ (rising-shortens n star-word) (λ l. ok-shortens (Enumerative l))
+values-shortens n = parse-then-shortens (read-rising n star-word) _ (rising-shortens n star-word) (λ l. ok-shortens (Enumerative l))
 
 module _ (at : ℕ) (ws : List ℤ) where
   pub enumerative-refused : (k : ℕ) → counted-at at (size-of (drop at ws)) ≡ counted.Refused k → read.Refused k ≡ reads read-enumerative at ws
@@ -182,8 +182,8 @@ domain-at w r = cond (eqZ w (pos 0)) (read-range r) (cond (eqZ w (pos 1)) (read-
 domain-at-shortens : (w : ℤ) → Shortens (domain-at w)
 unfolding domain-at read-range read-enumerative range-high range-end values-of
 domain-at-shortens w =
-    cond-shortens (eqZ w (pos 0)) read-range _ (bind-shortens number range-high (exact-shortens number-exact) range-high-shortens)
-    (cond-shortens (eqZ w (pos 1)) read-enumerative _ (bind-shortens size-of values-of (exact-shortens size-exact) values-shortens) (refuse-shortens 5))
+    cond-shortens (eqZ w (pos 0)) read-range _ (parse-then-shortens number range-high (exact-shortens number-exact) range-high-shortens)
+    (cond-shortens (eqZ w (pos 1)) read-enumerative _ (parse-then-shortens size-of values-of (exact-shortens size-exact) values-shortens) (refuse-shortens 5))
 
 module _ (at : ℕ) (ws : List ℤ) where
   pub domain-end : (k : ℕ) → next-at at (word (drop at ws)) ≡ next.Refused k → read.Refused k ≡ reads read-domain at ws

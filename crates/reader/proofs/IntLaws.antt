@@ -8,7 +8,7 @@ use lib.IntN.{ℤ, pos}
 use lib.ListN.{length, drop}
 use Rattle.syntax.specs.Syntax.{IntExpr, IConst, IVar, Linear, Terms, tmore}
 use Rattle.syntax.specs.Lengths.{int-long}
-use Rattle.words.specs.Parse.{Parsed, ok, refuse, Parser, bind, map-parser, word, number, up-to, count, index}
+use Rattle.words.specs.Parse.{Parsed, ok, refuse, Parser, parse-then, map-parser, word, number, up-to, count, index}
 use Rattle.words.specs.Exact.{word-ok, number-exact, count-exact, index-exact}
 use Rattle.words.specs.Cursor.{cursor, next-at, counted-at}
 use Rattle.words.specs.declared.Cursor.{Cursor}
@@ -19,8 +19,8 @@ use Rattle.reader.specs.declared.Read.the-variants as read
 use Rattle.read.specs.Read.{IntKind, i-const, i-var, i-sum, i-unknown, kind-int, too-deep-int, read-terms, step-int, read-int}
 use Rattle.read.specs.ExactExpr.{terms-exact, int-exact}
 use Rattle.reader.specs.Position.{read-at, reads}
-use Rattle.reader.proofs.Tails.{Shortens, exact-shortens, ok-shortens, refuse-shortens, bind-shortens}
-use Rattle.reader.proofs.Laws.{reads-refused, bind-refused, reads-then, number-refused, number-then, word-refused, word-then, map-same, value-front, reads-falls}
+use Rattle.reader.proofs.Tails.{Shortens, exact-shortens, ok-shortens, refuse-shortens, parse-then-shortens}
+use Rattle.reader.proofs.Laws.{reads-refused, parse-then-refused, reads-then, number-refused, number-then, word-refused, word-then, map-same, value-front, reads-falls}
 
 -- ---- terms
 
@@ -30,28 +30,28 @@ module _ (p : Parser IntExpr) where
   terms-none n d ws h = rw h (ap (λ k. read.Ok (cursor k)) (omega arith))
 
   abbrev rest-terms : ℕ → ℤ → Parser Terms
-  rest-terms n k xs = bind (p xs) (λ e. read-terms p n)
+  rest-terms n k xs = parse-then (p xs) (λ e. read-terms p n)
 
-  terms-suc : (n at : ℕ) (ws : List ℤ) → (n ≡ 0 → ⊥) → reads (λ xs. bind (number xs) (rest-terms (n - 1))) at ws ≡ reads (read-terms p n) at ws
+  terms-suc : (n at : ℕ) (ws : List ℤ) → (n ≡ 0 → ⊥) → reads (λ xs. parse-then (number xs) (rest-terms (n - 1))) at ws ≡ reads (read-terms p n) at ws
   unfolding reads read-at read-terms
   terms-suc zero at ws h = absurd (h refl)
   terms-suc (suc n) at ws h = rw sub-one (first (number (drop at ws)))
     where
-      third : (k : ℤ) (e : IntExpr) (x : Parsed Terms) → read-at at (drop at ws) x ≡ read-at at (drop at ws) (bind x (λ ts t. ok (tmore k e ts) t))
+      third : (k : ℤ) (e : IntExpr) (x : Parsed Terms) → read-at at (drop at ws) x ≡ read-at at (drop at ws) (parse-then x (λ ts t. ok (tmore k e ts) t))
       third k e (ok ts t) = refl
       third k e (refuse j) = refl
 
-      second : (k : ℤ) (x : Parsed IntExpr) → read-at at (drop at ws) (bind x (λ e. read-terms p n)) ≡ read-at at (drop at ws) (bind x (λ e s. bind (read-terms p n s) (λ ts t. ok (tmore k e ts) t)))
+      second : (k : ℤ) (x : Parsed IntExpr) → read-at at (drop at ws) (parse-then x (λ e. read-terms p n)) ≡ read-at at (drop at ws) (parse-then x (λ e s. parse-then (read-terms p n s) (λ ts t. ok (tmore k e ts) t)))
       second k (ok e s) = third k e (read-terms p n s)
       second k (refuse j) = refl
 
-      first : (x : Parsed ℤ) → read-at at (drop at ws) (bind x (rest-terms n)) ≡ read-at at (drop at ws) (bind x (λ k r. bind (p r) (λ e s. bind (read-terms p n s) (λ ts t. ok (tmore k e ts) t))))
+      first : (x : Parsed ℤ) → read-at at (drop at ws) (parse-then x (rest-terms n)) ≡ read-at at (drop at ws) (parse-then x (λ k r. parse-then (p r) (λ e s. parse-then (read-terms p n s) (λ ts t. ok (tmore k e ts) t))))
       first (ok k r) = second k (p r)
       first (refuse j) = refl
 
 module _ (ni left n at : ℕ) (ws : List ℤ) (z : n ≡ 0 → ⊥) where
   some-terms : Shortens (rest-terms (read-int ni left) (n - 1) (pos 0))
-  some-terms = bind-shortens (read-int ni left) (λ e. read-terms (read-int ni left) (n - 1)) (exact-shortens (int-exact ni left)) (λ e. exact-shortens (terms-exact ni left (read-int ni left) (int-exact ni left) (n - 1)))
+  some-terms = parse-then-shortens (read-int ni left) (λ e. read-terms (read-int ni left) (n - 1)) (exact-shortens (int-exact ni left)) (λ e. exact-shortens (terms-exact ni left (read-int ni left) (int-exact ni left) (n - 1)))
 
   pub terms-no-value : (k : ℕ) → next-at at (number (drop at ws)) ≡ next.Refused k → read.Refused k ≡ reads (read-terms (read-int ni left) n) at ws
   terms-no-value k h = word-refused number value-front (rest-terms (read-int ni left) (n - 1)) at ws k h ∙ terms-suc (read-int ni left) n at ws z
@@ -60,7 +60,7 @@ module _ (ni left n at : ℕ) (ws : List ℤ) (z : n ≡ 0 → ⊥) where
     pub terms-no-int : (k : ℕ) → reads (read-int ni left) (d .at) ws ≡ read.Refused k → read.Refused k ≡ reads (read-terms (read-int ni left) n) at ws
     terms-no-int k g =
         word-then number value-front (rest-terms (read-int ni left) (n - 1)) at ws w d (read.Refused k) some-terms h
-        (bind-refused (read-int ni left) (λ e. read-terms (read-int ni left) (n - 1)) (d .at) ws k (reads-refused (read-int ni left) (d .at) ws k g))
+        (parse-then-refused (read-int ni left) (λ e. read-terms (read-int ni left) (n - 1)) (d .at) ws k (reads-refused (read-int ni left) (d .at) ws k g))
         ∙ terms-suc (read-int ni left) n at ws z
 
     pub terms-more : (e : Cursor) → reads (read-int ni left) (d .at) ws ≡ read.Ok e → reads (read-terms (read-int ni left) (n - 1)) (e .at) ws ≡ reads (read-terms (read-int ni left) n) at ws
@@ -73,14 +73,14 @@ module _ (ni left n at : ℕ) (ws : List ℤ) (z : n ≡ 0 → ⊥) where
 
 step-shortens : (ni left : ℕ) (k : IntKind) → Shortens (step-int ni (read-int ni left) k)
 unfolding step-int
-step-shortens ni left i-const = bind-shortens number _ (exact-shortens number-exact) (λ c. ok-shortens (IConst c))
-step-shortens ni left i-var = bind-shortens (index ni) _ (exact-shortens (index-exact ni)) (λ v. ok-shortens (IVar v))
+step-shortens ni left i-const = parse-then-shortens number _ (exact-shortens number-exact) (λ c. ok-shortens (IConst c))
+step-shortens ni left i-var = parse-then-shortens (index ni) _ (exact-shortens (index-exact ni)) (λ v. ok-shortens (IVar v))
 step-shortens ni left i-sum =
-    bind-shortens count _ (exact-shortens count-exact) (λ n. bind-shortens (read-terms (read-int ni left) n) _ (exact-shortens (terms-exact ni left (read-int ni left) (int-exact ni left) n)) (λ ts. ok-shortens (Linear ts)))
+    parse-then-shortens count _ (exact-shortens count-exact) (λ n. parse-then-shortens (read-terms (read-int ni left) n) _ (exact-shortens (terms-exact ni left (read-int ni left) (int-exact ni left) n)) (λ ts. ok-shortens (Linear ts)))
 step-shortens ni left i-unknown = refuse-shortens 5
 
 abbrev next-int : ℕ → ℕ → Parser IntExpr
-next-int ni left xs = bind (word xs) (λ w r. step-int ni (read-int ni left) (kind-int w) r)
+next-int ni left xs = parse-then (word xs) (λ w r. step-int ni (read-int ni left) (kind-int w) r)
 
 int-suc : (ni left at : ℕ) (ws : List ℤ) → (left ≡ 0 → ⊥) → reads (next-int ni (left - 1)) at ws ≡ reads (read-int ni left) at ws
 unfolding read-int reads
@@ -124,7 +124,7 @@ module _ (ni left at : ℕ) (ws : List ℤ) (w : ℤ) (d : Cursor) (h : next-at 
     sum-terms v n c e g hv =
         arm i-sum v (rw e refl)
         (number-then count count-exact sum-of (d .at) ws n c v
-        (bind-shortens (read-terms (read-int ni (left - 1)) n) _ (exact-shortens (terms-exact ni (left - 1) (read-int ni (left - 1)) (int-exact ni (left - 1)) n)) (λ ts. ok-shortens (Linear ts))) g
+        (parse-then-shortens (read-terms (read-int ni (left - 1)) n) _ (exact-shortens (terms-exact ni (left - 1) (read-int ni (left - 1)) (int-exact ni (left - 1)) n)) (λ ts. ok-shortens (Linear ts))) g
         (hv ∙ map-same Linear (read-terms (read-int ni (left - 1)) n) (c .at) ws))
 
     pub int-none : kind-int w ≡ i-unknown → read.Refused 5 ≡ reads (read-int ni left) at ws

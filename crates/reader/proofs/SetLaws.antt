@@ -8,7 +8,7 @@ use lib.ListN.{length, drop, length-drop, length-append}
 use lib.Seq.{drop-drop, drop-append-seam}
 use Rattle.laws.specs.Lists.{flat}
 use Rattle.syntax.specs.Syntax.{encode-domain, encode-stmt, Domain, Stmt, Problem}
-use Rattle.words.specs.Parse.{Parsed, ok, refuse, Parser, bind, times, up-to, count}
+use Rattle.words.specs.Parse.{Parsed, ok, refuse, Parser, parse-then, times, up-to, count}
 use Rattle.words.specs.Exact.{Exact, number-words, up-to-exact, times-exact}
 use Rattle.words.specs.Cursor.{cursor, counted-at, counted-refused, counted-number}
 use Rattle.words.specs.declared.Cursor.{Cursor}
@@ -82,17 +82,17 @@ module _ (b i : ℕ) (ds : List Domain) (t : List ℤ) (hl : length ds ≡ i) wh
   abbrev whole : List Stmt → List ℤ → Parsed Problem
   whole ss v = ok (record { bools = b; domains = ds; stmts = ss }) v
 
-  finish-stmts : (q : Parsed (List Stmt)) → stmts-at b i (2 + length (flat (map encode-domain ds))) q ≡ set-at (at-end (bind q whole))
+  finish-stmts : (q : Parsed (List Stmt)) → stmts-at b i (2 + length (flat (map encode-domain ds))) q ≡ set-at (at-end (parse-then q whole))
   unfolding stmts-at set-at
   finish-stmts (ok ss []) = rw (← hl) (ap (λ n. set.Ok (record { bools = b; ints = length ds; stmts = length ss; at = n })) (omega arith))
   finish-stmts (ok ss (w ∷ r)) = refl
   finish-stmts (refuse k) = refl
 
-  finish : stmts-at b i (2 + length (flat (map encode-domain ds))) (stmts-of b i t) ≡ set-at (at-end (bind (count t) (λ n u. bind (times n (read-stmt b i) u) whole)))
+  finish : stmts-at b i (2 + length (flat (map encode-domain ds))) (stmts-of b i t) ≡ set-at (at-end (parse-then (count t) (λ n u. parse-then (times n (read-stmt b i) u) whole)))
   unfolding stmts-of
   finish = go (count t)
     where
-      go : (q : Parsed ℕ) → stmts-at b i (2 + length (flat (map encode-domain ds))) (bind q (λ n. times n (read-stmt b i))) ≡ set-at (at-end (bind q (λ n u. bind (times n (read-stmt b i) u) whole)))
+      go : (q : Parsed ℕ) → stmts-at b i (2 + length (flat (map encode-domain ds))) (parse-then q (λ n. times n (read-stmt b i))) ≡ set-at (at-end (parse-then q (λ n u. parse-then (times n (read-stmt b i) u) whole)))
       go (ok n u) = finish-stmts (times n (read-stmt b i) u)
       go (refuse k) = finish-stmts (refuse k)
 

@@ -12,7 +12,7 @@ use mir.Val.{ofZ}
 use Rattle.laws.specs.Ints.{eqZ}
 use Rattle.syntax.specs.Words.{star-word, max-depth}
 use Rattle.syntax.specs.Syntax.{IntExpr, Cell, star, value, Stmt, Rule, Table}
-use Rattle.words.specs.Parse.{ok, refuse, Parser, bind, seq-parser, map-parser, times, word, up-to, count, in-value-range}
+use Rattle.words.specs.Parse.{ok, refuse, Parser, parse-then, seq-parser, map-parser, times, word, up-to, count, in-value-range}
 use Rattle.words.specs.Exact.{word-ok, count-exact}
 use Rattle.words.specs.Cursor.{cursor, next-at, counted-at}
 use Rattle.words.specs.declared.Cursor.{Cursor}
@@ -24,8 +24,8 @@ use Rattle.read.specs.Read.{read-cell, read-int, read-bool, read-table, read-st
 use Rattle.read.specs.ExactExpr.{bool-exact}
 use Rattle.read.specs.Exact.{columns-exact, rows-exact}
 use Rattle.reader.specs.Position.{read-at, reads}
-use Rattle.reader.proofs.Tails.{Shortens, exact-shortens, ok-shortens, refuse-shortens, bind-shortens, cond-shortens}
-use Rattle.reader.proofs.Laws.{reads-refused, bind-refused, reads-then, number-refused, number-then, word-refused, word-then, map-same, seq-same}
+use Rattle.reader.proofs.Tails.{Shortens, exact-shortens, ok-shortens, refuse-shortens, parse-then-shortens, cond-shortens}
+use Rattle.reader.proofs.Laws.{reads-refused, parse-then-refused, reads-then, number-refused, number-then, word-refused, word-then, map-same, seq-same}
 
 -- ---- cells
 
@@ -78,15 +78,15 @@ module _ (ni at : ℕ) (ws : List ℤ) where
   body-of n k = seq-parser Table (columns-of n) (λ es. rows-of n k)
 
   abbrev sizes-of : ℕ → Parser Stmt
-  sizes-of n r = bind (count r) (body-of n)
+  sizes-of n r = parse-then (count r) (body-of n)
 
   body-shortens : (n k : ℕ) → Shortens (body-of n k)
   body-shortens n k =
-      bind-shortens (columns-of n) _ (exact-shortens (columns-exact ni n))
-      (λ es. bind-shortens (rows-of n k) _ (exact-shortens (rows-exact n k)) (λ rs. ok-shortens (Table es rs)))
+      parse-then-shortens (columns-of n) _ (exact-shortens (columns-exact ni n))
+      (λ es. parse-then-shortens (rows-of n k) _ (exact-shortens (rows-exact n k)) (λ rs. ok-shortens (Table es rs)))
 
   sizes-shortens : (n : ℕ) → Shortens (sizes-of n)
-  sizes-shortens n = bind-shortens count (body-of n) (exact-shortens count-exact) (body-shortens n)
+  sizes-shortens n = parse-then-shortens count (body-of n) (exact-shortens count-exact) (body-shortens n)
 
   pub table-no-columns : (k : ℕ) → counted-at at (up-to 4096 4 (drop at ws)) ≡ counted.Refused k → read.Refused k ≡ reads (read-table ni) at ws
   unfolding read-table count
@@ -102,14 +102,14 @@ module _ (ni at : ℕ) (ws : List ℤ) where
     table-no-rows k g = sizes-then (read.Refused k) (number-refused count count-exact (body-of n) (d .at) ws k g)
 
     module _ (m : ℕ) (e : Cursor) (g : counted-at (d .at) (up-to 4096 4 (drop (d .at) ws)) ≡ counted.Number m e) where
-      body-then : (v : Read) → v ≡ reads (λ xs. bind (columns-of n xs) (λ es. rows-of n m)) (e .at) ws → v ≡ reads (read-table ni) at ws
+      body-then : (v : Read) → v ≡ reads (λ xs. parse-then (columns-of n xs) (λ es. rows-of n m)) (e .at) ws → v ≡ reads (read-table ni) at ws
       unfolding count
       body-then v hv =
           sizes-then v (number-then count count-exact (body-of n) (d .at) ws m e v (body-shortens n m) g
           (hv ∙ seq-same Table (columns-of n) (λ es. rows-of n m) (e .at) ws))
 
       pub table-column-refused : (k : ℕ) → reads (times n (read-int ni 64)) (e .at) ws ≡ read.Refused k → read.Refused k ≡ reads (read-table ni) at ws
-      table-column-refused k f = body-then (read.Refused k) (bind-refused (columns-of n) (λ es. rows-of n m) (e .at) ws k (reads-refused (columns-of n) (e .at) ws k f))
+      table-column-refused k f = body-then (read.Refused k) (parse-then-refused (columns-of n) (λ es. rows-of n m) (e .at) ws k (reads-refused (columns-of n) (e .at) ws k f))
 
       pub table-rows : (c : Cursor) (v : Read) → reads (times n (read-int ni 64)) (e .at) ws ≡ read.Ok c → v ≡ reads (times m (times n read-cell)) (c .at) ws → v ≡ reads (read-table ni) at ws
       table-rows c v f hv =
@@ -123,8 +123,8 @@ stmt-at nb ni w r = cond (eqZ w (pos 1)) (map-parser Rule (read-bool nb ni max-d
 stmt-at-shortens : (nb ni : ℕ) (w : ℤ) → Shortens (stmt-at nb ni w)
 unfolding stmt-at read-table
 stmt-at-shortens nb ni w =
-    cond-shortens (eqZ w (pos 1)) (map-parser Rule (read-bool nb ni max-depth)) _ (bind-shortens (read-bool nb ni max-depth) _ (exact-shortens (bool-exact nb ni max-depth)) (λ e. ok-shortens (Rule e)))
-    (cond-shortens (eqZ w (pos 2)) (read-table ni) _ (bind-shortens count (sizes-of ni 0 []) (exact-shortens count-exact) (sizes-shortens ni 0 [])) (refuse-shortens 5))
+    cond-shortens (eqZ w (pos 1)) (map-parser Rule (read-bool nb ni max-depth)) _ (parse-then-shortens (read-bool nb ni max-depth) _ (exact-shortens (bool-exact nb ni max-depth)) (λ e. ok-shortens (Rule e)))
+    (cond-shortens (eqZ w (pos 2)) (read-table ni) _ (parse-then-shortens count (sizes-of ni 0 []) (exact-shortens count-exact) (sizes-shortens ni 0 [])) (refuse-shortens 5))
 
 module _ (nb ni at : ℕ) (ws : List ℤ) where
   pub stmt-end : (k : ℕ) → next-at at (word (drop at ws)) ≡ next.Refused k → read.Refused k ≡ reads (read-stmt nb ni) at ws

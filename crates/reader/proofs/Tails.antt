@@ -7,8 +7,8 @@ use native.Mathlib.Omega.{arith}
 use lib.IntN.{ℤ}
 use lib.ListN.{length, drop, length-append}
 use lib.Seq.{drop-drop, drop-at}
-use Rattle.words.specs.Parse.{ok, refuse, Parser, bind}
-use Rattle.words.specs.Exact.{Exact, refuse-ok, bind-ok}
+use Rattle.words.specs.Parse.{ok, refuse, Parser, parse-then}
+use Rattle.words.specs.Exact.{Exact, refuse-ok, parse-then-ok}
 
 pub record Tail (xs r : List ℤ) : Type 0 where
   pub short : length r ≤ length xs
@@ -45,8 +45,8 @@ ok-shortens a xs b r h = tail-of xs [] r (cc)
 pub refuse-shortens : {A : Type 0} (k : ℕ) → Shortens {A = A} (λ xs. refuse k)
 refuse-shortens k xs a r h = refuse-ok k a r h
 
-pub bind-shortens : {A B : Type 0} (p : Parser A) (q : A → Parser B) → Shortens p → ((a : A) → Shortens (q a)) → Shortens (λ xs. bind (p xs) q)
-bind-shortens p q sp sq xs b r h = bind-ok (p xs) q b r h λ a s ha hb. tail-trans xs s r (sp xs a s ha) (sq a s b r hb)
+pub parse-then-shortens : {A B : Type 0} (p : Parser A) (q : A → Parser B) → Shortens p → ((a : A) → Shortens (q a)) → Shortens (λ xs. parse-then (p xs) q)
+parse-then-shortens p q sp sq xs b r h = parse-then-ok (p xs) q b r h λ a s ha hb. tail-trans xs s r (sp xs a s ha) (sq a s b r hb)
 
 pub cond-shortens : {A : Type 0} (t : Bool) (p q : Parser A) → Shortens p → Shortens q → Shortens (λ xs. cond t (p xs) (q xs))
 cond-shortens true p q sp sq = sp

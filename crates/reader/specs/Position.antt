@@ -5,7 +5,7 @@ use lib.IntN.{ℤ}
 use lib.ListN.{length, drop}
 use Rattle.laws.specs.Lists.{flat}
 use Rattle.syntax.specs.Syntax.{op-at, encode-domain, IntExpr, BoolExpr, Cmp, Members, Stmt, Problem}
-use Rattle.words.specs.Parse.{Parsed, ok, refuse, Parser, bind, seq-parser, times, up-to, count}
+use Rattle.words.specs.Parse.{Parsed, ok, refuse, Parser, parse-then, seq-parser, times, up-to, count}
 use Rattle.words.specs.Cursor.{cursor}
 use Rattle.read.specs.Read.{read-members, read-stmt}
 use Rattle.reader.specs.declared.Read as declared-read
@@ -16,13 +16,13 @@ use Rattle.reader.specs.declared.Set.the-variants as set
 -- ---- parts that the code reads by themselves
 
 unfoldable pub list-of : Parser BoolExpr → Parser Members
-list-of p xs = bind (count xs) (read-members p)
+list-of p xs = parse-then (count xs) (read-members p)
 
 unfoldable pub pair-of : Parser BoolExpr → Parser (BoolExpr × BoolExpr)
 pair-of p xs = seq-parser (λ a b. (a, b)) p (λ a. p) xs
 
 unfoldable pub comparison-of : Parser IntExpr → Parser BoolExpr
-comparison-of q xs = bind (up-to 5 4 xs) (λ o r. seq-parser (Cmp (op-at o)) q (λ a. q) r)
+comparison-of q xs = parse-then (up-to 5 4 xs) (λ o r. seq-parser (Cmp (op-at o)) q (λ a. q) r)
 
 -- ---- positions
 
@@ -37,7 +37,7 @@ reads p at ws = read-at at (drop at ws) (p (drop at ws))
 
 -- the statements with their count, at a position: nothing may follow them
 unfoldable pub stmts-of : ℕ → ℕ → Parser (List Stmt)
-stmts-of nb ni xs = bind (count xs) (λ n. times n (read-stmt nb ni))
+stmts-of nb ni xs = parse-then (count xs) (λ n. times n (read-stmt nb ni))
 
 unfoldable pub stmts-at : ℕ → ℕ → ℕ → Parsed (List Stmt) → declared-set.Set
 stmts-at nb ni at (ok ss []) = set.Ok (record { bools = nb; ints = ni; stmts = length ss; at = at + 1 })

@@ -2,8 +2,8 @@
 use super::Read;
 use super::ints::read_int;
 use super::leaves::bool_too_deep;
-use super::leaves::pass_index;
-use super::leaves::pass_up_to;
+use super::leaves::check_index;
+use super::leaves::check_up_to;
 use words::Counted;
 use words::Cursor;
 use words::Next;
@@ -80,8 +80,8 @@ pub fn read_bool(words: &[i32], c: Cursor, bools: usize, ints: usize, left: usiz
                 return Read::Refused(bool_too_deep(w));
             }
             match w {
-                10 => pass_up_to(words, d, 1, 4),
-                11 => pass_index(words, d, bools),
+                10 => check_up_to(words, d, 1, 4),
+                11 => check_index(words, d, bools),
                 12 => read_list(words, d, bools, ints, left - 1),
                 13 => read_list(words, d, bools, ints, left - 1),
                 14 => read_bool(words, d, bools, ints, left - 1),

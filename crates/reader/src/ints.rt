@@ -1,8 +1,8 @@
 // Integer expressions: an expression and its terms call each other; the words left fall.
 use super::Read;
+use super::leaves::check_index;
+use super::leaves::check_value;
 use super::leaves::int_too_deep;
-use super::leaves::pass_index;
-use super::leaves::pass_value;
 use words::Counted;
 use words::Cursor;
 use words::Next;
@@ -42,8 +42,8 @@ pub fn read_int(words: &[i32], c: Cursor, ints: usize, left: usize) -> Read
                 return Read::Refused(int_too_deep(w));
             }
             match w {
-                20 => pass_value(words, d),
-                21 => pass_index(words, d, ints),
+                20 => check_value(words, d),
+                21 => check_index(words, d, ints),
                 22 => match d.up_to(words, 4096, 4) {
                     Counted::Refused(k) => Read::Refused(k),
                     Counted::Number(n, e) => read_terms(words, e, n, ints, left - 1),

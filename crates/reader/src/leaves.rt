@@ -1,4 +1,4 @@
-// Numbers that only have to be passed. Codes where no level is left.
+// Numbers that only have to be within their limits. Codes where no level is left.
 use super::Read;
 use words::Counted;
 use words::Cursor;
@@ -8,7 +8,7 @@ ghost use Rattle.words.specs.Parse.{up-to, index, number};
 ghost use Rattle.read.specs.Read.{kind-bool, kind-int, too-deep-bool, too-deep-int};
 ghost use Rattle.reader.specs.Position.{reads};
 
-pub fn pass_up_to(words: &[i32], c: Cursor, limit: usize, refusal: usize) -> Read
+pub fn check_up_to(words: &[i32], c: Cursor, limit: usize, refusal: usize) -> Read
     ensures { λ r. ⌜ r ≡ reads (up-to limit refusal) (c .at) (now (words .entry)) ⌝ }
 {
     match c.up_to(words, limit, refusal) {
@@ -17,7 +17,7 @@ pub fn pass_up_to(words: &[i32], c: Cursor, limit: usize, refusal: usize) -> Rea
     }
 }
 
-pub fn pass_index(words: &[i32], c: Cursor, n: usize) -> Read
+pub fn check_index(words: &[i32], c: Cursor, n: usize) -> Read
     ensures { λ r. ⌜ r ≡ reads (index n) (c .at) (now (words .entry)) ⌝ }
 {
     match c.index(words, n) {
@@ -26,7 +26,7 @@ pub fn pass_index(words: &[i32], c: Cursor, n: usize) -> Read
     }
 }
 
-pub fn pass_value(words: &[i32], c: Cursor) -> Read
+pub fn check_value(words: &[i32], c: Cursor) -> Read
     ensures { λ r. ⌜ r ≡ reads number (c .at) (now (words .entry)) ⌝ }
 {
     match c.value(words) {

@@ -1,5 +1,5 @@
-// Reading a set from its words: refusals 3 to 8 at the first offending word, or the counts and places that later passes start from.
-mod leaves; // leaves.rt: numbers that only have to be passed
+// Reading a set from its words: refusals 3 to 8 at the first offending word, or the counts and places that all later work starts from.
+mod leaves; // leaves.rt: numbers that only have to be within their limits
 mod ints; // ints.rt: integer expressions
 mod bools; // bools.rt: Boolean expressions
 mod domains; // domains.rt: domains

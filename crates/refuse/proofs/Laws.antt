@@ -7,7 +7,7 @@ use native.Mathlib.Numerals.{add-one}
 use lib.IntN.{ℤ, pos}
 use lib.ListN.{length, take, set, length-set}
 use lib.Seq.{take-suc-set, take-all}
-use Rattle.refuse.specs.Refuse.{zeros}
+use Rattle.laws.specs.Slices.{zeros}
 
 pub record Cleared (s₀ s : List ℤ) (i : ℕ) : Type 0 where
   pub size : length s ≡ length s₀

@@ -2,8 +2,9 @@
 use reader::Set;
 ghost use mathlib.Core.Path.{_≡_};
 ghost use lib.ListN.{length};
+ghost use Rattle.laws.specs.Slices.{zeros};
 ghost use Rattle.accept.specs.Accepted.{accepted};
-ghost use Rattle.refuse.specs.Refuse.{refusal-of, zeros};
+ghost use Rattle.refuse.specs.Refuse.{refusal-of};
 
 // Every word becomes 0.
 pub fn clear(s: &mut [i32])

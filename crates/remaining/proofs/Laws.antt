@@ -11,7 +11,7 @@ use lib.Dec.{ltb}
 use borrow.Author.Tests.{lt-ltb, le-ltb}
 use Rattle.laws.specs.Ints.{apart}
 use Rattle.laws.specs.Lists.{from, below}
-use Rattle.laws.specs.Slices.{Pushed, pushed-then, Stored, drop-up}
+use Rattle.laws.specs.Slices.{Pushed, pushed-then, Stored, drop-up, zeros}
 use Rattle.syntax.specs.Words.{max-set-words, min-work-words}
 use Rattle.syntax.specs.Syntax.{Stmt, Problem}
 use Rattle.words.specs.Parse.{Parsed, ok, refuse}
@@ -21,7 +21,6 @@ use Rattle.limits.specs.Limits.{check}
 use Rattle.fold.specs.Fold.{Fixed}
 use Rattle.fold.specs.Optimize.{Outcome, inconsistent, settled, optimize}
 use Rattle.answer.specs.Answer.{fixed-word}
-use Rattle.call.specs.Call.{zeros}
 use Rattle.statements.specs.Stages.{stmts-words, Folded, settled-short}
 use Rattle.walk.specs.DecodeExact.{has-part}
 use Rattle.settle.specs.Settle.{settling-of, settling-checked, settling-read, settling, Holds, Left, Settle-post}

@@ -7,13 +7,13 @@ use lib.IntN.{ℤ}
 use lib.Dec.{ltb}
 use lib.ListN.{length, take, drop}
 use Rattle.laws.specs.Lists.{below}
+use Rattle.laws.specs.Slices.{zeros}
 use Rattle.syntax.specs.Syntax.{Stmt, Problem}
 use Rattle.words.specs.Parse.{ok}
 use Rattle.read.specs.Read.{read-set}
 use Rattle.fold.specs.Fold.{Fixed}
 use Rattle.fold.specs.Optimize.{settled, optimize}
 use Rattle.answer.specs.Answer.{fixed-word}
-use Rattle.call.specs.Call.{zeros}
 use Rattle.statements.specs.Stages.{stmts-words}
 use Rattle.settle.specs.Settle.{settling}
 use Rattle.settle.specs.declared.Settling.{Settling}

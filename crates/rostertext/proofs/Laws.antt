@@ -11,6 +11,7 @@ use lib.ListN.{length, take, drop, getD, length-drop, length-replicate}
 use lib.Seq.{sets, sets-eq, length-sets, take-suc, take-all, take-append-seam, length-take-le}
 use borrow.Author.Tests.{ne-eqb, eq-eqb, lt-ltb, le-ltb}
 use Rattle.laws.specs.Ints.{apart}
+use Rattle.laws.specs.Slices.{zeros}
 use Rattle.decimal.specs.Bytes.{comma, line-feed}
 use Rattle.decimal.specs.Decimal.{print-natural}
 use Rattle.decimal.specs.Puts.{Puts, puts-then, puts-as, text-result}
@@ -19,7 +20,6 @@ use Rattle.input.specs.Input.{fill, filled, InWords, Filled, words-of, words-af
 use Rattle.input.specs.Room.{few-words}
 use Rattle.input.specs.declared.Words.{Words}
 use Rattle.input.specs.declared.Words.the-variants as read
-use Rattle.refuse.specs.Refuse.{zeros}
 use Rattle.evaluate.specs.Contracts.{Checks}
 use Rattle.evaluate.specs.declared.Checked.{Checked}
 use Rattle.rostertext.specs.RosterText.{values-key, unread-line, print-numbered, print-checked, feed-step, last-feed, values-of, print-read, check-lines, check-text}

@@ -5,8 +5,8 @@ use Prim.Native.Nat.{ℕ, _≤_, min}
 use lib.IntN.{ℤ}
 use lib.ListN.{length, take}
 use lib.Seq.{sets}
+use Rattle.laws.specs.Slices.{zeros}
 use Rattle.decimal.specs.Puts.{Puts}
-use Rattle.refuse.specs.Refuse.{zeros}
 use Rattle.rostertext.specs.RosterText.{check-lines, check-text}
 
 -- the bytes of a text, as many as there is room for, and how many these are

@@ -11,7 +11,7 @@ use mir.Syntax.{w32}
 use mir.Val.{SFits, ofZ, toZ}
 use mir.Facts.{toZ-ofZ}
 use Rattle.laws.specs.Order.{is-eqZ, not-eqZ}
-use Rattle.laws.specs.Lists.{keep-if, filter}
+use Rattle.laws.specs.Lists.{keep-if, select}
 use Rattle.syntax.specs.Words.{star-word}
 use Rattle.tables.specs.Tables.{Row}
 use Rattle.rows.specs.Rows.{rows-of, row-at}
@@ -29,7 +29,7 @@ module _ (s : List ℤ) (a n i : ℕ) (f : a + n ≤ length s) where
   values-end h = rw (row-done n a i s f h) refl
 
   module _ (h : i < n) (fw : SFits w32 (getD s (a + i) (pos 0))) where
-    values-step : from i ≡ length (keep-if (is-value (getD s (a + i) (pos 0))) (getD s (a + i) (pos 0)) (filter is-value (drop (i + 1) (row-at n a s))))
+    values-step : from i ≡ length (keep-if (is-value (getD s (a + i) (pos 0))) (getD s (a + i) (pos 0)) (select is-value (drop (i + 1) (row-at n a s))))
     unfolding values-in
     values-step = rw (row-from n a i s f h) refl
 
@@ -58,7 +58,7 @@ module _ (n k at : ℕ) (s : List ℤ) where
         let z : suc (j - 1) ≡ j = omega arith in
         drop-cons R (j - 1) [] q ∙ rw (row-is n k (drop at s) (j - 1) (omega arith), z, drop-drop ((j - 1) * n) at s) refl
 
-    counted : (f : ℕ → Bool) (t : Bool) → f (values-in (row-at n (at + (j - 1) * n) s)) ≡ t → count-rows f (drop (j - 1) R) ≡ length (keep-if t (row-at n (at + (j - 1) * n) s) (filter (λ r. f (values-in r)) (drop j R)))
+    counted : (f : ℕ → Bool) (t : Bool) → f (values-in (row-at n (at + (j - 1) * n) s)) ≡ t → count-rows f (drop (j - 1) R) ≡ length (keep-if t (row-at n (at + (j - 1) * n) s) (select (λ r. f (values-in r)) (drop j R)))
     unfolding count-rows
     counted f t e = rw (row-here, e) refl
 

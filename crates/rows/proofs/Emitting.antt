@@ -13,8 +13,8 @@ use borrow.Author.Tests.{ltb-true}
 use mir.Syntax.{w32}
 use mir.Val.{SFits, ofZ, toZ}
 use mir.Facts.{toZ-ofZ}
-use Rattle.laws.specs.Lists.{filter, flat, flat-append}
-use Rattle.laws.specs.Writes.{cap, Wrote, wrote-none, wrote-length, wrote-low, wrote-then, wrote-to}
+use Rattle.laws.specs.Lists.{select, flat, flat-append}
+use Rattle.laws.specs.Writes.{cap, Wrote, wrote-none, wrote-length, wrote-low, wrote-then, wrote-to, Open}
 use Rattle.syntax.specs.Words.{star-word}
 use Rattle.syntax.specs.Syntax.{Domain, enumerate, domain-of}
 use Rattle.clauses.specs.Clause.{LinearLit, clause}
@@ -25,7 +25,7 @@ use Rattle.rows.specs.declared.Best.the-variants.{Nothing, Value}
 use Rattle.rows.specs.Rows.{rows-of}
 use Rattle.rows.specs.Columns.{word, vars-of}
 use Rattle.rows.specs.Next.{next-of, Holds}
-use Rattle.rows.specs.Emit.{comparison, linears-words, Room, Starless, group-of}
+use Rattle.rows.specs.Emit.{comparison, linears-words, Starless, group-of}
 use Rattle.rows.proofs.Next.{all-left, left-none, left-next}
 
 -- ---- one comparison
@@ -44,8 +44,8 @@ neg-is x f h = toZ-ofZ (neg-fits x f h) ∙ rw (toZ-ofZ f, +ℤ-idl (negℤ x))
 pub put-one : (out : List ℤ) (o : ℕ) (w z : ℤ) → z ≡ w → o < length out → length out ≤ cap → Wrote out o (w ∷ []) (set out o z) (o + 1)
 put-one out o w z e h l = record { words = ap (set out o) e; at = omega arith }
 
-pub room-after : {out out' vs : List ℤ} {o o' : ℕ} → Room out o → Wrote out o vs out' o' → Room out' o'
-room-after r w = record { place = wrote-low w; part = omega (arith, wrote-length w, r .part) }
+pub room-after : {out out' vs : List ℤ} {o o' : ℕ} → Open out o → Wrote out o vs out' o' → Open out' o'
+room-after r w = record { low = wrote-low w; room = omega (arith, wrote-length w, r .room) }
 
 -- a word moves the place
 pub wrote-moves : {s s' us : List ℤ} {o o' : ℕ} {w : ℤ} → Wrote s o (w ∷ us) s' o' → o < cap → o < o'
@@ -83,12 +83,12 @@ linears-append as₁ bs = ap flat (map-append as₁ bs) ∙ flat-append (map lin
 
 pub record Prefix (out₀ : List ℤ) (o : ℕ) (t cs : List ℤ) (p : ℕ) (out : List ℤ) (q j : ℕ) : Type 0 where
   pub few : j ≤ p
-  pub room : Room out q
+  pub room : Open out q
   pub same : length out ≡ length out₀
   pub words : (n : ℕ) (ds : List Domain) → p ≤ n → Wrote out₀ o (linears-words (differs (vars-of n cs) ds j t)) out q
 
-pub prefix-start : (out : List ℤ) (o : ℕ) (t cs : List ℤ) (p : ℕ) → Room out o → Prefix out o t cs p out o 0
-prefix-start out o t cs p r = record { few = omega arith; room = r; same = refl; words = λ n ds h. unfold differs in wrote-none out o (r .place) }
+pub prefix-start : (out : List ℤ) (o : ℕ) (t cs : List ℤ) (p : ℕ) → Open out o → Prefix out o t cs p out o 0
+prefix-start out o t cs p r = record { few = omega arith; room = r; same = refl; words = λ n ds h. unfold differs in wrote-none out o (r .low) }
 
 pub prefix-next : (out₀ : List ℤ) (o : ℕ) (t cs : List ℤ) (p : ℕ) (out : List ℤ) (q j : ℕ) (out' : List ℤ) (q' k : ℕ) (op x : ℤ) → length out₀ ≤ cap → j < p → Prefix out₀ o t cs p out q j
     → k ≡ natAbs (word cs (3 * j)) → op ≡ pos 1 → x ≡ getD t j (pos 0) → Wrote out q (comparison op k x) out' q' → Prefix out₀ o t cs p out' q' (j + 1)
@@ -120,27 +120,27 @@ module _ (n m i : ℕ) (t : List ℤ) (out₀ : List ℤ) (o v : ℕ) where
 
   -- the values up to last are written: whatever writes the rest writes the whole
   pub record Values (last : ℤ) (out : List ℤ) (q : ℕ) : Type 0 where
-    pub room : Room out q
+    pub room : Open out q
     pub on : o ≤ q
     pub same : length out ≡ length out₀
-    pub rest : (ds : List ℤ) → Holds ds i g → (out' : List ℤ) (q' : ℕ) → Wrote out q (equals (after (takes i g) last ds)) out' q' → Wrote out₀ o (equals (filter (takes i g) ds)) out' q'
+    pub rest : (ds : List ℤ) → Holds ds i g → (out' : List ℤ) (q' : ℕ) → Wrote out q (equals (after (takes i g) last ds)) out' q' → Wrote out₀ o (equals (select (takes i g) ds)) out' q'
 
   -- z is x, as the code has it
   pub values-next : (last x z y op : ℤ) (out out' : List ℤ) (q q' : ℕ) → z ≡ x → next-of last i g ≡ Value x → y ≡ x → op ≡ pos 0 → Wrote out q (comparison op v y) out' q' → Values last out q → Values z out' q'
   values-next last x z y op out out' q q' ez e ey eo w r = record {
     room = room-after (r .room) w;
-    on = omega (arith, r .on, wrote-on w (r .room .place));
+    on = omega (arith, r .on, wrote-on w (r .room .low));
     same = wrote-length w ∙ r .same;
     rest = λ ds a out'' q'' u.
         let f : after (takes i g) last ds ≡ z ∷ after (takes i g) z ds = rw ez (left-next last i g ds x (a .rising) (a .inside) e) in
         let c : comparison op v y ++ equals (after (takes i g) z ds) ≡ equals (after (takes i g) last ds) = rw (eo, ey ∙ sym ez, f) refl in
-        r .rest ds a out'' q'' (wrote-to c (wrote-then (r .room .part) w u));
+        r .rest ds a out'' q'' (wrote-to c (wrote-then (r .room .room) w u));
   }
 
-  pub values-end : (last : ℤ) (out : List ℤ) (q : ℕ) → next-of last i g ≡ Nothing → Values last out q → (ds : List ℤ) → Holds ds i g → Wrote out₀ o (equals (filter (takes i g) ds)) out q
-  values-end last out q e r ds a = r .rest ds a out q (wrote-to (ap equals (sym (left-none last i g ds e))) (wrote-none out q (r .room .place)))
+  pub values-end : (last : ℤ) (out : List ℤ) (q : ℕ) → next-of last i g ≡ Nothing → Values last out q → (ds : List ℤ) → Holds ds i g → Wrote out₀ o (equals (select (takes i g) ds)) out q
+  values-end last out q e r ds a = r .rest ds a out q (wrote-to (ap equals (sym (left-none last i g ds e))) (wrote-none out q (r .room .low)))
 
-pub values-start : (n m i : ℕ) (t : List ℤ) → length t ≡ m * n → i < n → Starless t → (out : List ℤ) (o v : ℕ) → Room out o → Values n m i t out o v star-word out o
+pub values-start : (n m i : ℕ) (t : List ℤ) → length t ≡ m * n → i < n → Starless t → (out : List ℤ) (o v : ℕ) → Open out o → Values n m i t out o v star-word out o
 values-start n m i t l h s out o v r = record { room = r; on = omega arith; same = refl; rest = λ ds a out' q' w. wrote-to (ap (equals n m i t out o v) (all-left n m i t l h s ds)) w }
 
 -- ---- a clause
@@ -164,7 +164,7 @@ module _ (cs : List ℤ) (ds : List Domain) (n m p i : ℕ) (t : List ℤ) (l : 
   vs = vars-of n cs
 
   abbrev E : List ℤ
-  E = filter (takes i (rows-of n m t)) (enumerate (domain-of ds i))
+  E = select (takes i (rows-of n m t)) (enumerate (domain-of ds i))
 
   abbrev v : ℕ
   v = natAbs (word cs (3 * i))

@@ -7,7 +7,7 @@ use native.Mathlib.Omega.{arith}
 use native.Mathlib.Numerals.{add-one}
 use lib.IntN.{ℤ}
 use lib.ListN.{length, length-append}
-use Rattle.laws.specs.Lists.{all, keep-if, filter, flat, flat-append}
+use Rattle.laws.specs.Lists.{all, keep-if, select, flat, flat-append}
 use Rattle.laws.specs.Writes.{cap, Wrote, wrote-none, wrote-then, wrote-to, sets-out}
 use Rattle.syntax.specs.Syntax.{Domain, enumerate, domain-of}
 use Rattle.clauses.specs.Clause.{Clause}
@@ -26,7 +26,7 @@ clauses-append as₁ bs = ap flat (map-append as₁ bs) ∙ flat-append (map cla
 -- ---- clauses after clauses
 
 pub clauses-none : {out : List ℤ} {o c : ℕ} → Behind out o c → Clauses out o c [] out o c
-clauses-none {out} {o} b = record { words = wrote-none out o (b .room .place); count = λ h. omega arith; low = b .low }
+clauses-none {out} {o} b = record { words = wrote-none out o (b .room .low); count = λ h. omega arith; low = b .low }
 
 pub clauses-one : {out out' : List ℤ} {o o' c : ℕ} (d : Clause) → c ≤ o → o < o' → Wrote out o (clause-words d) out' o' → Clauses out o c (d ∷ []) out' o' (c + 1)
 clauses-one d h l w = record { words = wrote-to (sym (append-nil (clause-words d))) w; count = λ k. refl; low = omega arith }
@@ -46,7 +46,7 @@ clauses-to {out} {out'} {o} {o'} {c} {c'} e w = subst (λ (zs : List Clause). Cl
 -- too long: nothing more is written
 pub clauses-stop : {out : List ℤ} {o c : ℕ} → Behind out o c → o ≡ cap → (xs : List Clause) → Clauses out o c xs out o c
 clauses-stop {out} {o} b e xs = record {
-  words = record { words = sym (sets-out out o (clauses-words xs) (omega (arith, b .room .part))); at = omega arith };
+  words = record { words = sym (sets-out out o (clauses-words xs) (omega (arith, b .room .room))); at = omega arith };
   count = λ h. absurd (omega arith);
   low = b .low;
 }
@@ -65,21 +65,21 @@ module _ (out₀ : List ℤ) (o k : ℕ) (whole rest : List Domain → List Clau
   pub loop-next : (here later : List Domain → List Clause) (Fit' : List Domain → Type 0) (out' : List ℤ) (q' c' : ℕ) → ((ds : List Domain) → rest ds ≡ here ds ++ later ds) → ((ds : List Domain) → Fit ds → Fit' ds)
       → length out' ≡ length out → Emits out q c here Fit' out' q' c' → Loop out₀ o k whole later Fit out' q' c'
   loop-next here later Fit' out' q' c' e g l w = record {
-    behind = record { room = record { place = w .place; part = omega (arith, v .behind .room .part) }; low = w .low };
+    behind = record { room = record { low = w .place; room = omega (arith, v .behind .room .room) }; low = w .low };
     same = l ∙ v .same;
-    to = λ ds f out'' q'' c'' u. v .to ds f out'' q'' c'' (clauses-to (sym (e ds)) (clauses-then (v .behind .room .part) (w .clauses ds (g ds f)) u));
+    to = λ ds f out'' q'' c'' u. v .to ds f out'' q'' c'' (clauses-to (sym (e ds)) (clauses-then (v .behind .room .room) (w .clauses ds (g ds f)) u));
   }
 
   pub loop-end : ((ds : List Domain) → rest ds ≡ []) → Emits out₀ o k whole Fit out q c
   loop-end e = record {
-    place = v .behind .room .place;
+    place = v .behind .room .low;
     low = v .behind .low;
     clauses = λ ds f. v .to ds f out q c (clauses-to (sym (e ds)) (clauses-none (v .behind)));
   }
 
   pub loop-stop : q ≡ cap → Emits out₀ o k whole Fit out q c
   loop-stop e = record {
-    place = v .behind .room .place;
+    place = v .behind .room .low;
     low = v .behind .low;
     clauses = λ ds f. v .to ds f out q c (clauses-stop (v .behind) e (rest ds));
   }
@@ -87,26 +87,26 @@ module _ (out₀ : List ℤ) (o k : ℕ) (whole rest : List Domain → List Clau
 -- ---- one column
 
 module _ (vs : List ℕ) (p i : ℕ) (g : Row × List Row) (Fit : List Domain → Type 0) where
-  column-whole : (ds : List Domain) → length (filter (takes i (g .1)) (enumerate (domain-of ds i))) ≡ length (enumerate (domain-of ds i)) → column-clauses vs ds p i 1 g ≡ []
+  column-whole : (ds : List Domain) → length (select (takes i (g .1)) (enumerate (domain-of ds i))) ≡ length (enumerate (domain-of ds i)) → column-clauses vs ds p i 1 g ≡ []
   unfolding column-clauses
   column-whole ds e = let z : all (takes i (g .1)) (enumerate (domain-of ds i)) ≡ true = whole-yes (takes i (g .1)) (enumerate (domain-of ds i)) e in rw z refl
 
-  column-one : (ds : List Domain) → (length (filter (takes i (g .1)) (enumerate (domain-of ds i))) ≡ length (enumerate (domain-of ds i)) → ⊥) → column-clauses vs ds p i 1 g ≡ column-clause vs ds p i g ∷ []
+  column-one : (ds : List Domain) → (length (select (takes i (g .1)) (enumerate (domain-of ds i))) ≡ length (enumerate (domain-of ds i)) → ⊥) → column-clauses vs ds p i 1 g ≡ column-clause vs ds p i g ∷ []
   unfolding column-clauses
   column-one ds e = let z : all (takes i (g .1)) (enumerate (domain-of ds i)) ≡ false = whole-no (takes i (g .1)) (enumerate (domain-of ds i)) e in rw z refl
 
   -- c: the values of the group; size: of the domain
   pub column-none : (out : List ℤ) (o k c size : ℕ) → Behind out o k → c ≡ size
-      → ((ds : List Domain) → Fit ds → (c ≡ length (filter (takes i (g .1)) (enumerate (domain-of ds i)))) × (length (enumerate (domain-of ds i)) ≡ size))
+      → ((ds : List Domain) → Fit ds → (c ≡ length (select (takes i (g .1)) (enumerate (domain-of ds i)))) × (length (enumerate (domain-of ds i)) ≡ size))
       → Emits out o k (λ ds. column-clauses vs ds p i 1 g) Fit out o k
   column-none out o k c size b e f = record {
-    place = b .room .place;
+    place = b .room .low;
     low = b .low;
     clauses = λ ds a. clauses-to (sym (column-whole ds (sym (f ds a .0) ∙ e ∙ sym (f ds a .1)))) (clauses-none b);
   }
 
   pub column-some : (out out' : List ℤ) (o k c size q : ℕ) → Behind out o k → (c ≡ size → ⊥) → o < q → q ≤ cap
-      → ((ds : List Domain) → Fit ds → (c ≡ length (filter (takes i (g .1)) (enumerate (domain-of ds i)))) × (length (enumerate (domain-of ds i)) ≡ size))
+      → ((ds : List Domain) → Fit ds → (c ≡ length (select (takes i (g .1)) (enumerate (domain-of ds i)))) × (length (enumerate (domain-of ds i)) ≡ size))
       → ((ds : List Domain) → Fit ds → Wrote out o (clause-words (column-clause vs ds p i g)) out' q)
       → Emits out o k (λ ds. column-clauses vs ds p i 1 g) Fit out' q (k + 1)
   column-some out out' o k c size q b n l h f w = record {

@@ -7,7 +7,7 @@ use lib.IntN.{ℤ, pos, negℤ}
 use lib.Signed.{ltZ}
 use lib.ListN.{length, take, drop}
 use Rattle.laws.specs.Lists.{all, flat}
-use Rattle.laws.specs.Writes.{cap, Wrote}
+use Rattle.laws.specs.Writes.{cap, Wrote, Open}
 use Rattle.syntax.specs.Words.{max-count, star-word}
 use Rattle.syntax.specs.Syntax.{Domain, enumerate, domain-of, Cell}
 use Rattle.clauses.specs.Clause.{LinearLit, Clause}
@@ -26,11 +26,6 @@ linears-words ks = flat (map linear-words ks)
 
 abbrev pub clauses-words : List Clause → List ℤ
 clauses-words cs = flat (map clause-words cs)
-
--- the output part and the place
-pub record Room (out : List ℤ) (o : ℕ) : Type 0 where
-  pub place : o ≤ cap
-  pub part : length out ≤ cap
 
 -- from o on, behind c clauses, the clauses cs. The count is exact where the answer is not too long
 pub record Clauses (out : List ℤ) (o c : ℕ) (cs : List Clause) (out' : List ℤ) (o' c' : ℕ) : Type 0 where
@@ -74,7 +69,7 @@ Fits cs i rows ds = Holds (enumerate (domain-of ds i)) i rows × (length (enumer
 
 -- a place behind c clauses, not too far
 pub record Behind (out : List ℤ) (o c : ℕ) : Type 0 where
-  pub room : Room out o
+  pub room : Open out o
   pub low : c ≤ o
 
 -- m rows at `at`, and the columns' words

@@ -15,7 +15,7 @@ use borrow.Author.Tests.{leb-true, lt-ltb, ne-eqb}
 use Rattle.laws.specs.Bools.{never, and-l, and-r, and-i, or-no-l, or-no-r}
 use Rattle.laws.specs.Ints.{eqZ}
 use Rattle.laws.specs.Order.{eqZ-refl}
-use Rattle.laws.specs.Lists.{any, all, keep-if, filter, flat, any-append, all-append}
+use Rattle.laws.specs.Lists.{any, all, keep-if, select, flat, any-append, all-append}
 use Rattle.laws.specs.Slices.{Has, has-front, has-back}
 use Rattle.syntax.specs.Words.{max-value, star-word}
 use Rattle.syntax.specs.Syntax.{Cell, star, value, encode-cell}
@@ -90,11 +90,11 @@ starless-stand (cs ∷ rows) h s =
 
 -- ---- how many values a row has
 
-pub values-stand : (cs : List Cell) → all small cs ≡ true → values-in (map encode-cell cs) ≡ length (filter (λ c. not (is-star c)) cs)
+pub values-stand : (cs : List Cell) → all small cs ≡ true → values-in (map encode-cell cs) ≡ length (select (λ c. not (is-star c)) cs)
 unfolding values-in
 values-stand [] h = refl
 values-stand (c ∷ cs) h = go (is-star c) (star-cell c (and-l (small c) (all small cs) h)) (values-stand cs (and-r (small c) (all small cs) h))
   where
-    go : (t : Bool) → eqZ (encode-cell c) star-word ≡ t → values-in (map encode-cell cs) ≡ length (filter (λ c. not (is-star c)) cs) → values-in (map encode-cell (c ∷ cs)) ≡ length (keep-if (not t) c (filter (λ c. not (is-star c)) cs))
+    go : (t : Bool) → eqZ (encode-cell c) star-word ≡ t → values-in (map encode-cell cs) ≡ length (select (λ c. not (is-star c)) cs) → values-in (map encode-cell (c ∷ cs)) ≡ length (keep-if (not t) c (select (λ c. not (is-star c)) cs))
     go true e q = rw e q
     go false e q = rw e (ap suc q)

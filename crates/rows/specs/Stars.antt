@@ -5,7 +5,7 @@ use Prim.Native.Nat.{ℕ, zero, suc}
 use lib.IntN.{ℤ}
 use lib.ListN.{length}
 use Rattle.laws.specs.Ints.{eqZ}
-use Rattle.laws.specs.Lists.{filter}
+use Rattle.laws.specs.Lists.{select}
 use Rattle.syntax.specs.Words.{star-word}
 use Rattle.tables.specs.Tables.{Row}
 
@@ -13,7 +13,7 @@ abbrev pub is-value : ℤ → Bool
 is-value w = not (eqZ w star-word)
 
 unfoldable pub values-in : Row → ℕ
-values-in r = length (filter is-value r)
+values-in r = length (select is-value r)
 
 -- a row of stars only; of one equality; of more
 abbrev pub is-free : ℕ → Bool
@@ -32,4 +32,4 @@ is-longer (suc (suc n)) = true
 
 -- how many rows have such a number of values
 unfoldable pub count-rows : (ℕ → Bool) → List Row → ℕ
-count-rows f rows = length (filter (λ r. f (values-in r)) rows)
+count-rows f rows = length (select (λ r. f (values-in r)) rows)

@@ -1,7 +1,7 @@
 -- What `accept` and `optimize` answer is what the definition says of the set; and what they leave in the work slice is ready for numbering.
 use mathlib.Core.Path.{_≡_, refl, sym, ap, _∙_, subst}
 use mathlib.Core.Bool.{Bool, true, false}
-use mathlib.Core.Option.{Option, none as nothing, some}
+use mathlib.Core.Option.{Option, none, some}
 use mathlib.Core.List.{List, [], _++_}
 use Prim.Native.Nat.{ℕ, zero, suc, _+_, _≤_, _<_}
 use native.Mathlib.Omega.{arith}
@@ -9,7 +9,7 @@ use lib.IntN.{ℤ, pos}
 use lib.ListN.{length, take, drop, getD, take-append-drop, length-append, length-replicate, getD-replicate, length-drop, List·getD-append}
 use lib.Seq.{length-sets, getD-drop, drop-drop, drop-at, length-take-le, take-append-le, drop-append-le}
 use borrow.Author.Tests.{ltb-false}
-use Rattle.laws.specs.Slices.{Has}
+use Rattle.laws.specs.Slices.{Has, zeros}
 use Rattle.syntax.specs.Words.{max-set-words, min-work-words}
 use Rattle.syntax.specs.Syntax.{Stmt, Problem}
 use Rattle.words.specs.Parse.{ok}
@@ -24,7 +24,6 @@ use Rattle.fold.specs.Table.{state-num}
 use Rattle.fold.specs.Optimize.{Outcome, inconsistent, settled, optimize}
 use Rattle.propagate.specs.Optimized.{Settles, outcome}
 use Rattle.answer.specs.Answer.{fixed-word}
-use Rattle.call.specs.Call.{zeros}
 use Rattle.walk.specs.Item.{nat, bool-at, int-entry}
 use Rattle.walk.specs.Decode.{read-part}
 use Rattle.statements.specs.Whole.{Empty}
@@ -153,7 +152,7 @@ module _ (ws work : List ℤ) where
 -- ---- folding and propagation
 
 word-of : (k : Option Bool) → pos (state-num k) ≡ fixed-word k
-word-of nothing = refl
+word-of none = refl
 word-of (some false) = refl
 word-of (some true) = refl
 

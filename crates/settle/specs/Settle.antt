@@ -6,6 +6,7 @@ use Prim.Native.Nat.{ℕ, zero, suc, _+_, _≤_}
 use lib.IntN.{ℤ}
 use lib.Dec.{ltb}
 use lib.ListN.{length, take, drop}
+use Rattle.laws.specs.Slices.{zeros}
 use Rattle.syntax.specs.Words.{max-set-words, min-work-words}
 use Rattle.syntax.specs.Syntax.{Stmt, Problem, encode}
 use Rattle.words.specs.Parse.{Parsed, ok, refuse}
@@ -15,7 +16,6 @@ use Rattle.limits.specs.Limits.{check}
 use Rattle.accept.specs.Accepted.{table-after}
 use Rattle.fold.specs.Fold.{Fixed}
 use Rattle.fold.specs.Optimize.{Outcome, inconsistent, settled, optimize}
-use Rattle.call.specs.Call.{zeros}
 use Rattle.statements.specs.Whole.{Empty}
 use Rattle.statements.specs.Stages as ready
 use Rattle.settle.specs.declared.Settling.{Settling}

@@ -7,7 +7,8 @@ use native.Mathlib.Omega.{arith}
 use lib.IntN.{ℤ, pos}
 use lib.ListN.{length, take, length-append, length-replicate}
 use lib.Seq.{length-sets, length-take-le}
-use Rattle.call.specs.Call.{Result, compiled, contradiction, refused, zeros}
+use Rattle.laws.specs.Slices.{zeros}
+use Rattle.call.specs.Call.{Result, compiled, contradiction, refused}
 use Rattle.input.specs.ReadText.{read-text}
 use Rattle.input.specs.Input.{words-of, words-after}
 use Rattle.input.specs.Room.{few-words}

@@ -98,7 +98,7 @@ pub data Good : Item → Type 0 where
 
 -- a piece that goes on, or none
 pub data Piece : List ℕ → Type 0 where
-  none : Piece []
+  piece-nil : Piece []
   some : {c : List ℕ} → is-empty c ≡ false → avoids space c ≡ true → ends-open c ≡ true → Piece c
 
 state-put : {Q : Page} {T : List (List ℕ)} {c : List ℕ} (t : List ℕ) → avoids line-feed t ≡ true → State Q T c → State (put t Q) T (c ++ t)
@@ -124,7 +124,7 @@ state-turn {Q} {T} {c} s = record {
 }
 
 glues-piece : {T : List (List ℕ)} {pre c : List ℕ} {done : List (List ℕ)} → Glues T pre done → Piece c → Glues (T ++ tokens c) (pre ++ c) done
-glues-piece {T} {pre} {done = done} g none = record { next = λ us ws y e. ap (λ (x : List (List ℕ)). glued (x ++ us)) (ap (λ x. T ++ x) tokens-none ∙ append-nil T) ∙ g .next us ws y e ∙ ap (λ (x : List ℕ). done ++ ((x ++ y) ∷ ws)) (sym (append-nil pre)) }
+glues-piece {T} {pre} {done = done} g piece-nil = record { next = λ us ws y e. ap (λ (x : List (List ℕ)). glued (x ++ us)) (ap (λ x. T ++ x) tokens-none ∙ append-nil T) ∙ g .next us ws y e ∙ ap (λ (x : List ℕ). done ++ ((x ++ y) ∷ ws)) (sym (append-nil pre)) }
 glues-piece {T} {pre} {c} {done} g (some h k o) = record {
   next = λ us ws y e.
       ap (λ (x : List (List ℕ)). glued ((T ++ x) ++ us)) (tokens-one c h k) ∙ ap glued (append-assoc T (c ∷ []) us) ∙ g .next (c ∷ us) ws (c ++ y) (glued-open c us ws y o e) ∙ ap (λ (x : List ℕ). done ++ (x ∷ ws)) (sym (append-assoc pre c y));
@@ -154,7 +154,7 @@ unfolding put
 put-bare t Q = refl
 
 piece-clear : {c : List ℕ} → Piece c → avoids space c ≡ true
-piece-clear none = refl
+piece-clear piece-nil = refl
 piece-clear (some h k o) = k
 
 module _ {done : List (List ℕ)} where
@@ -229,14 +229,14 @@ module _ {P : Page} {done : List (List ℕ)} (r : Read P done) where
   bare-ten b = let l = r .long in omega (arith, length-drop 10 (P .line), ap length (r .start b))
 
   pub item-read : {i : Item} → Good i → Read (place-item i P) (done ++ (flat i ∷ []))
-  item-read (last {t} p o) = subst (λ (X : Page). Read X (done ++ (flat (t ∷ []) ∷ []))) (sym (place-begun t [] P bare-ten)) (parts-read (last p o) (begun-state _) before-glues none)
-  item-read (more {t} {ts} p o g) = subst (λ (X : Page). Read X (done ++ (flat (t ∷ ts) ∷ []))) (sym (place-begun t ts P bare-ten)) (parts-read (more p o g) (begun-state _) before-glues none)
+  item-read (last {t} p o) = subst (λ (X : Page). Read X (done ++ (flat (t ∷ []) ∷ []))) (sym (place-begun t [] P bare-ten)) (parts-read (last p o) (begun-state _) before-glues piece-nil)
+  item-read (more {t} {ts} p o g) = subst (λ (X : Page). Read X (done ++ (flat (t ∷ ts) ∷ []))) (sym (place-begun t ts P bare-ten)) (parts-read (more p o g) (begun-state _) before-glues piece-nil)
 
 pub data AllGood : List Item → Type 0 where
-  none : AllGood []
+  good-nil : AllGood []
   more : {i : Item} {is : List Item} → Good i → AllGood is → AllGood (i ∷ is)
 
 pub items-read : {is : List Item} → AllGood is → {P : Page} {done : List (List ℕ)} → Read P done → Read (place-items is P) (done ++ map flat is)
 unfolding place-items
-items-read none {P} {done} r = read-as (sym (append-nil done)) r
+items-read good-nil {P} {done} r = read-as (sym (append-nil done)) r
 items-read (more {i} {is} g a) {P} {done} r = read-as (append-assoc done (flat i ∷ []) (map flat is)) (items-read a (item-read r g))

@@ -6,7 +6,7 @@ use Prim.Native.Nat.{ℕ}
 use lib.IntN.{ℤ}
 use lib.Dec.{eqb}
 use lib.ListN.{length, take, drop}
-use Rattle.laws.specs.Lists.{any, all, filter}
+use Rattle.laws.specs.Lists.{any, all, select}
 use Rattle.decimal.specs.Bytes.{comma, colon, line-feed}
 use Rattle.decimal.specs.Decimal.{is-empty}
 use Rattle.input.specs.ReadText.{split, join}
@@ -15,7 +15,7 @@ use Rattle.page.specs.Sheet.{space, margin}
 
 -- what spaces part
 unfoldable pub tokens : List ℕ → List (List ℕ)
-tokens bs = filter (λ t. not (is-empty t)) (split space bs)
+tokens bs = select (λ t. not (is-empty t)) (split space bs)
 
 -- the last byte is a comma
 unfoldable pub ends-open : List ℕ → Bool
@@ -37,8 +37,8 @@ is-comparison t = any (eqb colon) t
 -- the literals, then the comparisons
 unfoldable pub read-items : List (List ℕ) → Option (List ℤ)
 read-items is =
-    let ls = filter (λ t. not (is-comparison t)) is in
-    let ks = filter is-comparison is in
+    let ls = select (λ t. not (is-comparison t)) is in
+    let ks = select is-comparison is in
     join (headed (length ls) (read-integers ls)) (headed (length ks) (read-comparisons ks))
 
 -- ---- lines

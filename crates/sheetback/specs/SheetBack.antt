@@ -11,7 +11,7 @@ use lib.ListN.{length, take, drop, length-append, length-map, length-replicate, 
 use lib.Seq.{take-append-seam, drop-append-seam, take-append-le, drop-append-le, take-all}
 use borrow.Author.Tests.{leb-true, le-leb, eqb-false, ne-eqb, not-true}
 use Rattle.laws.specs.Bools.{and-l, and-r, and-i}
-use Rattle.laws.specs.Lists.{all, any, all-append, any-append, filter, flat, counted}
+use Rattle.laws.specs.Lists.{all, any, all-append, any-append, select, flat, counted}
 use Rattle.syntax.specs.Syntax.{encode-op}
 use Rattle.sums.specs.LinearSum.{linear-sum}
 use Rattle.clauses.specs.Clause.{BoolLit, LinearLit, linear, Clause, clause}
@@ -28,7 +28,7 @@ use Rattle.page.specs.Sheet.{space, spaces, Item, literal-item, pair-parts, in-
 use Rattle.page.specs.Placing.{flat-front, flat-pairs}
 use Rattle.page.specs.Widths.{natural-short}
 use Rattle.sheetback.specs.ReadSheet.{tokens, ends-open, glued, is-comparison, read-items, goes-on, line-tokens, Grouped, grouped, read-clauses, read-sheet}
-use Rattle.sheetback.specs.Tokens.{filter-append, tokens-pad, tokens-none, closed, open-append}
+use Rattle.sheetback.specs.Tokens.{select-append, tokens-pad, tokens-none, closed, open-append}
 use Rattle.sheetback.specs.Placed.{toks, toks-snoc, led, sound, Read, Plain, Good, AllGood, filled-append, items-read}
 
 -- ---- the items of a clause
@@ -199,13 +199,13 @@ body-comparison (linear o (linear-sum c ts)) =
     or-true false = refl
 
 module _ {A : Type 0} (text : A → List ℕ) (f : List ℕ → Bool) where
-  filter-all : ((a : A) → f (text a) ≡ true) → (ys : List A) → filter f (map text ys) ≡ map text ys
-  filter-all h [] = refl
-  filter-all h (a ∷ ys) = rw (h a, filter-all h ys) refl
+  select-all : ((a : A) → f (text a) ≡ true) → (ys : List A) → select f (map text ys) ≡ map text ys
+  select-all h [] = refl
+  select-all h (a ∷ ys) = rw (h a, select-all h ys) refl
 
-  filter-none : ((a : A) → f (text a) ≡ false) → (ys : List A) → filter f (map text ys) ≡ []
-  filter-none h [] = refl
-  filter-none h (a ∷ ys) = rw (h a, filter-none h ys) refl
+  select-none : ((a : A) → f (text a) ≡ false) → (ys : List A) → select f (map text ys) ≡ []
+  select-none h [] = refl
+  select-none h (a ∷ ys) = rw (h a, select-none h ys) refl
 
 map-append : {A B : Type 0} (f : A → B) (xs ys : List A) → map f (xs ++ ys) ≡ map f xs ++ map f ys
 map-append f [] ys = refl
@@ -219,8 +219,8 @@ unfolding read-items
 items-back ls ks =
     let zs : List ℤ = lits-words ls in
     let plain : List ℕ → Bool = λ t. not (is-comparison t) in
-    let a : filter plain (texts ls ks) ≡ map print-number zs = filter-append plain (map print-number zs) (map linear-body ks) ∙ rw (filter-all print-number plain (λ z. ap not (literal-plain z)) zs, filter-none linear-body plain (λ k. ap not (body-comparison k)) ks) (append-nil (map print-number zs)) in
-    let b : filter is-comparison (texts ls ks) ≡ map linear-body ks = filter-append is-comparison (map print-number zs) (map linear-body ks) ∙ rw (filter-none print-number is-comparison literal-plain zs, filter-all linear-body is-comparison body-comparison ks) refl in
+    let a : select plain (texts ls ks) ≡ map print-number zs = select-append plain (map print-number zs) (map linear-body ks) ∙ rw (select-all print-number plain (λ z. ap not (literal-plain z)) zs, select-none linear-body plain (λ k. ap not (body-comparison k)) ks) (append-nil (map print-number zs)) in
+    let b : select is-comparison (texts ls ks) ≡ map linear-body ks = select-append is-comparison (map print-number zs) (map linear-body ks) ∙ rw (select-none print-number is-comparison literal-plain zs, select-all linear-body is-comparison body-comparison ks) refl in
     rw (a, b, integers-back zs, comparisons-back ks, length-map zs print-number, lits-length ls, length-map ks linear-body) refl
 
 -- ---- a clause's lines
@@ -284,7 +284,7 @@ lits-good [] is g = g
 lits-good (z ∷ zs) is g = AllGood.more (literal-good z) (lits-good zs is g)
 
 linears-good : (ks : List LinearLit) → AllGood (map linear-item ks)
-linears-good [] = AllGood.none
+linears-good [] = AllGood.good-nil
 linears-good (k ∷ ks) = AllGood.more (linear-good k) (linears-good ks)
 
 flats-are : (ls : List BoolLit) (ks : List LinearLit) → map flat (items-of (clause ls ks)) ≡ texts ls ks

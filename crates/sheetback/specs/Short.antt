@@ -226,7 +226,7 @@ linear-sized (linear o (linear-sum c ts)) h =
     front-sized (head oz c) (pair-parts zs) (suc (suc (suc (length zs)))) (omega (arith, numbers-short (oz ∷ []) ho, numbers-short (c ∷ []) hc)) (pairs-small zs h2) (omega (arith, numbers-short (oz ∷ []) ho, numbers-short (c ∷ []) hc, numbers-short zs h2))
 
 pub data AllSized : List Item → ℕ → Type 0 where
-  none : AllSized [] 0
+  sized-nil : AllSized [] 0
   more : {i : Item} {is : List Item} {m n : ℕ} → Sized i m → AllSized is n → AllSized (i ∷ is) (m + n)
 
 sized-item : {P : Page} {C m : ℕ} (i : Item) → Tight P C → Sized i m → Tight (place-item i P) (C + 12 * m)
@@ -238,7 +238,7 @@ sized-item {P} {C} {m} i t s =
 
 sized-items : {is : List Item} {n : ℕ} → AllSized is n → {P : Page} {C : ℕ} → Tight P C → Tight (place-items is P) (C + 12 * n)
 unfolding place-items
-sized-items none {P} {C} t = tight-more (omega arith) t
+sized-items sized-nil {P} {C} t = tight-more (omega arith) t
 sized-items (more {i} {is} {m} {n} s a) {P} {C} t = tight-more (omega arith) (sized-items a (sized-item i t s))
 
 lits-sized : (zs : List ℤ) {is : List Item} {n : ℕ} → all fitting zs ≡ true → AllSized is n → AllSized (map literal-item zs ++ is) (length zs + n)
@@ -248,7 +248,7 @@ lits-sized (z ∷ zs) {is} {n} h a =
     subst (λ (m : ℕ). AllSized (map literal-item (z ∷ zs) ++ is) m) (let e : 1 + (length zs + n) ≡ suc (length zs) + n = omega arith in e) r
 
 linears-sized : (ks : List LinearLit) → all fitting (flat (map linear-words ks)) ≡ true → AllSized (map linear-item ks) (length (flat (map linear-words ks)))
-linears-sized [] h = none
+linears-sized [] h = sized-nil
 linears-sized (k ∷ ks) h =
     let e : all fitting (linear-words k) && all fitting (flat (map linear-words ks)) ≡ true = sym (all-append fitting (linear-words k) (flat (map linear-words ks))) ∙ h in
     subst (λ (m : ℕ). AllSized (map linear-item (k ∷ ks)) m) (sym (length-append (linear-words k) (flat (map linear-words ks)))) (more (linear-sized k (and-l (all fitting (linear-words k)) _ e)) (linears-sized ks (and-r (all fitting (linear-words k)) _ e)))

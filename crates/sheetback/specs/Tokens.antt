@@ -7,7 +7,7 @@ use native.Mathlib.Omega.{arith}
 use lib.Dec.{eqb}
 use lib.ListN.{length}
 use borrow.Author.Tests.{eq-eqb}
-use Rattle.laws.specs.Lists.{filter, keep-if}
+use Rattle.laws.specs.Lists.{select, keep-if}
 use Rattle.decimal.specs.Bytes.{comma}
 use Rattle.decimal.specs.Decimal.{is-empty}
 use Rattle.input.specs.ReadText.{onto, split}
@@ -15,11 +15,11 @@ use Rattle.readback.specs.Split.{avoids, split-end}
 use Rattle.page.specs.Sheet.{space, spaces}
 use Rattle.sheetback.specs.ReadSheet.{tokens, ends-open, glued}
 
-pub filter-append : {A : Type 0} (f : A → Bool) (xs ys : List A) → filter f (xs ++ ys) ≡ filter f xs ++ filter f ys
-filter-append f [] ys = refl
-filter-append f (x ∷ xs) ys = go (f x) (filter-append f xs ys)
+pub select-append : {A : Type 0} (f : A → Bool) (xs ys : List A) → select f (xs ++ ys) ≡ select f xs ++ select f ys
+select-append f [] ys = refl
+select-append f (x ∷ xs) ys = go (f x) (select-append f xs ys)
   where
-    go : (t : Bool) → filter f (xs ++ ys) ≡ filter f xs ++ filter f ys → keep-if t x (filter f (xs ++ ys)) ≡ keep-if t x (filter f xs) ++ filter f ys
+    go : (t : Bool) → select f (xs ++ ys) ≡ select f xs ++ select f ys → keep-if t x (select f (xs ++ ys)) ≡ keep-if t x (select f xs) ++ select f ys
     go true e = ap (λ l. x ∷ l) e
     go false e = e
 
@@ -46,7 +46,7 @@ split-between s (x ∷ xs) ys = go (eqb x s) (split s xs) (split-some s xs) (spl
 
 pub tokens-between : (xs ys : List ℕ) → tokens (xs ++ (space ∷ ys)) ≡ tokens xs ++ tokens ys
 unfolding tokens
-tokens-between xs ys = ap (filter (λ (t : List ℕ). not (is-empty t))) (split-between space xs ys) ∙ filter-append (λ (t : List ℕ). not (is-empty t)) (split space xs) (split space ys)
+tokens-between xs ys = ap (select (λ (t : List ℕ). not (is-empty t))) (split-between space xs ys) ∙ select-append (λ (t : List ℕ). not (is-empty t)) (split space xs) (split space ys)
 
 pub tokens-none : tokens [] ≡ []
 unfolding tokens split

@@ -11,8 +11,9 @@ use lib.Dec.{ltb}
 use lib.ListN.{length, take}
 use lib.Seq.{take-append-seam}
 use Rattle.laws.specs.Lists.{counted}
+use Rattle.laws.specs.Slices.{zeros}
 use Rattle.answer.specs.Answer.{clause-words}
-use Rattle.call.specs.Call.{Result, compiled, contradiction, refused, unchosen, call, output-after, zeros}
+use Rattle.call.specs.Call.{Result, compiled, contradiction, refused, unchosen, call, output-after}
 use Rattle.call.specs.Claim.{satisfied, Passed}
 use Rattle.planner.specs.declared.Answer.{Answer}
 use Rattle.planner.specs.declared.Answer.the-variants as planned

@@ -10,7 +10,8 @@ use lib.Dec.{ltb}
 use lib.ListN.{length, take, drop, set, length-append, length-replicate, replicate-append-replicate}
 use lib.Seq.{sets, sets-eq, take-suc-set, take-all, drop-nil, drop-drop, take-append-seam}
 use borrow.Author.Tests.{lt-ltb, le-ltb}
-use Rattle.call.specs.Call.{compiled, output-after, zeros}
+use Rattle.laws.specs.Slices.{zeros}
+use Rattle.call.specs.Call.{compiled, output-after}
 use Rattle.lines.specs.Lines.{count-word, times, print-domain}
 use Rattle.lines.specs.Output.{Stops}
 use Rattle.page.specs.Sheet.{print-sheet}

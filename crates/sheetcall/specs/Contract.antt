@@ -9,9 +9,10 @@ use Prim.Native.Nat.{ℕ, _≤_}
 use lib.IntN.{ℤ}
 use lib.ListN.{length, take}
 use Rattle.laws.specs.Lists.{counted}
+use Rattle.laws.specs.Slices.{zeros}
 use Rattle.syntax.specs.Satisfies.{Val, IVal}
 use Rattle.answer.specs.Answer.{clause-words}
-use Rattle.call.specs.Call.{Result, compiled, contradiction, refused, output-after, zeros}
+use Rattle.call.specs.Call.{Result, compiled, contradiction, refused, output-after}
 use Rattle.call.specs.Claim.{within, satisfied, Passed}
 use Rattle.sheetback.specs.ReadSheet.{read-sheet}
 use Rattle.sheetback.specs.Sheeted.{sheet-text, with-sheet, sheet-call, no-bytes, sheet-after}

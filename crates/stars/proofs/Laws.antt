@@ -16,7 +16,7 @@ use mir.Val.{SFits, ofZ, toZ}
 use mir.Facts.{toZ-ofZ}
 use Rattle.laws.specs.Lists.{keep-if, flat, flat-append}
 use Rattle.laws.specs.Order.{is-eqZ, not-eqZ}
-use Rattle.laws.specs.Writes.{cap, Wrote, wrote-none, wrote-length, wrote-then, wrote-to, sets-out}
+use Rattle.laws.specs.Writes.{cap, Wrote, wrote-none, wrote-length, wrote-then, wrote-to, sets-out, Open}
 use Rattle.syntax.specs.Words.{star-word}
 use Rattle.clauses.specs.Clause.{LinearLit}
 use Rattle.answer.specs.Answer.{linear-words}
@@ -24,10 +24,10 @@ use Rattle.tables.specs.Tables.{linear-eq}
 use Rattle.walk.specs.Item.{is-none, word-of, extra, block}
 use Rattle.walk.specs.Texts.{linears-more}
 use Rattle.walk.specs.declared.Mode.{Mode}
-use Rattle.walk.specs.declared.Mode.the-variants.{Pool, Pass, Two, Each}
+use Rattle.walk.specs.declared.Mode.the-variants.{Pool, One, Two, Each}
 use Rattle.rows.specs.Rows.{rows-of, row-at}
 use Rattle.rows.specs.Columns.{word, vars-of}
-use Rattle.rows.specs.Emit.{comparison, linears-words, Room, Behind}
+use Rattle.rows.specs.Emit.{comparison, linears-words, Behind}
 use Rattle.rows.specs.Stars.{is-value, values-in, is-single, is-longer}
 use Rattle.rows.proofs.Emitting.{room-after}
 use Rattle.stars.specs.Lines.{row-linears, counted-lits, row-lines, equality, long-lines, single-linears, pool-line, Lines}
@@ -36,7 +36,7 @@ use Rattle.stars.specs.Stars.{RowAt, RowsAt}
 -- ---- lines after lines
 
 pub lines-none : {out : List ℤ} {o c : ℕ} → Behind out o c → Lines out o c [] out o c
-lines-none {out} {o} b = record { words = wrote-none out o (b .room .place); count = λ h. omega arith; low = b .low }
+lines-none {out} {o} b = record { words = wrote-none out o (b .room .low); count = λ h. omega arith; low = b .low }
 
 pub lines-one : {out out' : List ℤ} {o o' c : ℕ} (x : ℤ) (t : List ℤ) → c ≤ o → o < cap → Wrote out o (x ∷ t) out' o' → Lines out o c ((x ∷ t) ∷ []) out' o' (c + 1)
 lines-one x t h l w = record { words = wrote-to (sym (append-nil (x ∷ t))) w; count = λ k. refl; low = omega (arith, w .at) }
@@ -44,7 +44,7 @@ lines-one x t h l w = record { words = wrote-to (sym (append-nil (x ∷ t))) w; 
 -- too long: nothing more is written
 pub lines-stop : {out : List ℤ} {o c : ℕ} → Behind out o c → o ≡ cap → (ts : List (List ℤ)) → Lines out o c ts out o c
 lines-stop {out} {o} b e ts = record {
-  words = record { words = sym (sets-out out o (flat ts) (omega (arith, b .room .part))); at = omega arith };
+  words = record { words = sym (sets-out out o (flat ts) (omega (arith, b .room .room))); at = omega arith };
   count = λ h. absurd (omega arith);
   low = b .low;
 }
@@ -78,7 +78,7 @@ pub rest-next : {out₀ out out' : List ℤ} {o c q d q' d' : ℕ} {whole rest :
 rest-next here later v e w = record {
   behind = behind-after (v .behind) w;
   same = wrote-length (w .words) ∙ v .same;
-  to = λ out'' q'' d'' u. v .to out'' q'' d'' (lines-to (sym e) (lines-then (v .behind .room .part) w u));
+  to = λ out'' q'' d'' u. v .to out'' q'' d'' (lines-to (sym e) (lines-then (v .behind .room .room) w u));
 }
 
 pub rest-skip : {out₀ out : List ℤ} {o c q d : ℕ} {whole rest : List (List ℤ)} (later : List (List ℤ)) → Rest out₀ o c whole rest out q d → rest ≡ later → Rest out₀ o c whole later out q d
@@ -89,25 +89,25 @@ rest-end {out = out} {q = q} {d = d} v e = v .to out q d (lines-to (sym e) (line
 
 -- the same of words that are no clauses
 pub record Left (out₀ : List ℤ) (o : ℕ) (whole rest : List ℤ) (out : List ℤ) (q : ℕ) : Type 0 where
-  pub room : Room out q
+  pub room : Open out q
   pub same : length out ≡ length out₀
   pub to : (out' : List ℤ) (q' : ℕ) → Wrote out q rest out' q' → Wrote out₀ o whole out' q'
 
-pub left-start : {out : List ℤ} {o : ℕ} {whole : List ℤ} → Room out o → Left out o whole whole out o
+pub left-start : {out : List ℤ} {o : ℕ} {whole : List ℤ} → Open out o → Left out o whole whole out o
 left-start r = record { room = r; same = refl; to = λ out' q' w. w }
 
 pub left-next : {out₀ out out' : List ℤ} {o q q' : ℕ} {whole rest : List ℤ} (here later : List ℤ) → Left out₀ o whole rest out q → rest ≡ here ++ later → Wrote out q here out' q' → Left out₀ o whole later out' q'
 left-next here later v e w = record {
   room = room-after (v .room) w;
   same = wrote-length w ∙ v .same;
-  to = λ out'' q'' u. v .to out'' q'' (wrote-to (sym e) (wrote-then (v .room .part) w u));
+  to = λ out'' q'' u. v .to out'' q'' (wrote-to (sym e) (wrote-then (v .room .room) w u));
 }
 
 pub left-skip : {out₀ out : List ℤ} {o q : ℕ} {whole rest : List ℤ} (later : List ℤ) → Left out₀ o whole rest out q → rest ≡ later → Left out₀ o whole later out q
 left-skip later v e = record { room = v .room; same = v .same; to = λ out' q' w. v .to out' q' (wrote-to (sym e) w) }
 
 pub left-end : {out₀ out : List ℤ} {o q : ℕ} {whole rest : List ℤ} → Left out₀ o whole rest out q → rest ≡ [] → Wrote out₀ o whole out q
-left-end {out = out} {q = q} v e = v .to out q (wrote-to (sym e) (wrote-none out q (v .room .place)))
+left-end {out = out} {q = q} v e = v .to out q (wrote-to (sym e) (wrote-none out q (v .room .low)))
 
 -- ---- a literal
 
@@ -115,7 +115,7 @@ module _ {out out' : List ℤ} {o o' : ℕ} (mode : Mode) (m j : ℕ) where
   pub literal-pool : mode ≡ Pool → Wrote out o (pos 0 ∷ []) out' o' → Wrote out o (counted-lits (extra mode m [] j)) out' o'
   literal-pool e w = wrote-to (ap (λ (x : Mode). counted-lits (extra x m [] j)) (sym e)) w
 
-  pub literal-pass : mode ≡ Pass → Wrote out o (pos 0 ∷ []) out' o' → Wrote out o (counted-lits (extra mode m [] j)) out' o'
+  pub literal-pass : mode ≡ One → Wrote out o (pos 0 ∷ []) out' o' → Wrote out o (counted-lits (extra mode m [] j)) out' o'
   literal-pass e w = wrote-to (ap (λ (x : Mode). counted-lits (extra x m [] j)) (sym e)) w
 
   pub literal-two : {a : List ℤ} {p : ℕ} → mode ≡ Two → length out ≤ cap → Wrote out o (pos 1 ∷ []) a p → Wrote a p (word-of (m + 1) (is-none j) ∷ []) out' o' → Wrote out o (counted-lits (extra mode m [] j)) out' o'
@@ -157,12 +157,12 @@ module _ (ls : List ℤ) (v : ℕ) (x : ℤ) where
       → Wrote out o (counted-lits ls) out₁ a → Wrote out₁ a (pos 1 ∷ []) out₂ b → Wrote out₂ b (comparison op v y) out₃ d
       → Lines out o c (row-lines ls (v ∷ []) (x ∷ [])) out₃ d (c + 1)
   equality-one {out} {out₁} {out₂} {out₃} {o} {a} {b} {d} op y e h n eo ey w₁ w₂ w₃ =
-      let l₁ : length out₁ ≤ cap = omega (arith, wrote-length w₁, h .room .part) in
-      let w : Wrote out o (equality ls (linear-eq v x)) out₃ d = wrote-to (rw (eo, ey) refl) (wrote-then (h .room .part) w₁ (wrote-then l₁ w₂ w₃)) in
-      lines-to (ap (map (equality ls)) (sym (cell-one e))) (lines-one (pos (length ls)) (ls ++ (pos 1 ∷ linear-words (linear-eq v x))) (h .low) (omega (arith, h .room .place, n)) w)
+      let l₁ : length out₁ ≤ cap = omega (arith, wrote-length w₁, h .room .room) in
+      let w : Wrote out o (equality ls (linear-eq v x)) out₃ d = wrote-to (rw (eo, ey) refl) (wrote-then (h .room .room) w₁ (wrote-then l₁ w₂ w₃)) in
+      lines-to (ap (map (equality ls)) (sym (cell-one e))) (lines-one (pos (length ls)) (ls ++ (pos 1 ∷ linear-words (linear-eq v x))) (h .low) (omega (arith, h .room .low, n)) w)
 
-  pub value-none : {out : List ℤ} {o : ℕ} → is-value x ≡ false → Room out o → Wrote out o (linears-words (row-linears (v ∷ []) (x ∷ []))) out o
-  value-none {out} {o} e r = wrote-to (ap linears-words (sym (cell-none e))) (wrote-none out o (r .place))
+  pub value-none : {out : List ℤ} {o : ℕ} → is-value x ≡ false → Open out o → Wrote out o (linears-words (row-linears (v ∷ []) (x ∷ []))) out o
+  value-none {out} {o} e r = wrote-to (ap linears-words (sym (cell-none e))) (wrote-none out o (r .low))
 
   pub value-one : {out out' : List ℤ} {o d : ℕ} (op y : ℤ) → is-value x ≡ true → op ≡ pos 0 → y ≡ x → Wrote out o (comparison op v y) out' d → Wrote out o (linears-words (row-linears (v ∷ []) (x ∷ []))) out' d
   value-one op y e eo ey w = wrote-to (rw (eo, ey) refl ∙ sym (append-nil (linear-words (linear-eq v x))) ∙ ap linears-words (sym (cell-one e))) w
@@ -274,10 +274,10 @@ pub pool-one : {out out₁ out₂ out₃ out₄ : List ℤ} {o a b d e c : ℕ} 
     → Wrote out o (u ∷ []) out₁ a → Wrote out₁ a (block m x) out₂ b → Wrote out₂ b (v ∷ []) out₃ d → Wrote out₃ d (linears-words ks) out₄ e
     → Lines out o c (pool-line m x y ks ∷ []) out₄ e (c + 1)
 pool-one {out} {out₁} {out₂} {out₃} {out₄} {o} {a} {b} {d} {e} m x y ks u v h n eu ev w₁ w₂ w₃ w₄ =
-    let l₁ : length out₁ ≤ cap = omega (arith, wrote-length w₁, h .room .part) in
+    let l₁ : length out₁ ≤ cap = omega (arith, wrote-length w₁, h .room .room) in
     let l₂ : length out₂ ≤ cap = omega (arith, wrote-length w₂) in
-    let w : Wrote out o (pool-line m x y ks) out₄ e = wrote-to (rw (eu, ev) refl) (wrote-then (h .room .part) w₁ (wrote-then l₁ w₂ (wrote-then l₂ w₃ w₄))) in
-    lines-one (pos x) (block m x ++ (pos y ∷ linears-words ks)) (h .low) (omega (arith, h .room .place, n)) w
+    let w : Wrote out o (pool-line m x y ks) out₄ e = wrote-to (rw (eu, ev) refl) (wrote-then (h .room .room) w₁ (wrote-then l₁ w₂ (wrote-then l₂ w₃ w₄))) in
+    lines-one (pos x) (block m x ++ (pos y ∷ linears-words ks)) (h .low) (omega (arith, h .room .low, n)) w
 
 -- ---- by the number of values
 

@@ -8,7 +8,7 @@ use lib.IntN.{ℤ, natAbs}
 use lib.ListN.{length, length-append, length-map}
 use Rattle.laws.specs.Bools.{or-no-l, or-no-r}
 use Rattle.laws.specs.Order.{not-eqZ}
-use Rattle.laws.specs.Lists.{keep-if, filter, flat, flat-append}
+use Rattle.laws.specs.Lists.{keep-if, select, flat, flat-append}
 use Rattle.laws.specs.Writes.{wrote-to}
 use Rattle.syntax.specs.Words.{star-word}
 use Rattle.syntax.specs.Syntax.{Cell, star, value, encode-cell}
@@ -22,7 +22,7 @@ use Rattle.tables.specs.Tables.{Row, linear-eq, star-row, star-table}
 use Rattle.walk.specs.Item.{limit, clause-text, mode-in, extra, block, pool-text}
 use Rattle.walk.specs.Texts.{layout, layout-words, long-layout, lengths, linears, finish-words, finish-lines, disjunction-finish}
 use Rattle.walk.specs.declared.Mode.{Mode}
-use Rattle.walk.specs.declared.Mode.the-variants.{Pool, Pass, Two, Each as Every}
+use Rattle.walk.specs.declared.Mode.the-variants.{Pool, One, Two, Each as Every}
 use Rattle.rows.specs.Emit.{clauses-words, Clauses}
 use Rattle.rows.specs.Stars.{is-value, values-in, is-single, is-longer, count-rows}
 use Rattle.statements.specs.Star.{no-equality, any-free}
@@ -51,7 +51,7 @@ row-count [] (x ∷ r) h = absurd (omega (arith, h))
 row-count (v ∷ vs) [] h = absurd (omega (arith, h))
 row-count (v ∷ vs) (x ∷ r) h = go (is-value x) (row-count vs r (omega (arith, h)))
   where
-    go : (t : Bool) → length (row-linears vs r) ≡ length (filter is-value r) → length (keep-if t (linear-eq v x) (row-linears vs r)) ≡ length (keep-if t x (filter is-value r))
+    go : (t : Bool) → length (row-linears vs r) ≡ length (select is-value r) → length (keep-if t (linear-eq v x) (row-linears vs r)) ≡ length (keep-if t x (select is-value r))
     go true e = ap suc e
     go false e = e
 
@@ -99,8 +99,8 @@ module _ (n : ℕ) (vs : List ℕ) (width : length vs ≡ n) where
       rs : List Row
       rs = map (map encode-cell) rows
 
-      go : (m : ℕ) → length (row-linears vs r) ≡ m → length (single-linears vs rs) ≡ length (filter (λ q. is-single (values-in q)) rs)
-          → length (cond (is-single m) (row-linears vs r ++ single-linears vs rs) (single-linears vs rs)) ≡ length (keep-if (is-single m) r (filter (λ q. is-single (values-in q)) rs))
+      go : (m : ℕ) → length (row-linears vs r) ≡ m → length (single-linears vs rs) ≡ length (select (λ q. is-single (values-in q)) rs)
+          → length (cond (is-single m) (row-linears vs r ++ single-linears vs rs) (single-linears vs rs)) ≡ length (keep-if (is-single m) r (select (λ q. is-single (values-in q)) rs))
       go zero e h = h
       go (suc zero) e h = length-append (row-linears vs r) (single-linears vs rs) ∙ omega (arith, e, h)
       go (suc (suc m)) e h = h
@@ -110,8 +110,8 @@ unfolding longs count-rows
 long-count vs [] = refl
 long-count vs (r ∷ rs) = go (is-longer (values-in r)) (long-count vs rs)
   where
-    go : (t : Bool) → length (longs vs rs) ≡ length (filter (λ q. is-longer (values-in q)) rs)
-        → length (cond t (map alone (row-linears vs r) ∷ longs vs rs) (longs vs rs)) ≡ length (keep-if t r (filter (λ q. is-longer (values-in q)) rs))
+    go : (t : Bool) → length (longs vs rs) ≡ length (select (λ q. is-longer (values-in q)) rs)
+        → length (cond t (map alone (row-linears vs r) ∷ longs vs rs) (longs vs rs)) ≡ length (keep-if t r (select (λ q. is-longer (values-in q)) rs))
     go true h = ap suc h
     go false h = h
 
@@ -154,7 +154,7 @@ pool-clause m x y ks =
 
 pool-words : (o : Mode) (m x y : ℕ) (ks : List LinearLit) → flat (pool-lines o (pool-line m x y ks)) ≡ pool-text o m x [] y (linears ks) []
 pool-words Pool m x y ks = append-nil (pool-line m x y ks) ∙ pool-clause m x y ks
-pool-words Pass m x y ks = refl
+pool-words One m x y ks = refl
 pool-words Two m x y ks = refl
 pool-words Every m x y ks = append-nil (pool-line m x y ks) ∙ pool-clause m x y ks
 

@@ -8,7 +8,7 @@ use lib.IntN.{ℤ, pos}
 use lib.Signed.{leZ}
 use lib.ListN.{length, drop}
 use lib.Seq.{getD-drop}
-use Rattle.laws.specs.Lists.{length-filter}
+use Rattle.laws.specs.Lists.{length-select}
 use Rattle.laws.specs.Writes.{cap, wrote-low}
 use Rattle.syntax.specs.Syntax.{encode-cell}
 use Rattle.tables.specs.Tables.{Row}
@@ -27,7 +27,7 @@ use Rattle.rows.proofs.Whole.{length-vars}
 
 pub count-few : (f : ℕ → Bool) (n k : ℕ) (xs : List ℤ) → count-rows f (rows-of n k xs) ≤ k
 unfolding count-rows
-count-few f n k xs = omega (arith, length-filter (λ (r : Row). f (values-in r)) (rows-of n k xs), length-rows n k xs)
+count-few f n k xs = omega (arith, length-select (λ (r : Row). f (values-in r)) (rows-of n k xs), length-rows n k xs)
 
 module _ (work : List ℤ) (at n k cols m : ℕ) (t : StarRows work at n k cols m) where
   pub rows-at : RowsAt work at n k cols

@@ -12,7 +12,7 @@ use Rattle.answer.specs.Answer.{linear-words}
 use Rattle.tables.specs.Tables.{Row, linear-eq}
 use Rattle.walk.specs.Item.{extra, block, mode-in}
 use Rattle.walk.specs.declared.Mode.{Mode}
-use Rattle.walk.specs.declared.Mode.the-variants.{Pool, Pass, Two, Each}
+use Rattle.walk.specs.declared.Mode.the-variants.{Pool, One, Two, Each}
 use Rattle.rows.specs.Emit.{linears-words}
 use Rattle.rows.specs.Stars.{is-value, values-in, is-single, is-longer, count-rows}
 
@@ -49,7 +49,7 @@ pool-line m x y ks = pos x ∷ block m x ++ (pos y ∷ linears-words ks)
 
 abbrev pub pool-lines : Mode → List ℤ → List (List ℤ)
 pool-lines Pool l = l ∷ []
-pool-lines Pass l = []
+pool-lines One l = []
 pool-lines Two l = []
 pool-lines Each l = l ∷ []
 

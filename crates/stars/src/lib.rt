@@ -2,12 +2,12 @@
 ghost use mathlib.Core.List.{[], _∷_};
 ghost use Prim.Native.Nat.{_+_, _≤_, _<_};
 ghost use lib.ListN.{drop};
-ghost use Rattle.laws.specs.Writes.{Wrote};
+ghost use Rattle.laws.specs.Writes.{Wrote, Open};
 ghost use Rattle.syntax.specs.Words.{max-count};
 ghost use Rattle.walk.specs.Item.{limit, extra};
 ghost use Rattle.rows.specs.Rows.{rows-of, row-at};
 ghost use Rattle.rows.specs.Columns.{vars-of};
-ghost use Rattle.rows.specs.Emit.{linears-words, Room, Behind};
+ghost use Rattle.rows.specs.Emit.{linears-words, Behind};
 ghost use Rattle.stars.specs.Lines.{row-linears, counted-lits, row-lines, long-lines, single-linears, pool-line, Lines};
 ghost use Rattle.stars.specs.Stars.{RowAt, RowsAt, StarRows, Starred};
 use rows::Written;
@@ -17,12 +17,12 @@ use walk::Mode;
 
 // The literals that a clause of the j-th longer row gets, with their count in front; m: the next Boolean's number.
 fn put_literal(mode: Mode, m: usize, j: usize, out: &mut [i32], o: usize) -> usize
-    requires { ⌜ (m ≤ limit) × (j ≤ max-count) × Room (now out) o ⌝ }
+    requires { ⌜ (m ≤ limit) × (j ≤ max-count) × Open (now out) o ⌝ }
     ensures { λ r. ⌜ Wrote (now (out .entry)) o (counted-lits (extra mode m [] j)) (now (out .exit)) r ⌝ }
 {
     match mode {
         Mode::Pool => output::put(out, o, 0),
-        Mode::Pass => output::put(out, o, 0),
+        Mode::One => output::put(out, o, 0),
         Mode::Two => {
             let a = output::put(out, o, 1);
             output::put(out, a, output::word_of(m + 1, j == 0))
@@ -137,7 +137,7 @@ fn put_long_rows(
 
 // The comparison of a cell: the variable v has the value x. None for a star.
 fn put_value(v: usize, x: i32, out: &mut [i32], o: usize) -> usize
-    requires { ⌜ (v < 2147483648) × Room (now out) o ⌝ }
+    requires { ⌜ (v < 2147483648) × Open (now out) o ⌝ }
     ensures { λ r. ⌜ Wrote (now (out .entry)) o (linears-words (row-linears (v ∷ []) (x ∷ []))) (now (out .exit)) r ⌝ }
 {
     if x == -2147483648 {
@@ -148,7 +148,7 @@ fn put_value(v: usize, x: i32, out: &mut [i32], o: usize) -> usize
 
 // The comparisons of the row whose n cells are at a.
 fn put_values(work: &[i32], a: usize, n: usize, cols: usize, out: &mut [i32], o: usize) -> usize
-    requires { ⌜ RowAt (now work) a n cols × Room (now out) o ⌝ }
+    requires { ⌜ RowAt (now work) a n cols × Open (now out) o ⌝ }
     ensures { λ r. ⌜ Wrote (now (out .entry)) o (linears-words (row-linears (vars-of n (drop cols (now (work .entry)))) (row-at n a (now (work .entry))))) (now (out .exit)) r ⌝ }
 {
     let mut p = a;
@@ -176,7 +176,7 @@ fn put_single_rows(
     out: &mut [i32],
     o: usize,
 ) -> usize
-    requires { ⌜ RowsAt (now work) at n k cols × Room (now out) o ⌝ }
+    requires { ⌜ RowsAt (now work) at n k cols × Open (now out) o ⌝ }
     ensures { λ r. ⌜ Wrote (now (out .entry)) o (linears-words (single-linears (vars-of n (drop cols (now (work .entry)))) (rows-of n k (drop at (now (work .entry)))))) (now (out .exit)) r ⌝ }
 {
     let mut p = at;
@@ -247,7 +247,7 @@ pub fn put_stars(
     let w = put_long_rows(work, at, n, k, cols, mode, m, out, o, c);
     match mode {
         Mode::Pool => put_pool(work, at, n, k, cols, m, x, y, out, w.at, w.clauses),
-        Mode::Pass => w,
+        Mode::One => w,
         Mode::Two => w,
         Mode::Each => put_pool(work, at, n, k, cols, m, x, y, out, w.at, w.clauses),
     }

@@ -6,8 +6,8 @@ use mathlib.Core.List.{List, [], _∷_, _++_, append-assoc}
 use Prim.Native.Nat.{ℕ, _+_, _≤_, _<_}
 use native.Mathlib.Omega.{arith}
 use lib.IntN.{ℤ, pos}
-use lib.ListN.{length, replicate, length-replicate, getD-replicate, length-append}
-use Rattle.laws.specs.Slices.{Has, has-front, has-back}
+use lib.ListN.{length, length-replicate, getD-replicate, length-append}
+use Rattle.laws.specs.Slices.{Has, has-front, has-back, zeros}
 use Rattle.syntax.specs.Syntax.{Domain, domain-of, Stmt, encode-stmt, Problem}
 use Rattle.syntax.specs.Written.{EveryStmt, EveryStmts}
 use Rattle.words.specs.Exact.{Each}
@@ -35,12 +35,12 @@ use Rattle.statements.specs.Stages.{stmts-words, Settled, clauses-of, lo
 
 -- ---- a work slice of zeros, from which the numbering of a set may start
 
-abbrev pub zeros : List ℤ
-zeros = replicate 16384 (pos 0)
+abbrev pub empty-work : List ℤ
+empty-work = zeros 16384
 
-zeros-empty : Empty zeros
+empty-work-maps : Empty empty-work
 unfolding bool-at int-entry nat
-zeros-empty = record {
+empty-work-maps = record {
   bools = λ v h. getD-replicate 16384 (4608 + v) (pos 0) (pos 0) (omega arith);
   ints = λ v h. ap nat (getD-replicate 16384 (5120 + v) (pos 0) (pos 0) (omega arith));
   size = omega (arith, length-replicate 16384 (pos 0));
@@ -48,7 +48,7 @@ zeros-empty = record {
 
 -- with the ties that merging leaves
 unfoldable pub begin : Bool → List ℤ → List Stmt → State
-begin m F ss = cond m (meet-ties F 512 ss (start zeros 0)) (start zeros 0)
+begin m F ss = cond m (meet-ties F 512 ss (start empty-work 0)) (start empty-work 0)
 
 -- ---- one statement t at q, s the log before it, L the log of all
 
@@ -92,12 +92,12 @@ module _ (m : Bool) {p : Problem} {f : Fixed} {ss : List Stmt} (set : Settled p 
   unfolding begin start-log
   begin-numbered F h = go m (omega (arith, start-low m ss, short))
     where
-      none : Numbered (ColumnRecord F ds) (start zeros 0) []
-      none = start-numbered F ds zeros zeros-empty
+      none-numbered : Numbered (ColumnRecord F ds) (start empty-work 0) []
+      none-numbered = start-numbered F ds empty-work empty-work-maps
 
-      go : (t : Bool) → next-bool (cond t (merge-stmts ss []) []) ≤ limit → Numbered (ColumnRecord F ds) (cond t (meet-ties F 512 ss (start zeros 0)) (start zeros 0)) (cond t (merge-stmts ss []) [])
-      go false l = none
-      go true l = ties-num F (ColumnRecord F ds) ds 512 ss (start zeros 0) [] (settled-legal p (set .well) f ss (set .ends) (set .unrefused) F) h none l
+      go : (t : Bool) → next-bool (cond t (merge-stmts ss []) []) ≤ limit → Numbered (ColumnRecord F ds) (cond t (meet-ties F 512 ss (start empty-work 0)) (start empty-work 0)) (cond t (merge-stmts ss []) [])
+      go false l = none-numbered
+      go true l = ties-num F (ColumnRecord F ds) ds 512 ss (start empty-work 0) [] (settled-legal p (set .well) f ss (set .ends) (set .unrefused) F) h none-numbered l
 
   pub rest-start : {F w : List ℤ} → Has F 512 (stmts-words ss) → AllInPlace F ds w 512 ss (start-log m ss) → Rest m p ss F w 512 ss (start-log m ss) (begin m F ss) []
   rest-start {F} stands h = record {

@@ -1,7 +1,7 @@
 -- How many Boolean numbers the statements take: at most thirteen for each of their words.
 use mathlib.Core.Path.{_≡_, refl, ap}
 use mathlib.Core.Bool.{Bool, true, false, not, cond}
-use mathlib.Core.Option.{Option, none as nothing, some}
+use mathlib.Core.Option.{Option, none, some}
 use mathlib.Core.List.{List, [], _∷_, _++_, map}
 use Prim.Native.Nat.{ℕ, zero, suc, _+_, _-_, _*_, _≤_}
 use native.Mathlib.Omega.{arith}
@@ -9,7 +9,7 @@ use lib.Dec.{eqb}
 use lib.IntN.{ℤ}
 use lib.ListN.{length, length-append, length-map}
 use Rattle.laws.specs.Lists.{any, flat}
-use Rattle.syntax.specs.Syntax.{Domain, domain-of, encode-int, BoolExpr, Const, Var, NVar, And, Or, Not, Xor, Iff, Imp, Cmp, Members, none, more, encode-bool, encode-members, Cell, Stmt, Rule, Table, encode-stmt}
+use Rattle.syntax.specs.Syntax.{Domain, domain-of, encode-int, BoolExpr, Const, Var, NVar, And, Or, Not, Xor, Iff, Imp, Cmp, Members, mnil, more, encode-bool, encode-members, Cell, Stmt, Rule, Table, encode-stmt}
 use Rattle.clauses.specs.Clause.{BoolLit, Clause, clause}
 use Rattle.clauses.specs.Log.{Log, next-bool, get-bool-var, bool-var-at, convert-bool-var}
 use Rattle.clauses.specs.Disjunction.{Sorted, satisfied, pool, pooled, with-longer, sorted, finish-sorted, normalize-disjunction}
@@ -84,7 +84,7 @@ unfoldable mutual
   weights (cons t ts) = weight t + weights ts
 
 var-low : (o : Option BoolLit) (v : ℕ) (s : Log) → next-bool (bool-var-at o v s .1) ≤ next-bool s + 1
-var-low nothing v s = omega arith
+var-low none v s = omega arith
 var-low (some n) v s = omega arith
 
 runs-size : (ts : Trees) (s : Log) → length (runs ts s .0) ≡ size ts
@@ -162,7 +162,7 @@ mutual
   both-low (Cmp o a b) l h at n = omega (arith, length-append (encode-int a) (encode-int b))
 
   boths-low : (ms : Members) (l : ℕ) → LegalMembers ms l → (at n : ℕ) → weights (resolves ms true at n false) + weights (resolves ms true at n true) + (size (resolves ms true at n false) + size (resolves ms true at n true)) + weights (ties-members ms true at n) ≤ 13 * length (encode-members ms)
-  boths-low none l h at n = omega arith
+  boths-low mnil l h at n = omega arith
   boths-low (more e ms) l h at n =
       let p : ℕ = at + length (encode-bool e) in
       omega (arith, weights-append (ties e true at n) (ties-members ms true p (n + splits e true)), both-low e l (h .0) at n, boths-low ms l (h .1) p (n + splits e true), length-append (encode-bool e) (encode-members ms))
@@ -186,7 +186,7 @@ mutual
   one-low (Cmp o a b) l h at n g = omega (arith, length-append (encode-int a) (encode-int b))
 
   ones-low : (ms : Members) (l : ℕ) → LegalMembers ms l → (at n : ℕ) (g : Bool) → weights (resolves ms false at n g) + size (resolves ms false at n g) + weights (ties-members ms false at n) ≤ 13 * length (encode-members ms)
-  ones-low none l h at n g = omega arith
+  ones-low mnil l h at n g = omega arith
   ones-low (more e ms) l h at n g =
       let p : ℕ = at + length (encode-bool e) in
       omega (arith, weights-append (ties e false at n) (ties-members ms false p (n + splits e false)), one-low e l (h .0) at n g, ones-low ms l (h .1) p (n + splits e false) g, length-append (encode-bool e) (encode-members ms))
@@ -211,7 +211,7 @@ mutual
   splits-low (Cmp o a b) l t h = omega arith
 
   splits-each : (ms : Members) (l : ℕ) (t : Bool) → LegalMembers ms l → splits-members ms t ≤ length (encode-members ms)
-  splits-each none l t h = omega arith
+  splits-each mnil l t h = omega arith
   splits-each (more e ms) l t h = omega (arith, splits-low e l t (h .0), splits-each ms l t (h .1), length-append (encode-bool e) (encode-members ms))
 
 rule-low : (e : BoolExpr) (s : Log) → LegalRule e 64 → next-bool (normalize-and-register-expr e s .1) ≤ next-bool s + 14 * length (encode-bool e)
@@ -262,14 +262,14 @@ OneMore s t = (next-bool s ≤ next-bool t) × (next-bool t ≤ next-bool s + 1)
 
 found-more : (o p : Option BoolLit) (x y : ℕ) (g : Bool) (s : Log) → OneMore s (tie-found o p x y g s)
 found-more (some l) (some m) x y g s = (omega arith, omega arith)
-found-more (some l) nothing x y g s = (omega arith, omega arith)
-found-more nothing (some m) x y g s = (omega arith, omega arith)
-found-more nothing nothing x y g s = (omega arith, omega arith)
+found-more (some l) none x y g s = (omega arith, omega arith)
+found-more none (some m) x y g s = (omega arith, omega arith)
+found-more none none x y g s = (omega arith, omega arith)
 
 tie-more : (a b : Option ℕ) (g : Bool) (s : Log) → OneMore s (merge-tie a b g s)
 unfolding merge-tie
-tie-more nothing b g s = (omega arith, omega arith)
-tie-more (some x) nothing g s = (omega arith, omega arith)
+tie-more none b g s = (omega arith, omega arith)
+tie-more (some x) none g s = (omega arith, omega arith)
 tie-more (some x) (some y) g s = go (eqb x y)
   where
     go : (t : Bool) → OneMore s (cond t s (tie-found (get-bool-var x s) (get-bool-var y s) x y g s))

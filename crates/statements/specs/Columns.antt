@@ -1,4 +1,4 @@
--- The columns of a table in the two passes: a column that is no declared variable gets a number, kept at its place, and a record of its place.
+-- The columns of a table in the two walks: a column that is no declared variable gets a number, kept at its place, and a record of its place.
 -- F: the folded words in the work slice, in which the columns stand.
 use mathlib.Core.Path.{_≡_, refl, sym, ap, _∙_, subst}
 use mathlib.Core.Bool.{false}
@@ -249,7 +249,7 @@ module _ (F : List ℤ) (ds : List Domain) where
         grown = grown-then p q _ _ _ (omega arith) (a .grown) (b .grown);
       }
 
-  -- ---- the second pass: the variables and the equality clauses
+  -- ---- the second walk: the variables and the equality clauses
 
   module _ (w : List ℤ) where
     placed-number : (p n : ℕ) → getD w (column-map + p) (pos 0) ≡ pos (suc n) → nat (getD w (column-map + p) (pos 0)) - 1 ≡ n

@@ -1,7 +1,7 @@
 -- How many integers are emitted: each declared variable once, and one for each column that is no variable.
 use mathlib.Core.Path.{_≡_, refl, _∙_}
 use mathlib.Core.Bool.{Bool, true, false, cond}
-use mathlib.Core.Option.{Option, none as nothing, some}
+use mathlib.Core.Option.{Option, none, some}
 use mathlib.Core.List.{List, [], _∷_, map}
 use Prim.Native.Nat.{ℕ, zero, suc, _+_, _*_, _≤_, _<_}
 use native.Mathlib.Omega.{arith}
@@ -10,7 +10,7 @@ use borrow.Author.Tests.{ne-eqb, eqb-true, eqb-false, ltb-true, ltb-false}
 use lib.IntN.{pos}
 use lib.ListN.{length, length-append}
 use Rattle.laws.specs.Lists.{any, flat}
-use Rattle.syntax.specs.Syntax.{Domain, domain-of, IntExpr, IConst, IVar, Linear, Terms, tnil, tmore, encode-int, BoolExpr, Const, Var, NVar, And, Or, Not, Xor, Iff, Imp, Cmp, Members, none, more, Cell, encode-cell, Stmt, Rule, Table, encode-stmt}
+use Rattle.syntax.specs.Syntax.{Domain, domain-of, IntExpr, IConst, IVar, Linear, Terms, tnil, tmore, encode-int, BoolExpr, Const, Var, NVar, And, Or, Not, Xor, Iff, Imp, Cmp, Members, mnil, more, Cell, encode-cell, Stmt, Rule, Table, encode-stmt}
 use Rattle.syntax.specs.Satisfies.{IVal}
 use Rattle.syntax.specs.Lengths.{int-long}
 use Rattle.sums.specs.LinearSum.{LinearSum, constant}
@@ -30,7 +30,7 @@ use Rattle.walk.specs.Texts.{Auxed, here, above, disjunction-auxed}
 -- ---- declared variables without a number
 
 abbrev is-open : Option ℕ → ℕ
-is-open nothing = 1
+is-open none = 1
 is-open (some n) = 0
 
 abbrev opens : ℕ → Log → ℕ
@@ -38,7 +38,7 @@ opens zero s = 0
 opens (suc i) s = is-open (get-int-var i s) + opens i s
 
 open-one : (o : Option ℕ) → is-open o ≤ 1
-open-one nothing = omega arith
+open-one none = omega arith
 open-one (some n) = omega arith
 
 opens-most : (i : ℕ) (s : Log) → opens i s ≤ i
@@ -57,13 +57,13 @@ ne-lt v i h n = go (ltb v i) refl
     go true q = ltb-true v i q
     go false q = absurd (n (omega (arith, ltb-false v i q)))
 
-opens-drop : (i v : ℕ) (s : Log) → v < i → get-int-var v s ≡ nothing → opens i (declared-int v ∷ s) + 1 ≡ opens i s
+opens-drop : (i v : ℕ) (s : Log) → v < i → get-int-var v s ≡ none → opens i (declared-int v ∷ s) + 1 ≡ opens i s
 unfolding get-int-var
 opens-drop zero v s h e = absurd (omega arith)
 opens-drop (suc i) v s h e = go (eqb i v) refl (λ k. opens-drop i v s k e)
   where
     go : (t : Bool) → eqb i v ≡ t → (v < i → opens i (declared-int v ∷ s) + 1 ≡ opens i s) → is-open (get-int-var i (declared-int v ∷ s)) + opens i (declared-int v ∷ s) + 1 ≡ is-open (get-int-var i s) + opens i s
-    go true q r = let z : i ≡ v = eqb-true i v q in let k = opens-keep i v s (omega arith) in let m : get-int-var i s ≡ nothing = rw z e in rw (q, m) (omega arith)
+    go true q r = let z : i ≡ v = eqb-true i v q in let k = opens-keep i v s (omega arith) in let m : get-int-var i s ≡ none = rw z e in rw (q, m) (omega arith)
     go false q r = rw q (omega (arith, r (let z : i ≡ v → ⊥ = eqb-false i v q in ne-lt v i h z)))
 
 -- ---- columns of a log
@@ -112,11 +112,11 @@ disj-columns css s = auxed-columns (disjunction-auxed css s)
 
 int-var-columns : (o : Option ℕ) (v : ℕ) (s : Log) → columns (int-var-at o v s .1) ≡ columns s
 int-var-columns (some n) v s = refl
-int-var-columns nothing v s = refl
+int-var-columns none v s = refl
 
 bool-var-columns : (o : Option BoolLit) (v : ℕ) (s : Log) → columns (bool-var-at o v s .1) ≡ columns s
 bool-var-columns (some n) v s = refl
-bool-var-columns nothing v s = refl
+bool-var-columns none v s = refl
 
 mutual
   unfolding normalize-int-expr normalize-int-var normalize-term convert-int-var
@@ -168,7 +168,7 @@ mutual
   split-columns (Cmp o a b) t s = refl
 
   split-columns-each : (ms : Members) (t : Bool) (s : Log) → columns (split-each ms t s .log) ≡ columns s
-  split-columns-each none t s = refl
+  split-columns-each mnil t s = refl
   split-columns-each (more e ms) t s = split-columns-each ms t (split e t s .log) ∙ split-columns e t s
 
 rule-columns : (e : BoolExpr) (s : Log) → columns (normalize-and-register-expr e s .1) ≡ columns s

@@ -1,7 +1,7 @@
 -- What the passes leave of an accepted set is legal for the walk: folded rules within 64 levels, columns of declared variables, few rows.
 use mathlib.Core.Path.{_≡_, refl}
 use mathlib.Core.Bool.{Bool, true, false, cond, false≢true}
-use mathlib.Core.Option.{Option, none as nothing, some}
+use mathlib.Core.Option.{Option, none, some}
 use mathlib.Core.List.{List, [], _∷_, map}
 use Prim.Native.Nat.{ℕ, _-_, _≤_, _<_}
 use native.Mathlib.Omega.{arith}
@@ -9,7 +9,7 @@ use lib.IntN.{ℤ}
 use lib.ListN.{length}
 use Rattle.laws.specs.Bools.{or-no-l, or-no-r}
 use Rattle.laws.specs.Lists.{any}
-use Rattle.syntax.specs.Syntax.{Domain, IntExpr, IConst, IVar, Linear, Terms, tnil, tmore, BoolExpr, Const, Var, NVar, And, Or, Not, Xor, Iff, Imp, Cmp, Members, none, more, Stmt, Rule, Table, Problem}
+use Rattle.syntax.specs.Syntax.{Domain, IntExpr, IConst, IVar, Linear, Terms, tnil, tmore, BoolExpr, Const, Var, NVar, And, Or, Not, Xor, Iff, Imp, Cmp, Members, mnil, more, Stmt, Rule, Table, Problem}
 use Rattle.syntax.specs.Depth.{depth-int, depth-terms, depth, depth-members}
 use Rattle.syntax.specs.Written.{EveryInt, EveryTerm, Every, EveryMember, EveryStmt, EveryStmts, every-stmts-map, EveryOf}
 use Rattle.words.specs.Exact.{Each}
@@ -59,7 +59,7 @@ module _ (nb ni : ℕ) where
     bool-depth l (Cmp o a b) h = omega (arith, h .0, int-depth (l - 1) a (h .1), int-depth (l - 1) b (h .2))
 
     members-depth : (l : ℕ) (ms : Members) → WellMembers nb ni l ms → depth-members ms ≤ l
-    members-depth l none h = omega arith
+    members-depth l mnil h = omega arith
     members-depth l (more e ms) h = omega (arith, bool-depth l e (h .0), members-depth l ms (h .1))
 
 -- ---- legal
@@ -96,13 +96,13 @@ module _ (ds : List Domain) where
     solid-legal (Cmp o a b) l s v n d = (omega arith, int-legal a (l - 1) (v .0) (omega arith), int-legal b (l - 1) (v .1) (omega arith))
 
     solids-legal : (ms : Members) (l : ℕ) → SolidMembers ds ms → EveryMember (λ v. v < 512) (λ v. v < 256) ms → members-bound ms ≤ 0 → depth-members ms ≤ l → LegalMembers ms l
-    solids-legal none l s v n d = tt
+    solids-legal mnil l s v n d = tt
     solids-legal (more e ms) l s v n d = (solid-legal e l (s .0) (v .0) (omega arith) (omega arith), solids-legal ms l (s .1) (v .1) (omega arith) (omega arith))
 
   -- a rule that settled: true, or solid
   abbrev SettledRoot : Option Bool → BoolExpr → Type 0
   SettledRoot (some b) e = b ≡ true
-  SettledRoot nothing e = Solid ds e
+  SettledRoot none e = Solid ds e
 
   root-legal : (e : BoolExpr) → SettledRoot (is-const e) e → Small e → expr-bound e ≤ 0 → depth e ≤ 64 → LegalRule e 64
   root-legal (Const true) s v n d = true-rule {l = 64} (omega arith)

@@ -1,4 +1,4 @@
--- What every later pass may take for granted: a set that was accepted and settled, what is known of its folded statements,
+-- What every later walk may take for granted: a set that was accepted and settled, what is known of its folded statements,
 -- and the work slice before and after numbering.
 use mathlib.Core.Path.{_≡_, sym, ap, _∙_}
 use mathlib.Core.Bool.{Bool, false}
@@ -170,7 +170,7 @@ layout-head m p f ss =
     let e : List ℤ = counted clause-words (clauses-of m p ss) in
     sym (append-assoc a (b ++ (c ++ d)) e ∙ ap (λ (l : List ℤ). a ++ l) (append-assoc b (c ++ d) e ∙ ap (λ (l : List ℤ). b ++ l) (append-assoc c d e)))
 
--- ---- what a pass is lent: some such set
+-- ---- what a walk is lent: some such set
 
 -- end: where the folded statements end
 pub record SomeFolded (w : List ℤ) (end : ℕ) : Type 0 where

@@ -1,4 +1,4 @@
--- Starred tables in the two passes: the Or over rows of the And of their equalities, as items of the walk. A row of stars only leaves no clause.
+-- Starred tables in the two walks: the Or over rows of the And of their equalities, as items of the walk. A row of stars only leaves no clause.
 use mathlib.Core.Path.{_≡_, refl, sym, ap, _∙_, subst}
 use mathlib.Core.Bool.{Bool, true, false, _||_, cond, false≢true}
 use mathlib.Core.List.{List, [], _∷_, _++_, map, append-nil}
@@ -18,7 +18,7 @@ use Rattle.answer.specs.Answer.{linear-words}
 use Rattle.walk.specs.Item.{tally, fresh, tallies, clause-text, Item, conj-item, disj-item}
 use Rattle.walk.specs.Grow.{Grows, same, Fit, back}
 use Rattle.walk.specs.Texts.{layout}
-use Rattle.walk.specs.Implements.{single, ImplementsAt, Implements, Goods, none, more, goods-sorts, disj-grows, disj-at, conj-good, disj-good}
+use Rattle.walk.specs.Implements.{single, ImplementsAt, Implements, Goods, goods-nil, more, goods-sorts, disj-grows, disj-at, conj-good, disj-good}
 
 -- ---- one cell: the variable has the value
 
@@ -91,8 +91,8 @@ module _ (w : List ℤ) where
 
   cells-good : (vs : List ℕ) (cs : List Cell) → Goods w (row-items vs cs) (row-runs vs cs)
   unfolding row-items row-runs
-  cells-good [] cs = none
-  cells-good (v ∷ vs) [] = none
+  cells-good [] cs = goods-nil
+  cells-good (v ∷ vs) [] = goods-nil
   cells-good (v ∷ vs) (star ∷ cs) = cells-good vs cs
   cells-good (v ∷ vs) (value x ∷ cs) = more (eq-good v x) (cells-good vs cs)
 
@@ -104,8 +104,8 @@ module _ (w : List ℤ) where
 
   joined-good : (is : List Item) (rs : Runs) → Goods w is rs → 1 ≤ length is → Implements w (joined is) (λ s. (flat (rs s .0), rs s .1))
   unfolding normalize-conjunction run-then no-run
-  joined-good [] rs none h = absurd (omega arith)
-  joined-good (i ∷ []) rs (more {r = r} g none) h = good-same i r (λ s. (r s .0 ++ [], r s .1)) (λ s. ap (λ (l : List Clause). (l, r s .1)) (sym (append-nil (r s .0)))) g
+  joined-good [] rs goods-nil h = absurd (omega arith)
+  joined-good (i ∷ []) rs (more {r = r} g goods-nil) h = good-same i r (λ s. (r s .0 ++ [], r s .1)) (λ s. ap (λ (l : List Clause). (l, r s .1)) (sym (append-nil (r s .0)))) g
   joined-good (i ∷ j ∷ is) rs (more g (more k gs)) h = conj-good w (i ∷ j ∷ is) _ (more g (more k gs)) (omega arith)
 
   some-items : (vs : List ℕ) (cs : List Cell) → no-equality vs cs ≡ false → 1 ≤ length (row-items vs cs)
@@ -140,7 +140,7 @@ star-item vs rows = disj-item (map (row-item vs) rows)
 module _ (w : List ℤ) where
   rows-good : (vs : List ℕ) (rows : List (List Cell)) → any-free vs rows ≡ false → Goods w (map (row-item vs) rows) (table-runs vs rows)
   unfolding table-runs
-  rows-good vs [] h = none
+  rows-good vs [] h = goods-nil
   rows-good vs (cs ∷ rows) h = more (row-good w vs cs (or-no-l (no-equality vs cs) _ h)) (rows-good vs rows (or-no-r (no-equality vs cs) _ h))
 
   pub star-good : (vs : List ℕ) (rows : List (List Cell)) → any-free vs rows ≡ false → Implements w (star-item vs rows) (star-table vs rows)

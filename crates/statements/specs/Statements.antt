@@ -1,4 +1,4 @@
--- The two passes over a list of folded statements: numbering gives the state of the log, and writing with its maps the words of the clauses.
+-- The two walks over a list of folded statements: numbering gives the state of the log, and writing with its maps the words of the clauses.
 -- F: the folded words in the work slice, in which the statements stand from a place on.
 use mathlib.Core.Path.{_≡_, refl, sym, ap, _∙_, subst}
 use mathlib.Core.Bool.{Bool, true, false, cond}

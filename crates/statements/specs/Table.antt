@@ -1,4 +1,4 @@
--- A table statement in the two passes: its columns, then its rows, starred or not.
+-- A table statement in the two walks: its columns, then its rows, starred or not.
 use mathlib.Core.Path.{_≡_, refl, sym, ap, _∙_, subst}
 use mathlib.Core.Bool.{Bool, true, false, cond, false≢true}
 use mathlib.Core.List.{List, [], _∷_, _++_, map, append-assoc}
@@ -26,7 +26,7 @@ use Rattle.walk.specs.Texts.{layout-words, Auxed, Untouched, disjunction-auxed,
 use Rattle.walk.specs.Implements.{disj-grows}
 use Rattle.walk.specs.Ints.{var-found, int-bools}
 use Rattle.walk.specs.Num.{max-emitted, Numbered, numbered-fit}
-use Rattle.walk.specs.TwoWalks.{Low, pass-num, auxed-recorded}
+use Rattle.walk.specs.TwoWalks.{Low, walk-bools-num, auxed-recorded}
 use Rattle.statements.specs.Columns.{ColumnRecord, Grown, meet-columns, column-numbers, columns-clauses, Placed, MetAll, columns-met, columns-grow, columns-are}
 use Rattle.statements.specs.Star.{eq-item, row-items, joined, row-item, no-equality, any-free, star-item, star-good, free-table, star-count}
 
@@ -112,7 +112,7 @@ fresh-is : (vs : List ℕ) (rows : List (List Cell)) → any-free vs rows ≡ fa
 unfolding star-fresh
 fresh-is vs rows h = let t = rows-tallied vs rows h in rw (t .longs, t .lits, t .cmps) refl
 
--- ---- the passes
+-- ---- the walks
 
 abbrev is-zero : ℕ → Bool
 is-zero zero = true
@@ -172,14 +172,14 @@ module _ (F : List ℤ) (ds : List Domain) where
     star-numbered : (t : Bool) → any-free vs rows ≡ t → next-bool (star-table vs rows z .1) ≤ limit → Numbered CR (walk-bools (cond t 0 (star-fresh (length vs) rows)) st) (star-table vs rows z .1)
     star-numbered true e l =
         let i : star-table vs rows z ≡ ([], z) = free-table vs rows z e in
-        rw i (pass-num CR st z z 0 h (untouched-same z) (h .records) (omega arith) (subst (λ (o : Out). next-bool (o .1) ≤ limit) i l))
+        rw i (walk-bools-num CR st z z 0 h (untouched-same z) (h .records) (omega arith) (subst (λ (o : Out). next-bool (o .1) ≤ limit) i l))
     star-numbered false e l =
         let o : Log = star-table vs rows z .1 in
         let a : Auxed z o = unfold star-table in disjunction-auxed (map (star-row vs) rows) z in
         let g : Grows z o = unfold star-table in disj-grows (st .work) (map (star-row vs) rows) z in
         let u : Untouched z o = auxed-untouched a in
         let f : Fit (st .work) o = after-fit (st .work) z o u (numbered-fit CR st z h (omega (arith, g .bools))) l in
-        pass-num CR st z o (star-fresh (length vs) rows) h u (auxed-recorded CR (st .work) a (h .records)) (star-count (st .work) vs rows z e f ∙ ap (λ (k : ℕ). next-bool z + k) (fresh-is vs rows e)) l
+        walk-bools-num CR st z o (star-fresh (length vs) rows) h u (auxed-recorded CR (st .work) a (h .records)) (star-count (st .work) vs rows z e f ∙ ap (λ (k : ℕ). next-bool z + k) (fresh-is vs rows e)) l
 
     rows-numbered : next-bool (out .1) ≤ limit → Numbered CR (walk-bools (table-fresh (length vs) rows) st) (out .1)
     unfolding normalize-extension-supports table-fresh
@@ -188,7 +188,7 @@ module _ (F : List ℤ) (ds : List Domain) where
         go : (t : Bool) → starred rows ≡ t → next-bool (cond t (star-table vs rows z) (plain-table vs (map (domain-of (emitted-domains ds z)) vs) rows, z) .1) ≤ limit
             → Numbered CR (walk-bools (cond t (cond (free-rows (length vs) rows) 0 (star-fresh (length vs) rows)) 0) st) (cond t (star-table vs rows z) (plain-table vs (map (domain-of (emitted-domains ds z)) vs) rows, z) .1)
         go true e l = rw (free-is vs rows) (star-numbered (any-free vs rows) refl l)
-        go false e l = pass-num CR st z z 0 h (untouched-same z) (h .records) (omega arith) l
+        go false e l = walk-bools-num CR st z z 0 h (untouched-same z) (h .records) (omega arith) l
 
   -- the words of the rows
   rows-words : (w : List ℤ) (dom : ℕ → Domain) (vs : List ℕ) (rows : List (List Cell)) (z : Log) → map dom vs ≡ map (domain-of (emitted-domains ds z)) vs → Fit w (normalize-extension-supports ds vs rows z .1)
@@ -259,7 +259,7 @@ module _ (F : List ℤ) (ds : List Domain) where
   domains-agree dom z [] h d = refl
   domains-agree dom z (v ∷ vs) h d = rw (d v (h .0), domains-agree dom z vs (h .1) d) refl
 
-  -- ---- both passes over a table
+  -- ---- both walks over a table
 
   pub record TablePasses (p : ℕ) (es : List IntExpr) (rows : List (List Cell)) (st : State) (s : Log) : Type 0 where
     pub numbered : Numbered CR (meet-table p es rows st) (normalize-table ds es rows s .1)

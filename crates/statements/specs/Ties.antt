@@ -2,7 +2,7 @@
 -- F: the folded words in the work slice, in which the statements stand from a place on.
 use mathlib.Core.Path.{_≡_, refl, sym, ap, _∙_, subst}
 use mathlib.Core.Bool.{Bool, true, false, _&&_, cond, false≢true}
-use mathlib.Core.Option.{Option, none as nothing, some}
+use mathlib.Core.Option.{Option, none, some}
 use mathlib.Core.List.{List, [], _∷_, _++_, map}
 use Prim.Native.Nat.{ℕ, suc, _+_, _-_, _≤_, _<_}
 use native.Mathlib.Omega.{arith}
@@ -101,20 +101,20 @@ module _ (C : Log → ℤ → LinearSum → Domain → Type 0) where
   old-num x y g st s l e hx hy h low = let z : bool-at (st .work) x ≡ lit-word l = h .map x hx ∙ word-some C l (get-bool-var x s) e in rw z (give-num x y g st s l e hy h low)
 
   -- neither has
-  new-num : (x y : ℕ) (g : Bool) (st : State) (s : Log) → get-bool-var x s ≡ nothing → x < 512 → y < 512 → Numbered C st s → suc (next-bool s) ≤ limit → Numbered C (give y (signed (pos (bump (st .bools) 1)) g) (new-bool x st)) (merged y x g ∷ declared x ∷ s)
+  new-num : (x y : ℕ) (g : Bool) (st : State) (s : Log) → get-bool-var x s ≡ none → x < 512 → y < 512 → Numbered C st s → suc (next-bool s) ≤ limit → Numbered C (give y (signed (pos (bump (st .bools) 1)) g) (new-bool x st)) (merged y x g ∷ declared x ∷ s)
   unfolding meet-bool
   new-num x y g st s e hx hy h low =
       let z : is-zero (bool-at (st .work) x) ≡ true = ap is-zero (h .map x hx ∙ ap bool-word e) in
-      let k : Numbered C (new-bool x st) (declared x ∷ s) = rw z at (bool-num C x st s nothing e hx h low) in
+      let k : Numbered C (new-bool x st) (declared x ∷ s) = rw z at (bool-num C x st s none e hx h low) in
       let n : bump (st .bools) 1 ≡ suc (next-bool s) = omega (arith, h .bools) in
       subst (λ (z : ℤ). Numbered C (give y (signed z g) (new-bool x st)) (merged y x g ∷ declared x ∷ s)) (ap pos (sym n)) (give-num x y g (new-bool x st) (declared x ∷ s) (lit (next-bool s) false) (bool-here x s) hy k low)
 
   found-num : (x y : ℕ) (g : Bool) (st : State) (s : Log) (a b : Option BoolLit) → get-bool-var x s ≡ a → get-bool-var y s ≡ b → x < 512 → y < 512 → Numbered C st s → next-bool (tie-found a b x y g s) ≤ limit
       → Numbered C (tie-words (is-zero (bool-word a)) (is-zero (bool-word b)) x y g st) (tie-found a b x y g s)
   found-num x y g st s (some l) (some m) p q hx hy h low = rw (zero-some l, zero-some m) h
-  found-num x y g st s (some l) nothing p q hx hy h low = rw (zero-some l) (old-num x y g st s l p hx hy h low)
-  found-num x y g st s nothing (some m) p q hx hy h low = rw (zero-some m) (old-num y x g st s m q hy hx h low)
-  found-num x y g st s nothing nothing p q hx hy h low = new-num x y g st s p hx hy h low
+  found-num x y g st s (some l) none p q hx hy h low = rw (zero-some l) (old-num x y g st s l p hx hy h low)
+  found-num x y g st s none (some m) p q hx hy h low = rw (zero-some m) (old-num y x g st s m q hy hx h low)
+  found-num x y g st s none none p q hx hy h low = new-num x y g st s p hx hy h low
 
   tie-num : (x y : ℕ) (g : Bool) (st : State) (s : Log) → x < 512 → y < 512 → Numbered C st s → next-bool (tie (some x) (some y) g s) ≤ limit → Numbered C (meet-tie x y g st) (tie (some x) (some y) g s)
   unfolding meet-tie tie
@@ -142,7 +142,7 @@ module _ (F : List ℤ) where
   not-var at n us h e f = f (rw (word-is at n us h) e)
 
   -- a side is a variable, or its first word is another
-  pub side-of : {X : Type 0} (e : BoolExpr) (l at : ℕ) → Legal e l → Has F at (encode-bool e) → ((v : ℕ) → e ≡ Var v → v < 512 → X) → (as-var e ≡ nothing → eqb (word F at) 11 ≡ false → X) → X
+  pub side-of : {X : Type 0} (e : BoolExpr) (l at : ℕ) → Legal e l → Has F at (encode-bool e) → ((v : ℕ) → e ≡ Var v → v < 512 → X) → (as-var e ≡ none → eqb (word F at) 11 ≡ false → X) → X
   unfolding Legal encode-bool
   side-of (Const b) l at k h f g = absurd k
   side-of (Var v) l at k h f g = f v refl (k .1)

@@ -1,7 +1,7 @@
--- The answer's words by the two passes: after numbering, the maps and counters of the work slice and the statements' words make up the layout.
+-- The answer's words by the two walks: after numbering, the maps and counters of the work slice and the statements' words make up the layout.
 use mathlib.Core.Path.{_≡_, refl, sym}
 use mathlib.Core.Bool.{Bool, true, false, false≢true}
-use mathlib.Core.Option.{Option, none as nothing, some}
+use mathlib.Core.Option.{Option, none, some}
 use mathlib.Core.List.{List, [], _∷_, _++_, map}
 use Prim.Native.Nat.{ℕ, zero, suc, _+_, _*_, _≤_, _<_}
 use native.Mathlib.Omega.{arith}
@@ -76,7 +76,7 @@ lowest-in (Enumerative (x ∷ xs)) h = or-l (eqZ x x) (any (eqZ x) xs) (eqZ-refl
 -- ---- an accepted set that settles. F: the folded words; w: the work slice before numbering
 
 map-code : (o : Option ℕ) → map-word o ≡ pos (code o)
-map-code nothing = refl
+map-code none = refl
 map-code (some n) = refl
 
 -- the words of the integer map, from its entries
@@ -138,8 +138,8 @@ module _ (m : Bool) (p : Problem) (well : WellFormed p) (f : Fixed) (ss : List S
   pub low : Low (out .1)
   low = log-low m p well f ss end unrefused short few
 
-  pub passes : StmtsWalks F (p .domains) 512 ss (start w n) (start-log m ss)
-  passes = stmts-walks F (p .domains) (lowest (p .domains)) 512 ss (start w n) (start-log m ss) (omega arith) (omega arith) stands (settled-legal p well f ss end unrefused F) (settled-plain p well f ss end) standing begun low roomy
+  pub set-walks : StmtsWalks F (p .domains) 512 ss (start w n) (start-log m ss)
+  set-walks = stmts-walks F (p .domains) (lowest (p .domains)) 512 ss (start w n) (start-log m ss) (omega arith) (omega arith) stands (settled-legal p well f ss end unrefused F) (settled-plain p well f ss end) standing begun low roomy
 
   -- the answer's words: the fixed values, the entries of the maps, the counters and domains, the count and the words of the clauses
   pub answer-words : (dom : ℕ → Domain) → Stable (p .domains) dom (out .1)
@@ -150,9 +150,9 @@ module _ (m : Bool) (p : Problem) (well : WellFormed p) (f : Fixed) (ss : List S
       ++ (pos (st .bools) ∷ (counted domain-words (emitted-domains (p .domains) (out .1)) ++ (pos (length (out .0)) ∷ stmts-text (st .work) dom 512 ss n)))))
   unfolding layout normalize answer-of
   answer-words dom d =
-      let k = passes .numbered in
+      let k = set-walks .numbered in
       let fit = numbered-fit (ColumnRecord F (p .domains)) st (out .1) k (low .bools) in
       let b : map bool-word (map (λ v. get-bool-var v (out .1)) (below (p .bools))) ≡ map (bool-at (st .work)) (below (p .bools)) = words-at (bool-at (st .work)) (λ v. get-bool-var v (out .1)) 0 (p .bools) (λ v l. k .map v (omega (arith, well .few-bools))) in
       let i : map map-word (map (λ v. get-int-var v (out .1)) (below (length (p .domains)))) ≡ map (λ v. pos (int-entry (st .work) v)) (below (length (p .domains))) = entries (int-entry (st .work)) (λ v. get-int-var v (out .1)) 0 (length (p .domains)) (λ v l. k .map-int v (omega (arith, well .few-ints))) in
-      let t : stmts-text (st .work) dom 512 ss n ≡ flat (map clause-words (out .0)) = passes .text (st .work) dom fit (passes .placed) d in
+      let t : stmts-text (st .work) dom 512 ss n ≡ flat (map clause-words (out .0)) = set-walks .text (st .work) dom fit (set-walks .placed) d in
       rw (b, i, k .bools, t) refl

@@ -1,1 +1,1 @@
-// Both passes over the folded statements of a set: definitions and theorems in specs/; no code here.
+// Both walks over the folded statements of a set: definitions and theorems in specs/; no code here.

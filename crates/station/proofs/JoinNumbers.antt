@@ -10,8 +10,8 @@ use mir.Syntax.{w64}
 use mir.Val.{toZ, ofZ, SFits}
 use mir.Facts.{toZ-ofZ}
 use Rattle.laws.specs.Ints.{apart}
+use Rattle.laws.specs.Slices.{zeros}
 use Rattle.syntax.specs.Syntax.{encode-stmt}
-use Rattle.refuse.specs.Refuse.{zeros}
 use Rattle.join.specs.Join.{Joining, joined, refused, join, Found, in-first, in-second, nowhere, statement-at}
 use Rattle.join.specs.Found.{Ends, statement-ends}
 use Rattle.join.specs.Contract.{answer-of, Joins, place-of, Finds}

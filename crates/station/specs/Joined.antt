@@ -10,13 +10,14 @@ use lib.Dec.{ltb}
 use lib.ListN.{length}
 use lib.Seq.{sets}
 use borrow.Author.Tests.{ltb-false}
+use Rattle.laws.specs.Slices.{zeros}
 use Rattle.syntax.specs.Words.{min-work-words, max-set-words}
 use Rattle.syntax.specs.Syntax.{Problem, encode-stmt, encode}
-use Rattle.words.specs.Parse.{Parsed, ok, refuse, bind}
+use Rattle.words.specs.Parse.{Parsed, ok, refuse, parse-then}
 use Rattle.read.specs.Read.{read-set}
 use Rattle.limits.specs.Limits.{check}
-use Rattle.refuse.specs.Refuse.{zeros}
-use Rattle.join.specs.Join.{limited, admitted, declaration-words, same-words, both, Agreement, agreed, refusal, compared, agree-read, agreement, Joining, joined, refused, sized, join, buffer-after, Found, in-first, in-second, nowhere, statement-at}
+use Rattle.limits.specs.Admitted.{limited, admitted}
+use Rattle.join.specs.Join.{declaration-words, same-words, both, Agreement, agreed, refusal, compared, agree-read, agreement, Joining, joined, refused, sized, join, buffer-after, Found, in-first, in-second, nowhere, statement-at}
 use Rattle.station.specs.Small.{Number, Low, set-low, Checked, check-small}
 
 -- the joined set's words, or the refusal's number negated
@@ -57,7 +58,7 @@ admitted-low : (n : ℕ) (ws : List ℤ) → Low (admitted n ws)
 unfolding admitted
 admitted-low n ws = go (ltb n min-work-words) (ltb max-set-words (length ws)) (read-set ws) (set-low ws)
   where
-    go : (s t : Bool) (q : Parsed Problem) → Low q → Low (cond s (refuse 1) (cond t (refuse 2) (bind q (λ p. limited (check p) p))))
+    go : (s t : Bool) (q : Parsed Problem) → Low q → Low (cond s (refuse 1) (cond t (refuse 2) (parse-then q (λ p. limited (check p) p))))
     go true t q h = omega arith
     go false true q h = omega arith
     go false false (refuse k) h = h

@@ -8,8 +8,9 @@ use Prim.Native.Nat.{ℕ, _%_}
 use lib.Dec.{eqb}
 use lib.IntN.{ℤ, pos, negℤ}
 use lib.ListN.{length, take}
+use Rattle.laws.specs.Slices.{zeros}
 use Rattle.syntax.specs.Satisfies.{Val, IVal}
-use Rattle.call.specs.Call.{compiled, returned, call-with, output-after, zeros}
+use Rattle.call.specs.Call.{compiled, returned, call-with, output-after}
 use Rattle.call.specs.declared.Choices.{Choices}
 use Rattle.call.specs.Claim.{within, satisfied, Passed, Consequences}
 

@@ -10,17 +10,19 @@ use lib.IntN.{ℤ, pos, negℤ}
 use lib.Dec.{ltb}
 use lib.ListN.{length, length-map}
 use Rattle.laws.specs.Ints.{apart}
+use Rattle.laws.specs.Slices.{zeros}
 use Rattle.syntax.specs.Words.{min-work-words, max-set-words}
 use Rattle.syntax.specs.Syntax.{Problem}
-use Rattle.words.specs.Parse.{Parsed, ok, refuse}
+use Rattle.words.specs.Parse.{Parsed, ok, refuse, parse-then}
 use Rattle.read.specs.Read.{read-set}
 use Rattle.read.specs.WellFormed.{WellFormed}
 use Rattle.read.specs.Exact.{set-sound}
 use Rattle.limits.specs.Limits.{check}
-use Rattle.call.specs.Call.{call-with, zeros}
+use Rattle.limits.specs.Admitted.{admitted, limited}
+use Rattle.call.specs.Call.{call-with}
 use Rattle.call.specs.declared.Choices.{Choices}
 use Rattle.call.specs.Claim.{Passed, NotRefused}
-use Rattle.evaluate.specs.Roster.{bool-of, int-of, Verdict, satisfied, broken, refused, right-count, all-inside, first-false, truth, judged, rostered, unless-refused, when-read, check-roster}
+use Rattle.evaluate.specs.Roster.{bool-of, int-of, Verdict, satisfied, broken, refused, right-count, all-inside, first-false, truth, judged, rostered, when-admitted, check-roster}
 use Rattle.passing.specs.Passing.{declared-bools, is-roster}
 use Rattle.station.specs.Small.{Low, set-low, Checked, check-small}
 
@@ -63,21 +65,21 @@ rostered-numbered p values w =
     (cond-numbered (not (all-inside p values)) (refused 15) _ (omega arith)
     (first-numbered 0 (map (truth (p .bools) values) (p .stmts)) (omega (arith, w .few-stmts, length-map (p .stmts) (truth (p .bools) values)))))
 
-limited-numbered : (p : Problem) (values : List ℤ) → WellFormed p → (k : ℕ) → Checked k → Numbered (unless-refused k p values)
-unfolding unless-refused
-limited-numbered p values w zero h = rostered-numbered p values w
-limited-numbered p values w (suc k) h = omega (arith, h)
-
+-- a refusal of an admission is 1 to 11, as those of reading
 pub check-numbered : (set values : List ℤ) (n : ℕ) → Numbered (check-roster set values n)
-unfolding check-roster when-read
-check-numbered set values n =
-    cond-numbered (ltb n min-work-words) (refused 1) _ (omega arith)
-    (cond-numbered (ltb max-set-words (length set)) (refused 2) _ (omega arith) (go (read-set set) refl (set-low set)))
+unfolding check-roster when-admitted admitted limited
+check-numbered set values n = go (ltb n min-work-words) (ltb max-set-words (length set)) (read-set set) refl (set-low set)
   where
-    go : (q : Parsed Problem) → read-set set ≡ q → Low q → Numbered (when-read q values)
-    go (refuse zero) e l = l
-    go (refuse (suc k)) e l = omega (arith, l)
-    go (ok p r) e l = limited-numbered p values (set-sound set p r e .1) (check p) (check-small p)
+    last : (p : Problem) (r : List ℤ) → read-set set ≡ ok p r → (k : ℕ) → Checked k → Numbered (when-admitted (limited k p r) values)
+    last p r e zero h = rostered-numbered p values (set-sound set p r e .1)
+    last p r e (suc k) h = omega (arith, h)
+
+    go : (s t : Bool) (q : Parsed Problem) → read-set set ≡ q → Low q → Numbered (when-admitted (cond s (refuse 1) (cond t (refuse 2) (parse-then q (λ p. limited (check p) p)))) values)
+    go true t q e l = omega arith
+    go false true q e l = omega arith
+    go false false (refuse zero) e l = l
+    go false false (refuse (suc k)) e l = omega (arith, l)
+    go false false (ok p r) e l = last p r e (check p) (check-small p)
 
 -- 0 is yes alone
 pub zero-satisfied : (v : Verdict) → Numbered v → verdict-number v ≡ pos 0 → v ≡ satisfied

@@ -11,10 +11,11 @@ use lib.IntN.{ℤ, pos, negℤ}
 use lib.Dec.{ltb}
 use lib.ListN.{length, take, set}
 use Rattle.laws.specs.Lists.{counted}
+use Rattle.laws.specs.Slices.{zeros}
 use Rattle.syntax.specs.Words.{max-answer-words}
 use Rattle.syntax.specs.Satisfies.{Val, IVal}
 use Rattle.answer.specs.Answer.{clause-words}
-use Rattle.call.specs.Call.{Result, compiled, contradiction, refused, returned, unchosen, call, output-after, zeros}
+use Rattle.call.specs.Call.{Result, compiled, contradiction, refused, returned, unchosen, call, output-after}
 use Rattle.call.specs.Claim.{within, satisfied, Passed}
 use Rattle.sheetback.specs.ReadSheet.{read-sheet}
 use Rattle.sheetback.specs.Sheeted.{sheet-text, with-sheet, sheet-call, sheet-after}

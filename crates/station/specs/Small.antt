@@ -13,7 +13,7 @@ use Rattle.laws.specs.Ints.{eqZ}
 use Rattle.laws.specs.Lists.{any}
 use Rattle.syntax.specs.Words.{star-word, max-bools, max-ints, max-count, max-depth, max-set-words, min-work-words, max-answer-words}
 use Rattle.syntax.specs.Syntax.{op-at, Range, IntExpr, IConst, IVar, Linear, BoolExpr, Const, Var, And, Or, Not, Xor, Iff, Imp, Cmp, star, value, Rule, Table, Problem}
-use Rattle.words.specs.Parse.{Parsed, ok, refuse, Parser, bind, times, word, up-to-at, up-to, count, index-at, index, in-value-range, number}
+use Rattle.words.specs.Parse.{Parsed, ok, refuse, Parser, parse-then, times, word, up-to-at, up-to, count, index-at, index, in-value-range, number}
 use Rattle.read.specs.Read.{read-range, size-at, size-of, read-rising, read-enumerative, read-domain, BoolKind, k-const, k-var, k-and, k-or, k-not, k-xor, k-iff, k-imp, k-cmp, k-unknown, kind-bool, IntKind, i-const, i-var, i-sum, i-unknown, kind-int, too-deep-bool, too-deep-int, read-terms, read-members, bit-at, read-cell, step-int, read-int, read-table, step-bool, read-bool, read-stmt, at-end, read-problem, read-set}
 use Rattle.limits.specs.Limits.{any-part, heavy-comparison, heavy, many-comparison, many-column, wide-column, check}
 use Rattle.fold.specs.Optimize.{Outcome, inconsistent, settled, optimize}
@@ -32,9 +32,9 @@ abbrev pub Low : {A : Type 0} → Parsed A → Type 0
 Low (ok a r) = Unit {0}
 Low (refuse k) = Number k
 
-low-bind : {A B : Type 0} (q : Parsed A) (f : A → Parser B) → Low q → ((a : A) (r : List ℤ) → Low (f a r)) → Low (bind q f)
-low-bind (ok a r) f h g = g a r
-low-bind (refuse k) f h g = h
+low-parse-then : {A B : Type 0} (q : Parsed A) (f : A → Parser B) → Low q → ((a : A) (r : List ℤ) → Low (f a r)) → Low (parse-then q f)
+low-parse-then (ok a r) f h g = g a r
+low-parse-then (refuse k) f h g = h
 
 low-cond : {A : Type 0} (t : Bool) (p q : Parsed A) → Low p → Low q → Low (cond t p q)
 low-cond true p q h k = h
@@ -44,10 +44,10 @@ module _ {A : Type 0} (p : Parser A) (low : (xs : List ℤ) → Low (p xs)) wher
   times-low : (n : ℕ) (xs : List ℤ) → Low (times n p xs)
   unfolding times
   times-low zero xs = tt
-  times-low (suc n) xs = low-bind (p xs) _ (low xs) (λ a r. low-bind (times n p r) _ (times-low n r) (λ b s. tt))
+  times-low (suc n) xs = low-parse-then (p xs) _ (low xs) (λ a r. low-parse-then (times n p r) _ (times-low n r) (λ b s. tt))
 
-  map-low : {B : Type 0} (f : A → B) (xs : List ℤ) → Low (bind (p xs) (λ a r. ok (f a) r))
-  map-low f xs = low-bind (p xs) _ (low xs) (λ a r. tt)
+  map-low : {B : Type 0} (f : A → B) (xs : List ℤ) → Low (parse-then (p xs) (λ a r. ok (f a) r))
+  map-low f xs = low-parse-then (p xs) _ (low xs) (λ a r. tt)
 
 word-low : (xs : List ℤ) → Low (word xs)
 word-low [] = omega arith
@@ -55,7 +55,7 @@ word-low (w ∷ xs) = tt
 
 up-to-low : (limit k : ℕ) → Number k → (xs : List ℤ) → Low (up-to limit k xs)
 unfolding up-to
-up-to-low limit k h xs = low-bind (word xs) _ (word-low xs) at
+up-to-low limit k h xs = low-parse-then (word xs) _ (word-low xs) at
   where
     at : (w : ℤ) (r : List ℤ) → Low (up-to-at limit k w r)
     at (pos n) r = low-cond (leb n limit) (ok n r) (refuse k) tt h
@@ -67,7 +67,7 @@ count-low xs = up-to-low max-count 4 (omega arith) xs
 
 index-low : (n : ℕ) (xs : List ℤ) → Low (index n xs)
 unfolding index
-index-low n xs = low-bind (word xs) _ (word-low xs) at
+index-low n xs = low-parse-then (word xs) _ (word-low xs) at
   where
     at : (w : ℤ) (r : List ℤ) → Low (index-at n w r)
     at (pos i) r = low-cond (ltb i n) (ok i r) (refuse 6) tt (omega arith)
@@ -75,16 +75,16 @@ index-low n xs = low-bind (word xs) _ (word-low xs) at
 
 number-low : (xs : List ℤ) → Low (number xs)
 unfolding number
-number-low xs = low-bind (word xs) _ (word-low xs) (λ w r. low-cond (in-value-range w) (ok w r) (refuse 4) tt (omega arith))
+number-low xs = low-parse-then (word xs) _ (word-low xs) (λ w r. low-cond (in-value-range w) (ok w r) (refuse 4) tt (omega arith))
 
 -- ---- domains and cells
 
 range-low : (xs : List ℤ) → Low (read-range xs)
 unfolding read-range
-range-low xs = low-bind (number xs) _ (number-low xs) (λ low r. low-bind (number r) _ (number-low r) (λ high s. low-cond (ltZ high low) (refuse 7) (ok (Range low high) s) (omega arith) tt))
+range-low xs = low-parse-then (number xs) _ (number-low xs) (λ low r. low-parse-then (number r) _ (number-low r) (λ high s. low-cond (ltZ high low) (refuse 7) (ok (Range low high) s) (omega arith) tt))
 
 size-low : (xs : List ℤ) → Low (size-of xs)
-size-low xs = low-bind (word xs) _ (word-low xs) at
+size-low xs = low-parse-then (word xs) _ (word-low xs) at
   where
     at : (w : ℤ) (r : List ℤ) → Low (size-at w r)
     at (pos zero) r = omega arith
@@ -94,16 +94,16 @@ size-low xs = low-bind (word xs) _ (word-low xs) at
 rising-low : (n : ℕ) (x : ℤ) (xs : List ℤ) → Low (read-rising n x xs)
 unfolding read-rising
 rising-low zero x xs = tt
-rising-low (suc n) x xs = low-bind (number xs) _ (number-low xs) (λ y r. low-cond (ltZ x y) _ (refuse 7) (low-bind (read-rising n y r) _ (rising-low n y r) (λ l s. tt)) (omega arith))
+rising-low (suc n) x xs = low-parse-then (number xs) _ (number-low xs) (λ y r. low-cond (ltZ x y) _ (refuse 7) (low-parse-then (read-rising n y r) _ (rising-low n y r) (λ l s. tt)) (omega arith))
 
 domain-low : (xs : List ℤ) → Low (read-domain xs)
 unfolding read-domain read-enumerative
-domain-low xs = low-bind (word xs) _ (word-low xs) (λ w r. low-cond (eqZ w (pos 0)) (read-range r) _ (range-low r)
-    (low-cond (eqZ w (pos 1)) _ (refuse 5) (low-bind (size-of r) _ (size-low r) (λ n s. low-bind (read-rising n star-word s) _ (rising-low n star-word s) (λ l t. tt))) (omega arith)))
+domain-low xs = low-parse-then (word xs) _ (word-low xs) (λ w r. low-cond (eqZ w (pos 0)) (read-range r) _ (range-low r)
+    (low-cond (eqZ w (pos 1)) _ (refuse 5) (low-parse-then (size-of r) _ (size-low r) (λ n s. low-parse-then (read-rising n star-word s) _ (rising-low n star-word s) (λ l t. tt))) (omega arith)))
 
 cell-low : (xs : List ℤ) → Low (read-cell xs)
 unfolding read-cell
-cell-low xs = low-bind (word xs) _ (word-low xs) (λ w r. low-cond (eqZ w star-word) (ok star r) _ tt (low-cond (in-value-range w) (ok (value w) r) (refuse 4) tt (omega arith)))
+cell-low xs = low-parse-then (word xs) _ (word-low xs) (λ w r. low-cond (eqZ w star-word) (ok star r) _ tt (low-cond (in-value-range w) (ok (value w) r) (refuse 4) tt (omega arith)))
 
 -- ---- expressions
 
@@ -129,58 +129,58 @@ module _ (p : Parser IntExpr) (low : (xs : List ℤ) → Low (p xs)) where
   terms-low : (n : ℕ) (xs : List ℤ) → Low (read-terms p n xs)
   unfolding read-terms
   terms-low zero xs = tt
-  terms-low (suc n) xs = low-bind (number xs) _ (number-low xs) (λ k r. low-bind (p r) _ (low r) (λ e s. low-bind (read-terms p n s) _ (terms-low n s) (λ ts t. tt)))
+  terms-low (suc n) xs = low-parse-then (number xs) _ (number-low xs) (λ k r. low-parse-then (p r) _ (low r) (λ e s. low-parse-then (read-terms p n s) _ (terms-low n s) (λ ts t. tt)))
 
   step-int-low : (ni : ℕ) (k : IntKind) (xs : List ℤ) → Low (step-int ni p k xs)
   unfolding step-int
   step-int-low ni i-const xs = map-low number number-low IConst xs
   step-int-low ni i-var xs = map-low (index ni) (index-low ni) IVar xs
-  step-int-low ni i-sum xs = low-bind (count xs) _ (count-low xs) (λ n r. map-low (read-terms p n) (terms-low n) Linear r)
+  step-int-low ni i-sum xs = low-parse-then (count xs) _ (count-low xs) (λ n r. map-low (read-terms p n) (terms-low n) Linear r)
   step-int-low ni i-unknown xs = omega arith
 
 int-low : (ni left : ℕ) (xs : List ℤ) → Low (read-int ni left xs)
 unfolding read-int
-int-low ni zero xs = low-bind (word xs) _ (word-low xs) (λ w r. deep-int (kind-int w))
-int-low ni (suc left) xs = low-bind (word xs) _ (word-low xs) (λ w r. step-int-low (read-int ni left) (int-low ni left) ni (kind-int w) r)
+int-low ni zero xs = low-parse-then (word xs) _ (word-low xs) (λ w r. deep-int (kind-int w))
+int-low ni (suc left) xs = low-parse-then (word xs) _ (word-low xs) (λ w r. step-int-low (read-int ni left) (int-low ni left) ni (kind-int w) r)
 
 module _ (p : Parser BoolExpr) (low : (xs : List ℤ) → Low (p xs)) where
   members-low : (n : ℕ) (xs : List ℤ) → Low (read-members p n xs)
   unfolding read-members
   members-low zero xs = tt
-  members-low (suc n) xs = low-bind (p xs) _ (low xs) (λ e r. low-bind (read-members p n r) _ (members-low n r) (λ ms s. tt))
+  members-low (suc n) xs = low-parse-then (p xs) _ (low xs) (λ e r. low-parse-then (read-members p n r) _ (members-low n r) (λ ms s. tt))
 
-  two-low : (make : BoolExpr → BoolExpr → BoolExpr) (xs : List ℤ) → Low (bind (p xs) (λ a r. bind (p r) (λ b s. ok (make a b) s)))
-  two-low make xs = low-bind (p xs) _ (low xs) (λ a r. map-low p low (make a) r)
+  two-low : (make : BoolExpr → BoolExpr → BoolExpr) (xs : List ℤ) → Low (parse-then (p xs) (λ a r. parse-then (p r) (λ b s. ok (make a b) s)))
+  two-low make xs = low-parse-then (p xs) _ (low xs) (λ a r. map-low p low (make a) r)
 
   step-bool-low : (nb ni : ℕ) (q : Parser IntExpr) → ((xs : List ℤ) → Low (q xs)) → (k : BoolKind) (xs : List ℤ) → Low (step-bool nb ni p q k xs)
   unfolding step-bool
   step-bool-low nb ni q h k-const xs = map-low (up-to 1 4) (up-to-low 1 4 (omega arith)) (λ b. Const (bit-at b)) xs
   step-bool-low nb ni q h k-var xs = map-low (index nb) (index-low nb) Var xs
-  step-bool-low nb ni q h k-and xs = low-bind (count xs) _ (count-low xs) (λ n r. map-low (read-members p n) (members-low n) And r)
-  step-bool-low nb ni q h k-or xs = low-bind (count xs) _ (count-low xs) (λ n r. map-low (read-members p n) (members-low n) Or r)
+  step-bool-low nb ni q h k-and xs = low-parse-then (count xs) _ (count-low xs) (λ n r. map-low (read-members p n) (members-low n) And r)
+  step-bool-low nb ni q h k-or xs = low-parse-then (count xs) _ (count-low xs) (λ n r. map-low (read-members p n) (members-low n) Or r)
   step-bool-low nb ni q h k-not xs = map-low p low Not xs
   step-bool-low nb ni q h k-xor xs = two-low Xor xs
   step-bool-low nb ni q h k-iff xs = two-low Iff xs
   step-bool-low nb ni q h k-imp xs = two-low Imp xs
-  step-bool-low nb ni q h k-cmp xs = low-bind (up-to 5 4 xs) _ (up-to-low 5 4 (omega arith) xs) (λ o r. low-bind (q r) _ (h r) (λ a s. map-low q h (Cmp (op-at o) a) s))
+  step-bool-low nb ni q h k-cmp xs = low-parse-then (up-to 5 4 xs) _ (up-to-low 5 4 (omega arith) xs) (λ o r. low-parse-then (q r) _ (h r) (λ a s. map-low q h (Cmp (op-at o) a) s))
   step-bool-low nb ni q h k-unknown xs = omega arith
 
 bool-low : (nb ni left : ℕ) (xs : List ℤ) → Low (read-bool nb ni left xs)
 unfolding read-bool
-bool-low nb ni zero xs = low-bind (word xs) _ (word-low xs) (λ w r. deep-bool (kind-bool w))
-bool-low nb ni (suc left) xs = low-bind (word xs) _ (word-low xs) (λ w r. step-bool-low (read-bool nb ni left) (bool-low nb ni left) nb ni (read-int ni left) (int-low ni left) (kind-bool w) r)
+bool-low nb ni zero xs = low-parse-then (word xs) _ (word-low xs) (λ w r. deep-bool (kind-bool w))
+bool-low nb ni (suc left) xs = low-parse-then (word xs) _ (word-low xs) (λ w r. step-bool-low (read-bool nb ni left) (bool-low nb ni left) nb ni (read-int ni left) (int-low ni left) (kind-bool w) r)
 
 -- ---- statements and the set
 
 table-low : (ni : ℕ) (xs : List ℤ) → Low (read-table ni xs)
 unfolding read-table
-table-low ni xs = low-bind (count xs) _ (count-low xs) (λ n r. low-bind (count r) _ (count-low r) (λ k s.
-    low-bind (times n (read-int ni max-depth) s) _ (times-low (read-int ni max-depth) (int-low ni max-depth) n s) (λ es t.
+table-low ni xs = low-parse-then (count xs) _ (count-low xs) (λ n r. low-parse-then (count r) _ (count-low r) (λ k s.
+    low-parse-then (times n (read-int ni max-depth) s) _ (times-low (read-int ni max-depth) (int-low ni max-depth) n s) (λ es t.
     map-low (times k (times n read-cell)) (times-low (times n read-cell) (times-low read-cell cell-low n) k) (Table es) t)))
 
 stmt-low : (nb ni : ℕ) (xs : List ℤ) → Low (read-stmt nb ni xs)
 unfolding read-stmt
-stmt-low nb ni xs = low-bind (word xs) _ (word-low xs) (λ w r. low-cond (eqZ w (pos 1)) _ _ (map-low (read-bool nb ni max-depth) (bool-low nb ni max-depth) Rule r) (low-cond (eqZ w (pos 2)) (read-table ni r) (refuse 5) (table-low ni r) (omega arith)))
+stmt-low nb ni xs = low-parse-then (word xs) _ (word-low xs) (λ w r. low-cond (eqZ w (pos 1)) _ _ (map-low (read-bool nb ni max-depth) (bool-low nb ni max-depth) Rule r) (low-cond (eqZ w (pos 2)) (read-table ni r) (refuse 5) (table-low ni r) (omega arith)))
 
 end-low : (q : Parsed Problem) → Low q → Low (at-end q)
 end-low (ok p []) h = tt
@@ -190,10 +190,10 @@ end-low (refuse k) h = h
 pub set-low : (xs : List ℤ) → Low (read-set xs)
 unfolding read-set
 set-low xs = end-low (read-problem xs) (
-    low-bind (up-to max-bools 4 xs) _ (up-to-low max-bools 4 (omega arith) xs) (λ b r.
-    low-bind (up-to max-ints 4 r) _ (up-to-low max-ints 4 (omega arith) r) (λ i s.
-    low-bind (times i read-domain s) _ (times-low read-domain domain-low i s) (λ ds t.
-    low-bind (count t) _ (count-low t) (λ n u.
+    low-parse-then (up-to max-bools 4 xs) _ (up-to-low max-bools 4 (omega arith) xs) (λ b r.
+    low-parse-then (up-to max-ints 4 r) _ (up-to-low max-ints 4 (omega arith) r) (λ i s.
+    low-parse-then (times i read-domain s) _ (times-low read-domain domain-low i s) (λ ds t.
+    low-parse-then (count t) _ (count-low t) (λ n u.
     map-low (times n (read-stmt b i)) (times-low (read-stmt b i) (stmt-low b i) n) (λ ss. record { bools = b; domains = ds; stmts = ss }) u)))))
 
 -- ---- the call

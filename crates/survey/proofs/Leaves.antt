@@ -18,7 +18,7 @@ use Rattle.syntax.specs.Syntax.{IntExpr}
 use Rattle.clauses.specs.Clause.{negate-if}
 use Rattle.walk.specs.Item.{limit, nat, bump, is-none, mode-in}
 use Rattle.walk.specs.Decode.{word, past, below, terms, int-step, int-at, int-end, constant-node, comparison-node, node-of, read-part, surveyed, fresh-of, lines-in-of, closed-disj}
-use Rattle.walk.specs.declared.Mode.the-variants.{Pass, Each}
+use Rattle.walk.specs.declared.Mode.the-variants.{One, Each}
 use Rattle.walk.specs.declared.Surveyed.{Surveyed}
 use Rattle.walk.specs.declared.Node.{Node}
 use Rattle.walk.specs.declared.Node.the-variants.{Var, Not, Join, Cross}
@@ -56,7 +56,7 @@ past-is w p q h e = omega (arith, read-length w h)
 
 -- ---- modes
 
-pub one-mode : (l k : ℕ) → k ≡ 0 → l < 2 → Pass ≡ mode-in 1 l k
+pub one-mode : (l k : ℕ) → k ≡ 0 → l < 2 → One ≡ mode-in 1 l k
 one-mode zero zero e h = refl
 one-mode (suc zero) zero e h = refl
 one-mode (suc (suc l)) zero e h = absurd (omega arith)

@@ -8,7 +8,7 @@ use lib.IntN.{ℤ}
 use lib.ListN.{length, length-take}
 use Rattle.walk.specs.Item.{limit, bump}
 use Rattle.walk.specs.Decode.{word, node-of, Read, Reads, many, cross-step, step, decode, read-part, surveyed, Surveys}
-use Rattle.walk.specs.Steps.{decode-level, many-more, survey-passed}
+use Rattle.walk.specs.Steps.{decode-level, many-more, survey-split}
 use Rattle.walk.specs.declared.Node.{Node}
 use Rattle.walk.specs.declared.Surveyed.{Surveyed}
 use Rattle.walk.specs.declared.Node.the-variants.{Var, Cmp, Not, Join, Cross}
@@ -101,18 +101,18 @@ pub record Onward (ws : List ℤ) (l : ℕ) (t h : Bool) (rest q b stop last : �
   pub end : many (decode ws l t) rest negated h q b .end ≡ stop
   pub next : many (decode ws l t) rest negated h q b .next ≡ last
 
-pub record Passing (ws : List ℤ) (l : ℕ) (t : Bool) (k at base rest q b : ℕ) : Type 0 where
+pub record Skipping (ws : List ℤ) (l : ℕ) (t : Bool) (k at base rest q b : ℕ) : Type 0 where
   pub onward : (g h : Bool) → Onward ws l t h rest q b (many (decode ws l t) k g h at base .end) (many (decode ws l t) k g h at base .next)
   pub start : at ≤ q
   pub inside : q ≤ 4608
   pub low : b ≤ limit
 
 module _ (ws : List ℤ) (l : ℕ) (t : Bool) (k at base : ℕ) where
-  pub passing-first : at ≤ 4608 → base ≤ limit → Passing ws l t k at base k at base
-  passing-first h i = record { onward = λ g h. record { negated = g; end = refl; next = refl }; start = omega arith; inside = h; low = i }
+  pub skipping-first : at ≤ 4608 → base ≤ limit → Skipping ws l t k at base k at base
+  skipping-first h i = record { onward = λ g h. record { negated = g; end = refl; next = refl }; start = omega arith; inside = h; low = i }
 
-  pub passing-next : (rest q b q' b' : ℕ) → Passing ws l t k at base rest q b → (rest ≡ 0 → ⊥) → Skips ws l t q b q' b' → Passing ws l t k at base (rest - 1) q' b'
-  passing-next rest q b q' b' x z s = record {
+  pub skipping-next : (rest q b q' b' : ℕ) → Skipping ws l t k at base rest q b → (rest ≡ 0 → ⊥) → Skips ws l t q b q' b' → Skipping ws l t k at base (rest - 1) q' b'
+  skipping-next rest q b q' b' x z s = record {
     onward = λ g h.
         let o = x .onward g h in
         let e = many-more (decode ws l t) rest (o .negated) h q b z in
@@ -126,10 +126,10 @@ module _ (ws : List ℤ) (l : ℕ) (t : Bool) (k at base : ℕ) where
     low = s .low;
   }
 
-  pub passing-last : (rest q b : ℕ) → Passing ws l t k at base rest q b → rest ≡ 0 → SkipsAll ws l t k at base q b
+  pub skipping-last : (rest q b : ℕ) → Skipping ws l t k at base rest q b → rest ≡ 0 → SkipsAll ws l t k at base q b
   unfolding many
-  passing-last zero q b x z = record { end = λ g h. x .onward g h .end; next = λ g h. x .onward g h .next; start = x .start; inside = x .inside; low = x .low }
-  passing-last (suc rest) q b x z = absurd (omega arith)
+  skipping-last zero q b x z = record { end = λ g h. x .onward g h .end; next = λ g h. x .onward g h .next; start = x .start; inside = x .inside; low = x .low }
+  skipping-last (suc rest) q b x z = absurd (omega arith)
 
 part-long : (w : List ℤ) → 4608 ≤ length w → 4608 ≤ length (read-part w)
 unfolding read-part
@@ -140,4 +140,4 @@ pub survey-skipped : (w : List ℤ) (l : ℕ) (t g : Bool) (at base n : ℕ) →
     → (r : Surveyed) (h : Bool) (q b stop last : ℕ) → t ≡ true → Cross h q ≡ node-of (read-part w) u g at (word (read-part w) at) → b ≡ bump base 2 → SkipsAll (read-part w) u true 2 q b stop last
     → r ≡ surveyed stop last n 1 0 0 2 2 → Surveys w l t g at base n r
 survey-skipped w l t g at base n size inside low low-base u z hu r h q b stop last ht e hb s i =
-    survey-passed w l t g at base n inside low low-base u z hu r h q b stop last ht e hb (s .end false false) (s .next false false) (s .start) (omega (arith, s .inside, part-long w size)) (s .low) i
+    survey-split w l t g at base n inside low low-base u z hu r h q b stop last ht e hb (s .end false false) (s .next false false) (s .start) (omega (arith, s .inside, part-long w size)) (s .low) i

@@ -98,7 +98,7 @@ pub fn mode_of(longs: usize, lits: usize, cmps: usize) -> Mode
     if longs == 1 {
         if cmps == 0 {
             if lits < 2 {
-                return Mode::Pass;
+                return Mode::One;
             }
         }
         return Mode::Each;
@@ -119,7 +119,7 @@ pub fn fresh(longs: usize, lits: usize, cmps: usize) -> usize
 {
     match mode_of(longs, lits, cmps) {
         Mode::Pool => 0,
-        Mode::Pass => 0,
+        Mode::One => 0,
         Mode::Two => 1,
         Mode::Each => longs,
     }
@@ -131,7 +131,7 @@ fn disj_lines(longs: usize, lits: usize, cmps: usize, lines: usize) -> usize
 {
     match mode_of(longs, lits, cmps) {
         Mode::Pool => 1,
-        Mode::Pass => lines,
+        Mode::One => lines,
         Mode::Two => lines,
         Mode::Each => bump(lines, 1),
     }

@@ -1,6 +1,6 @@
 -- The levels of an expression, its own being 1 (document 01 allows 64): members, sides, terms and leaves are one deeper.
 use Prim.Native.Nat.{ℕ, suc, max}
-use Rattle.syntax.specs.Syntax.{IntExpr, IConst, IVar, Linear, Terms, tnil, tmore, BoolExpr, Const, Var, NVar, And, Or, Not, Xor, Iff, Imp, Cmp, Members, none, more}
+use Rattle.syntax.specs.Syntax.{IntExpr, IConst, IVar, Linear, Terms, tnil, tmore, BoolExpr, Const, Var, NVar, And, Or, Not, Xor, Iff, Imp, Cmp, Members, mnil, more}
 
 unfoldable mutual
   pub depth-int : IntExpr → ℕ
@@ -26,5 +26,5 @@ unfoldable mutual
   depth (Cmp o a b) = suc (max (depth-int a) (depth-int b))
 
   pub depth-members : Members → ℕ
-  depth-members none = 0
+  depth-members mnil = 0
   depth-members (more e ms) = max (depth e) (depth-members ms)

@@ -5,3 +5,4 @@ pub mod Written
 pub mod Depth
 pub mod Unique
 pub mod Lengths
+pub mod Codes

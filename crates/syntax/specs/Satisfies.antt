@@ -7,7 +7,7 @@ use lib.Signed.{ltZ, leZ}
 use lib.ListN.{length}
 use Rattle.laws.specs.Ints.{eqZ}
 use Rattle.laws.specs.Lists.{any, all, below}
-use Rattle.syntax.specs.Syntax.{in-domain, domain-of, CmpOp, Eq, Ne, Le, Lt, Ge, Gt, IntExpr, IConst, IVar, Linear, Terms, tnil, tmore, BoolExpr, Const, Var, NVar, And, Or, Not, Xor, Iff, Imp, Cmp, Members, none, more, Cell, star, value, Stmt, Rule, Table, Problem}
+use Rattle.syntax.specs.Syntax.{in-domain, domain-of, CmpOp, Eq, Ne, Le, Lt, Ge, Gt, IntExpr, IConst, IVar, Linear, Terms, tnil, tmore, BoolExpr, Const, Var, NVar, And, Or, Not, Xor, Iff, Imp, Cmp, Members, mnil, more, Cell, star, value, Stmt, Rule, Table, Problem}
 
 -- values of Booleans and of integers, by their numbers
 abbrev pub Val : Type 0
@@ -60,11 +60,11 @@ module _ (δ : Val) (ε : IVal) (ρ : Val) where
     holds (Cmp o a b) = compare o (int-value ε a) (int-value ε b)
 
     pub holds-all : Members → Bool
-    holds-all none = true
+    holds-all mnil = true
     holds-all (more e ms) = holds e && holds-all ms
 
     pub holds-any : Members → Bool
-    holds-any none = false
+    holds-any mnil = false
     holds-any (more e ms) = holds e || holds-any ms
 
   unfoldable pub stmt-holds : Stmt → Bool

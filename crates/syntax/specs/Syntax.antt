@@ -1,6 +1,6 @@
 -- What a set of words says: domains, integer and Boolean expressions, statements; and the words of each (`encode`).
 use mathlib.Core.Bool.{Bool, true, false, _&&_, cond}
-use mathlib.Core.Option.{Option, none as nothing, some}
+use mathlib.Core.Option.{Option, none, some}
 use mathlib.Core.List.{List, [], _∷_, _++_, map}
 use Prim.Native.Nat.{ℕ, zero, suc}
 use lib.IntN.{ℤ, pos, natAbs, sucℤ, _+ℤ_, _-ℤ_}
@@ -36,10 +36,10 @@ num-candidates (Range low high) = (high -ℤ low) +ℤ pos 1
 num-candidates (Enumerative xs) = pos (length xs)
 
 abbrev pub as-constant : Domain → Option ℤ
-as-constant (Range low high) = cond (eqZ low high) (some low) nothing
-as-constant (Enumerative []) = nothing
+as-constant (Range low high) = cond (eqZ low high) (some low) none
+as-constant (Enumerative []) = none
 as-constant (Enumerative (x ∷ [])) = some x
-as-constant (Enumerative (x ∷ y ∷ xs)) = nothing
+as-constant (Enumerative (x ∷ y ∷ xs)) = none
 
 -- n values from x on
 abbrev pub rising : ℤ → ℕ → List ℤ
@@ -89,7 +89,7 @@ mutual
     Cmp : CmpOp → IntExpr → IntExpr → BoolExpr
 
   pub data Members : Type 0 where
-    none : Members
+    mnil : Members
     more : BoolExpr → Members → Members
 
 -- ---- statements and sets
@@ -135,7 +135,7 @@ count-terms tnil = 0
 count-terms (tmore k e ts) = suc (count-terms ts)
 
 abbrev pub count-members : Members → ℕ
-count-members none = 0
+count-members mnil = 0
 count-members (more e ms) = suc (count-members ms)
 
 unfoldable mutual
@@ -166,7 +166,7 @@ unfoldable mutual
   encode-bool (Cmp o a b) = pos 18 ∷ encode-op o ∷ encode-int a ++ encode-int b
 
   pub encode-members : Members → List ℤ
-  encode-members none = []
+  encode-members mnil = []
   encode-members (more e ms) = encode-bool e ++ encode-members ms
 
 abbrev pub encode-cell : Cell → ℤ

@@ -6,7 +6,7 @@ use mathlib.Core.List.{List, [], _∷_}
 use Prim.Native.Nat.{ℕ, _<_}
 use lib.ListN.{length}
 use Rattle.laws.specs.Lists.{all-below}
-use Rattle.syntax.specs.Syntax.{Domain, in-domain, domain-of, IntExpr, IConst, IVar, Linear, Terms, tnil, tmore, BoolExpr, Const, Var, NVar, And, Or, Not, Xor, Iff, Imp, Cmp, Members, none, more, Stmt, Rule, Table, Problem}
+use Rattle.syntax.specs.Syntax.{Domain, in-domain, domain-of, IntExpr, IConst, IVar, Linear, Terms, tnil, tmore, BoolExpr, Const, Var, NVar, And, Or, Not, Xor, Iff, Imp, Cmp, Members, mnil, more, Stmt, Rule, Table, Problem}
 use Rattle.syntax.specs.Satisfies.{IVal, in-domains}
 
 module _ (Q : ℕ → Type 0) where
@@ -39,7 +39,7 @@ module _ (N P Q : ℕ → Type 0) where
     EveryOf (Cmp o a b) = EveryInt Q a × EveryInt Q b
 
     pub EveryMemberOf : Members → Type 0
-    EveryMemberOf none = Unit {0}
+    EveryMemberOf mnil = Unit {0}
     EveryMemberOf (more e ms) = EveryOf e × EveryMemberOf ms
 
 -- any emitted number; none
@@ -105,7 +105,7 @@ module _ (N P Q N' P' Q' : ℕ → Type 0) (toN : (n : ℕ) → N n → N' n) (t
     every-map (Cmp o a b) h = (every-int-map Q Q' toQ a (h .0), every-int-map Q Q' toQ b (h .1))
 
     pub every-member-map : (ms : Members) → EveryMemberOf N P Q ms → EveryMemberOf N' P' Q' ms
-    every-member-map none h = tt
+    every-member-map mnil h = tt
     every-member-map (more e ms) h = (every-map e (h .0), every-member-map ms (h .1))
 
 module _ (P Q P' Q' : ℕ → Type 0) (toP : (v : ℕ) → P v → P' v) (toQ : (v : ℕ) → Q v → Q' v) where
@@ -154,7 +154,7 @@ mutual
   any-bool (Cmp o a b) = (any-int a, any-int b)
 
   pub any-members : (ms : Members) → EveryMember (λ v. Unit {0}) (λ v. Unit {0}) ms
-  any-members none = tt
+  any-members mnil = tt
   any-members (more e ms) = (any-bool e, any-members ms)
 
 pub any-stmts : (ss : List Stmt) → EveryStmts (λ v. Unit {0}) (λ v. Unit {0}) ss

@@ -2,7 +2,7 @@
 -- The variables that the columns write are taken to have values of their domains, which are neither empty nor unordered.
 use mathlib.Core.Path.{_≡_, refl, sym, ap, _∙_}
 use mathlib.Core.Bool.{Bool, true, false, _&&_, _||_, cond}
-use mathlib.Core.Option.{Option, none as nothing, some}
+use mathlib.Core.Option.{Option, none, some}
 use mathlib.Core.List.{List, [], _∷_, _++_, map, map-append}
 use Prim.Native.Nat.{ℕ, suc, _≤_, _<_}
 use native.Mathlib.Omega.{arith}
@@ -36,7 +36,7 @@ use Rattle.tables.specs.Emitted.{new-column-domain, domain-stays, int-va
 
 int-var-gets : (v : ℕ) (s : Log) (o : Option ℕ) → get-int-var v s ≡ o → get-int-var v (int-var-at o v s .1) ≡ some (int-var-at o v s .0)
 int-var-gets v s (some n) e = e
-int-var-gets v s nothing e = unfold get-int-var in rw (eq-eqb v v refl) refl
+int-var-gets v s none e = unfold get-int-var in rw (eq-eqb v v refl) refl
 
 convert-gets : (v : ℕ) (s : Log) → get-int-var v (convert-int-var v s .1) ≡ some (convert-int-var v s .0)
 unfolding convert-int-var
@@ -45,7 +45,7 @@ convert-gets v s = int-var-gets v s (get-int-var v s) refl
 module _ {ε : IVal} where
   int-var-grows : (v : ℕ) (s : Log) (o : Option ℕ) → get-int-var v s ≡ o → Grows ε s (int-var-at o v s .1)
   int-var-grows v s (some n) e = same
-  int-var-grows v s nothing e = grow (declared-int v) e same
+  int-var-grows v s none e = grow (declared-int v) e same
 
   convert-grows : (v : ℕ) (s : Log) → Grows ε s (convert-int-var v s .1)
   unfolding convert-int-var

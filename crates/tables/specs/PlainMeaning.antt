@@ -11,14 +11,14 @@ use lib.ListN.{length, getD, take, drop, length-map}
 use Rattle.laws.specs.Bools.{never, and-l, and-r, and-i, or-l, or-r, or-no-l, or-no-r, or-left-no, or-right-no, or-assoc, both-ways, eq1, eq2, imp3}
 use Rattle.laws.specs.Ints.{eqZ, is-zero-true}
 use Rattle.laws.specs.Order.{eqZ-is, eqZ-refl, eqZ-sym}
-use Rattle.laws.specs.Lists.{any, all, keep-if, filter, flat, any-cong, any-split, any-append, all-append, any-mono, all-mono, none-of, all-take, all-filter}
+use Rattle.laws.specs.Lists.{any, all, keep-if, select, flat, any-cong, any-split, any-append, all-append, any-mono, all-mono, none-of, all-take, all-select}
 use Rattle.syntax.specs.Syntax.{Domain, enumerate, in-domain, domain-of, Cell}
 use Rattle.syntax.specs.Satisfies.{Val, IVal}
 use Rattle.clauses.specs.Clause.{linear-true, Clause, clause-true}
 use Rattle.tables.specs.Tables.{linear-eq, linear-ne, is-star, Row, cell-value, cell-at, row-le, sort-rows, within, agree, run-length, groups, takes, variable, differs, column-clause, column-clauses, prefixes, plain-clauses, plain-table}
 use Rattle.tables.specs.Domains.{has, in-enumerate}
 use Rattle.tables.specs.Agree.{wide, wide-is, agree-same, agree-sym, agree-snoc, agree-less, agree-all, within-at, row-permits, permits-agree}
-use Rattle.tables.specs.Sorted.{any-sort, all-sort, Sorted, more, sorted-sort, sorted-filter, run-agrees, run-after}
+use Rattle.tables.specs.Sorted.{any-sort, all-sort, Sorted, more, sorted-sort, sorted-select, run-agrees, run-after}
 
 -- ---- a comparison of a variable with a constant
 
@@ -44,14 +44,14 @@ linear-ne-true ι v c = ap not (one-term (ι v) c)
 
 -- ---- lists
 
-has-filter : (x : ℤ) (f : ℤ → Bool) (d : List ℤ) → has x (filter f d) ≡ f x && has x d
-has-filter x f [] = sym (and-no (f x))
+has-select : (x : ℤ) (f : ℤ → Bool) (d : List ℤ) → has x (select f d) ≡ f x && has x d
+has-select x f [] = sym (and-no (f x))
   where
     and-no : (b : Bool) → b && false ≡ false
     and-no = eq1 _ _ refl
-has-filter x f (y ∷ d) = go (eqZ x y) (f y) refl refl (has-filter x f d)
+has-select x f (y ∷ d) = go (eqZ x y) (f y) refl refl (has-select x f d)
   where
-    go : (e t : Bool) → eqZ x y ≡ e → f y ≡ t → has x (filter f d) ≡ f x && has x d → has x (keep-if t y (filter f d)) ≡ f x && (e || has x d)
+    go : (e t : Bool) → eqZ x y ≡ e → f y ≡ t → has x (select f d) ≡ f x && has x d → has x (keep-if t y (select f d)) ≡ f x && (e || has x d)
     go true true h k q = rw (h, eqZ-is x y h, k)
     go true false h k q = let z : f x ≡ false = ap f (eqZ-is x y h) ∙ k in q ∙ rw z
     go false true h k q = rw h q
@@ -110,7 +110,7 @@ module _ (vs : List ℕ) (ds : List Domain) (ρ : Val) (ι : IVal) where
   unfolding column-clause Inside
   column-true p i r g inside l k w =
       any-append (linear-true ι) (differs vs ds p r) _
-      ∙ rw (differs-true p r l w, equals-true (variable vs ds i) (filter (takes i g) (enumerate (domain-of ds i))), ← (getD-map ι vs i k), has-filter (cell-at tuple i) (takes i g) (enumerate (domain-of ds i)), in-enumerate (cell-at tuple i) (domain-of ds i) (inside i k))
+      ∙ rw (differs-true p r l w, equals-true (variable vs ds i) (select (takes i g) (enumerate (domain-of ds i))), ← (getD-map ι vs i k), has-select (cell-at tuple i) (takes i g) (enumerate (domain-of ds i)), in-enumerate (cell-at tuple i) (domain-of ds i) (inside i k))
       (tidy (not (with-tuple p r)) (takes i g (cell-at tuple i)))
     where
       tidy : (a b : Bool) → a || (b && true) ≡ a || b
@@ -327,12 +327,12 @@ module _ (vs : List ℕ) (ds : List Domain) (ρ : Val) (ι : IVal) where
       both-ways _ _ (λ h. sound 0 (length vs) (r ∷ rs) inside (omega arith) w (unfold agree in refl) h)
       (λ h. complete 0 (length vs) (r ∷ rs) inside (omega arith) w s h)
 
-  any-within : (rows : List Row) → within ds tuple ≡ true → all (wide (length vs)) rows ≡ true → any (with-tuple (length vs)) (filter (within ds) rows) ≡ any (with-tuple (length vs)) rows
+  any-within : (rows : List Row) → within ds tuple ≡ true → all (wide (length vs)) rows ≡ true → any (with-tuple (length vs)) (select (within ds) rows) ≡ any (with-tuple (length vs)) rows
   any-within [] d w = refl
   any-within (r ∷ rows) d w = go (within ds r) refl (any-within rows d (and-r (wide (length vs) r) (all (wide (length vs)) rows) w))
     where
       rest : List Row
-      rest = filter (within ds) rows
+      rest = select (within ds) rows
 
       here : with-tuple (length vs) r ≡ true → within ds r ≡ true
       here k = ap (within ds) (agree-all (length vs) r tuple (wide-is (length vs) r (and-l (wide (length vs) r) (all (wide (length vs)) rows) w)) (length-map vs ι) k) ∙ d
@@ -346,9 +346,9 @@ module _ (vs : List ℕ) (ds : List Domain) (ρ : Val) (ι : IVal) where
       go false e q = q ∙ outside (with-tuple (length vs) r) e refl
 
   rows-mean : (rows : List Row) → length ds ≡ length vs → within ds tuple ≡ true → all (wide (length vs)) rows ≡ true
-      → true-all (plain-clauses vs ds (filter (within ds) (sort-rows rows))) ≡ any (with-tuple (length vs)) rows
+      → true-all (plain-clauses vs ds (select (within ds) (sort-rows rows))) ≡ any (with-tuple (length vs)) rows
   rows-mean rows e d w =
-      clauses-mean (filter (within ds) (sort-rows rows)) inside (all-filter (wide (length vs)) (within ds) (sort-rows rows) sorted-wide) (sorted-filter (within ds) (sorted-sort rows))
+      clauses-mean (select (within ds) (sort-rows rows)) inside (all-select (wide (length vs)) (within ds) (sort-rows rows) sorted-wide) (sorted-select (within ds) (sorted-sort rows))
       ∙ any-within (sort-rows rows) d sorted-wide ∙ any-sort (with-tuple (length vs)) rows
     where
       sorted-wide : all (wide (length vs)) (sort-rows rows) ≡ true

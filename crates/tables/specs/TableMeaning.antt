@@ -9,7 +9,7 @@ use lib.Dec.{ltb}
 use lib.ListN.{length, length-map, getD}
 use borrow.Author.Tests.{ltb-true}
 use Rattle.laws.specs.Bools.{and-l, and-r, and-i}
-use Rattle.laws.specs.Lists.{any, all, keep-if, filter, flat, any-cong, all-append}
+use Rattle.laws.specs.Lists.{any, all, keep-if, select, flat, any-cong, all-append}
 use Rattle.syntax.specs.Syntax.{Domain, in-domain, domain-of, enumerate, IntExpr, Cell, Table}
 use Rattle.syntax.specs.Satisfies.{Val, IVal, int-value, row-holds, stmt-holds}
 use Rattle.syntax.specs.Written.{EveryColumn}
@@ -54,7 +54,7 @@ module _ (vs : List ℕ) (ds : List Domain) where
 
   table-bound : (rows : List (List Cell)) → clauses-bound (plain-table vs ds rows) ≡ 0
   unfolding plain-table
-  table-bound rows = plain-bound (filter (within ds) (sort-rows (map (map cell-value) rows)))
+  table-bound rows = plain-bound (select (within ds) (sort-rows (map (map cell-value) rows)))
 
 -- ---- and no integers but the columns'
 
@@ -79,7 +79,7 @@ module _ (vs : List ℕ) (ds : List Domain) (n : ℕ) (low : (i : ℕ) → getD 
   columns-ints p i (suc m) g = go (not (all (takes i (g .1)) (enumerate (domain-of ds i)))) (columns-ints p (suc i) m g)
     where
       some-values : List ℤ
-      some-values = filter (takes i (g .1)) (enumerate (domain-of ds i))
+      some-values = select (takes i (g .1)) (enumerate (domain-of ds i))
 
       go : (t : Bool) → ints-bound (column-clauses vs ds p (suc i) m g) ≤ n → ints-bound (keep-if t (column-clause vs ds p i g) (column-clauses vs ds p (suc i) m g)) ≤ n
       go true h = omega (arith, linears-bound-append (differs vs ds p (g .0)) (map (linear-eq (getD vs i 0)) some-values), differs-ints p (g .0), equalities-ints (getD vs i 0) some-values, low i)
@@ -103,7 +103,7 @@ plain-ints n (v ∷ vs) ds (r ∷ rows) h = prefixes-ints (v ∷ vs) ds n (λ i.
 
 table-ints : (n : ℕ) (vs : List ℕ) (ds : List Domain) (rows : List (List Cell)) → all (λ v. ltb v n) vs ≡ true → ints-bound (plain-table vs ds rows) ≤ n
 unfolding plain-table
-table-ints n vs ds rows h = plain-ints n vs ds (filter (within ds) (sort-rows (map (map cell-value) rows))) h
+table-ints n vs ds rows h = plain-ints n vs ds (select (within ds) (sort-rows (map (map cell-value) rows))) h
 
 within-map : (f : ℕ → Domain) (ι : IVal) (vs : List ℕ) → all (λ v. in-domain (ι v) (f v)) vs ≡ true → within (map f vs) (map ι vs) ≡ true
 unfolding within

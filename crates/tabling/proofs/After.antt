@@ -57,5 +57,5 @@ at-after {x} {triples = triples} l v h = record {
 -- a clause without literals and comparisons
 pub empty-one : {out a b : List ℤ} {o p q c : ℕ} → Behind out o c → (o ≡ cap → ⊥) → Wrote out o (pos 0 ∷ []) a p → Wrote a p (pos 0 ∷ []) b q → Clauses out o c (clause [] [] ∷ []) b q (c + 1)
 empty-one {o = o} h n x y =
-    let l : o < cap = omega (arith, h .room .place, n) in
-    clauses-one (clause [] []) (h .low) (omega (arith, x .at, y .at)) (wrote-then (h .room .part) x y)
+    let l : o < cap = omega (arith, h .room .low, n) in
+    clauses-one (clause [] []) (h .low) (omega (arith, x .at, y .at)) (wrote-then (h .room .room) x y)

@@ -83,7 +83,7 @@ module _ {set w : List ℤ} {q triples m : ℕ} {out : List ℤ} {o : ℕ} where
     equalities {es = es} h = y .clauses es (stands-at h hn)
 
     table-then : {x : Place} {es : List IntExpr} {rows : List (List Cell)} → At x (Table es rows) set w q triples m out o → TableAt x es rows set w q p n k triples m out₁ o₁
-    table-then h = table-at h hn hk hp (b .room .place) (equalities h .words)
+    table-then h = table-at h hn hk hp (b .room .low) (equalities h .words)
 
     pub some-table-at : SomeTable set w q triples m out o → SomeTableAt set w q p n k triples m out₁ o₁
     some-table-at s = record { place = s .place; exprs = s .exprs; rows = s .rows; it = table-then (s .it) }
@@ -100,7 +100,7 @@ module _ {set w : List ℤ} {q triples m : ℕ} {out : List ℤ} {o : ℕ} where
         let i : m ≡ x .state .bools = h .number ∙ sym (h .at .numbered .bools) in
         let s = stmt-walks (x .folded) (x .problem .domains) q (Table es rows) (x .state) (x .before) (h .at .behind, h .at .inside) (h .at .stands) (h .at .legal) (h .at .numbered) (low-back (h .at .grows) (h .low)) (omega (arith, h .at .grows .ints, h .few)) in
         record {
-          clauses = clauses-then (b .room .part) (clauses-to a (equalities h)) (r .clauses);
+          clauses = clauses-then (b .room .room) (clauses-to a (equalities h)) (r .clauses);
           next = table-end t;
           bools = ap (λ (j : ℕ). bump j f) i ∙ ap (bump (x .state .bools)) e ∙ s .count w (back (h .at .grows) (h .fit));
           saved = r .saved;

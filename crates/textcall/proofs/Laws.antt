@@ -14,7 +14,8 @@ use mir.Syntax.{w32, w64}
 use mir.Val.{SFits, Fits}
 use Rattle.laws.specs.Bools.{and-l}
 use Rattle.laws.specs.Lists.{all, all-append}
-use Rattle.call.specs.Call.{Result, compiled, contradiction, refused, unchosen, call, output-after, zeros}
+use Rattle.laws.specs.Slices.{zeros}
+use Rattle.call.specs.Call.{Result, compiled, contradiction, refused, unchosen, call, output-after}
 use Rattle.input.specs.ReadText.{read-text}
 use Rattle.input.specs.Input.{words-of, words-after}
 use Rattle.input.specs.Room.{few-words}

@@ -6,7 +6,8 @@ use Prim.Native.Nat.{ℕ, _≤_, _<_, min}
 use lib.IntN.{ℤ}
 use lib.ListN.{length, take}
 use lib.Seq.{sets}
-use Rattle.call.specs.Call.{Result, call, output-after, zeros}
+use Rattle.laws.specs.Slices.{zeros}
+use Rattle.call.specs.Call.{Result, call, output-after}
 use Rattle.input.specs.ReadText.{read-text}
 use Rattle.readback.specs.Listed.{print-result, list-text}
 use Rattle.planner.specs.declared.Answer.{Answer}

@@ -11,7 +11,7 @@ use borrow.Author.Tests.{lt-ltb}
 use lib.ListN.{length, getD, take, drop, take-append-drop, length-append, length-drop}
 use lib.Seq.{drop-append-le, take-append-le}
 use Rattle.laws.specs.Slices.{Has, has-fits, has-front, has-back, has-word, has-rest}
-use Rattle.syntax.specs.Syntax.{CmpOp, Eq, Ne, Le, Lt, Ge, Gt, op-at, encode-op, IntExpr, IConst, IVar, Linear, Terms, tnil, tmore, count-terms, encode-int, encode-terms, BoolExpr, Const, Var, NVar, And, Or, Not, Xor, Iff, Imp, Cmp, Members, none, more, count-members, encode-bool, encode-members}
+use Rattle.syntax.specs.Syntax.{CmpOp, Eq, Ne, Le, Lt, Ge, Gt, op-at, encode-op, IntExpr, IConst, IVar, Linear, Terms, tnil, tmore, count-terms, encode-int, encode-terms, BoolExpr, Const, Var, NVar, And, Or, Not, Xor, Iff, Imp, Cmp, Members, mnil, more, count-members, encode-bool, encode-members}
 use Rattle.walk.specs.Tree.{Tree, num, tied, Trees, nil, cons, pair, append, splits, splits-members, crossed, resolve, resolves, both-tied, ties, ties-members}
 use Rattle.walk.specs.Item.{limit, bump, nat}
 use Rattle.walk.specs.Legal.{LegalInt, LegalTerms, Legal, LegalMembers}
@@ -237,7 +237,7 @@ mutual
 
   many-is : (ms : Members) (l : ℕ) (t g : Bool) (ws : List ℤ) (at n : ℕ) → LegalMembers ms l → Has ws at (encode-members ms) → n + splits-members ms t ≤ limit
       → many (decode ws l t) (count-members ms) g g at n ≡ readings (resolves ms t at n g) (at + length (encode-members ms)) (n + splits-members ms t)
-  many-is none l t g ws at n h d k = readings-to _ _ _ _ _ _ refl (omega arith) (omega arith)
+  many-is mnil l t g ws at n h d k = readings-to _ _ _ _ _ _ refl (omega arith) (omega arith)
   many-is (more e ms) l t g ws at n h d k =
       let de = has-front ws at (encode-bool e) (encode-members ms) d in
       let dm = has-back ws at (encode-bool e) (encode-members ms) d in
@@ -356,7 +356,7 @@ mutual
 
   ties-are : (ms : Members) (l : ℕ) (t : Bool) (ws : List ℤ) (at n : ℕ) → LegalMembers ms l → Has ws at (encode-members ms) → n + splits-members ms t ≤ limit
       → many-ties (decode ws l t) (ties-at ws l t) (count-members ms) at n ≡ ties-members ms t at n
-  ties-are none l t ws at n h d k = refl
+  ties-are mnil l t ws at n h d k = refl
   ties-are (more e ms) l t ws at n h d k =
       let de = has-front ws at (encode-bool e) (encode-members ms) d in
       let dm = has-back ws at (encode-bool e) (encode-members ms) d in

@@ -1,7 +1,7 @@
 -- Logs grow, and a work slice whose maps agree with a later log agrees with an earlier one.
 use mathlib.Core.Path.{_≡_, refl, ap}
 use mathlib.Core.Bool.{Bool, true, false, cond}
-use mathlib.Core.Option.{Option, none as nothing, some}
+use mathlib.Core.Option.{Option, none, some}
 use mathlib.Core.List.{List, _∷_}
 use Prim.Native.Nat.{ℕ, suc, _≤_, _<_}
 use native.Mathlib.Omega.{arith}
@@ -35,11 +35,11 @@ unfolding get-bool-var get-int-var
 grow-aux cs s = record { bools = omega arith; ints = omega arith; keep = λ v n h. h; keep-int = λ v n h. h }
 
 -- a variable that is not there yet
-kept : {X : Type 0} (v w : ℕ) (k n : X) (o p : Option X) → p ≡ nothing → o ≡ some n → (v ≡ w → o ≡ p) → (b : Bool) → eqb v w ≡ b → cond b (some k) o ≡ some n
+kept : {X : Type 0} (v w : ℕ) (k n : X) (o p : Option X) → p ≡ none → o ≡ some n → (v ≡ w → o ≡ p) → (b : Bool) → eqb v w ≡ b → cond b (some k) o ≡ some n
 kept v w k n o p l h q false e = h
 kept v w k n o p l h q true e = let r : v ≡ w = eqb→eq v w (rw e tt) in let x : o ≡ p = q r in cc
 
-pub grow-declared : (w : ℕ) (s : Log) → get-bool-var w s ≡ nothing → Grows s (declared w ∷ s)
+pub grow-declared : (w : ℕ) (s : Log) → get-bool-var w s ≡ none → Grows s (declared w ∷ s)
 unfolding get-bool-var get-int-var
 grow-declared w s h = record {
   bools = omega arith;
@@ -48,7 +48,7 @@ grow-declared w s h = record {
   keep-int = λ v n q. q;
 }
 
-pub grow-declared-int : (w : ℕ) (s : Log) → get-int-var w s ≡ nothing → Grows s (declared-int w ∷ s)
+pub grow-declared-int : (w : ℕ) (s : Log) → get-int-var w s ≡ none → Grows s (declared-int w ∷ s)
 unfolding get-bool-var get-int-var
 grow-declared-int w s h = record {
   bools = omega arith;

@@ -1,7 +1,7 @@
 -- The walks' package of a tree is what the Rust makes of it: the counter, the words, the shape. w: a work slice with the final maps.
 use mathlib.Core.Path.{_≡_, refl, sym, ap, _∙_}
 use mathlib.Core.Bool.{Bool, true, false, cond}
-use mathlib.Core.Option.{Option, none as nothing, some}
+use mathlib.Core.Option.{Option, none, some}
 use mathlib.Core.List.{List, [], _∷_, _++_, append-nil}
 use Prim.Native.Nat.{ℕ, suc, _+_, _≤_, _<_, min}
 use native.Mathlib.Omega.{arith}
@@ -60,7 +60,7 @@ module _ (w : List ℤ) where
     pub at : (s : Log) → Fit w (r s .1) → ImplementsAt i s (r s)
 
   pub data Goods : List Item → Runs → Type 0 where
-    none : Goods [] no-run
+    goods-nil : Goods [] no-run
     more : {i : Item} {r : Run} {is : List Item} {rs : Runs} → Implements i r → Goods is rs → Goods (i ∷ is) (run-then r rs)
 
   -- the members sorted
@@ -81,7 +81,7 @@ module _ (w : List ℤ) where
 
   pub goods-grows : {is : List Item} {rs : Runs} → Goods is rs → (s : Log) → Grows s (rs s .1)
   unfolding no-run run-then
-  goods-grows none s = same
+  goods-grows goods-nil s = same
   goods-grows (more {i} {r} {is} {rs} g gs) s = then (g .grows s) (goods-grows gs (r s .1))
 
   shape-lines : (i : Item) (cs : List Clause) → Shape i cs → lines-of (i .unit) ≡ min (length cs) limit
@@ -135,7 +135,7 @@ module _ (w : List ℤ) where
 
   pub goods-sorts : {is : List Item} {rs : Runs} → Goods is rs → (s : Log) → Fit w (rs s .1) → Sorts is s (rs s)
   unfolding no-run run-then sorted tallies all-lines counts pools texts long-texts long-layout layout
-  goods-sorts none s f = record {
+  goods-sorts goods-nil s f = record {
     ls = [];
     ks = [];
     cx = [];
@@ -338,11 +338,11 @@ module _ (w : List ℤ) where
   var-good v g = record { grows = λ s. gr s (get-bool-var v s) refl; at = λ s f. go s (get-bool-var v s) refl f }
     where
       gr : (s : Log) (o : Option BoolLit) → get-bool-var v s ≡ o → Grows s (bool-var-at o v s .1)
-      gr s nothing e = grow-declared v s e
+      gr s none e = grow-declared v s e
       gr s (some n) e = same
 
       go : (s : Log) (o : Option BoolLit) → get-bool-var v s ≡ o → Fit w (bool-var-at o v s .1) → ImplementsAt (var-item v g) s (clause (negate-lit g (bool-var-at o v s .0) ∷ []) [] ∷ [], bool-var-at o v s .1)
-      go s nothing e f = var-at v g s (lit (next-bool s) false) (declared v ∷ s) (bool-here v s) f (rw (new-entry v (next-bool s) (f .agree v (lit (next-bool s) false) (bool-here v s))) (omega (arith, f .small)))
+      go s none e f = var-at v g s (lit (next-bool s) false) (declared v ∷ s) (bool-here v s) f (rw (new-entry v (next-bool s) (f .agree v (lit (next-bool s) false) (bool-here v s))) (omega (arith, f .small)))
       go s (some l) e f = var-at v g s l s e f (rw (old-entry v (next-bool s) l (f .agree v l e) (bool-below s v l e)))
 
   length-items : (ts : Trees) → length (items ts) ≡ size ts
@@ -363,5 +363,5 @@ module _ (w : List ℤ) where
     item-good (tied v t u) p = tied-good v (item t) (item u) (run t) (run u) (p .0) (item-good t (p .1)) (item-good u (p .2))
 
     pub items-good : (ts : Trees) → Propers ts → Goods (items ts) (runs ts)
-    items-good nil p = none
+    items-good nil p = goods-nil
     items-good (cons t ts) p = more (item-good t (p .0)) (items-good ts (p .1))

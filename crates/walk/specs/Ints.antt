@@ -1,6 +1,6 @@
 -- Integers met in a comparison: the sum of an expression is that of the final map, and Booleans keep their numbers.
 use mathlib.Core.Path.{_≡_, refl, ap, _∙_}
-use mathlib.Core.Option.{Option, none as nothing, some}
+use mathlib.Core.Option.{Option, none, some}
 use mathlib.Core.List.{List}
 use Prim.Native.Nat.{ℕ}
 use native.Mathlib.Omega.{arith}
@@ -19,7 +19,7 @@ var-grows v s = go (get-int-var v s) refl
   where
     go : (o : Option ℕ) → get-int-var v s ≡ o → Grows s (int-var-at o v s .1)
     go (some n) e = same
-    go nothing e = grow-declared-int v s e
+    go none e = grow-declared-int v s e
 
 var-bools : (v : ℕ) (s : Log) → next-bool (convert-int-var v s .1) ≡ next-bool s
 unfolding convert-int-var
@@ -27,7 +27,7 @@ var-bools v s = go (get-int-var v s)
   where
     go : (o : Option ℕ) → next-bool (int-var-at o v s .1) ≡ next-bool s
     go (some n) = refl
-    go nothing = refl
+    go none = refl
 
 -- its number is found in the log behind it
 pub var-found : (v : ℕ) (s : Log) → get-int-var v (convert-int-var v s .1) ≡ some (convert-int-var v s .0)
@@ -36,7 +36,7 @@ var-found v s = go (get-int-var v s) refl
   where
     go : (o : Option ℕ) → get-int-var v s ≡ o → get-int-var v (int-var-at o v s .1) ≡ some (int-var-at o v s .0)
     go (some n) e = e
-    go nothing e = int-here v s
+    go none e = int-here v s
 
 mutual
   unfolding normalize-int-expr normalize-int-var normalize-term

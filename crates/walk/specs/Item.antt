@@ -15,7 +15,7 @@ use Rattle.clauses.specs.Normalize.{negate-op-if}
 use Rattle.answer.specs.Answer.{linear-words}
 use Rattle.walk.specs.Tree.{Tree, var, num, cmp, conj, disj, cross, tied, Trees, nil, cons}
 use Rattle.walk.specs.declared.Mode.{Mode}
-use Rattle.walk.specs.declared.Mode.the-variants.{Pool, Pass, Two, Each}
+use Rattle.walk.specs.declared.Mode.the-variants.{Pool, One, Two, Each}
 
 -- counters stop here
 abbrev pub limit : ℕ
@@ -133,8 +133,8 @@ plus a b = tally (a .longs + b .longs) (a .lits + b .lits) (a .cmps + b .cmps) (
 
 abbrev pub mode-in : ℕ → ℕ → ℕ → Mode
 mode-in zero l k = Pool
-mode-in (suc zero) zero zero = Pass
-mode-in (suc zero) (suc zero) zero = Pass
+mode-in (suc zero) zero zero = One
+mode-in (suc zero) (suc zero) zero = One
 mode-in (suc zero) (suc (suc l)) zero = Each
 mode-in (suc zero) l (suc k) = Each
 mode-in (suc (suc zero)) zero zero = Two
@@ -148,7 +148,7 @@ mode-of t = mode-in (t .longs) (t .lits) (t .cmps)
 -- its new numbers
 abbrev pub fresh-in : Mode → ℕ → ℕ
 fresh-in Pool k = 0
-fresh-in Pass k = 0
+fresh-in One k = 0
 fresh-in Two k = 1
 fresh-in Each k = k
 
@@ -158,7 +158,7 @@ fresh t = fresh-in (mode-of t) (t .longs)
 -- its clauses
 abbrev pub lines-in : Mode → ℕ → ℕ
 lines-in Pool l = 1
-lines-in Pass l = l
+lines-in One l = l
 lines-in Two l = l
 lines-in Each l = bump l 1
 
@@ -214,7 +214,7 @@ mets (i ∷ is) s = mets is (i .met s)
 -- what a longer member's clauses get, the k-th, where the block starts at b and the pool's literals are ls
 abbrev pub extra : Mode → ℕ → List ℤ → ℕ → List ℤ
 extra Pool b ls k = []
-extra Pass b ls k = ls
+extra One b ls k = ls
 extra Two b ls k = word-of (b + 1) (is-none k) ∷ []
 extra Each b ls k = word-of (b + k + 1) true ∷ []
 
@@ -233,7 +233,7 @@ block b (suc k) = word-of (b + 1) false ∷ block (b + 1) k
 -- the pool's clause, of literals ls and c comparisons ks
 abbrev pub pool-text : Mode → ℕ → ℕ → List ℤ → ℕ → List ℤ → List ℤ → List ℤ
 pool-text Pool b k ls c ks suf = clause-text ls (block b k ++ suf) c ks
-pool-text Pass b k ls c ks suf = []
+pool-text One b k ls c ks suf = []
 pool-text Two b k ls c ks suf = []
 pool-text Each b k ls c ks suf = clause-text ls (block b k ++ suf) c ks
 

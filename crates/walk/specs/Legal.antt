@@ -4,7 +4,7 @@ use mathlib.Core.Bool.{Bool, true, false, not}
 use Prim.Native.Nat.{ℕ, suc, _+_, _-_, _≤_, _<_}
 use native.Mathlib.Omega.{arith}
 use lib.ListN.{length}
-use Rattle.syntax.specs.Syntax.{IntExpr, IConst, IVar, Linear, Terms, tnil, tmore, BoolExpr, Const, Var, NVar, And, Or, Not, Xor, Iff, Imp, Cmp, Members, none, more, count-members, encode-bool}
+use Rattle.syntax.specs.Syntax.{IntExpr, IConst, IVar, Linear, Terms, tnil, tmore, BoolExpr, Const, Var, NVar, And, Or, Not, Xor, Iff, Imp, Cmp, Members, mnil, more, count-members, encode-bool}
 use Rattle.syntax.specs.Written.{EveryInt, EveryTerm}
 use Rattle.walk.specs.Tree.{Tree, num, Trees, nil, cons, size, append, joined, splits, splits-members, crossed, resolve, resolves, tie, both-tied, ties, ties-members}
 use Rattle.walk.specs.Item.{limit}
@@ -36,7 +36,7 @@ unfoldable mutual
   Legal (Cmp o a b) l = (0 < l) × LegalInt a (l - 1) × LegalInt b (l - 1)
 
   pub LegalMembers : Members → ℕ → Type 0
-  LegalMembers none l = Unit {0}
+  LegalMembers mnil l = Unit {0}
   LegalMembers (more e ms) l = Legal e l × LegalMembers ms l
 
 mutual
@@ -55,7 +55,7 @@ mutual
 
 resolves-size : (ms : Members) (t : Bool) (at n : ℕ) (g : Bool) → size (resolves ms t at n g) ≡ count-members ms
 unfolding resolves
-resolves-size none t at n g = refl
+resolves-size mnil t at n g = refl
 resolves-size (more e ms) t at n g = ap suc (resolves-size ms t _ _ g)
 
 proper-join : (d : Bool) (ts : Trees) → 2 ≤ size ts → Propers ts → Proper (joined d ts)
@@ -93,7 +93,7 @@ mutual
   proper (Cmp o a b) l t at n g h k = (legal-int a (l - 1) (h .1), legal-int b (l - 1) (h .2))
 
   propers : (ms : Members) (l : ℕ) (t : Bool) (at n : ℕ) (g : Bool) → LegalMembers ms l → n + splits-members ms t ≤ limit → Propers (resolves ms t at n g)
-  propers none l t at n g h k = tt
+  propers mnil l t at n g h k = tt
   propers (more e ms) l t at n g h k = (proper e l t at n g (h .0) (omega arith), propers ms l t _ (n + splits e t) g (h .1) (omega arith))
 
 pub propers-append : (ts us : Trees) → Propers ts → Propers us → Propers (append ts us)
@@ -144,7 +144,7 @@ mutual
   proper-ties (Cmp o a b) l t at n h k = tt
 
   propers-ties : (ms : Members) (l : ℕ) (t : Bool) (at n : ℕ) → LegalMembers ms l → n + splits-members ms t ≤ limit → Propers (ties-members ms t at n)
-  propers-ties none l t at n h k = tt
+  propers-ties mnil l t at n h k = tt
   propers-ties (more e ms) l t at n h k =
       let q = at + length (encode-bool e) in let m = n + splits e t in
       propers-append (ties e t at n) (ties-members ms t q m) (proper-ties e l t at n (h .0) (omega arith)) (propers-ties ms l t q m (h .1) (omega arith))

@@ -1,5 +1,5 @@
 -- The numbering of a table's columns, step by step: a column that is no declared variable gets a new number, kept at its place, and a record
--- of its place. Laws for the code of the numbering pass.
+-- of its place. Laws for the code of the numbering walk.
 use mathlib.Core.Path.{_≡_, refl, sym, ap, _∙_}
 use mathlib.Core.Bool.{cond}
 use mathlib.Core.List.{List}

@@ -1,4 +1,4 @@
--- The numbering of the extras, step by step, and of a whole rule. Laws for the code of the numbering pass.
+-- The numbering of the extras, step by step, and of a whole rule. Laws for the code of the numbering walk.
 use mathlib.Core.Path.{_≡_, refl, sym, ap, _∙_, subst}
 use mathlib.Core.Bool.{Bool, true, false, not}
 use mathlib.Core.List.{List}
@@ -270,10 +270,10 @@ pub met-bare-rule : (w w' : List ℤ) (c d e : Counters) (at b : ℕ) → b ≡ 
     → Met (item (decode (read-part w) 64 false false at (c .bools) .tree) .met) w d w' e → Met (meet-rule (read-part w) at) w c w' e
 unfolding items mets
 met-bare-rule w w' c d e at n v hd hs i j x =
-    let none = no-ties (read-part w) 64 false false at (c .bools) i (sym v ∙ hs) in
+    let ties-nil = no-ties (read-part w) 64 false false at (c .bools) i (sym v ∙ hs) in
     let a : d .bools ≤ limit = rw (hd, hs) (omega (arith, i)) in
     let b : d .ints ≤ limit = rw hd j in
-    met-rule w w w' c d d e at n v hd (met-to (ap (λ (ts : Trees). mets (items ts) (state-of w d)) (sym none)) (met-none w d a b)) x
+    met-rule w w w' c d d e at n v hd (met-to (ap (λ (ts : Trees). mets (items ts) (state-of w d)) (sym ties-nil)) (met-none w d a b)) x
 
 -- where a legal rule stands, that is the numbering of its trees
 pub meet-rule-is : (e : BoolExpr) (ws : List ℤ) (at : ℕ) (s : State) → LegalRule e 64 → Has ws at (encode-bool e) → s .bools + splits e false ≤ limit → meet-rule ws at s ≡ mets (items (rule-trees e at (s .bools))) (walk-bools (splits e false) s)

@@ -1,8 +1,8 @@
--- The first pass: the maps and counters behind a tree are those of the log, and the records of the emitted integers stand in order.
+-- The first walk: the maps and counters behind a tree are those of the log, and the records of the emitted integers stand in order.
 -- Column says what is known of the record of a column; a rule makes none.
 use mathlib.Core.Path.{_≡_, refl, sym, ap, _∙_}
 use mathlib.Core.Bool.{Bool, true, false, false≢true}
-use mathlib.Core.Option.{Option, none as nothing, some}
+use mathlib.Core.Option.{Option, none, some}
 use mathlib.Core.List.{List, [], _∷_}
 use mathlib.Core.Logic.{_≢_}
 use Prim.Native.Nat.{ℕ, zero, suc, _+_, _≤_, _<_}
@@ -28,7 +28,7 @@ abbrev pub max-emitted : ℕ
 max-emitted = 2560
 
 abbrev pub code : Option ℕ → ℕ
-code nothing = 0
+code none = 0
 code (some n) = suc n
 
 module _ (Column : Log → ℤ → LinearSum → Domain → Type 0) where
@@ -104,7 +104,7 @@ module _ (Column : Log → ℤ → LinearSum → Domain → Type 0) where
   unfolding meet-bool get-bool-var get-int-var Recorded
   bool-num v st s (some (lit n false)) e hv h l = rw (h .map v hv ∙ ap bool-word e, ne-eqb (suc n) 0 (λ q. omega arith)) h
   bool-num v st s (some (lit n true)) e hv h l = rw (h .map v hv ∙ ap bool-word e) h
-  bool-num v st s nothing e hv h l =
+  bool-num v st s none e hv h l =
       let b : bump (st .bools) 1 ≡ suc (next-bool s) = omega (arith, h .bools) in
       let z : bool-at (st .work) v ≡ pos 0 = h .map v hv ∙ ap bool-word e in
       rw (z, b) (record {
@@ -132,7 +132,7 @@ module _ (Column : Log → ℤ → LinearSum → Domain → Type 0) where
   unfolding meet-int-var get-bool-var get-int-var Recorded
   int-num v st s (some n) e hv h l =
       rw (none-not (int-entry (st .work) v) (λ q. let z : _≡_ {A = ℕ} 0 (suc n) = sym q ∙ h .map-int v hv ∙ ap code e in omega arith)) h
-  int-num v st s nothing e hv h l =
+  int-num v st s none e hv h l =
       let b : bump (st .ints) 1 ≡ suc (next-int s) = omega (arith, h .ints) in
       let z : int-entry (st .work) v ≡ 0 = h .map-int v hv ∙ ap code e in
       let k : st .ints ≡ next-int s = h .ints in

@@ -1,4 +1,4 @@
--- What one step of the numbering says of the tree that is read. Laws for the code of the numbering pass.
+-- What one step of the numbering says of the tree that is read. Laws for the code of the numbering walk.
 use mathlib.Core.Path.{_≡_, refl, sym, ap, _∙_}
 use mathlib.Core.Bool.{Bool, true, false, not}
 use mathlib.Core.List.{List}

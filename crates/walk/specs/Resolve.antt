@@ -5,7 +5,7 @@ use mathlib.Core.List.{List, [], _∷_, _++_}
 use Prim.Native.Nat.{ℕ, suc, _+_}
 use native.Mathlib.Omega.{arith}
 use lib.ListN.{length}
-use Rattle.syntax.specs.Syntax.{BoolExpr, Const, Var, NVar, And, Or, Not, Xor, Iff, Imp, Cmp, Members, none, more, encode-bool}
+use Rattle.syntax.specs.Syntax.{BoolExpr, Const, Var, NVar, And, Or, Not, Xor, Iff, Imp, Cmp, Members, mnil, more, encode-bool}
 use Rattle.clauses.specs.Log.{Log, next-bool, next-int, get-bool-var, get-int-var, side}
 use Rattle.clauses.specs.Disjunction.{normalize-disjunction}
 use Rattle.clauses.specs.Normalize.{no-run, run-then, normalize-conjunction, disjunction-of, normalize-bool-expr, normalize-members}
@@ -59,7 +59,7 @@ mutual
   split-sided (Cmp o a b) t s = sided-none s
 
   split-sided-each : (ms : Members) (t : Bool) (s : Log) → Sided s (split-each ms t s .log) (splits-members ms t)
-  split-sided-each none t s = sided-none s
+  split-sided-each mnil t s = sided-none s
   split-sided-each (more e ms) t s = sided-then s _ _ _ _ (split-sided e t s) (split-sided-each ms t (split e t s .log))
 
 -- ---- the rewritten rule
@@ -112,7 +112,7 @@ mutual
   split-run (Cmp o a b) t at g s = refl
 
   split-runs : (ms : Members) (t : Bool) (at : ℕ) (g : Bool) (s : Log) → normalize-members (split-each ms t s .rules) g ≡ runs (resolves ms t at (next-bool s) g)
-  split-runs none t at g s = refl
+  split-runs mnil t at g s = refl
   split-runs (more e ms) t at g s =
       let l = split e t s .log in
       rw (sym (split-sided e t s .bools), split-run e t at g s, split-runs ms t (at + length (encode-bool e)) g l)
@@ -169,7 +169,7 @@ mutual
   extras-run (Cmp o a b) t at s = ran-none
 
   extras-runs : (ms : Members) (t : Bool) (at : ℕ) (s : Log) → Ran (split-each ms t s .extra) (ties-members ms t at (next-bool s))
-  extras-runs none t at s = ran-none
+  extras-runs mnil t at s = ran-none
   extras-runs (more e ms) t at s =
       rw (sym (split-sided e t s .bools)) (ran-append (extras-run e t at s) (extras-runs ms t (at + length (encode-bool e)) (split e t s .log)))
 

@@ -1,4 +1,4 @@
--- The two passes over a rule: splitting takes its numbers first, then its extras and the rewritten rule are numbered and written in order.
+-- The two walks over a rule: splitting takes its numbers first, then its extras and the rewritten rule are numbered and written in order.
 use mathlib.Core.Path.{_≡_, refl, sym, _∙_, subst}
 use mathlib.Core.Bool.{Bool, true, false}
 use mathlib.Core.List.{List, [], _∷_, map}
@@ -7,7 +7,7 @@ use native.Mathlib.Omega.{arith}
 use lib.IntN.{ℤ}
 use lib.ListN.{length}
 use Rattle.laws.specs.Lists.{flat}
-use Rattle.syntax.specs.Syntax.{Domain, BoolExpr, Const, Var, NVar, And, Or, Not, Xor, Iff, Imp, Cmp, Members, none, more}
+use Rattle.syntax.specs.Syntax.{Domain, BoolExpr, Const, Var, NVar, And, Or, Not, Xor, Iff, Imp, Cmp, Members, mnil, more}
 use Rattle.sums.specs.LinearSum.{LinearSum}
 use Rattle.clauses.specs.Log.{Log, next-bool, side}
 use Rattle.clauses.specs.Disjunction.{Out}
@@ -21,7 +21,7 @@ use Rattle.walk.specs.Grow.{Fit}
 use Rattle.walk.specs.Texts.{layout-words}
 use Rattle.walk.specs.Implements.{Proper, Propers}
 use Rattle.walk.specs.Num.{Recorded, Numbered}
-use Rattle.walk.specs.TwoWalks.{Low, runs-grow, pass-num, BothWalks, both-walks}
+use Rattle.walk.specs.TwoWalks.{Low, runs-grow, walk-bools-num, BothWalks, both-walks}
 use Rattle.walk.specs.Legal.{Legal, proper, proper-ties, propers-append}
 
 -- a rule that the passes leave: true, or legal
@@ -54,28 +54,28 @@ module _ (Column : Log → ℤ → LinearSum → Domain → Type 0) where
     split-recorded (Cmp o a b) t w s h = h
 
     split-recorded-each : (ms : Members) (t : Bool) (w : List ℤ) (s : Log) → Recorded Column w s → Recorded Column w (split-each ms t s .log)
-    split-recorded-each none t w s h = h
+    split-recorded-each mnil t w s h = h
     split-recorded-each (more e ms) t w s h = split-recorded-each ms t w (split e t s .log) (split-recorded e t w s h)
 
   pub split-num : (e : BoolExpr) (t : Bool) (st : State) (s : Log) → Numbered Column st s → next-bool (split e t s .log) ≤ limit → Numbered Column (walk-bools (splits e t) st) (split e t s .log)
   split-num e t st s h l =
       let x = split-sided e t s in
-      pass-num Column st s (split e t s .log) (splits e t) h (record { ints = x .ints; keep = x .keep; keep-int = x .keep-int }) (split-recorded e t (st .work) s (h .records)) (x .bools) l
+      walk-bools-num Column st s (split e t s .log) (splits e t) h (record { ints = x .ints; keep = x .keep; keep-int = x .keep-int }) (split-recorded e t (st .work) s (h .records)) (x .bools) l
 
-  -- ---- both passes
+  -- ---- both walks
 
   -- k: the splitting's numbers; ts: the extras and the rule; o: the clauses and the log.
   -- w: any work slice with the maps of a log that is at least as long
-  pub record Passes (ts : Trees) (k : ℕ) (st : State) (o : Out) : Type 0 where
+  pub record RuleWalks (ts : Trees) (k : ℕ) (st : State) (o : Out) : Type 0 where
     pub numbered : Numbered Column (mets (items ts) (walk-bools k st)) (o .1)
     pub text : (w : List ℤ) → Fit w (o .1) → texts (items ts) w (bump (st .bools) k) [] ≡ flat (map clause-words (o .0))
     pub count : (w : List ℤ) → Fit w (o .1) → counts (items ts) w (bump (st .bools) k) ≡ next-bool (o .1)
     pub lines : all-lines (items ts) ≡ min (length (o .0)) limit
 
-  true-passes : (at n : ℕ) (st : State) (s : Log) → Numbered Column st s → Low (normalize-and-register-expr (Const true) s .1)
-      → Passes (rule-trees (Const true) at n) (splits (Const true) false) st (normalize-and-register-expr (Const true) s)
+  true-walks : (at n : ℕ) (st : State) (s : Log) → Numbered Column st s → Low (normalize-and-register-expr (Const true) s .1)
+      → RuleWalks (rule-trees (Const true) at n) (splits (Const true) false) st (normalize-and-register-expr (Const true) s)
   unfolding normalize-and-register-expr normalize-each normalize-bool-expr split unsplit ties resolve splits item conj-item mets texts counts all-lines lines-of walk-bools
-  true-passes at n st s h l =
+  true-walks at n st s h l =
       let z : bump (st .bools) 0 ≡ st .bools = omega (arith, h .bools, l .bools) in
       record {
         numbered = rw z h;
@@ -84,9 +84,9 @@ module _ (Column : Log → ℤ → LinearSum → Domain → Type 0) where
         lines = refl;
       }
 
-  trees-passes : (ts : Trees) (k : ℕ) (z : Log) (st : State) (o : Out) → o ≡ normalize-conjunction (runs ts) z → BothWalks Column ts z (walk-bools k st) → Passes ts k st o
+  trees-walks : (ts : Trees) (k : ℕ) (z : Log) (st : State) (o : Out) → o ≡ normalize-conjunction (runs ts) z → BothWalks Column ts z (walk-bools k st) → RuleWalks ts k st o
   unfolding normalize-conjunction walk-bools
-  trees-passes ts k z st o i y = rw i (record {
+  trees-walks ts k z st o i y = rw i (record {
     numbered = y .numbered;
     text = λ w f. y .text w f [] ∙ layout-words _;
     count = y .count;
@@ -94,9 +94,9 @@ module _ (Column : Log → ℤ → LinearSum → Domain → Type 0) where
   })
 
   pub rule-walks : (e : BoolExpr) (l at : ℕ) (s : Log) (st : State) → LegalRule e l → Numbered Column st s → Low (normalize-and-register-expr e s .1)
-      → Passes (rule-trees e at (st .bools)) (splits e false) st (normalize-and-register-expr e s)
+      → RuleWalks (rule-trees e at (st .bools)) (splits e false) st (normalize-and-register-expr e s)
   unfolding normalize-conjunction
-  rule-walks e l at s st (true-rule x) h k = true-passes at (st .bools) st s h k
+  rule-walks e l at s st (true-rule x) h k = true-walks at (st .bools) st s h k
   rule-walks e l at s st (legal-rule x) h k =
       let ts = rule-trees e at (next-bool s) in
       let z = split e false s .log in
@@ -105,4 +105,4 @@ module _ (Column : Log → ℤ → LinearSum → Domain → Type 0) where
       let j : next-bool z ≤ limit = omega (arith, runs-grow ts z .bools, k₁ .bools) in
       let m : next-bool s + splits e false ≤ limit = omega (arith, split-sided e false s .bools) in
       let y = both-walks Column ts (rule-propers e l at (next-bool s) x m) z (walk-bools (splits e false) st) (split-num e false st s h j) k₁ in
-      subst (λ (n : ℕ). Passes (rule-trees e at n) (splits e false) st (normalize-and-register-expr e s)) (sym (h .bools)) (trees-passes ts (splits e false) z st _ i y)
+      subst (λ (n : ℕ). RuleWalks (rule-trees e at n) (splits e false) st (normalize-and-register-expr e s)) (sym (h .bools)) (trees-walks ts (splits e false) z st _ i y)

@@ -1,4 +1,4 @@
--- What one step of a walk says of the tree that is read: where its parts lie, and what a survey finds. Laws for the code of the passes.
+-- What one step of a walk says of the tree that is read: where its parts lie, and what a survey finds. Laws for the code of the walks.
 use mathlib.Core.Path.{_≡_, refl, sym, ap, _∙_, subst}
 use mathlib.Core.Bool.{Bool, true, false, not, cond}
 use mathlib.Core.List.{List, [], _∷_}
@@ -14,7 +14,7 @@ use Rattle.walk.specs.Tree.{cons}
 use Rattle.walk.specs.Item.{limit, bump, is-none, nat, bool-entry, Tally, tally, long, plus, mode-in, lines-in, disj-lines, closed, lines-of, Item, tallies, all-lines, counts, var-item, cmp-item, num-item, conj-item, disj-item, cross-item, item, items}
 use Rattle.walk.specs.Decode.{word, past, below, terms, int-step, int-at, int-end, node-of, Read, Reads, Reader, many, cross-step, step, decode, read-part, surveyed, fresh-of, lines-in-of, closed-disj, closed-cross, added, Counted, Surveys, SurveysAll}
 use Rattle.walk.specs.declared.Mode.{Mode}
-use Rattle.walk.specs.declared.Mode.the-variants.{Pool, Pass, Two, Each}
+use Rattle.walk.specs.declared.Mode.the-variants.{Pool, One, Two, Each}
 use Rattle.walk.specs.declared.Node.{Node}
 use Rattle.walk.specs.declared.Node.the-variants.{Var, Cmp, Not, Join, Cross}
 use Rattle.walk.specs.declared.Surveyed.{Surveyed}
@@ -135,7 +135,7 @@ closed-more s x h = go (s .longs) h
 
 lines-low : (m : Mode) (k : ℕ) → k ≤ limit → lines-in m k ≤ limit
 lines-low Pool k h = omega arith
-lines-low Pass k h = h
+lines-low One k h = h
 lines-low Two k h = h
 lines-low Each k h = omega arith
 
@@ -301,10 +301,10 @@ module _ (w : List ℤ) (l : ℕ) (t g : Bool) (at base n : ℕ) (inside : at �
     })
 
     -- of a split Xor or Iff only the end and the splitting's next number matter
-    pub survey-passed : (r : Surveyed) (h : Bool) (q b stop last : ℕ) → t ≡ true → Cross h q ≡ node-of (read-part w) u g at (word (read-part w) at) → b ≡ bump base 2
+    pub survey-split : (r : Surveyed) (h : Bool) (q b stop last : ℕ) → t ≡ true → Cross h q ≡ node-of (read-part w) u g at (word (read-part w) at) → b ≡ bump base 2
         → stop ≡ many (decode (read-part w) u true) 2 false false q b .end → last ≡ many (decode (read-part w) u true) 2 false false q b .next → q ≤ stop → stop ≤ length (read-part w) → last ≤ limit
         → r ≡ surveyed stop last n 1 0 0 2 2 → Surveys w l t g at base n r
-    survey-passed r h q b stop last ht e hb x y f j k i =
+    survey-split r h q b stop last ht e hb x y f j k i =
         carry r (Cross h q) e (subst (λ (y : Surveyed). Found w at n (step (read-part w) u (decode (read-part w) u) t g at base (Cross h q)) y) (sym i) (split-found h q b stop last ht hb (okay (Cross h q) e) x y f j k))
 
     pub survey-cross : (r s v : Surveyed) (h : Bool) (q : ℕ) → t ≡ false → Cross h q ≡ node-of (read-part w) u g at (word (read-part w) at) → SurveysAll w u true 2 false h q base n s → SurveysAll w u true 2 true (not h) q base (s .n) v

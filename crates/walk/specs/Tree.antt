@@ -3,7 +3,7 @@
 use mathlib.Core.Bool.{Bool, true, false, not}
 use Prim.Native.Nat.{ℕ, suc, _+_}
 use lib.ListN.{length}
-use Rattle.syntax.specs.Syntax.{CmpOp, IntExpr, BoolExpr, Const, Var, NVar, And, Or, Not, Xor, Iff, Imp, Cmp, Members, none, more, encode-bool}
+use Rattle.syntax.specs.Syntax.{CmpOp, IntExpr, BoolExpr, Const, Var, NVar, And, Or, Not, Xor, Iff, Imp, Cmp, Members, mnil, more, encode-bool}
 use Rattle.clauses.specs.Clause.{negate-if}
 use Rattle.clauses.specs.Normalize.{Run, Runs, no-run, run-then, two, normalize-conjunction, disjunction-of, cross as cross-run, lit-clauses, normalize-var, normalize-comparison, normalize-int-expr}
 
@@ -56,7 +56,7 @@ unfoldable mutual
   splits (Cmp o a b) t = 0
 
   pub splits-members : Members → Bool → ℕ
-  splits-members none t = 0
+  splits-members mnil t = 0
   splits-members (more e ms) t = splits e t + splits-members ms t
 
 -- a and b by the first sign, then by the second
@@ -80,7 +80,7 @@ unfoldable mutual
   resolve (Cmp o a b) t at n g = cmp at o a b g
 
   pub resolves : Members → Bool → ℕ → ℕ → Bool → Trees
-  resolves none t at n g = nil
+  resolves mnil t at n g = nil
   resolves (more e ms) t at n g = cons (resolve e t at n g) (resolves ms t (at + length (encode-bool e)) (n + splits e t) g)
 
 -- the side e of a split Xor or Iff, tied to the number v
@@ -108,7 +108,7 @@ unfoldable mutual
   ties (Cmp o a b) t at n = nil
 
   pub ties-members : Members → Bool → ℕ → ℕ → Trees
-  ties-members none t at n = nil
+  ties-members mnil t at n = nil
   ties-members (more e ms) t at n = append (ties e t at n) (ties-members ms t (at + length (encode-bool e)) (n + splits e t))
 
 -- ---- the clauses of a tree

@@ -1,4 +1,4 @@
--- The two passes over trees: numbering gives the state of the log, and writing with its maps the words of the Rust's clauses.
+-- The two walks over trees: numbering gives the state of the log, and writing with its maps the words of the Rust's clauses.
 use mathlib.Core.Path.{_≡_, refl, sym, ap, _∙_}
 use mathlib.Core.Bool.{true, false}
 use mathlib.Core.List.{List, [], _∷_}
@@ -61,9 +61,9 @@ module _ (Column : Log → ℤ → LinearSum → Domain → Type 0) where
     small = l;
   }
 
-  pub pass-num : (st : State) (z e : Log) (k : ℕ) → Numbered Column st z → Untouched z e → Recorded Column (st .work) e → next-bool e ≡ next-bool z + k → next-bool e ≤ limit → Numbered Column (walk-bools k st) e
+  pub walk-bools-num : (st : State) (z e : Log) (k : ℕ) → Numbered Column st z → Untouched z e → Recorded Column (st .work) e → next-bool e ≡ next-bool z + k → next-bool e ≤ limit → Numbered Column (walk-bools k st) e
   unfolding walk-bools
-  pass-num st z e k h u r c l = record {
+  walk-bools-num st z e k h u r c l = record {
     map = λ v hv. h .map v hv ∙ ap bool-word (sym (u .keep v));
     map-int = λ v hv. h .map-int v hv ∙ ap code (sym (u .keep-int v));
     bools = omega (arith, c, h .bools);
@@ -90,7 +90,7 @@ module _ (Column : Log → ℤ → LinearSum → Domain → Type 0) where
       let f : Fit (st .work) e = untouched-fit st z e h u l in
       let x = goods-sorts (st .work) (items-good (st .work) ts p) s (back (then g (disj-grows (st .work) (o .0) z)) f) in
       let y = disj-at (st .work) (items ts) s o x z f in
-      pass-num st z e (fresh (tallies (items ts))) h u (auxed-recorded (st .work) a (h .records)) (y .count) l
+      walk-bools-num st z e (fresh (tallies (items ts))) h u (auxed-recorded (st .work) a (h .records)) (y .count) l
 
   -- a tree whose state is known has a clause
   some-clause : (t : Tree) → Proper t → (s : Log) (st : State) → Numbered Column st (run t s .1) → Low (run t s .1) → 1 ≤ length (run t s .0)
@@ -132,7 +132,7 @@ module _ (Column : Log → ℤ → LinearSum → Domain → Type 0) where
     nums-good (cons t ts) p s st h l =
         nums-good ts (p .1) (run t s .1) (item t .met st) (num-good t (p .0) s st h (low-back (runs-grow ts (run t s .1)) l)) l
 
-  -- ---- the two passes over trees. w: any work slice with the maps of a log that is at least as long
+  -- ---- the two walks over trees. w: any work slice with the maps of a log that is at least as long
 
   pub record BothWalks (ts : Trees) (s : Log) (st : State) : Type 0 where
     pub numbered : Numbered Column (mets (items ts) st) (runs ts s .1)

@@ -3,7 +3,7 @@
 // How a disjunction is written: the pool alone; one longer member with the pool's literal; two longer members and no pool; else.
 pub enum Mode {
     Pool,
-    Pass,
+    One,
     Two,
     Each,
 }

@@ -8,7 +8,7 @@ use lib.IntN.{ℤ, pos, negsuc, natAbs}
 use lib.Signed.{ltZ, nonNeg}
 use lib.Dec.{T}
 use borrow.Author.Tests.{ltb-true, lt-ltb, le-ltb, le-leb, lt-leb}
-use Rattle.words.specs.Parse.{ok, refuse, Parser, bind, word, up-to-at, up-to, index-at, index, in-value-range, number}
+use Rattle.words.specs.Parse.{ok, refuse, Parser, parse-then, word, up-to-at, up-to, index-at, index, in-value-range, number}
 use Rattle.words.specs.Cursor.{plain-of, next-at, counted-at, next-refused, next-word, plain-number}
 use Rattle.words.specs.declared.Cursor.{Cursor}
 use Rattle.words.specs.declared.Plain.the-variants.{Negative, Number}
@@ -40,7 +40,7 @@ negative-index n (negsuc m) r h = refl
 -- ---- a word, then what is asked of it
 
 module _ (at : ℕ) (xs : List ℤ) where
-  end-by : (f : ℤ → Parser ℕ) (k : ℕ) → next-at at (word xs) ≡ next.Refused k → counted.Refused k ≡ counted-at at (bind (word xs) f)
+  end-by : (f : ℤ → Parser ℕ) (k : ℕ) → next-at at (word xs) ≡ next.Refused k → counted.Refused k ≡ counted-at at (parse-then (word xs) f)
   unfolding counted-at
   end-by f k h = rw (next-refused at (word xs) k h)
 
@@ -57,11 +57,11 @@ module _ (at : ℕ) (xs : List ℤ) where
   value-end k h = rw (next-refused at (word xs) k h)
 
   module _ (w : ℤ) (d : Cursor) (h : next-at at (word xs) ≡ next.Word w d) where
-    refused-by : (f : ℤ → Parser ℕ) (j : ℕ) → ((r : List ℤ) → f w r ≡ refuse j) → counted.Refused j ≡ counted-at at (bind (word xs) f)
+    refused-by : (f : ℤ → Parser ℕ) (j : ℕ) → ((r : List ℤ) → f w r ≡ refuse j) → counted.Refused j ≡ counted-at at (parse-then (word xs) f)
     unfolding counted-at
     refused-by f j g = next-word at (word xs) w d h λ r e _. rw (e, g r)
 
-    accepted-by : (f : ℤ → Parser ℕ) (n : ℕ) → ((r : List ℤ) → f w r ≡ ok n r) → counted.Number n d ≡ counted-at at (bind (word xs) f)
+    accepted-by : (f : ℤ → Parser ℕ) (n : ℕ) → ((r : List ℤ) → f w r ≡ ok n r) → counted.Number n d ≡ counted-at at (parse-then (word xs) f)
     unfolding counted-at
     accepted-by f n g = next-word at (word xs) w d h λ r e q. rw (e, g r, q)
 

@@ -11,7 +11,7 @@ use lib.Dec.{leb, ltb}
 use borrow.Author.Tests.{ltb-true, leb-true, lt-ltb, le-leb}
 use Rattle.laws.specs.Lists.{flat}
 use Rattle.syntax.specs.Words.{max-count, max-value}
-use Rattle.words.specs.Parse.{Parsed, ok, refuse, Parser, bind, times, word, up-to-at, up-to, count, index-at, index, in-value-range, number}
+use Rattle.words.specs.Parse.{Parsed, ok, refuse, Parser, parse-then, times, word, up-to-at, up-to, count, index-at, index, in-value-range, number}
 
 pub record Exact {A : Type 0} (words : A → List ℤ) (Fits : A → Type 0) (p : Parser A) : Type 0 where
   pub sound : (xs : List ℤ) (a : A) (r : List ℤ) → p xs ≡ ok a r → (xs ≡ words a ++ r) × Fits a
@@ -20,10 +20,10 @@ pub record Exact {A : Type 0} (words : A → List ℤ) (Fits : A → Type 0) (p 
 pub refuse-ok : {A X : Type 0} (k : ℕ) (a : A) (r : List ℤ) → refuse k ≡ ok a r → X
 refuse-ok k a r h = absurd (let z : _≡_ {A = ℕ} 0 1 = cc in omega arith)
 
-pub bind-ok : {A B X : Type 0} (q : Parsed A) (f : A → Parser B) (b : B) (s : List ℤ) → bind q f ≡ ok b s
+pub parse-then-ok : {A B X : Type 0} (q : Parsed A) (f : A → Parser B) (b : B) (s : List ℤ) → parse-then q f ≡ ok b s
     → ((a : A) (r : List ℤ) → q ≡ ok a r → f a r ≡ ok b s → X) → X
-bind-ok (ok a r) f b s h go = go a r refl h
-bind-ok (refuse k) f b s h go = refuse-ok k b s h
+parse-then-ok (ok a r) f b s h go = go a r refl h
+parse-then-ok (refuse k) f b s h go = refuse-ok k b s h
 
 -- a test that was passed
 pub cond-ok : {A X : Type 0} (t : Bool) (q : Parsed A) (k : ℕ) (a : A) (r : List ℤ) → cond t q (refuse k) ≡ ok a r → (t ≡ true → q ≡ ok a r → X) → X
@@ -49,7 +49,7 @@ Value z = natAbs z ≤ max-value
 pub up-to-exact : (limit k : ℕ) → Exact number-words (λ n. n ≤ limit) (up-to limit k)
 unfolding up-to
 up-to-exact limit k = record {
-  sound = λ xs n r h. bind-ok (word xs) (up-to-at limit k) n r h λ w s hw hs. rw (word-ok xs w s hw) (at w s n r hs);
+  sound = λ xs n r h. parse-then-ok (word xs) (up-to-at limit k) n r h λ w s hw hs. rw (word-ok xs w s hw) (at w s n r hs);
   complete = λ n r h. rw (le-leb n limit h) refl;
 }
   where
@@ -64,7 +64,7 @@ count-exact = up-to-exact max-count 4
 pub index-exact : (n : ℕ) → Exact number-words (λ i. i < n) (index n)
 unfolding index
 index-exact n = record {
-  sound = λ xs i r h. bind-ok (word xs) (index-at n) i r h λ w s hw hs. rw (word-ok xs w s hw) (at w s i r hs);
+  sound = λ xs i r h. parse-then-ok (word xs) (index-at n) i r h λ w s hw hs. rw (word-ok xs w s hw) (at w s i r hs);
   complete = λ i r h. rw (lt-ltb i n h) refl;
 }
   where
@@ -75,7 +75,7 @@ index-exact n = record {
 pub number-exact : Exact value-words Value number
 unfolding number
 number-exact = record {
-  sound = λ xs z r h. bind-ok (word xs) _ z r h λ w s hw hs. rw (word-ok xs w s hw) (at w s z r hs);
+  sound = λ xs z r h. parse-then-ok (word xs) _ z r h λ w s hw hs. rw (word-ok xs w s hw) (at w s z r hs);
   complete = λ z r h. rw (le-leb (natAbs z) max-value h) refl;
 }
   where
@@ -97,8 +97,8 @@ module _ {A : Type 0} (words : A → List ℤ) (Fits : A → Type 0) (p : Parser
       let e : xs ≡ r = cc in
       rw (e, ← m) (refl, (refl, tt))
   times-sound (suc n) xs vs r h =
-      bind-ok (p xs) _ vs r h λ a s ha h1.
-      bind-ok (times n p s) _ vs r h1 λ bs t hb h2.
+      parse-then-ok (p xs) _ vs r h λ a s ha h1.
+      parse-then-ok (times n p s) _ vs r h1 λ bs t hb h2.
       let m : a ∷ bs ≡ vs = cc in
       let e : t ≡ r = cc in
       let i = x .sound xs a s ha in

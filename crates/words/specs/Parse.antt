@@ -15,16 +15,16 @@ pub data Parsed (A : Type 0) : Type 0 where
 abbrev pub Parser : Type 0 → Type 0
 Parser A = List ℤ → Parsed A
 
-abbrev pub bind : {A B : Type 0} → Parsed A → (A → Parser B) → Parsed B
-bind (ok a r) f = f a r
-bind (refuse k) f = refuse k
+abbrev pub parse-then : {A B : Type 0} → Parsed A → (A → Parser B) → Parsed B
+parse-then (ok a r) f = f a r
+parse-then (refuse k) f = refuse k
 
 -- first p, then q on the words after it
 abbrev pub seq-parser : {A B C : Type 0} → (A → B → C) → Parser A → (A → Parser B) → Parser C
-seq-parser make p q xs = bind (p xs) (λ a r. bind (q a r) (λ b s. ok (make a b) s))
+seq-parser make p q xs = parse-then (p xs) (λ a r. parse-then (q a r) (λ b s. ok (make a b) s))
 
 abbrev pub map-parser : {A B : Type 0} → (A → B) → Parser A → Parser B
-map-parser f p xs = bind (p xs) (λ a r. ok (f a) r)
+map-parser f p xs = parse-then (p xs) (λ a r. ok (f a) r)
 
 -- n times p
 unfoldable pub times : {A : Type 0} → ℕ → Parser A → Parser (List A)
@@ -43,7 +43,7 @@ up-to-at limit k (pos n) r = cond (leb n limit) (ok n r) (refuse k)
 up-to-at limit k (negsuc n) r = refuse k
 
 unfoldable pub up-to : ℕ → ℕ → Parser ℕ
-up-to limit k xs = bind (word xs) (up-to-at limit k)
+up-to limit k xs = parse-then (word xs) (up-to-at limit k)
 
 unfoldable pub count : Parser ℕ
 count = up-to max-count 4
@@ -54,10 +54,10 @@ index-at n (pos i) r = cond (ltb i n) (ok i r) (refuse 6)
 index-at n (negsuc i) r = refuse 6
 
 unfoldable pub index : ℕ → Parser ℕ
-index n xs = bind (word xs) (index-at n)
+index n xs = parse-then (word xs) (index-at n)
 
 abbrev pub in-value-range : ℤ → Bool
 in-value-range w = leb (natAbs w) max-value
 
 unfoldable pub number : Parser ℤ
-number xs = bind (word xs) (λ w r. cond (in-value-range w) (ok w r) (refuse 4))
+number xs = parse-then (word xs) (λ w r. cond (in-value-range w) (ok w r) (refuse 4))

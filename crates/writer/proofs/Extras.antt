@@ -7,7 +7,7 @@ use native.Mathlib.Omega.{arith}
 use native.Mathlib.Numerals.{sub-one}
 use lib.IntN.{ℤ}
 use lib.ListN.{length}
-use Rattle.laws.specs.Writes.{Wrote, wrote-none, wrote-then, wrote-length}
+use Rattle.laws.specs.Writes.{Wrote, wrote-none, wrote-then, wrote-length, Open}
 use Rattle.walk.specs.Tree.{Tree, Trees, nil, cons, append, both-tied}
 use Rattle.walk.specs.Item.{limit, bump, word-of, Item, counts, texts, all-lines, lines-of, item, items, tied-item}
 use Rattle.walk.specs.Decode.{word, node-of, Reads, Reader, many, decode, many-ties, tie-at, cross-ties, ties-step, ties-at, read-part, item-at, Surveys}
@@ -18,8 +18,7 @@ use Rattle.walk.specs.declared.Surveyed.{Surveyed}
 use Rattle.walk.specs.Steps.{lines-all-low, many-more}
 use Rattle.walk.specs.MeetTies.{Reaches, ReachesAll}
 use Rattle.walk.specs.NoTies.{no-ties}
-use Rattle.output.specs.Suffix.{Open}
-use Rattle.output.specs.ComparisonsFit.{ComparisonsFit, Fines}
+use Rattle.output.specs.ComparisonsFit.{ComparisonsFit, AllComparisonsFit}
 use Rattle.writer.specs.Placed.{Placed, Listed, RuleWrote}
 use Rattle.output.proofs.Laws.{open-next}
 use Rattle.writer.proofs.Steps.{part-length}
@@ -31,15 +30,15 @@ unfolding items
 items-append nil us = refl
 items-append (cons t ts) us = ap (λ (is : List Item). item t ∷ is) (items-append ts us)
 
-pub fines-left : (w : List ℤ) (ts us : Trees) → Fines w (append ts us) → Fines w ts
+pub all-fit-left : (w : List ℤ) (ts us : Trees) → AllComparisonsFit w (append ts us) → AllComparisonsFit w ts
 unfolding ComparisonsFit
-fines-left w nil us h = tt
-fines-left w (cons t ts) us h = (h .0, fines-left w ts us (h .1))
+all-fit-left w nil us h = tt
+all-fit-left w (cons t ts) us h = (h .0, all-fit-left w ts us (h .1))
 
-pub fines-right : (w : List ℤ) (ts us : Trees) → Fines w (append ts us) → Fines w us
+pub all-fit-right : (w : List ℤ) (ts us : Trees) → AllComparisonsFit w (append ts us) → AllComparisonsFit w us
 unfolding ComparisonsFit
-fines-right w nil us h = h
-fines-right w (cons t ts) us h = fines-right w ts us (h .1)
+all-fit-right w nil us h = h
+all-fit-right w (cons t ts) us h = all-fit-right w ts us (h .1)
 
 counts-append : (is js : List Item) (w : List ℤ) (n : ℕ) → counts (is ++ js) w n ≡ counts js w (counts is w n)
 unfolding counts
@@ -82,10 +81,10 @@ module _ (w : List ℤ) (l v at base n : ℕ) where
   abbrev R : Reader
   R = decode (read-part w) l true
 
-  pub fine-tie : (g : Bool) → ComparisonsFit w (tie-at R v at base) → ComparisonsFit w (R g at base .tree)
+  pub fit-tie : (g : Bool) → ComparisonsFit w (tie-at R v at base) → ComparisonsFit w (R g at base .tree)
   unfolding tie-at ComparisonsFit
-  fine-tie false h = h .0
-  fine-tie true h = h .1
+  fit-tie false h = h .0
+  fit-tie true h = h .1
 
   pub tie-listed : (x y : Surveyed) → Surveys w l true false at base n x → Surveys w l true true at base (x .n) y → {out a b : List ℤ} {o p q : ℕ} (s u : List ℤ) → Open out o → s ≡ word-of (v + 1) true ∷ [] → u ≡ word-of (v + 1) false ∷ []
       → Wrote out o (item-at (read-part w) l true false at base .text w n s) a p → Wrote a p (item-at (read-part w) l true true at base .text w (x .n) u) b q
@@ -119,24 +118,24 @@ module _ (w : List ℤ) (l u : ℕ) (t : Bool) (at base : ℕ) (z : l ≡ 0 → 
   level zero z hu N e = absurd (z refl)
   level (suc l) z hu N e = let i : u ≡ l = omega arith in rw (e, i)
 
-  fine-at : (N : Node) → Is N → Fines w (ties-at F l t at base) → Fines w (ties-step (decode F u) (ties-at F u) t base N)
-  fine-at N e = subst (λ (ts : Trees). Fines w ts) (level l z hu N e)
+  fit-at : (N : Node) → Is N → AllComparisonsFit w (ties-at F l t at base) → AllComparisonsFit w (ties-step (decode F u) (ties-at F u) t base N)
+  fit-at N e = subst (λ (ts : Trees). AllComparisonsFit w ts) (level l z hu N e)
 
-  pub fine-not : (q : ℕ) → Is (Not q) → Fines w (ties-at F l t at base) → Fines w (ties-at F u t q base)
+  pub fit-not : (q : ℕ) → Is (Not q) → AllComparisonsFit w (ties-at F l t at base) → AllComparisonsFit w (ties-at F u t q base)
   unfolding ties-step
-  fine-not q e = fine-at (Not q) e
+  fit-not q e = fit-at (Not q) e
 
-  pub fine-join : (d : Bool) (k : ℕ) (a b : Bool) (q : ℕ) → Is (Join d k a b q) → Fines w (ties-at F l t at base) → Fines w (many-ties (decode F u t) (ties-at F u t) k q base)
+  pub fit-join : (d : Bool) (k : ℕ) (a b : Bool) (q : ℕ) → Is (Join d k a b q) → AllComparisonsFit w (ties-at F l t at base) → AllComparisonsFit w (many-ties (decode F u t) (ties-at F u t) k q base)
   unfolding ties-step
-  fine-join d k a b q e = fine-at (Join d k a b q) e
+  fit-join d k a b q e = fit-at (Join d k a b q) e
 
-  pub fine-cross : (h : Bool) (q : ℕ) → Is (Cross h q) → Fines w (ties-at F l t at base) → (s : Bool) → t ≡ s → Fines w (cross-ties (decode F u) (ties-at F u) s q base)
+  pub fit-cross : (h : Bool) (q : ℕ) → Is (Cross h q) → AllComparisonsFit w (ties-at F l t at base) → (s : Bool) → t ≡ s → AllComparisonsFit w (cross-ties (decode F u) (ties-at F u) s q base)
   unfolding ties-step
-  fine-cross h q e x s i = subst (λ (t : Bool). Fines w (cross-ties (decode F u) (ties-at F u) t q base)) i (fine-at (Cross h q) e x)
+  fit-cross h q e x s i = subst (λ (t : Bool). AllComparisonsFit w (cross-ties (decode F u) (ties-at F u) t q base)) i (fit-at (Cross h q) e x)
 
-  pub fine-plain : (h : Bool) (q : ℕ) → Is (Cross h q) → Fines w (ties-at F l t at base) → t ≡ false → Fines w (many-ties (decode F u true) (ties-at F u true) 2 q base)
+  pub fit-plain : (h : Bool) (q : ℕ) → Is (Cross h q) → AllComparisonsFit w (ties-at F l t at base) → t ≡ false → AllComparisonsFit w (many-ties (decode F u true) (ties-at F u true) 2 q base)
   unfolding cross-ties
-  fine-plain h q e x i = fine-cross h q e x false i
+  fit-plain h q e x i = fit-cross h q e x false i
 
   module _ (n : ℕ) (out : List ℤ) (o : ℕ) (b : List ℤ) (m k p : ℕ) where
     abbrev Goal : Type 0
@@ -187,11 +186,11 @@ module _ (w : List ℤ) (l : ℕ) (t : Bool) (k at base : ℕ) (z : k ≡ 0 → 
   step-is zero z = absurd (z refl)
   step-is (suc k) z = rw (sub-one, hq, hb)
 
-  pub members-first : Fines w (many-ties (decode F2 l t) (ties-at F2 l t) k at base) → Fines w (ties-at F2 l t at base)
-  members-first x = fines-left w (ties-at F2 l t at base) later (subst (λ (ts : Trees). Fines w ts) (step-is k z) x)
+  pub members-first : AllComparisonsFit w (many-ties (decode F2 l t) (ties-at F2 l t) k at base) → AllComparisonsFit w (ties-at F2 l t at base)
+  members-first x = all-fit-left w (ties-at F2 l t at base) later (subst (λ (ts : Trees). AllComparisonsFit w ts) (step-is k z) x)
 
-  pub members-rest : Fines w (many-ties (decode F2 l t) (ties-at F2 l t) k at base) → Fines w later
-  members-rest x = fines-right w (ties-at F2 l t at base) later (subst (λ (ts : Trees). Fines w ts) (step-is k z) x)
+  pub members-rest : AllComparisonsFit w (many-ties (decode F2 l t) (ties-at F2 l t) k at base) → AllComparisonsFit w later
+  members-rest x = all-fit-right w (ties-at F2 l t at base) later (subst (λ (ts : Trees). AllComparisonsFit w ts) (step-is k z) x)
 
   pub members-more : {out a b : List ℤ} {e o m j p m' j' q : ℕ} → Open out o → Listed w (items (ties-at F2 l t at base)) e out o a m j p → Listed w (items later) m a p b m' j' q
       → Listed w (items (many-ties (decode F2 l t) (ties-at F2 l t) k at base)) e out o b m' (bump j j') q
@@ -214,10 +213,10 @@ pub record Going (w out₀ : List ℤ) (l : ℕ) (t : Bool) (at count base q res
   pub low-lines : k ≤ limit
   pub end : many (decode (read-part w) l t) rest false false q c .end ≡ many (decode (read-part w) l t) count false false at base .end
   pub splits : many (decode (read-part w) l t) rest false false q c .next ≡ many (decode (read-part w) l t) count false false at base .next
-  pub fine : Fines w (many-ties (decode (read-part w) l t) (ties-at (read-part w) l t) rest q c)
+  pub fit : AllComparisonsFit w (many-ties (decode (read-part w) l t) (ties-at (read-part w) l t) rest q c)
 
-pub going-none : {w out : List ℤ} {l : ℕ} {t : Bool} {at k base n o : ℕ} → Placed w at base n → Open out o → Fines w (many-ties (decode (read-part w) l t) (ties-at (read-part w) l t) k at base) → Going w out l t at k base at k base n 0 o out
-going-none a b c = record { placed = a; opened = b; same = refl; after = omega arith; fewer = omega arith; low-lines = omega arith; end = refl; splits = refl; fine = c }
+pub going-none : {w out : List ℤ} {l : ℕ} {t : Bool} {at k base n o : ℕ} → Placed w at base n → Open out o → AllComparisonsFit w (many-ties (decode (read-part w) l t) (ties-at (read-part w) l t) k at base) → Going w out l t at k base at k base n 0 o out
+going-none a b c = record { placed = a; opened = b; same = refl; after = omega arith; fewer = omega arith; low-lines = omega arith; end = refl; splits = refl; fit = c }
 
 pub going-more : {w out₀ out out' : List ℤ} {l : ℕ} {t : Bool} {at count base q rest c e k p m j r : ℕ} (q' c' k' : ℕ) → Going w out₀ l t at count base q rest c e k p out → (rest ≡ 0 → ⊥) → Reaches (read-part w) l t q c q' c'
     → Listed w (items (ties-at (read-part w) l t q c)) e out p out' m j r → k' ≡ bump k j → Going w out₀ l t at count base q' (rest - 1) c' m k' r out'
@@ -232,7 +231,7 @@ going-more {w} {l = l} {t = t} {q = q} {rest = rest} {c = c} q' c' k' x z y m f 
       low-lines = omega arith;
       end = rw (y .end, y .splits) (sym (ap (λ (a : Reads). a .end) i) ∙ x .end);
       splits = rw (y .end, y .splits) (sym (ap (λ (a : Reads). a .next) i) ∙ x .splits);
-      fine = members-rest w l t rest q c z q' c' (y .end) (y .splits) (x .fine);
+      fit = members-rest w l t rest q c z q' c' (y .end) (y .splits) (x .fit);
     }
 
 pub going-done : {w out₀ out : List ℤ} {l : ℕ} {t : Bool} {at count base q rest c e k p : ℕ} → Going w out₀ l t at count base q rest c e k p out → rest ≡ 0 → ReachesAll (read-part w) l t count at base q c
@@ -257,30 +256,30 @@ module _ (w : List ℤ) (l at base c : ℕ) (hc : c ≡ bump base 2) where
   abbrev both : Trees
   both = cross-ties (decode F3 l) (ties-at F3 l) true at base
 
-  split-parts : Fines w both → Fines w (parts c (R3 false at c .end) (R3 false at c .next))
+  split-parts : AllComparisonsFit w both → AllComparisonsFit w (parts c (R3 false at c .end) (R3 false at c .next))
   unfolding cross-ties
-  split-parts h = subst (λ (c : ℕ). Fines w (parts c (R3 false at c .end) (R3 false at c .next))) (sym hc) h
+  split-parts h = subst (λ (c : ℕ). AllComparisonsFit w (parts c (R3 false at c .end) (R3 false at c .next))) (sym hc) h
 
-  pub split-first : Fines w both → Fines w (ties-at F3 l true at c)
-  split-first h = fines-left w (ties-at F3 l true at c) (cons (tie-at R3 base at c) nil) (fines-left w (append (ties-at F3 l true at c) (cons (tie-at R3 base at c) nil)) _ (split-parts h))
+  pub split-first : AllComparisonsFit w both → AllComparisonsFit w (ties-at F3 l true at c)
+  split-first h = all-fit-left w (ties-at F3 l true at c) (cons (tie-at R3 base at c) nil) (all-fit-left w (append (ties-at F3 l true at c) (cons (tie-at R3 base at c) nil)) _ (split-parts h))
 
-  pub split-tie : Fines w both → ComparisonsFit w (tie-at R3 base at c)
+  pub split-tie : AllComparisonsFit w both → ComparisonsFit w (tie-at R3 base at c)
   unfolding ComparisonsFit
-  split-tie h = fines-right w (ties-at F3 l true at c) (cons (tie-at R3 base at c) nil) (fines-left w (append (ties-at F3 l true at c) (cons (tie-at R3 base at c) nil)) _ (split-parts h)) .0
+  split-tie h = all-fit-right w (ties-at F3 l true at c) (cons (tie-at R3 base at c) nil) (all-fit-left w (append (ties-at F3 l true at c) (cons (tie-at R3 base at c) nil)) _ (split-parts h)) .0
 
   module _ (x y : ℕ) (hx : x ≡ R3 false at c .end) (hy : y ≡ R3 false at c .next) where
-    later-parts : Fines w both → Fines w (append (ties-at F3 l true x y) (cons (tie-at R3 (base + 1) x y) nil))
+    later-parts : AllComparisonsFit w both → AllComparisonsFit w (append (ties-at F3 l true x y) (cons (tie-at R3 (base + 1) x y) nil))
     later-parts h =
-        subst (λ (x : ℕ). Fines w (append (ties-at F3 l true x y) (cons (tie-at R3 (base + 1) x y) nil))) (sym hx)
-        (subst (λ (y : ℕ). Fines w (append (ties-at F3 l true (R3 false at c .end) y) (cons (tie-at R3 (base + 1) (R3 false at c .end) y) nil))) (sym hy)
-        (fines-right w (append (ties-at F3 l true at c) (cons (tie-at R3 base at c) nil)) _ (split-parts h)))
+        subst (λ (x : ℕ). AllComparisonsFit w (append (ties-at F3 l true x y) (cons (tie-at R3 (base + 1) x y) nil))) (sym hx)
+        (subst (λ (y : ℕ). AllComparisonsFit w (append (ties-at F3 l true (R3 false at c .end) y) (cons (tie-at R3 (base + 1) (R3 false at c .end) y) nil))) (sym hy)
+        (all-fit-right w (append (ties-at F3 l true at c) (cons (tie-at R3 base at c) nil)) _ (split-parts h)))
 
-    pub split-second : Fines w both → Fines w (ties-at F3 l true x y)
-    split-second h = fines-left w (ties-at F3 l true x y) (cons (tie-at R3 (base + 1) x y) nil) (later-parts h)
+    pub split-second : AllComparisonsFit w both → AllComparisonsFit w (ties-at F3 l true x y)
+    split-second h = all-fit-left w (ties-at F3 l true x y) (cons (tie-at R3 (base + 1) x y) nil) (later-parts h)
 
-    pub split-other : Fines w both → ComparisonsFit w (tie-at R3 (base + 1) x y)
+    pub split-other : AllComparisonsFit w both → ComparisonsFit w (tie-at R3 (base + 1) x y)
     unfolding ComparisonsFit
-    split-other h = fines-right w (ties-at F3 l true x y) (cons (tie-at R3 (base + 1) x y) nil) (later-parts h) .0
+    split-other h = all-fit-right w (ties-at F3 l true x y) (cons (tie-at R3 (base + 1) x y) nil) (later-parts h) .0
 
     pub split-listed : {out a₁ a₂ a₃ a₄ : List ℤ} {n o m₁ k₁ p₁ m₂ k₂ p₂ m₃ k₃ p₃ m₄ k₄ p₄ : ℕ} → Open out o
         → Listed w (items (ties-at F3 l true at c)) n out o a₁ m₁ k₁ p₁ → Listed w (items (cons (tie-at R3 base at c) nil)) m₁ a₁ p₁ a₂ m₂ k₂ p₂
@@ -306,12 +305,12 @@ module _ (w : List ℤ) (at n : ℕ) where
   abbrev T : Tree
   T = decode (read-part w) 64 false false at n .tree
 
-  pub rule-ties-fine : Fines w (rule-at (read-part w) 64 at n) → Fines w E
-  rule-ties-fine h = fines-left w E (cons T nil) h
+  pub rule-ties-fit : AllComparisonsFit w (rule-at (read-part w) 64 at n) → AllComparisonsFit w E
+  rule-ties-fit h = all-fit-left w E (cons T nil) h
 
-  pub rule-tree-fine : Fines w (rule-at (read-part w) 64 at n) → ComparisonsFit w T
+  pub rule-tree-fit : AllComparisonsFit w (rule-at (read-part w) 64 at n) → ComparisonsFit w T
   unfolding ComparisonsFit
-  rule-tree-fine h = fines-right w E (cons T nil) h .0
+  rule-tree-fit h = all-fit-right w E (cons T nil) h .0
 
   -- x: the survey before the extras; y: behind them
   pub rule-wrote : (c : ℕ) (y : Surveyed) → c ≡ decode (read-part w) 64 false false at n .next → {out a b : List ℤ} {o m k p q : ℕ} → Surveys w 64 false false at n m y → Open out o → Listed w (items E) c out o a m k p
@@ -333,8 +332,8 @@ module _ (w : List ℤ) (at n : ℕ) where
       → (s : List ℤ) → s ≡ [] → Wrote out o (item-at (read-part w) 64 false false at n .text w n s) b q → RuleWrote w at n out o b (x .at) (x .n) (x .all) q
   unfolding items
   bare-rule-wrote c x hc v hb i {out} {b} {o} {q} h s e t =
-      let none : E ≡ nil = no-ties (read-part w) 64 false false at n i (sym hc ∙ hb) in
+      let ties-nil : E ≡ nil = no-ties (read-part w) 64 false false at n i (sym hc ∙ hb) in
       let l : Listed w (items nil) n out o out n 0 o = listed-none h (omega arith) in
       let l₁ : Listed w (items nil) c out o out n 0 o = subst (λ (k : ℕ). Listed w (items nil) k out o out n 0 o) (sym hb) l in
-      let l₂ : Listed w (items E) c out o out n 0 o = subst (λ (ts : Trees). Listed w (items ts) c out o out n 0 o) (sym none) l₁ in
+      let l₂ : Listed w (items E) c out o out n 0 o = subst (λ (ts : Trees). Listed w (items ts) c out o out n 0 o) (sym ties-nil) l₁ in
       rule-wrote c x hc v h l₂ s e t (x .all) (omega (arith, v .low-all))

@@ -6,18 +6,18 @@ use Prim.Native.Nat.{ℕ, zero, suc, _+_, _-_, _≤_}
 use native.Mathlib.Omega.{arith}
 use lib.IntN.{ℤ, pos}
 use lib.ListN.{length, length-append}
-use Rattle.laws.specs.Writes.{Wrote, wrote-none, wrote-then}
+use Rattle.laws.specs.Writes.{Wrote, wrote-none, wrote-then, Open}
 use Rattle.walk.specs.Tree.{Tree, var, num, cmp, conj, disj, cross, tied, Trees, nil, cons}
 use Rattle.walk.specs.Item.{bool-at, signed, is-none, Tally, closed, long, disj-lines, word-of, clause-text, block, Item, tallies, pools, item, items, var-item, num-item, cmp-item, conj-item, disj-item, cross-item, tied-item}
 use Rattle.walk.specs.Decode.{word, Read, many, step, cross-step, decode, read-part, item-at, items-at, Surveys}
 use Rattle.walk.specs.declared.Node.the-variants.{Var, Cmp, Not, Join, Cross}
 use Rattle.walk.specs.declared.Surveyed.{Surveyed}
 use Rattle.output.specs.declared.Suffix.{Suffix}
-use Rattle.output.specs.Suffix.{Stacked, suffix, Open}
+use Rattle.output.specs.Suffix.{Stacked, suffix}
 use Rattle.output.specs.ComparisonsFit.{Compared, ComparisonsFit}
 use Rattle.writer.specs.Placed.{share}
 use Rattle.output.proofs.Laws.{word-pos, then-low, suffix-length, block-length}
-use Rattle.writer.proofs.Steps.{Is, down, up, fine-cmp, items-is}
+use Rattle.writer.proofs.Steps.{Is, down, up, fit-cmp, items-is}
 
 -- ---- counts and lists
 
@@ -171,7 +171,7 @@ module _ (w : List ℤ) (l u : ℕ) (t g : Bool) (at base : ℕ) (z : l ≡ 0 �
     unfolding step item cmp-item
     pool-cmp c q e f k hk x =
         let y : Compared w (at + 2) (word F (at + 1)) g (λ ws. cond b [] ws) out o a p = subst (λ (k : ℕ). Compared w (at + 2) k g (λ ws. cond b [] ws) out o a p) hk x in
-        up w l u t g at base z hu Of (Cmp c q) e (y .wrote _ _ (fine-cmp w l u t g at base z hu c q e f .has))
+        up w l u t g at base z hu Of (Cmp c q) e (y .wrote _ _ (fit-cmp w l u t g at base z hu c q e f .has))
 
     pub pool-not : (q : ℕ) → Is w l u t g at base z hu (Not q) → Wrote out o (item-at F u t (not g) q base .pool b w) a p → Goal
     unfolding step

@@ -6,7 +6,7 @@ use Prim.Native.Nat.{ℕ, _+_, _-_, _≤_}
 use native.Mathlib.Omega.{arith}
 use lib.IntN.{ℤ}
 use lib.ListN.{length, length-take}
-use Rattle.laws.specs.Writes.{Wrote, wrote-none, wrote-length}
+use Rattle.laws.specs.Writes.{Wrote, wrote-none, wrote-length, Open}
 use Rattle.syntax.specs.Syntax.{IntExpr}
 use Rattle.walk.specs.Tree.{Trees, cons, joined}
 use Rattle.walk.specs.Item.{limit, items}
@@ -16,8 +16,7 @@ use Rattle.walk.specs.declared.Node.{Node}
 use Rattle.walk.specs.declared.Node.the-variants.{Cmp, Not, Join, Cross}
 use Rattle.walk.specs.declared.Surveyed.{Surveyed}
 use Rattle.survey.specs.Skip.{Skips}
-use Rattle.output.specs.Suffix.{Open}
-use Rattle.output.specs.ComparisonsFit.{Sides, Compares, ComparisonsFit, Fines}
+use Rattle.output.specs.ComparisonsFit.{Sides, Compares, ComparisonsFit, AllComparisonsFit}
 use Rattle.writer.specs.Placed.{Placed}
 use Rattle.output.proofs.Laws.{open-next}
 
@@ -43,10 +42,10 @@ placed-base m h i = record { size = h .size; inside = h .inside; low = h .low; l
 
 -- ---- the node at a place
 
-joined-fine : (w : List ℤ) (d : Bool) (ts : Trees) → ComparisonsFit w (joined d ts) → Fines w ts
+joined-fit : (w : List ℤ) (d : Bool) (ts : Trees) → ComparisonsFit w (joined d ts) → AllComparisonsFit w ts
 unfolding ComparisonsFit
-joined-fine w false ts h = h
-joined-fine w true ts h = h
+joined-fit w false ts h = h
+joined-fit w true ts h = h
 
 pub compares : (w : List ℤ) (at : ℕ) (a b : IntExpr) → Sides w at a b → Compares w at
 compares w at a b h = record { left = a; right = b; sides = h }
@@ -64,24 +63,24 @@ module _ (w : List ℤ) (l u : ℕ) (t g : Bool) (at base : ℕ) (z : l ≡ 0 �
   pub up : (P : Read → Type 0) (N : Node) → Is N → P (step F u (decode F u) t g at base N) → P (decode F l t g at base)
   up P N e = subst P (sym (decode-level F l u t g at base N z hu e))
 
-  abbrev FineHere : Type 0
-  FineHere = ComparisonsFit w (decode F l t g at base .tree)
+  abbrev FitHere : Type 0
+  FitHere = ComparisonsFit w (decode F l t g at base .tree)
 
-  pub fine-cmp : (b q : ℕ) → Is (Cmp b q) → FineHere → Sides w (at + 2) (int-at F u (past F (at + 2)) .0) (int-at F u b .0)
+  pub fit-cmp : (b q : ℕ) → Is (Cmp b q) → FitHere → Sides w (at + 2) (int-at F u (past F (at + 2)) .0) (int-at F u b .0)
   unfolding step ComparisonsFit
-  fine-cmp b q e = down (λ (r : Read). ComparisonsFit w (r .tree)) (Cmp b q) e
+  fit-cmp b q e = down (λ (r : Read). ComparisonsFit w (r .tree)) (Cmp b q) e
 
-  pub fine-not : (q : ℕ) → Is (Not q) → FineHere → ComparisonsFit w (decode F u t (not g) q base .tree)
+  pub fit-not : (q : ℕ) → Is (Not q) → FitHere → ComparisonsFit w (decode F u t (not g) q base .tree)
   unfolding step
-  fine-not q e = down (λ (r : Read). ComparisonsFit w (r .tree)) (Not q) e
+  fit-not q e = down (λ (r : Read). ComparisonsFit w (r .tree)) (Not q) e
 
-  pub fine-join : (d : Bool) (k : ℕ) (a b : Bool) (q : ℕ) → Is (Join d k a b q) → FineHere → Fines w (many (decode F u t) k a b q base .trees)
+  pub fit-join : (d : Bool) (k : ℕ) (a b : Bool) (q : ℕ) → Is (Join d k a b q) → FitHere → AllComparisonsFit w (many (decode F u t) k a b q base .trees)
   unfolding step
-  fine-join d k a b q e h = joined-fine w d (many (decode F u t) k a b q base .trees) (down (λ (r : Read). ComparisonsFit w (r .tree)) (Join d k a b q) e h)
+  fit-join d k a b q e h = joined-fit w d (many (decode F u t) k a b q base .trees) (down (λ (r : Read). ComparisonsFit w (r .tree)) (Join d k a b q) e h)
 
-  pub fine-cross : (h : Bool) (q : ℕ) → t ≡ false → Is (Cross h q) → FineHere → Fines w (many (decode F u true) 2 false h q base .trees) × Fines w (many (decode F u true) 2 true (not h) q base .trees)
+  pub fit-cross : (h : Bool) (q : ℕ) → t ≡ false → Is (Cross h q) → FitHere → AllComparisonsFit w (many (decode F u true) 2 false h q base .trees) × AllComparisonsFit w (many (decode F u true) 2 true (not h) q base .trees)
   unfolding step cross-step ComparisonsFit
-  fine-cross h q ht e x =
+  fit-cross h q ht e x =
       let y : ComparisonsFit w (cross-step (decode F u) t h q base .tree) = down (λ (r : Read). ComparisonsFit w (r .tree)) (Cross h q) e x in
       subst (λ (t : Bool). ComparisonsFit w (cross-step (decode F u) t h q base .tree)) ht y
 
@@ -101,13 +100,13 @@ module _ (w : List ℤ) (l : ℕ) (t : Bool) (k : ℕ) (g h : Bool) (at base : �
   unfolding items
   items-is = ap items trees-is
 
-  pub fines-rest : Fines w (many R k g h at base .trees) → Fines w (many R (k - 1) h h q c .trees)
+  pub all-fit-rest : AllComparisonsFit w (many R k g h at base .trees) → AllComparisonsFit w (many R (k - 1) h h q c .trees)
   unfolding ComparisonsFit
-  fines-rest x = subst (λ (ts : Trees). Fines w ts) trees-is x .1
+  all-fit-rest x = subst (λ (ts : Trees). AllComparisonsFit w ts) trees-is x .1
 
-pub fines-head : (w : List ℤ) (l : ℕ) (t : Bool) (k : ℕ) (g h : Bool) (at base : ℕ) → (k ≡ 0 → ⊥) → Fines w (many (decode (read-part w) l t) k g h at base .trees) → ComparisonsFit w (decode (read-part w) l t g at base .tree)
+pub all-fit-head : (w : List ℤ) (l : ℕ) (t : Bool) (k : ℕ) (g h : Bool) (at base : ℕ) → (k ≡ 0 → ⊥) → AllComparisonsFit w (many (decode (read-part w) l t) k g h at base .trees) → ComparisonsFit w (decode (read-part w) l t g at base .tree)
 unfolding ComparisonsFit
-fines-head w l t k g h at base z x = subst (λ (ts : Trees). Fines w ts) (ap (λ (r : Reads). r .trees) (many-more (decode (read-part w) l t) k g h at base z)) x .0
+all-fit-head w l t k g h at base z x = subst (λ (ts : Trees). AllComparisonsFit w ts) (ap (λ (r : Reads). r .trees) (many-more (decode (read-part w) l t) k g h at base z)) x .0
 
 -- in a loop over members: the member at q is next, and `rest` are left
 pub record Sofar (w out₀ : List ℤ) (l : ℕ) (t h : Bool) (at count q rest : ℕ) (f : Bool) (c e p : ℕ) (out : List ℤ) : Type 0 where
@@ -116,10 +115,10 @@ pub record Sofar (w out₀ : List ℤ) (l : ℕ) (t h : Bool) (at count q rest :
   pub same : length out ≡ length out₀
   pub after : at ≤ q
   pub fewer : rest ≤ count
-  pub fine : Fines w (many (decode (read-part w) l t) rest f h q c .trees)
+  pub fit : AllComparisonsFit w (many (decode (read-part w) l t) rest f h q c .trees)
 
-pub sofar-none : {w out : List ℤ} {l : ℕ} {t g h : Bool} {at k base n o : ℕ} → Placed w at base n → Open out o → Fines w (many (decode (read-part w) l t) k g h at base .trees) → Sofar w out l t h at k at k g base n o out
-sofar-none a b c = record { placed = a; opened = b; same = refl; after = omega arith; fewer = omega arith; fine = c }
+pub sofar-none : {w out : List ℤ} {l : ℕ} {t g h : Bool} {at k base n o : ℕ} → Placed w at base n → Open out o → AllComparisonsFit w (many (decode (read-part w) l t) k g h at base .trees) → Sofar w out l t h at k at k g base n o out
+sofar-none a b c = record { placed = a; opened = b; same = refl; after = omega arith; fewer = omega arith; fit = c }
 
 pub sofar-more : {w out₀ out out' us : List ℤ} {l : ℕ} {t h : Bool} {at k q rest : ℕ} {f : Bool} {c e p p' : ℕ} {s : Surveyed} → Sofar w out₀ l t h at k q rest f c e p out → (rest ≡ 0 → ⊥) → Surveys w l t f q c e s → Wrote out p us out' p'
     → Sofar w out₀ l t h at k (s .at) (rest - 1) h (s .base) (s .n) p' out'
@@ -129,14 +128,14 @@ sofar-more {w} {l = l} {t = t} {h = h} {q = q} {rest = rest} {f = f} {c = c} {e 
   same = wrote-length m ∙ x .same;
   after = omega (arith, x .after, y .room);
   fewer = omega (arith, x .fewer);
-  fine = fines-rest w l t rest f h q c z (s .at) (s .base) (y .end) (y .splits) (x .fine);
+  fit = all-fit-rest w l t rest f h q c z (s .at) (s .base) (y .end) (y .splits) (x .fit);
 }
 
 pub sofar-head : {w out₀ out : List ℤ} {l : ℕ} {t h : Bool} {at k q rest : ℕ} {f : Bool} {c e p : ℕ} → Sofar w out₀ l t h at k q rest f c e p out → (rest ≡ 0 → ⊥) → ComparisonsFit w (decode (read-part w) l t f q c .tree)
-sofar-head {w} {l = l} {t = t} {h = h} {q = q} {rest = rest} {f = f} {c = c} x z = fines-head w l t rest f h q c z (x .fine)
+sofar-head {w} {l = l} {t = t} {h = h} {q = q} {rest = rest} {f = f} {c = c} x z = all-fit-head w l t rest f h q c z (x .fit)
 
 pub sofar-with : {w out₀ out : List ℤ} {l : ℕ} {t h : Bool} {at k q rest : ℕ} {f : Bool} {c e p : ℕ} (n : ℕ) → Sofar w out₀ l t h at k q rest f c e p out → n ≤ limit → Sofar w out₀ l t h at k q rest f c n p out
-sofar-with n x i = record { placed = placed-with n (x .placed) i; opened = x .opened; same = x .same; after = x .after; fewer = x .fewer; fine = x .fine }
+sofar-with n x i = record { placed = placed-with n (x .placed) i; opened = x .opened; same = x .same; after = x .after; fewer = x .fewer; fit = x .fit }
 
 -- a member that is only skipped
 pub sofar-past : {w out₀ out : List ℤ} {l : ℕ} {t h : Bool} {at k q rest : ℕ} {f : Bool} {c e p : ℕ} (q' c' : ℕ) → Sofar w out₀ l t h at k q rest f c e p out → (rest ≡ 0 → ⊥) → Skips (read-part w) l t q c q' c' → Sofar w out₀ l t h at k q' (rest - 1) h c' e p out
@@ -146,7 +145,7 @@ sofar-past {w} {l = l} {t = t} {h = h} {q = q} {rest = rest} {f = f} {c = c} q' 
   same = x .same;
   after = omega (arith, x .after, y .start);
   fewer = omega (arith, x .fewer);
-  fine = fines-rest w l t rest f h q c z q' c' (y .end f) (y .next f) (x .fine);
+  fit = all-fit-rest w l t rest f h q c z q' c' (y .end f) (y .next f) (x .fit);
 }
 
 -- a member of which nothing is written

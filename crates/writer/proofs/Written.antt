@@ -7,17 +7,16 @@ use native.Mathlib.Omega.{arith}
 use lib.IntN.{ℤ, pos}
 use lib.ListN.{length, getD}
 use lib.Dec.{eqb}
-use Rattle.laws.specs.Writes.{cap, Wrote, wrote-none, wrote-then}
+use Rattle.laws.specs.Writes.{cap, Wrote, wrote-none, wrote-then, Open}
 use Rattle.walk.specs.Item.{bump, is-none, bool-at, signed, is-single, Tally, tally, mode-in, fresh-in, word-of, clause-text, block, extra, pool-text, Item, tallies, counts, pools, texts, long-texts, disj-text, item, items, var-item, num-item, cmp-item, conj-item, disj-item, cross-item}
 use Rattle.walk.specs.Decode.{word, Read, many, step, cross-step, decode, read-part, item-at, items-at, Surveys, SurveysAll}
 use Rattle.walk.specs.declared.Mode.{Mode}
-use Rattle.walk.specs.declared.Mode.the-variants.{Pool, Pass, Two, Each}
+use Rattle.walk.specs.declared.Mode.the-variants.{Pool, One, Two, Each}
 use Rattle.walk.specs.declared.Node.the-variants.{Var, Cmp, Not, Join, Cross}
 use Rattle.walk.specs.declared.Surveyed.{Surveyed}
-use Rattle.output.specs.Suffix.{Open}
 use Rattle.output.specs.ComparisonsFit.{Compared, ComparisonsFit}
 use Rattle.writer.specs.Placed.{Tallied}
-use Rattle.writer.proofs.Steps.{part-length, Is, up, fine-cmp, items-is}
+use Rattle.writer.proofs.Steps.{part-length, Is, up, fit-cmp, items-is}
 
 -- ---- an expression
 
@@ -63,7 +62,7 @@ module _ (w : List ℤ) (l u : ℕ) (t g : Bool) (at base : ℕ) (z : l ≡ 0 �
   unfolding step item cmp-item
   write-cmp c q e f k hk x =
       let y : Compared w (at + 2) (word F (at + 1)) g (clause-text [] suf 1) out o a p = subst (λ (k : ℕ). Compared w (at + 2) k g (clause-text [] suf 1) out o a p) hk x in
-      up w l u t g at base z hu Of (Cmp c q) e (y .wrote _ _ (fine-cmp w l u t g at base z hu c q e f .has))
+      up w l u t g at base z hu Of (Cmp c q) e (y .wrote _ _ (fit-cmp w l u t g at base z hu c q e f .has))
 
   pub write-not : (q : ℕ) → Is w l u t g at base z hu (Not q) → Wrote out o (item-at F u t (not g) q base .text w n suf) a p → Goal
   unfolding step
@@ -159,19 +158,19 @@ pool-longs (suc (suc zero)) zero (suc k) e = absurd (let z : _≡_ {A = ℕ} 0 1
 pool-longs (suc (suc zero)) (suc l) k e = absurd (let z : _≡_ {A = ℕ} 0 1 = cc in omega arith)
 pool-longs (suc (suc (suc x))) l k e = absurd (let z : _≡_ {A = ℕ} 0 1 = cc in omega arith)
 
-pass-lits : (x l k : ℕ) → mode-in x l k ≡ Pass → l ≤ 1
-pass-lits x zero k e = omega arith
-pass-lits x (suc zero) k e = omega arith
-pass-lits zero (suc (suc l)) k e = absurd (let z : _≡_ {A = ℕ} 0 1 = cc in omega arith)
-pass-lits (suc zero) (suc (suc l)) zero e = absurd (let z : _≡_ {A = ℕ} 0 1 = cc in omega arith)
-pass-lits (suc zero) (suc (suc l)) (suc k) e = absurd (let z : _≡_ {A = ℕ} 0 1 = cc in omega arith)
-pass-lits (suc (suc zero)) (suc (suc l)) k e = absurd (let z : _≡_ {A = ℕ} 0 1 = cc in omega arith)
-pass-lits (suc (suc (suc x))) (suc (suc l)) k e = absurd (let z : _≡_ {A = ℕ} 0 1 = cc in omega arith)
+one-lits : (x l k : ℕ) → mode-in x l k ≡ One → l ≤ 1
+one-lits x zero k e = omega arith
+one-lits x (suc zero) k e = omega arith
+one-lits zero (suc (suc l)) k e = absurd (let z : _≡_ {A = ℕ} 0 1 = cc in omega arith)
+one-lits (suc zero) (suc (suc l)) zero e = absurd (let z : _≡_ {A = ℕ} 0 1 = cc in omega arith)
+one-lits (suc zero) (suc (suc l)) (suc k) e = absurd (let z : _≡_ {A = ℕ} 0 1 = cc in omega arith)
+one-lits (suc (suc zero)) (suc (suc l)) k e = absurd (let z : _≡_ {A = ℕ} 0 1 = cc in omega arith)
+one-lits (suc (suc (suc x))) (suc (suc l)) k e = absurd (let z : _≡_ {A = ℕ} 0 1 = cc in omega arith)
 
-pub one-lit : (ls one : List ℤ) (r x y k : ℕ) → length ls ≡ y → mode-in x y k ≡ Pass → Wrote (pos 0 ∷ []) 0 ls one r → cond (eqb y 1) (getD one 0 (pos 0) ∷ []) [] ≡ ls
+pub one-lit : (ls one : List ℤ) (r x y k : ℕ) → length ls ≡ y → mode-in x y k ≡ One → Wrote (pos 0 ∷ []) 0 ls one r → cond (eqb y 1) (getD one 0 (pos 0) ∷ []) [] ≡ ls
 one-lit [] one r x y k e f w = rw (← e)
 one-lit (a ∷ []) one r x y k e f w = rw (← e, w .words)
-one-lit (a ∷ b ∷ ls) one r x y k e f w = absurd (omega (arith, pass-lits x y k f))
+one-lit (a ∷ b ∷ ls) one r x y k e f w = absurd (omega (arith, one-lits x y k f))
 
 module _ (is : List Item) (w : List ℤ) (n b : ℕ) (suf : List ℤ) (x : Surveyed) (hx : tally (x .longs) (x .lits) (x .cmps) (x .lines) ≡ tallies is) where
   disj-is : (M : Mode) → mode-in (x .longs) (x .lits) (x .cmps) ≡ M
@@ -186,8 +185,8 @@ module _ (is : List Item) (w : List ℤ) (n b : ℕ) (suf : List ℤ) (x : Surve
         subst (λ (v : List ℤ). Wrote out o v a p)
         (sym (disj-is Pool e ∙ ap (λ (v : List ℤ). v ++ clause-text (pools is true w) (block b (x .longs) ++ suf) (x .cmps) (pools is false w)) (longs-empty is Pool b (pools is true w) w n 0 suf z))) y
 
-    pub disj-pass : (ls : List ℤ) → mode-in (x .longs) (x .lits) (x .cmps) ≡ Pass → ls ≡ pools is true w → Wrote out o (long-texts Pass b ls is w n 0 suf) a p → Wrote out o (disj-text is w n b suf) a p
-    disj-pass ls e f y = subst (λ (v : List ℤ). Wrote out o v a p) (sym (disj-is Pass e ∙ append-nil _)) (rw f at y)
+    pub disj-pass : (ls : List ℤ) → mode-in (x .longs) (x .lits) (x .cmps) ≡ One → ls ≡ pools is true w → Wrote out o (long-texts One b ls is w n 0 suf) a p → Wrote out o (disj-text is w n b suf) a p
+    disj-pass ls e f y = subst (λ (v : List ℤ). Wrote out o v a p) (sym (disj-is One e ∙ append-nil _)) (rw f at y)
 
     pub disj-two : (ls : List ℤ) → mode-in (x .longs) (x .lits) (x .cmps) ≡ Two → Wrote out o (long-texts Two b ls is w n 0 suf) a p → Wrote out o (disj-text is w n b suf) a p
     disj-two ls e y = subst (λ (v : List ℤ). Wrote out o v a p) (longs-same is Two b ls (pools is true w) w n 0 suf (λ j. refl) ∙ sym (disj-is Two e ∙ append-nil _)) y

@@ -10,7 +10,7 @@ use Rattle.laws.specs.Bools.{or-no-l, or-no-r}
 use Rattle.laws.specs.Lists.{flat}
 use Rattle.laws.specs.Slices.{Has, has-front, has-back, has-rest}
 use Rattle.laws.specs.Writes.{Wrote, wrote-to}
-use Rattle.syntax.specs.Syntax.{Domain, IntExpr, encode-int, BoolExpr, Const, Var, NVar, And, Or, Not, Xor, Iff, Imp, Cmp, Members, none, more, encode-bool, encode-members}
+use Rattle.syntax.specs.Syntax.{Domain, IntExpr, encode-int, BoolExpr, Const, Var, NVar, And, Or, Not, Xor, Iff, Imp, Cmp, Members, mnil, more, encode-bool, encode-members}
 use Rattle.limits.specs.Limits.{heavy-comparison, many-comparison, any-comparison, any-comparison-members}
 use Rattle.sums.specs.LinearSum.{LinearSum}
 use Rattle.clauses.specs.Clause.{negate-if}
@@ -26,7 +26,7 @@ use Rattle.walk.specs.TwoWalks.{Low}
 use Rattle.walk.specs.Rule.{LegalRule, rule-walks}
 use Rattle.walk.specs.Decode.{decode, read-part}
 use Rattle.walk.specs.DecodeExact.{has-part, rule-at, rule-stands}
-use Rattle.output.specs.ComparisonsFit.{ComparisonsFit, Fines}
+use Rattle.output.specs.ComparisonsFit.{ComparisonsFit, AllComparisonsFit}
 use Rattle.writer.specs.Placed.{RuleWrote}
 
 has-two : (w : List ℤ) (at : ℕ) (u v : ℤ) (us : List ℤ) → Has w at (u ∷ v ∷ us) → Has w (at + 2) us
@@ -36,23 +36,23 @@ has-two w at u v us h =
 
 -- ---- the comparisons of a rule
 
-join-fine : (w : List ℤ) (d : Bool) (ts : Trees) → Fines w ts → ComparisonsFit w (joined d ts)
+join-fit : (w : List ℤ) (d : Bool) (ts : Trees) → AllComparisonsFit w ts → ComparisonsFit w (joined d ts)
 unfolding ComparisonsFit
-join-fine w false ts h = h
-join-fine w true ts h = h
+join-fit w false ts h = h
+join-fit w true ts h = h
 
-append-fine : (w : List ℤ) (ts us : Trees) → Fines w ts → Fines w us → Fines w (append ts us)
+append-fit : (w : List ℤ) (ts us : Trees) → AllComparisonsFit w ts → AllComparisonsFit w us → AllComparisonsFit w (append ts us)
 unfolding ComparisonsFit
-append-fine w nil us h k = k
-append-fine w (cons t ts) us h k = (h .0, append-fine w ts us (h .1) k)
+append-fit w nil us h k = k
+append-fit w (cons t ts) us h k = (h .0, append-fit w ts us (h .1) k)
 
-cross-fine : (w : List ℤ) (a b : Bool → Tree) (h : Bool) → ((g : Bool) → ComparisonsFit w (a g)) → ((g : Bool) → ComparisonsFit w (b g)) → ComparisonsFit w (crossed a b h)
+cross-fit : (w : List ℤ) (a b : Bool → Tree) (h : Bool) → ((g : Bool) → ComparisonsFit w (a g)) → ((g : Bool) → ComparisonsFit w (b g)) → ComparisonsFit w (crossed a b h)
 unfolding ComparisonsFit
-cross-fine w a b h p q = ((p false, (q h, tt)), (p true, (q (not h), tt)))
+cross-fit w a b h p q = ((p false, (q h, tt)), (p true, (q (not h), tt)))
 
-tied-fine : (w : List ℤ) (ts us : Trees) (a b : Tree) → Fines w ts → ComparisonsFit w a → Fines w us → ComparisonsFit w b → Fines w (both-tied ts a us b)
+tied-fit : (w : List ℤ) (ts us : Trees) (a b : Tree) → AllComparisonsFit w ts → ComparisonsFit w a → AllComparisonsFit w us → ComparisonsFit w b → AllComparisonsFit w (both-tied ts a us b)
 unfolding ComparisonsFit
-tied-fine w ts us a b h i j k = append-fine w (append ts (cons a nil)) (append us (cons b nil)) (append-fine w ts (cons a nil) h (i, tt)) (append-fine w us (cons b nil) j (k, tt))
+tied-fit w ts us a b h i j k = append-fit w (append ts (cons a nil)) (append us (cons b nil)) (append-fit w ts (cons a nil) h (i, tt)) (append-fit w us (cons b nil) j (k, tt))
 
 module _ (w : List ℤ) (ds : List Domain) (column : IntExpr → Bool) where
   abbrev H : BoolExpr → Bool
@@ -83,104 +83,104 @@ module _ (w : List ℤ) (ds : List Domain) (column : IntExpr → Bool) where
   mutual
     unfolding resolve encode-bool any-comparison ComparisonsFit
 
-    resolve-fine : (e : BoolExpr) (t : Bool) (at n : ℕ) (g : Bool) → Has w at (encode-bool e) → Light e → ComparisonsFit w (resolve e t at n g)
-    resolve-fine (Const b) t at n g h l = join-fine w (not (negate-if g b)) nil tt
-    resolve-fine (Var v) t at n g h l = tt
-    resolve-fine (NVar k) t at n g h l = tt
-    resolve-fine (And ms) t at n g h l = join-fine w g (resolves ms t (at + 2) n g) (resolves-fine ms t (at + 2) n g (has-two w at _ _ (encode-members ms) h) l)
-    resolve-fine (Or ms) t at n g h l = join-fine w (not g) (resolves ms t (at + 2) n g) (resolves-fine ms t (at + 2) n g (has-two w at _ _ (encode-members ms) h) l)
-    resolve-fine (Not e) t at n g h l = resolve-fine e t (at + 1) n (not g) (has-rest w at _ (encode-bool e) h) l
-    resolve-fine (Xor a b) false at n g h l =
+    resolve-fit : (e : BoolExpr) (t : Bool) (at n : ℕ) (g : Bool) → Has w at (encode-bool e) → Light e → ComparisonsFit w (resolve e t at n g)
+    resolve-fit (Const b) t at n g h l = join-fit w (not (negate-if g b)) nil tt
+    resolve-fit (Var v) t at n g h l = tt
+    resolve-fit (NVar k) t at n g h l = tt
+    resolve-fit (And ms) t at n g h l = join-fit w g (resolves ms t (at + 2) n g) (resolves-fit ms t (at + 2) n g (has-two w at _ _ (encode-members ms) h) l)
+    resolve-fit (Or ms) t at n g h l = join-fit w (not g) (resolves ms t (at + 2) n g) (resolves-fit ms t (at + 2) n g (has-two w at _ _ (encode-members ms) h) l)
+    resolve-fit (Not e) t at n g h l = resolve-fit e t (at + 1) n (not g) (has-rest w at _ (encode-bool e) h) l
+    resolve-fit (Xor a b) false at n g h l =
         let d = has-rest w at _ (encode-bool a ++ encode-bool b) h in
-        cross-fine w (resolve a true (at + 1) n) (resolve b true (at + 1 + length (encode-bool a)) (n + splits a true)) g
-        (λ k. resolve-fine a true (at + 1) n k (has-front w (at + 1) (encode-bool a) (encode-bool b) d) (left-light (H a) (H b) (M a) (M b) l))
-        (λ k. resolve-fine b true (at + 1 + length (encode-bool a)) (n + splits a true) k (has-back w (at + 1) (encode-bool a) (encode-bool b) d) (right-light (H a) (H b) (M a) (M b) l))
-    resolve-fine (Xor a b) true at n g h l = ((tt, (tt, tt)), (tt, (tt, tt)))
-    resolve-fine (Iff a b) false at n g h l =
+        cross-fit w (resolve a true (at + 1) n) (resolve b true (at + 1 + length (encode-bool a)) (n + splits a true)) g
+        (λ k. resolve-fit a true (at + 1) n k (has-front w (at + 1) (encode-bool a) (encode-bool b) d) (left-light (H a) (H b) (M a) (M b) l))
+        (λ k. resolve-fit b true (at + 1 + length (encode-bool a)) (n + splits a true) k (has-back w (at + 1) (encode-bool a) (encode-bool b) d) (right-light (H a) (H b) (M a) (M b) l))
+    resolve-fit (Xor a b) true at n g h l = ((tt, (tt, tt)), (tt, (tt, tt)))
+    resolve-fit (Iff a b) false at n g h l =
         let d = has-rest w at _ (encode-bool a ++ encode-bool b) h in
-        cross-fine w (resolve a true (at + 1) n) (resolve b true (at + 1 + length (encode-bool a)) (n + splits a true)) (not g)
-        (λ k. resolve-fine a true (at + 1) n k (has-front w (at + 1) (encode-bool a) (encode-bool b) d) (left-light (H a) (H b) (M a) (M b) l))
-        (λ k. resolve-fine b true (at + 1 + length (encode-bool a)) (n + splits a true) k (has-back w (at + 1) (encode-bool a) (encode-bool b) d) (right-light (H a) (H b) (M a) (M b) l))
-    resolve-fine (Iff a b) true at n g h l = ((tt, (tt, tt)), (tt, (tt, tt)))
-    resolve-fine (Imp a b) t at n g h l =
+        cross-fit w (resolve a true (at + 1) n) (resolve b true (at + 1 + length (encode-bool a)) (n + splits a true)) (not g)
+        (λ k. resolve-fit a true (at + 1) n k (has-front w (at + 1) (encode-bool a) (encode-bool b) d) (left-light (H a) (H b) (M a) (M b) l))
+        (λ k. resolve-fit b true (at + 1 + length (encode-bool a)) (n + splits a true) k (has-back w (at + 1) (encode-bool a) (encode-bool b) d) (right-light (H a) (H b) (M a) (M b) l))
+    resolve-fit (Iff a b) true at n g h l = ((tt, (tt, tt)), (tt, (tt, tt)))
+    resolve-fit (Imp a b) t at n g h l =
         let d = has-rest w at _ (encode-bool a ++ encode-bool b) h in
-        join-fine w (not g) (pair (resolve a t (at + 1) n (not g)) (resolve b t (at + 1 + length (encode-bool a)) (n + splits a t) g)) (
-          resolve-fine a t (at + 1) n (not g) (has-front w (at + 1) (encode-bool a) (encode-bool b) d) (left-light (H a) (H b) (M a) (M b) l),
-          (resolve-fine b t (at + 1 + length (encode-bool a)) (n + splits a t) g (has-back w (at + 1) (encode-bool a) (encode-bool b) d) (right-light (H a) (H b) (M a) (M b) l), tt),
+        join-fit w (not g) (pair (resolve a t (at + 1) n (not g)) (resolve b t (at + 1 + length (encode-bool a)) (n + splits a t) g)) (
+          resolve-fit a t (at + 1) n (not g) (has-front w (at + 1) (encode-bool a) (encode-bool b) d) (left-light (H a) (H b) (M a) (M b) l),
+          (resolve-fit b t (at + 1 + length (encode-bool a)) (n + splits a t) g (has-back w (at + 1) (encode-bool a) (encode-bool b) d) (right-light (H a) (H b) (M a) (M b) l), tt),
         )
-    resolve-fine (Cmp o a b) t at n g h l = record { has = has-two w at _ _ (encode-int a ++ encode-int b) h; domains = ds; light = l .0; few = l .1 }
+    resolve-fit (Cmp o a b) t at n g h l = record { has = has-two w at _ _ (encode-int a ++ encode-int b) h; domains = ds; light = l .0; few = l .1 }
 
-    resolves-fine : (ms : Members) (t : Bool) (at n : ℕ) (g : Bool) → Has w at (encode-members ms) → LightMembers ms → Fines w (resolves ms t at n g)
-    resolves-fine none t at n g h l = tt
-    resolves-fine (more e ms) t at n g h l = (
-      resolve-fine e t at n g (has-front w at (encode-bool e) (encode-members ms) h) (left-light (H e) (HM ms) (M e) (MM ms) l),
-      resolves-fine ms t (at + length (encode-bool e)) (n + splits e t) g (has-back w at (encode-bool e) (encode-members ms) h) (right-light (H e) (HM ms) (M e) (MM ms) l),
+    resolves-fit : (ms : Members) (t : Bool) (at n : ℕ) (g : Bool) → Has w at (encode-members ms) → LightMembers ms → AllComparisonsFit w (resolves ms t at n g)
+    resolves-fit mnil t at n g h l = tt
+    resolves-fit (more e ms) t at n g h l = (
+      resolve-fit e t at n g (has-front w at (encode-bool e) (encode-members ms) h) (left-light (H e) (HM ms) (M e) (MM ms) l),
+      resolves-fit ms t (at + length (encode-bool e)) (n + splits e t) g (has-back w at (encode-bool e) (encode-members ms) h) (right-light (H e) (HM ms) (M e) (MM ms) l),
     )
 
-  tie-fine : (v : ℕ) (e : BoolExpr) (at n : ℕ) → Has w at (encode-bool e) → Light e → ComparisonsFit w (tie v e at n)
+  tie-fit : (v : ℕ) (e : BoolExpr) (at n : ℕ) → Has w at (encode-bool e) → Light e → ComparisonsFit w (tie v e at n)
   unfolding ComparisonsFit
-  tie-fine v e at n h l = (resolve-fine e true at n false h l, resolve-fine e true at n true h l)
+  tie-fit v e at n h l = (resolve-fit e true at n false h l, resolve-fit e true at n true h l)
 
   mutual
     unfolding ties encode-bool any-comparison ComparisonsFit
 
-    ties-fine : (e : BoolExpr) (t : Bool) (at n : ℕ) → Has w at (encode-bool e) → Light e → Fines w (ties e t at n)
-    ties-fine (Const b) t at n h l = tt
-    ties-fine (Var v) t at n h l = tt
-    ties-fine (NVar k) t at n h l = tt
-    ties-fine (And ms) t at n h l = ties-fines ms t (at + 2) n (has-two w at _ _ (encode-members ms) h) l
-    ties-fine (Or ms) t at n h l = ties-fines ms t (at + 2) n (has-two w at _ _ (encode-members ms) h) l
-    ties-fine (Not e) t at n h l = ties-fine e t (at + 1) n (has-rest w at _ (encode-bool e) h) l
-    ties-fine (Xor a b) false at n h l =
+    ties-fit : (e : BoolExpr) (t : Bool) (at n : ℕ) → Has w at (encode-bool e) → Light e → AllComparisonsFit w (ties e t at n)
+    ties-fit (Const b) t at n h l = tt
+    ties-fit (Var v) t at n h l = tt
+    ties-fit (NVar k) t at n h l = tt
+    ties-fit (And ms) t at n h l = ties-all-fit ms t (at + 2) n (has-two w at _ _ (encode-members ms) h) l
+    ties-fit (Or ms) t at n h l = ties-all-fit ms t (at + 2) n (has-two w at _ _ (encode-members ms) h) l
+    ties-fit (Not e) t at n h l = ties-fit e t (at + 1) n (has-rest w at _ (encode-bool e) h) l
+    ties-fit (Xor a b) false at n h l =
         let d = has-rest w at _ (encode-bool a ++ encode-bool b) h in
         let x = has-front w (at + 1) (encode-bool a) (encode-bool b) d in
         let y = has-back w (at + 1) (encode-bool a) (encode-bool b) d in
         let l₁ = left-light (H a) (H b) (M a) (M b) l in
         let l₂ = right-light (H a) (H b) (M a) (M b) l in
         let p = at + 1 + length (encode-bool a) in
-        append-fine w (ties a true (at + 1) n) (ties b true p (n + splits a true)) (ties-fine a true (at + 1) n x l₁) (ties-fine b true p (n + splits a true) y l₂)
-    ties-fine (Xor a b) true at n h l =
+        append-fit w (ties a true (at + 1) n) (ties b true p (n + splits a true)) (ties-fit a true (at + 1) n x l₁) (ties-fit b true p (n + splits a true) y l₂)
+    ties-fit (Xor a b) true at n h l =
         let d = has-rest w at _ (encode-bool a ++ encode-bool b) h in
         let x = has-front w (at + 1) (encode-bool a) (encode-bool b) d in
         let y = has-back w (at + 1) (encode-bool a) (encode-bool b) d in
         let l₁ = left-light (H a) (H b) (M a) (M b) l in
         let l₂ = right-light (H a) (H b) (M a) (M b) l in
         let p = at + 1 + length (encode-bool a) in
-        tied-fine w (ties a true (at + 1) (suc (suc n))) (ties b true p ((suc (suc n)) + splits a true)) (tie n a (at + 1) (suc (suc n))) (tie (suc n) b p ((suc (suc n)) + splits a true))
-        (ties-fine a true (at + 1) (suc (suc n)) x l₁) (tie-fine n a (at + 1) (suc (suc n)) x l₁) (ties-fine b true p ((suc (suc n)) + splits a true) y l₂) (tie-fine (suc n) b p ((suc (suc n)) + splits a true) y l₂)
-    ties-fine (Iff a b) false at n h l =
+        tied-fit w (ties a true (at + 1) (suc (suc n))) (ties b true p ((suc (suc n)) + splits a true)) (tie n a (at + 1) (suc (suc n))) (tie (suc n) b p ((suc (suc n)) + splits a true))
+        (ties-fit a true (at + 1) (suc (suc n)) x l₁) (tie-fit n a (at + 1) (suc (suc n)) x l₁) (ties-fit b true p ((suc (suc n)) + splits a true) y l₂) (tie-fit (suc n) b p ((suc (suc n)) + splits a true) y l₂)
+    ties-fit (Iff a b) false at n h l =
         let d = has-rest w at _ (encode-bool a ++ encode-bool b) h in
         let x = has-front w (at + 1) (encode-bool a) (encode-bool b) d in
         let y = has-back w (at + 1) (encode-bool a) (encode-bool b) d in
         let l₁ = left-light (H a) (H b) (M a) (M b) l in
         let l₂ = right-light (H a) (H b) (M a) (M b) l in
         let p = at + 1 + length (encode-bool a) in
-        append-fine w (ties a true (at + 1) n) (ties b true p (n + splits a true)) (ties-fine a true (at + 1) n x l₁) (ties-fine b true p (n + splits a true) y l₂)
-    ties-fine (Iff a b) true at n h l =
+        append-fit w (ties a true (at + 1) n) (ties b true p (n + splits a true)) (ties-fit a true (at + 1) n x l₁) (ties-fit b true p (n + splits a true) y l₂)
+    ties-fit (Iff a b) true at n h l =
         let d = has-rest w at _ (encode-bool a ++ encode-bool b) h in
         let x = has-front w (at + 1) (encode-bool a) (encode-bool b) d in
         let y = has-back w (at + 1) (encode-bool a) (encode-bool b) d in
         let l₁ = left-light (H a) (H b) (M a) (M b) l in
         let l₂ = right-light (H a) (H b) (M a) (M b) l in
         let p = at + 1 + length (encode-bool a) in
-        tied-fine w (ties a true (at + 1) (suc (suc n))) (ties b true p ((suc (suc n)) + splits a true)) (tie n a (at + 1) (suc (suc n))) (tie (suc n) b p ((suc (suc n)) + splits a true))
-        (ties-fine a true (at + 1) (suc (suc n)) x l₁) (tie-fine n a (at + 1) (suc (suc n)) x l₁) (ties-fine b true p ((suc (suc n)) + splits a true) y l₂) (tie-fine (suc n) b p ((suc (suc n)) + splits a true) y l₂)
-    ties-fine (Imp a b) t at n h l =
+        tied-fit w (ties a true (at + 1) (suc (suc n))) (ties b true p ((suc (suc n)) + splits a true)) (tie n a (at + 1) (suc (suc n))) (tie (suc n) b p ((suc (suc n)) + splits a true))
+        (ties-fit a true (at + 1) (suc (suc n)) x l₁) (tie-fit n a (at + 1) (suc (suc n)) x l₁) (ties-fit b true p ((suc (suc n)) + splits a true) y l₂) (tie-fit (suc n) b p ((suc (suc n)) + splits a true) y l₂)
+    ties-fit (Imp a b) t at n h l =
         let d = has-rest w at _ (encode-bool a ++ encode-bool b) h in
         let x = has-front w (at + 1) (encode-bool a) (encode-bool b) d in
         let y = has-back w (at + 1) (encode-bool a) (encode-bool b) d in
         let l₁ = left-light (H a) (H b) (M a) (M b) l in
         let l₂ = right-light (H a) (H b) (M a) (M b) l in
         let p = at + 1 + length (encode-bool a) in
-        append-fine w (ties a t (at + 1) n) (ties b t p (n + splits a t)) (ties-fine a t (at + 1) n x l₁) (ties-fine b t p (n + splits a t) y l₂)
-    ties-fine (Cmp o a b) t at n h l = tt
+        append-fit w (ties a t (at + 1) n) (ties b t p (n + splits a t)) (ties-fit a t (at + 1) n x l₁) (ties-fit b t p (n + splits a t) y l₂)
+    ties-fit (Cmp o a b) t at n h l = tt
 
-    ties-fines : (ms : Members) (t : Bool) (at n : ℕ) → Has w at (encode-members ms) → LightMembers ms → Fines w (ties-members ms t at n)
-    ties-fines none t at n h l = tt
-    ties-fines (more e ms) t at n h l =
-        append-fine w (ties e t at n) (ties-members ms t (at + length (encode-bool e)) (n + splits e t))
-        (ties-fine e t at n (has-front w at (encode-bool e) (encode-members ms) h) (left-light (H e) (HM ms) (M e) (MM ms) l))
-        (ties-fines ms t (at + length (encode-bool e)) (n + splits e t) (has-back w at (encode-bool e) (encode-members ms) h) (right-light (H e) (HM ms) (M e) (MM ms) l))
+    ties-all-fit : (ms : Members) (t : Bool) (at n : ℕ) → Has w at (encode-members ms) → LightMembers ms → AllComparisonsFit w (ties-members ms t at n)
+    ties-all-fit mnil t at n h l = tt
+    ties-all-fit (more e ms) t at n h l =
+        append-fit w (ties e t at n) (ties-members ms t (at + length (encode-bool e)) (n + splits e t))
+        (ties-fit e t at n (has-front w at (encode-bool e) (encode-members ms) h) (left-light (H e) (HM ms) (M e) (MM ms) l))
+        (ties-all-fit ms t (at + length (encode-bool e)) (n + splits e t) (has-back w at (encode-bool e) (encode-members ms) h) (right-light (H e) (HM ms) (M e) (MM ms) l))
 
 -- ---- a rule at a place
 
@@ -193,15 +193,15 @@ pub record Writable (w : List ℤ) (at n : ℕ) : Type 0 where
   pub light : any-comparison (heavy-comparison domains) (λ e. false) rule ≡ false
   pub few : any-comparison many-comparison (λ e. false) rule ≡ false
 
-pub writable-fine : (w : List ℤ) (at n : ℕ) → Writable w at n → Fines w (rule-at (read-part w) 64 at n)
+pub writable-fit : (w : List ℤ) (at n : ℕ) → Writable w at n → AllComparisonsFit w (rule-at (read-part w) 64 at n)
 unfolding ComparisonsFit
-writable-fine w at n h =
+writable-fit w at n h =
     let e = h .rule in
     let d = has-part w at (encode-bool e) (h .has) in
-    subst (λ (ts : Trees). Fines w ts) (sym (rule-stands e (read-part w) 64 at n (h .legal) (h .has) (h .room) .trees))
-    (append-fine w (ties e false at n) (cons (resolve e false at n false) nil)
-    (ties-fine w (h .domains) (λ e. false) e false at n d (h .light, h .few))
-    (resolve-fine w (h .domains) (λ e. false) e false at n false d (h .light, h .few), tt))
+    subst (λ (ts : Trees). AllComparisonsFit w ts) (sym (rule-stands e (read-part w) 64 at n (h .legal) (h .has) (h .room) .trees))
+    (append-fit w (ties e false at n) (cons (resolve e false at n false) nil)
+    (ties-fit w (h .domains) (λ e. false) e false at n d (h .light, h .few))
+    (resolve-fit w (h .domains) (λ e. false) e false at n false d (h .light, h .few), tt))
 
 -- for every legal rule e that stands there: its extras and its tree are written
 pub record RuleText (e : BoolExpr) (w : List ℤ) (at n : ℕ) (out : List ℤ) (o : ℕ) (out' : List ℤ) (end m k p : ℕ) : Type 0 where

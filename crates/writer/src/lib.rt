@@ -4,13 +4,13 @@ ghost use mathlib.Core.Bool.{true, false, not, cond};
 ghost use mathlib.Core.List.{[], _∷_, _++_};
 ghost use Prim.Native.Nat.{_+_, _≤_, _<_, min};
 ghost use lib.ListN.{length};
-ghost use Rattle.laws.specs.Writes.{Wrote};
+ghost use Rattle.laws.specs.Writes.{Wrote, Open};
 ghost use Rattle.walk.specs.Item.{limit, bump as bump-of, word-of, clause-text, block as block-of, var-item, tallies, pools as pools-of, texts, long-texts, disj-text, items};
 ghost use Rattle.walk.specs.Tree.{cons, nil};
 ghost use Rattle.walk.specs.Decode.{word as word-in, many, decode, tie-at, many-ties, cross-ties, ties-at, read-part, item-at, items-at, surveyed, Surveys, SurveysAll};
 ghost use Rattle.walk.specs.MeetTies.{Reaches, ReachesAll};
-ghost use Rattle.output.specs.Suffix.{suffix, Stacked, extra-lits, Open};
-ghost use Rattle.output.specs.ComparisonsFit.{Compares, Compared, ComparisonsFit, Fines};
+ghost use Rattle.output.specs.Suffix.{suffix, Stacked, extra-lits};
+ghost use Rattle.output.specs.ComparisonsFit.{Compares, Compared, ComparisonsFit, AllComparisonsFit};
 ghost use Rattle.writer.specs.Placed.{Placed, Tallied, share, Probed, ProbedAll, Listed, no-extras, RuleWrote};
 ghost use Rattle.writer.specs.Rules.{Writable};
 use output::Extra;
@@ -147,7 +147,7 @@ fn pools(
     out: &mut [i32],
     o: usize,
 ) -> usize
-    requires { ⌜ Placed (now work) at base 0 × Open (now out) o × Fines (now work) (many (decode (read-part (now work)) left t) count g h at base .trees) ⌝ }
+    requires { ⌜ Placed (now work) at base 0 × Open (now out) o × AllComparisonsFit (now work) (many (decode (read-part (now work)) left t) count g h at base .trees) ⌝ }
     requires { ⌜ m ≡ share b (tallies (items-at (read-part (now work)) left t count g h at base)) ⌝ }
     ensures { λ r. ⌜ Wrote (now (out .entry)) o (pools-of (items-at (read-part (now (work .entry))) left t count g h at base) b (now (work .entry))) (now (out .exit)) r ⌝ }
 {
@@ -229,7 +229,7 @@ fn put_pool(
     out: &mut [i32],
     o: usize,
 ) -> usize
-    requires { ⌜ Placed (now work) at base 0 × Open (now out) o × Fines (now work) (many (decode (read-part (now work)) left t) count g h at base .trees) ⌝ }
+    requires { ⌜ Placed (now work) at base 0 × Open (now out) o × AllComparisonsFit (now work) (many (decode (read-part (now work)) left t) count g h at base .trees) ⌝ }
     requires { ⌜ Tallied (now work) left t count g h at base x × Stacked s 0 × (block ≤ limit) ⌝ }
     ensures { λ r. ⌜ Wrote (now (out .entry)) o (clause-text (pools-of (items-at (read-part (now (work .entry))) left t count g h at base) true (now (work .entry))) (block-of block (x .longs) ++ suffix s) (x .cmps) (pools-of (items-at (read-part (now (work .entry))) left t count g h at base) false (now (work .entry)))) (now (out .exit)) r ⌝ }
 {
@@ -338,7 +338,7 @@ fn write_all(
     out: &mut [i32],
     o: usize,
 ) -> Walked
-    requires { ⌜ Placed (now work) at base n × Open (now out) o × Fines (now work) (many (decode (read-part (now work)) left t) count g h at base .trees) ⌝ }
+    requires { ⌜ Placed (now work) at base n × Open (now out) o × AllComparisonsFit (now work) (many (decode (read-part (now work)) left t) count g h at base .trees) ⌝ }
     requires { ⌜ Stacked s left ⌝ }
     ensures { λ r. ⌜ SurveysAll (now (work .entry)) left t count g h at base n (r .seen) × Wrote (now (out .entry)) o (texts (items-at (read-part (now (work .entry))) left t count g h at base) (now (work .entry)) n (suffix s)) (now (out .exit)) (r .o) ⌝ }
 {
@@ -373,7 +373,7 @@ fn write_longs(
     out: &mut [i32],
     o: usize,
 ) -> usize
-    requires { ⌜ Placed (now work) at base n × Open (now out) o × Fines (now work) (many (decode (read-part (now work)) left t) count g h at base .trees) ⌝ }
+    requires { ⌜ Placed (now work) at base n × Open (now out) o × AllComparisonsFit (now work) (many (decode (read-part (now work)) left t) count g h at base .trees) ⌝ }
     requires { ⌜ Stacked s (left + min count 1) × (x .base ≤ limit) ⌝ }
     ensures { λ r. ⌜ Wrote (now (out .entry)) o (long-texts (x .mode) (x .base) (extra-lits x) (items-at (read-part (now (work .entry))) left t count g h at base) (now (work .entry)) n 0 (suffix s)) (now (out .exit)) r ⌝ }
 {
@@ -424,18 +424,18 @@ fn write_disj(
     out: &mut [i32],
     o: usize,
 ) -> usize
-    requires { ⌜ Placed (now work) at base n × Open (now out) o × Fines (now work) (many (decode (read-part (now work)) left t) count g h at base .trees) ⌝ }
+    requires { ⌜ Placed (now work) at base n × Open (now out) o × AllComparisonsFit (now work) (many (decode (read-part (now work)) left t) count g h at base .trees) ⌝ }
     requires { ⌜ Tallied (now work) left t count g h at base x × Stacked s (left + min count 1) × (block ≤ limit) ⌝ }
     ensures { λ r. ⌜ Wrote (now (out .entry)) o (disj-text (items-at (read-part (now (work .entry))) left t count g h at base) (now (work .entry)) n block (suffix s)) (now (out .exit)) r ⌝ }
 {
     match survey::mode_of(x.longs, x.lits, x.cmps) {
         Mode::Pool => put_pool(work, at, left, t, count, base, g, h, block, x, s, out, o),
-        Mode::Pass => {
+        Mode::One => {
             let mut one = [0i32; 1];
             let k = x.lits;
             pools(work, at, left, t, count, base, g, h, true, k, &mut one, 0);
             let y = Extra {
-                mode: Mode::Pass,
+                mode: Mode::One,
                 base: block,
                 some: x.lits == 1,
                 lit: one[0],
@@ -623,7 +623,7 @@ fn ties_of(
     out: &mut [i32],
     o: usize,
 ) -> Tied
-    requires { ⌜ Placed (now work) at base n × Open (now out) o × Fines (now work) (many-ties (decode (read-part (now work)) left t) (ties-at (read-part (now work)) left t) count at base) ⌝ }
+    requires { ⌜ Placed (now work) at base n × Open (now out) o × AllComparisonsFit (now work) (many-ties (decode (read-part (now work)) left t) (ties-at (read-part (now work)) left t) count at base) ⌝ }
     requires { ⌜ left ≤ 63 ⌝ }
     ensures { λ r. ⌜ Listed (now (work .entry)) (items (many-ties (decode (read-part (now (work .entry))) left t) (ties-at (read-part (now (work .entry))) left t) count at base)) n (now (out .entry)) o (now (out .exit)) (r .n) (r .lines) (r .o) × ReachesAll (read-part (now (work .entry))) left t count at base (r .at) (r .base) ⌝ }
 {
@@ -661,7 +661,7 @@ fn split_ties(
     out: &mut [i32],
     o: usize,
 ) -> Tied
-    requires { ⌜ Placed (now work) at base n × Open (now out) o × Fines (now work) (cross-ties (decode (read-part (now work)) left) (ties-at (read-part (now work)) left) true at base) ⌝ }
+    requires { ⌜ Placed (now work) at base n × Open (now out) o × AllComparisonsFit (now work) (cross-ties (decode (read-part (now work)) left) (ties-at (read-part (now work)) left) true at base) ⌝ }
     requires { ⌜ left ≤ 63 ⌝ }
     ensures { λ r. ⌜ Listed (now (work .entry)) (items (cross-ties (decode (read-part (now (work .entry))) left) (ties-at (read-part (now (work .entry))) left) true at base)) n (now (out .entry)) o (now (out .exit)) (r .n) (r .lines) (r .o) × ReachesAll (read-part (now (work .entry))) left true 2 at (bump-of base 2) (r .at) (r .base) ⌝ }
 {
@@ -694,7 +694,7 @@ fn write_ties(
     out: &mut [i32],
     o: usize,
 ) -> Tied
-    requires { ⌜ Placed (now work) at base n × Open (now out) o × Fines (now work) (ties-at (read-part (now work)) left t at base) ⌝ }
+    requires { ⌜ Placed (now work) at base n × Open (now out) o × AllComparisonsFit (now work) (ties-at (read-part (now work)) left t at base) ⌝ }
     requires { ⌜ left ≤ 64 ⌝ }
     ensures { λ r. ⌜ Listed (now (work .entry)) (items (ties-at (read-part (now (work .entry))) left t at base)) n (now (out .entry)) o (now (out .exit)) (r .n) (r .lines) (r .o) × Reaches (read-part (now (work .entry))) left t at base (r .at) (r .base) ⌝ }
 {

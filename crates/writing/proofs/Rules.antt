@@ -8,7 +8,7 @@ use lib.IntN.{ℤ, pos}
 use lib.ListN.{length, length-append}
 use Rattle.laws.specs.Lists.{counted}
 use Rattle.laws.specs.Slices.{Has, has-word, has-rest}
-use Rattle.syntax.specs.Syntax.{IntExpr, BoolExpr, Const, Var, NVar, And, Or, Not, Xor, Iff, Imp, Cmp, Members, none, more, encode-bool, Cell, Stmt, Rule, Table, encode-stmt}
+use Rattle.syntax.specs.Syntax.{IntExpr, BoolExpr, Const, Var, NVar, And, Or, Not, Xor, Iff, Imp, Cmp, Members, mnil, more, encode-bool, Cell, Stmt, Rule, Table, encode-stmt}
 use Rattle.limits.specs.Limits.{any-comparison, any-comparison-members}
 use Rattle.clauses.specs.Clause.{Clause, clause}
 use Rattle.clauses.specs.Log.{Log, next-bool}
@@ -50,7 +50,7 @@ module _ (f : IntExpr → IntExpr → Bool) (g h : IntExpr → Bool) where
     any-same (Cmp o a b) = refl
 
     any-sames : (ms : Members) → any-comparison-members f g ms ≡ any-comparison-members f h ms
-    any-sames none = refl
+    any-sames mnil = refl
     any-sames (more e ms) = rw (any-same e, any-sames ms) refl
 
 -- ---- room for the splitting's numbers

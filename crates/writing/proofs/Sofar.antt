@@ -66,7 +66,7 @@ module _ {set w₀ : List ℤ} {end from triples : ℕ} {out₀ : List ℤ} {o�
 
   module _ {w out : List ℤ} {q m o k : ℕ} (v : Sofar w₀ out₀ o₀ merge p ss w out q m o k) where
     pub sofar-behind : Behind out o k
-    sofar-behind = record { room = record { place = wrote-low (v .wrote .words); part = omega (arith, wrote-length (v .wrote .words), h .room .room .part) }; low = v .wrote .low }
+    sofar-behind = record { room = record { low = wrote-low (v .wrote .words); room = omega (arith, wrote-length (v .wrote .words), h .room .room .room) }; low = v .wrote .low }
 
     pub sofar-size : length w ≡ length w₀
     sofar-size = v .saved .size
@@ -109,7 +109,7 @@ module _ {set w₀ : List ℤ} {end from triples : ℕ} {out₀ : List ℤ} {o�
           low = settled-low merge (h .ready .set);
           few = omega (arith, settled-emitted merge (h .ready .set));
           domains = triples-stay ds L triples b (v .wrote .words) (h .domains);
-          behind = omega (arith, b, v .wrote .words .at, h .room .room .place);
+          behind = omega (arith, b, v .wrote .words .at, h .room .room .low);
           size = omega (arith, n .size, v .saved .size);
         }
 
@@ -133,7 +133,7 @@ module _ {set w₀ : List ℤ} {end from triples : ℕ} {out₀ : List ℤ} {o�
               done = v .done ++ after place t .0;
               left = subst (λ (i : ℕ). Rest merge p ss F w₀ i ts (after place t .1) (meet-stmt q t (v .state)) (v .done ++ after place t .0)) n r';
               number = d .bools;
-              wrote = clauses-then (h .room .room .part) (v .wrote) (d .clauses);
+              wrote = clauses-then (h .room .room .room) (v .wrote) (d .clauses);
               saved = saved-then (omega (arith, stmt-words t)) (v .saved) (d .saved);
             },
             (omega (arith, stmt-words t), omega (arith, r' .place, h .ends)),

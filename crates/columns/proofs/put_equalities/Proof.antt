@@ -21,7 +21,7 @@ returns : tie.Need-returns Inv-loop μ-loop
 returns c = going-stop (c .before .before .before .args .work .now) (c .before .before .before .args .at) (c .before .before .before .args .count) (c .before .before .before .args .out .now) (c .before .before .before .args .o) (c .before .before .before .args .k) _ _ _ _ _ (c .before .before .loop .inv) (c .if1 .taken)
 
 put-column-requires : tie.Need-put-column-requires Inv-loop μ-loop
-put-column-requires c κs = (going-column (c .before .before .before .before .args .work .now) (c .before .before .before .before .args .at) (c .before .before .before .before .args .count) (c .before .before .before .before .args .out .now) (c .before .before .before .before .args .o) (c .before .before .before .before .args .k) _ _ _ _ _ (c .before .before .before .loop .inv) (c .before .before .loop-test .taken), c .before .before .before .loop .inv .behind, omega (arith, c .before .if1 .left, c .before .before .before .loop .inv .behind .room .place))
+put-column-requires c κs = (going-column (c .before .before .before .before .args .work .now) (c .before .before .before .before .args .at) (c .before .before .before .before .args .count) (c .before .before .before .before .args .out .now) (c .before .before .before .before .args .o) (c .before .before .before .before .args .k) _ _ _ _ _ (c .before .before .before .loop .inv) (c .before .before .loop-test .taken), c .before .before .before .loop .inv .behind, omega (arith, c .before .if1 .left, c .before .before .before .loop .inv .behind .room .low))
 
 sub-rest : tie.Need-sub-rest Inv-loop μ-loop
 sub-rest c = search needs

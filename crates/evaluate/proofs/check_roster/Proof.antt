@@ -2,7 +2,7 @@ use borrow.Author.Needs.{needs}
 use Rattle.evaluate.proofs.check_roster.Statement.{statement}
 use Rattle.evaluate.proofs.check_roster.Tie as tie
 use mathlib.Core.Path.{ap, _∙_}
-use Rattle.refuse.specs.Refuse.{zeros}
+use Rattle.laws.specs.Slices.{zeros}
 
 judge-requires : tie.Need-judge-requires
 judge-requires c κs = search needs

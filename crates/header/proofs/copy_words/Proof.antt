@@ -5,8 +5,7 @@ use native.Mathlib.Omega.{arith}
 use lib.IntN.{ℤ}
 use lib.ListN.{length}
 use borrow.Author.Needs.{needs, sfits-of}
-use Rattle.laws.specs.Writes.{Wrote, wrote-length}
-use Rattle.output.specs.Suffix.{Open}
+use Rattle.laws.specs.Writes.{Wrote, wrote-length, Open}
 use Rattle.output.proofs.Laws.{open-next, put-word}
 use Rattle.header.specs.Emitted.{copied}
 use Rattle.header.proofs.Words.{copied-none, copied-more}

@@ -6,8 +6,7 @@ use lib.IntN.{ℤ}
 use lib.ListN.{length}
 use mir.Syntax.{w32}
 use mir.Val.{SFits}
-use Rattle.laws.specs.Writes.{Wrote, wrote-length}
-use Rattle.output.specs.Suffix.{Open}
+use Rattle.laws.specs.Writes.{Wrote, wrote-length, Open}
 use Rattle.output.proofs.Laws.{open-next, put-word}
 use Rattle.header.specs.Emitted.{naturals}
 use Rattle.header.proofs.Words.{naturals-none, naturals-more}

@@ -1,19 +1,19 @@
 -- `input::find` meets its contract. Assumes nothing.
 use Prim.Native.Nat.{_-_}
 use lib.ListN.{length}
-use Rattle.input.proofs.Reading.{Passed, passed-none, passed-more, found-at, found-none}
+use Rattle.input.proofs.Reading.{Absent, absent-none, absent-more, found-at, found-none}
 use borrow.Author.Needs.{needs}
 use Rattle.input.proofs.find.Statement.{statement}
 use Rattle.input.proofs.find.Tie as tie
 
 abbrev Inv-loop : tie.InvT-loop
-Inv-loop text at s i₀ i = Passed s text at i
+Inv-loop text at s i₀ i = Absent s text at i
 
 abbrev μ-loop : tie.MeasureT-loop
 μ-loop text at s i₀ i = length text - i
 
 loop-holds : tie.Need-loop-holds Inv-loop μ-loop
-loop-holds c = passed-none _ _ _ (c .pre)
+loop-holds c = absent-none _ _ _ (c .pre)
 
 shared-slice-read-if1 : tie.Need-shared-slice-read-if1 Inv-loop μ-loop
 shared-slice-read-if1 c = search needs
@@ -28,7 +28,7 @@ loop-less : tie.Need-loop-less Inv-loop μ-loop
 loop-less c = search needs
 
 loop-again : tie.Need-loop-again Inv-loop μ-loop
-loop-again c = passed-more _ _ _ _ (c .before .before .before .loop .inv) (c .before .before .loop-test .taken) (c .if1 .left)
+loop-again c = absent-more _ _ _ _ (c .before .before .before .loop .inv) (c .before .before .loop-test .taken) (c .if1 .left)
 
 returns-2 : tie.Need-returns-2 Inv-loop μ-loop
 returns-2 c = found-none _ _ _ _ (c .before .loop .inv) (c .loop-test .left)

@@ -1,9 +1,9 @@
 use mathlib.Core.Path.{ap, _∙_}
-use Rattle.refuse.specs.Refuse.{zeros}
 use Rattle.join.specs.Join.{statement-at}
 use Rattle.join.specs.Contract.{place-of}
 use Rattle.join.proofs.FindLaws.{find-refused, find-ready}
 use borrow.Author.Needs.{needs}
+use Rattle.laws.specs.Slices.{zeros}
 use Rattle.join.proofs.find_place.Statement.{statement}
 use Rattle.join.proofs.find_place.Tie as tie
 use Rattle.join.proofs.find_place.Reads as reads

@@ -1,7 +1,7 @@
 use mathlib.Core.Path.{ap, _∙_}
-use Rattle.refuse.specs.Refuse.{zeros}
 use Rattle.join.proofs.JoinLaws.{join-refused, join-over, join-ready, join-done}
 use borrow.Author.Needs.{needs}
+use Rattle.laws.specs.Slices.{zeros}
 use Rattle.join.proofs.join.Statement.{statement}
 use Rattle.join.proofs.join.Tie as tie
 use Rattle.join.proofs.join.Reads as reads

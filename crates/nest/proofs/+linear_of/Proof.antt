@@ -13,8 +13,9 @@ use denote.Ref.{now}
 use borrow.Fn.Kinds.{In}
 use borrow.Fn.PlainCycle.{Measures, is, falls, and}
 use Rattle.laws.specs.Signed.{value-is}
+use Rattle.laws.specs.Ints.{count-of}
 use Rattle.sums.specs.Linear.{linear-of as linear-of-words}
-use Rattle.nest.specs.Numbers.{count-of, number-at, leaf-of}
+use Rattle.nest.specs.Numbers.{number-at, leaf-of}
 use Rattle.nest.specs.Nest.{Going}
 use Rattle.nest.proofs.Steps.{Turn, bits-not, ready-long, going-start, going-end, turn, turn-long, turn-ready, turn-asks, turn-next, nested-is, nested-end, member-is, member-end}
 use Rattle.nest.proofs.linear_of.Reads as linear-of

@@ -10,13 +10,14 @@ use mir.Val.{SFits, toZ, ofZ}
 use mir.Facts.{toZ-ofZ}
 use denote.Ref.{now}
 use Rattle.laws.specs.Signed.{value-is}
+use Rattle.laws.specs.Ints.{count-of}
 use Rattle.sums.specs.LinearSum.{LinearSum, constant, singleton, add-sum, mul-sum}
 use Rattle.sums.specs.Rising.{constant-each, singleton-each}
 use Rattle.sums.specs.Norm.{constant-load, singleton-load}
 use Rattle.sums.specs.Bounds.{size}
 use Rattle.sums.specs.Struct.{sum-of}
 use Rattle.sums.proofs.Laws.{stands-to}
-use Rattle.nest.specs.Numbers.{count-of, number-at, leaf-of}
+use Rattle.nest.specs.Numbers.{number-at, leaf-of}
 use Rattle.nest.specs.Nest.{Word}
 use Rattle.nest.proofs.Steps.{bits-not, constant-is, variable-is}
 use Rattle.nest.proofs.add_leaf.Statement.{statement}

@@ -10,9 +10,10 @@ use mir.Val.{SFits, toZ, ofZ}
 use mir.Facts.{toZ-ofZ}
 use denote.Ref.{now}
 use Rattle.laws.specs.Signed.{value-is}
+use Rattle.laws.specs.Ints.{count-of}
 use Rattle.sums.specs.LinearSum.{constant}
 use Rattle.sums.proofs.Laws.{stands-to}
-use Rattle.nest.specs.Numbers.{count-of, number-at}
+use Rattle.nest.specs.Numbers.{number-at}
 use Rattle.nest.proofs.Steps.{ready-long, leaf-constant, leaf-var, bits-not}
 use Rattle.nest.proofs.leaf.Statement.{statement}
 use Rattle.nest.proofs.leaf.Tie as tie

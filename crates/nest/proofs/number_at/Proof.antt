@@ -7,7 +7,7 @@ use lib.ListN.{getD}
 use mir.Syntax.{w32}
 use mir.Facts.{toZ-ofZ}
 use denote.Ref.{now}
-use Rattle.nest.specs.Numbers.{count-of}
+use Rattle.laws.specs.Ints.{count-of}
 use Rattle.nest.proofs.Steps.{number-past, number-none, number-some}
 use Rattle.nest.proofs.number_at.Statement.{statement}
 use Rattle.nest.proofs.number_at.Tie as tie

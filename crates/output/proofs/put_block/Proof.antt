@@ -7,8 +7,7 @@ use lib.ListN.{length}
 use mir.Syntax.{w32}
 use mir.Val.{SFits}
 use Rattle.walk.specs.Item.{block}
-use Rattle.laws.specs.Writes.{Wrote, wrote-length}
-use Rattle.output.specs.Suffix.{Open}
+use Rattle.laws.specs.Writes.{Wrote, wrote-length, Open}
 use Rattle.output.proofs.Laws.{open-next, put-word, block-none, block-more}
 use borrow.Author.Needs.{needs}
 use Rattle.output.proofs.put_block.Statement.{statement}

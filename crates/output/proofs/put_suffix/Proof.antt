@@ -8,8 +8,7 @@ use borrow.Author.Needs.{needs, sfits-of}
 use mir.Syntax.{w32}
 use mir.Val.{SFits}
 use mir.Facts.{toZ-ofZ}
-use Rattle.laws.specs.Writes.{Wrote, wrote-length}
-use Rattle.output.specs.Suffix.{Open}
+use Rattle.laws.specs.Writes.{Wrote, wrote-length, Open}
 use Rattle.output.proofs.Laws.{open-next, suffix-step, suffix-end}
 use borrow.Author.Needs.{needs}
 use Rattle.output.proofs.put_suffix.Statement.{statement}

@@ -10,7 +10,7 @@ use Rattle.passes.proofs.+constant_prop_bool+constant_prop_members.Lts-
 use Rattle.domains.proofs.number.Reads as number-reads
 use Rattle.passes.proofs.flip.Reads as flip-reads
 use Rattle.passes.proofs.left_want.Reads as left-want-reads
-use Rattle.passes.proofs.pass.Reads as pass-reads
+use Rattle.passes.proofs.member_want.Reads as member-want-reads
 use Rattle.passes.proofs.prop_leaf.Reads as prop-leaf-reads
 use Rattle.passes.proofs.right_want.Reads as right-want-reads
 use Rattle.passes.proofs.skip_comparison.Reads as skip-comparison-reads
@@ -26,7 +26,7 @@ use lib.ListN.{length}
 use borrow.Author.Needs.{needs}
 use Rattle.passes.specs.Want.{worst-num}
 use Rattle.passes.specs.Contracts.{Stand-members, Members-post}
-use Rattle.passes.proofs.PropLaws.{stands-first, stands-inside, stands-second, cmp-props, not-stands, not-props, list-stand, list-props, left-stands, right-stands, binary-props, members-none, first-stands, rest-stand, members-more, binary-low, status-start, status-next, status-end, flip-small, pass-small, left-small, right-small}
+use Rattle.passes.proofs.PropLaws.{stands-first, stands-inside, stands-second, cmp-props, not-stands, not-props, list-stand, list-props, left-stands, right-stands, binary-props, members-none, first-stands, rest-stand, members-more, binary-low, status-start, status-next, status-end, flip-small, member-small, left-small, right-small}
 
 abbrev μ-constant-prop-bool : Measures 1 constant-prop-bool-kinds.ps ℕ
 μ-constant-prop-bool κs a = 2 * (length (a .0 .now) - a .1 .0)
@@ -63,7 +63,7 @@ constant-prop-members-below t = and
     constant-prop-members.Pre
 
 abbrev constant-prop-bool-claims : ℕ → constant-prop-bool-lts.Claims
-constant-prop-bool-claims t = (number-reads.Asked, number-reads.Learnt, prop-leaf-reads.Asked, prop-leaf-reads.Learnt, skip-comparison-reads.Asked, skip-comparison-reads.Learnt, flip-reads.Asked, flip-reads.Learnt, constant-prop-bool-below t, constant-prop-bool.Post, pass-reads.Asked, pass-reads.Learnt, constant-prop-members-below t, constant-prop-members.Post, left-want-reads.Asked, left-want-reads.Learnt, right-want-reads.Asked, right-want-reads.Learnt, worst-reads.Asked, worst-reads.Learnt)
+constant-prop-bool-claims t = (number-reads.Asked, number-reads.Learnt, prop-leaf-reads.Asked, prop-leaf-reads.Learnt, skip-comparison-reads.Asked, skip-comparison-reads.Learnt, flip-reads.Asked, flip-reads.Learnt, constant-prop-bool-below t, constant-prop-bool.Post, member-want-reads.Asked, member-want-reads.Learnt, constant-prop-members-below t, constant-prop-members.Post, left-want-reads.Asked, left-want-reads.Learnt, right-want-reads.Asked, right-want-reads.Learnt, worst-reads.Asked, worst-reads.Learnt)
 
 constant-prop-bool-number-requires : (t : ℕ) → constant-prop-bool-lts.Need-number-requires (constant-prop-bool-claims t) (constant-prop-bool-at t) constant-prop-bool.Post
 constant-prop-bool-number-requires t c κs = stands-first _ _ (c .before .pre .1 .0)
@@ -101,8 +101,8 @@ constant-prop-bool-same-length-3 t c = c .before .constant-prop-bool .kept .0
 constant-prop-bool-returns-3 : (t : ℕ) → constant-prop-bool-lts.Need-returns-3 (constant-prop-bool-claims t) (constant-prop-bool-at t) constant-prop-bool.Post
 constant-prop-bool-returns-3 t c = not-props _ _ _ (c .before .before .before .before .before .before .before .number .ensures .0) _ _ _ _ _ (c .before .before .before .before .if3 .taken) (c .before .before .before .flip .ensures) (c .before .constant-prop-bool .ensures)
 
-constant-prop-bool-pass-requires : (t : ℕ) → constant-prop-bool-lts.Need-pass-requires (constant-prop-bool-claims t) (constant-prop-bool-at t) constant-prop-bool.Post
-constant-prop-bool-pass-requires t c κs = search needs
+constant-prop-bool-member-want-requires : (t : ℕ) → constant-prop-bool-lts.Need-member-want-requires (constant-prop-bool-claims t) (constant-prop-bool-at t) constant-prop-bool.Post
+constant-prop-bool-member-want-requires t c κs = search needs
 
 constant-prop-bool-add-number : (t : ℕ) → constant-prop-bool-lts.Need-add-number (constant-prop-bool-claims t) (constant-prop-bool-at t) constant-prop-bool.Post
 constant-prop-bool-add-number t c = let q = (stands-inside _ _ _ (c .before .before .before .before .before .before .number .ensures .0) (c .before .before .before .before .before .before .before .before .pre .1 .0)) in omega (arith, (c .before .before .before .before .before .before .before .before .good .0 .0))
@@ -114,13 +114,13 @@ constant-prop-bool-add-constant-prop-members : (t : ℕ) → constant-prop-bool-
 constant-prop-bool-add-constant-prop-members t c = let q = (stands-inside _ _ _ (c .before .before .before .before .before .before .before .before .number .ensures .0) (c .before .before .before .before .before .before .before .before .before .before .pre .1 .0)) in omega (arith, (c .before .before .before .before .before .before .before .before .before .before .good .0 .0))
 
 constant-prop-bool-constant-prop-members-requires : (t : ℕ) → constant-prop-bool-lts.Need-constant-prop-members-requires (constant-prop-bool-claims t) (constant-prop-bool-at t) constant-prop-bool.Post
-constant-prop-bool-constant-prop-members-requires t c κs = let q = (stands-inside _ _ _ (c .before .before .before .before .before .before .before .before .number .ensures .0) (c .before .before .before .before .before .before .before .before .before .before .pre .1 .0)) in (omega (arith, c .before .before .before .before .before .before .before .before .before .before .pre .0), (list-stand _ _ _ (c .before .before .before .before .before .before .before .before .number .ensures .0) (c .before .before .before .before .before .before .before .if1 .left) (c .before .before .before .before .if4 .taken) _ (c .before .number2 .ensures .0) (c .before .before .before .before .before .before .before .before .before .before .pre .1 .0), pass-small _ _ _ (c .before .before .before .before .before .before .before .before .before .before .pre .1 .1) (c .before .before .before .pass .ensures)))
+constant-prop-bool-constant-prop-members-requires t c κs = let q = (stands-inside _ _ _ (c .before .before .before .before .before .before .before .before .number .ensures .0) (c .before .before .before .before .before .before .before .before .before .before .pre .1 .0)) in (omega (arith, c .before .before .before .before .before .before .before .before .before .before .pre .0), (list-stand _ _ _ (c .before .before .before .before .before .before .before .before .number .ensures .0) (c .before .before .before .before .before .before .before .if1 .left) (c .before .before .before .before .if4 .taken) _ (c .before .number2 .ensures .0) (c .before .before .before .before .before .before .before .before .before .before .pre .1 .0), member-small _ _ _ (c .before .before .before .before .before .before .before .before .before .before .pre .1 .1) (c .before .before .before .member-want .ensures)))
 
 constant-prop-bool-same-length-4 : (t : ℕ) → constant-prop-bool-lts.Need-same-length-4 (constant-prop-bool-claims t) (constant-prop-bool-at t) constant-prop-bool.Post
 constant-prop-bool-same-length-4 t c = c .before .constant-prop-members .kept .0
 
 constant-prop-bool-returns-4 : (t : ℕ) → constant-prop-bool-lts.Need-returns-4 (constant-prop-bool-claims t) (constant-prop-bool-at t) constant-prop-bool.Post
-constant-prop-bool-returns-4 t c = list-props _ _ _ (c .before .before .before .before .before .before .before .before .before .before .number .ensures .0) (c .before .before .before .before .before .before .before .before .before .if1 .left) (c .before .before .before .before .before .before .if4 .taken) _ (c .before .before .before .number2 .ensures .0) _ _ _ _ _ (c .before .before .before .before .before .pass .ensures) (c .before .constant-prop-members .ensures)
+constant-prop-bool-returns-4 t c = list-props _ _ _ (c .before .before .before .before .before .before .before .before .before .before .number .ensures .0) (c .before .before .before .before .before .before .before .before .before .if1 .left) (c .before .before .before .before .before .before .if4 .taken) _ (c .before .before .before .number2 .ensures .0) _ _ _ _ _ (c .before .before .before .before .before .member-want .ensures) (c .before .constant-prop-members .ensures)
 
 constant-prop-bool-left-want-requires : (t : ℕ) → constant-prop-bool-lts.Need-left-want-requires (constant-prop-bool-claims t) (constant-prop-bool-at t) constant-prop-bool.Post
 constant-prop-bool-left-want-requires t c κs = search needs
@@ -196,7 +196,7 @@ pub +constant-prop-bool+constant-prop-members-spec : {M : Type 1} → statement 
     (constant-prop-bool-constant-prop-bool-requires t)
     (constant-prop-bool-same-length-3 t)
     (constant-prop-bool-returns-3 t)
-    (constant-prop-bool-pass-requires t)
+    (constant-prop-bool-member-want-requires t)
     (constant-prop-bool-add-number t)
     (constant-prop-bool-number-requires-2 t)
     (constant-prop-bool-add-constant-prop-members t)

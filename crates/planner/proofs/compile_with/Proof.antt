@@ -1,8 +1,8 @@
 use mathlib.Core.Path.{ap, _∙_}
-use Rattle.call.specs.Call.{zeros}
 use Rattle.planner.proofs.Cases.{some-emits, gives-refused, gives-contradiction, gives-emitted, left-zeros}
 use Rattle.planner.proofs.Claims.{compiles}
 use borrow.Author.Needs.{needs}
+use Rattle.laws.specs.Slices.{zeros}
 use Rattle.planner.proofs.compile_with.Statement.{statement}
 use Rattle.planner.proofs.compile_with.Tie as tie
 use Rattle.planner.proofs.compile_with.Reads as reads

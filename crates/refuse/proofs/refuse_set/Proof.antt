@@ -1,7 +1,8 @@
 -- `refuse_set` meets its contract: the answer's number, and a work slice of zeros.
 use mathlib.Core.Path.{sym, ap, _∙_}
 use borrow.Author.Needs.{needs}
-use Rattle.refuse.specs.Refuse.{refusal-of, zeros}
+use Rattle.laws.specs.Slices.{zeros}
+use Rattle.refuse.specs.Refuse.{refusal-of}
 use Rattle.refuse.proofs.refuse_set.Statement.{statement}
 use Rattle.refuse.proofs.refuse_set.Tie as tie
 use Rattle.refuse.proofs.refuse_set.Reads as reads

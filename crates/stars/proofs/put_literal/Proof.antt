@@ -81,7 +81,7 @@ returns-3 : tie.Need-returns-3
 returns-3 c =
     let start = c .before .before .before .before .before .before .before .before .before in
     let f : SFits w32 (c .before .before .word-of .result) = search needs in
-    literal-two (start .args .mode) (start .args .m) (start .args .j) (c .before .before .before .before .before .before .before .enum-told3 .given .1) (start .pre .2 .part) (c .before .before .before .before .before .put3 .ensures) (put-word f (c .before .before .word-of .ensures ∙ ap (word-of ((start .args .m) + 1)) (eqb-zero (start .args .j))) (c .before .put4 .ensures))
+    literal-two (start .args .mode) (start .args .m) (start .args .j) (c .before .before .before .before .before .before .before .enum-told3 .given .1) (start .pre .2 .room) (c .before .before .before .before .before .put3 .ensures) (put-word f (c .before .before .word-of .ensures ∙ ap (word-of ((start .args .m) + 1)) (eqb-zero (start .args .j))) (c .before .put4 .ensures))
 
 same-length-4 : tie.Need-same-length-4
 same-length-4 c = search needs
@@ -90,7 +90,7 @@ returns-4 : tie.Need-returns-4
 returns-4 c =
     let start = c .before .before .before .before .before .before .before .before .before in
     let f : SFits w32 (c .before .before .word-of2 .result) = search needs in
-    literal-each (start .args .mode) (start .args .m) (start .args .j) (c .before .before .before .before .before .before .before .enum-told4 .given .1) (start .pre .2 .part) (c .before .before .before .before .before .put5 .ensures) (put-word f (c .before .before .word-of2 .ensures) (c .before .put6 .ensures))
+    literal-each (start .args .mode) (start .args .m) (start .args .j) (c .before .before .before .before .before .before .before .enum-told4 .given .1) (start .pre .2 .room) (c .before .before .before .before .before .put5 .ensures) (put-word f (c .before .before .word-of2 .ensures) (c .before .put6 .ensures))
 
 pub put-literal-spec : {M : Type 1} → statement M
 put-literal-spec =

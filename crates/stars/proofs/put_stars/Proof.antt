@@ -1,6 +1,6 @@
 use native.Mathlib.Omega.{arith}
 use lib.ListN.{drop}
-use Rattle.walk.specs.declared.Mode.the-variants.{Pool, Pass, Two, Each}
+use Rattle.walk.specs.declared.Mode.the-variants.{Pool, One, Two, Each}
 use Rattle.rows.specs.Stars.{is-single, is-longer}
 use Rattle.stars.proofs.Laws.{lines-none, behind-after}
 use Rattle.stars.proofs.Whole.{count-few, rows-at, table-done}
@@ -72,7 +72,7 @@ returns c =
     let counts = c .before .before .before .before .before .before .before .before .before .count-stars in
     let mode = c .before .before .before .before .before .before .before .before .mode-of in
     let s = counts .ensures in
-    table-done (start .args .work .now) (start .args .at) (start .args .n) (start .args .k) (start .args .cols) (start .args .m) (start .pre .0) (start .args .out .now) (start .args .o) (start .args .c) _ _ _ _ _ _ (mode .result) Pool (counts .result .longer) (counts .result .single) (start .pre .1 .room .part) (mode .ensures) (s .1 .1) (s .1 .0) (c .before .before .before .enum-told .given .1) (c .before .before .before .before .before .before .put-long-rows .ensures) (c .before .put-pool .ensures)
+    table-done (start .args .work .now) (start .args .at) (start .args .n) (start .args .k) (start .args .cols) (start .args .m) (start .pre .0) (start .args .out .now) (start .args .o) (start .args .c) _ _ _ _ _ _ (mode .result) Pool (counts .result .longer) (counts .result .single) (start .pre .1 .room .room) (mode .ensures) (s .1 .1) (s .1 .0) (c .before .before .before .enum-told .given .1) (c .before .before .before .before .before .before .put-long-rows .ensures) (c .before .put-pool .ensures)
 
 same-length-2 : tie.Need-same-length-2
 same-length-2 c = search needs
@@ -84,7 +84,7 @@ returns-2 c =
     let mode = c .before .before .before .before .before .mode-of in
     let longs = c .before .before .before .put-long-rows in
     let s = counts .ensures in
-    table-done (start .args .work .now) (start .args .at) (start .args .n) (start .args .k) (start .args .cols) (start .args .m) (start .pre .0) (start .args .out .now) (start .args .o) (start .args .c) _ _ _ _ _ _ (mode .result) Pass (counts .result .longer) (counts .result .single) (start .pre .1 .room .part) (mode .ensures) (s .1 .1) (s .1 .0) (c .enum-told2 .given .1) (longs .ensures) (lines-none (behind-after (start .pre .1) (longs .ensures)))
+    table-done (start .args .work .now) (start .args .at) (start .args .n) (start .args .k) (start .args .cols) (start .args .m) (start .pre .0) (start .args .out .now) (start .args .o) (start .args .c) _ _ _ _ _ _ (mode .result) One (counts .result .longer) (counts .result .single) (start .pre .1 .room .room) (mode .ensures) (s .1 .1) (s .1 .0) (c .enum-told2 .given .1) (longs .ensures) (lines-none (behind-after (start .pre .1) (longs .ensures)))
 
 same-length-3 : tie.Need-same-length-3
 same-length-3 c = search needs
@@ -96,7 +96,7 @@ returns-3 c =
     let mode = c .before .before .before .before .before .mode-of in
     let longs = c .before .before .before .put-long-rows in
     let s = counts .ensures in
-    table-done (start .args .work .now) (start .args .at) (start .args .n) (start .args .k) (start .args .cols) (start .args .m) (start .pre .0) (start .args .out .now) (start .args .o) (start .args .c) _ _ _ _ _ _ (mode .result) Two (counts .result .longer) (counts .result .single) (start .pre .1 .room .part) (mode .ensures) (s .1 .1) (s .1 .0) (c .enum-told3 .given .1) (longs .ensures) (lines-none (behind-after (start .pre .1) (longs .ensures)))
+    table-done (start .args .work .now) (start .args .at) (start .args .n) (start .args .k) (start .args .cols) (start .args .m) (start .pre .0) (start .args .out .now) (start .args .o) (start .args .c) _ _ _ _ _ _ (mode .result) Two (counts .result .longer) (counts .result .single) (start .pre .1 .room .room) (mode .ensures) (s .1 .1) (s .1 .0) (c .enum-told3 .given .1) (longs .ensures) (lines-none (behind-after (start .pre .1) (longs .ensures)))
 
 same-length-4 : tie.Need-same-length-4
 same-length-4 c = search needs
@@ -107,7 +107,7 @@ returns-4 c =
     let counts = c .before .before .before .before .before .before .before .before .before .count-stars in
     let mode = c .before .before .before .before .before .before .before .before .mode-of in
     let s = counts .ensures in
-    table-done (start .args .work .now) (start .args .at) (start .args .n) (start .args .k) (start .args .cols) (start .args .m) (start .pre .0) (start .args .out .now) (start .args .o) (start .args .c) _ _ _ _ _ _ (mode .result) Each (counts .result .longer) (counts .result .single) (start .pre .1 .room .part) (mode .ensures) (s .1 .1) (s .1 .0) (c .before .before .before .enum-told4 .given .1) (c .before .before .before .before .before .before .put-long-rows .ensures) (c .before .put-pool2 .ensures)
+    table-done (start .args .work .now) (start .args .at) (start .args .n) (start .args .k) (start .args .cols) (start .args .m) (start .pre .0) (start .args .out .now) (start .args .o) (start .args .c) _ _ _ _ _ _ (mode .result) Each (counts .result .longer) (counts .result .single) (start .pre .1 .room .room) (mode .ensures) (s .1 .1) (s .1 .0) (c .before .before .before .enum-told4 .given .1) (c .before .before .before .before .before .before .put-long-rows .ensures) (c .before .put-pool2 .ensures)
 
 pub put-stars-spec : {M : Type 1} → statement M
 put-stars-spec =

@@ -17,7 +17,7 @@ use Rattle.survey.proofs.+skip+skips.Tie.{close}
 use mathlib.Core.Path.{refl}
 use native.Mathlib.Omega.{arith}
 use Rattle.walk.specs.Decode.{read-part}
-use Rattle.survey.specs.Skip.{inside-low, skips-none, Passing, passing-first, passing-next, passing-last}
+use Rattle.survey.specs.Skip.{inside-low, skips-none, Skipping, skipping-first, skipping-next, skipping-last}
 use Rattle.survey.proofs.SkipLaws.{at-const, at-var, at-and, at-or, at-not, at-xor, at-iff, at-imp, at-cmp, at-other}
 
 abbrev μ-skip : Measures 1 skip-kinds.ps ℕ
@@ -45,7 +45,7 @@ abbrev skips-claims : ℕ → skips-lts.Claims
 skips-claims t = (skip-below t, skip.Post)
 
 abbrev skips-Inv-loop : skips-lts.InvT-loop
-skips-Inv-loop work at left t count base q₀ b₀ rest₀ q b rest = Passing (read-part work) left t count at base rest q b
+skips-Inv-loop work at left t count base q₀ b₀ rest₀ q b rest = Skipping (read-part work) left t count at base rest q b
 
 abbrev skips-μ-loop : skips-lts.MeasureT-loop
 skips-μ-loop work at left t count base q₀ b₀ rest₀ q b rest = rest
@@ -138,7 +138,7 @@ skip-returns-11 : (t : ℕ) → skip-lts.Need-returns-11 (skip-claims t) (skip-a
 skip-returns-11 t c = at-other ((c .before .before .before .before .before .before) .args .work .now) ((c .before .before .before .before .before .before) .pre .1 .0) _ _ _ _ _ _ _ _ _ (c .before .before .before .before .word .ensures) (c .before .before .before .within .ensures) (c .before .before .within2 .ensures) (c .before .word2 .ensures) (c .before .before .before .before .before .if1 .left) refl ((c .before .before .before .before .before .before) .pre .1 .1 .0) ((c .before .before .before .before .before .before) .pre .1 .1 .1) (c .match .rest .0 .0 .0 .0 .0 .0 .0 .0 .1) (c .match .rest .0 .0 .0 .0 .0 .0 .0 .1) (c .match .rest .0 .0 .0 .0 .0 .0 .1) (c .match .rest .0 .0 .0 .0 .0 .1) (c .match .rest .0 .0 .0 .0 .1) (c .match .rest .0 .0 .0 .1) (c .match .rest .0 .0 .1) (c .match .rest .0 .1) (c .match .rest .1)
 
 skips-loop-holds : (t : ℕ) → skips-lts.Need-loop-holds (skips-claims t) (skips-at t) skips.Post skips-Inv-loop skips-μ-loop
-skips-loop-holds t c = passing-first _ _ _ _ _ _ (c .pre .1 .1 .0) (c .pre .1 .1 .1)
+skips-loop-holds t c = skipping-first _ _ _ _ _ _ (c .pre .1 .1 .0) (c .pre .1 .1 .1)
 
 skips-skip-requires : (t : ℕ) → skips-lts.Need-skip-requires (skips-claims t) (skips-at t) skips.Post skips-Inv-loop skips-μ-loop
 skips-skip-requires t c κs = (omega (arith, (c .before .before) .pre .0), ((c .before .before) .pre .1 .0, (c .before .loop .inv .inside, c .before .loop .inv .low)))
@@ -150,10 +150,10 @@ skips-loop-less : (t : ℕ) → skips-lts.Need-loop-less (skips-claims t) (skips
 skips-loop-less t c = search needs
 
 skips-loop-again : (t : ℕ) → skips-lts.Need-loop-again (skips-claims t) (skips-at t) skips.Post skips-Inv-loop skips-μ-loop
-skips-loop-again t c = passing-next _ _ _ _ _ _ _ _ _ _ _ (c .before .before .loop .inv) (c .before .loop-test .taken) (c .skip .ensures)
+skips-loop-again t c = skipping-next _ _ _ _ _ _ _ _ _ _ _ (c .before .before .loop .inv) (c .before .loop-test .taken) (c .skip .ensures)
 
 skips-returns : (t : ℕ) → skips-lts.Need-returns (skips-claims t) (skips-at t) skips.Post skips-Inv-loop skips-μ-loop
-skips-returns t c = passing-last _ _ _ _ _ _ _ _ _ (c .before .loop .inv) (c .loop-test .left)
+skips-returns t c = skipping-last _ _ _ _ _ _ _ _ _ (c .before .loop .inv) (c .loop-test .left)
 
 pub +skip+skips-spec : {M : Type 1} → statement M
 +skip+skips-spec = close μ-skip μ-skips (λ t. skip-lts.spec (skip-claims t) (skip-at t) skip.Post

@@ -28,7 +28,7 @@ use Rattle.walk.specs.Item.{Tally, tallies, pools as pools-of}
 use Rattle.walk.specs.Decode.{read-part, items-at}
 use Rattle.writer.specs.Placed.{share}
 use Rattle.output.proofs.Laws.{compared-length}
-use Rattle.writer.proofs.Steps.{part-length, okay, placed-at, compares, fine-cmp, fine-not, fine-join, Sofar, sofar-none, sofar-more, sofar-with, sofar-past, sofar-head}
+use Rattle.writer.proofs.Steps.{part-length, okay, placed-at, compares, fit-cmp, fit-not, fit-join, Sofar, sofar-none, sofar-more, sofar-with, sofar-past, sofar-head}
 use Rattle.writer.proofs.PoolLaws.{pool-none, single-not, pool-var, pool-cmp, pool-not, pool-disj, pool-conj, pool-cross, pools-none, pools-more, some-left, share-not, share-disj, share-rest, share-long, share-found, pool-skip}
 
 abbrev μ-pool : Measures 2 pool-kinds.ps ℕ
@@ -78,20 +78,20 @@ pool-add-word : (t : ℕ) → pool-lts.Need-add-word (pool-claims t) (pool-at t)
 pool-add-word t c = omega (arith, (c .before .before .before .before) .pre .1 .0 .0 .inside)
 
 pool-pool-cmp-requires : (t : ℕ) → pool-lts.Need-pool-cmp-requires (pool-claims t) (pool-at t) pool.Post
-pool-pool-cmp-requires t c κs = ((c .before .before .before .before .before .before) .pre .1 .0 .0 .size, compares ((c .before .before .before .before .before .before) .args .work .now) _ _ _ (fine-cmp ((c .before .before .before .before .before .before) .args .work .now) _ _ _ _ _ _ (c .before .before .before .before .before .if1 .left) refl _ _ (sym (c .before .before .enum-told .given .1) ∙ c .before .before .before .before .node-at .ensures) ((c .before .before .before .before .before .before) .pre .1 .0 .2)), (c .before .before .before .before .before .before) .pre .1 .0 .1)
+pool-pool-cmp-requires t c κs = ((c .before .before .before .before .before .before) .pre .1 .0 .0 .size, compares ((c .before .before .before .before .before .before) .args .work .now) _ _ _ (fit-cmp ((c .before .before .before .before .before .before) .args .work .now) _ _ _ _ _ _ (c .before .before .before .before .before .if1 .left) refl _ _ (sym (c .before .before .enum-told .given .1) ∙ c .before .before .before .before .node-at .ensures) ((c .before .before .before .before .before .before) .pre .1 .0 .2)), (c .before .before .before .before .before .before) .pre .1 .0 .1)
 
 pool-pool-requires : (t : ℕ) → pool-lts.Need-pool-requires (pool-claims t) (pool-at t) pool.Post
 pool-pool-requires t c κs = let e = sym (c .before .before .q .given .1) ∙ c .before .before .before .before .node-at .ensures in
     let o = okay ((c .before .before .before .before .before .before) .args .work .now) _ _ _ _ _ _ ((c .before .before .before .before .before .before) .pre .1 .0 .0) e in (
       omega (arith, o .0, o .1, part-length ((c .before .before .before .before .before .before) .args .work .now) ((c .before .before .before .before .before .before) .pre .1 .0 .0 .size), (c .before .before .before .before .before .before) .pre .0),
-      ((placed-at _ ((c .before .before .before .before .before .before) .pre .1 .0 .0) (o .1), (c .before .before .before .before .before .before) .pre .1 .0 .1, fine-not ((c .before .before .before .before .before .before) .args .work .now) _ _ _ _ _ _ (c .before .before .before .before .before .if1 .left) refl _ e ((c .before .before .before .before .before .before) .pre .1 .0 .2)), (single-not ((c .before .before .before .before .before .before) .args .work .now) _ _ _ _ _ _ (c .before .before .before .before .before .if1 .left) refl _ e ((c .before .before .before .before .before .before) .pre .1 .1 .0), share-not ((c .before .before .before .before .before .before) .args .work .now) _ _ _ _ _ _ (c .before .before .before .before .before .if1 .left) refl ((c .before .before .before .before .before .before) .args .b) ((c .before .before .before .before .before .before) .args .m) _ e ((c .before .before .before .before .before .before) .pre .1 .1 .1))),
+      ((placed-at _ ((c .before .before .before .before .before .before) .pre .1 .0 .0) (o .1), (c .before .before .before .before .before .before) .pre .1 .0 .1, fit-not ((c .before .before .before .before .before .before) .args .work .now) _ _ _ _ _ _ (c .before .before .before .before .before .if1 .left) refl _ e ((c .before .before .before .before .before .before) .pre .1 .0 .2)), (single-not ((c .before .before .before .before .before .before) .args .work .now) _ _ _ _ _ _ (c .before .before .before .before .before .if1 .left) refl _ e ((c .before .before .before .before .before .before) .pre .1 .1 .0), share-not ((c .before .before .before .before .before .before) .args .work .now) _ _ _ _ _ _ (c .before .before .before .before .before .if1 .left) refl ((c .before .before .before .before .before .before) .args .b) ((c .before .before .before .before .before .before) .args .m) _ e ((c .before .before .before .before .before .before) .pre .1 .1 .1))),
     )
 
 pool-pools-requires : (t : ℕ) → pool-lts.Need-pools-requires (pool-claims t) (pool-at t) pool.Post
 pool-pools-requires t c κs = let e = sym (c .before .before .before .d .given .1) ∙ c .before .before .before .before .before .node-at .ensures in
     let o = okay ((c .before .before .before .before .before .before .before) .args .work .now) _ _ _ _ _ _ ((c .before .before .before .before .before .before .before) .pre .1 .0 .0) e in (
       omega (arith, o .0, o .1, o .2, part-length ((c .before .before .before .before .before .before .before) .args .work .now) ((c .before .before .before .before .before .before .before) .pre .1 .0 .0 .size), (c .before .before .before .before .before .before .before) .pre .0),
-      ((placed-at _ ((c .before .before .before .before .before .before .before) .pre .1 .0 .0) (o .1), (c .before .before .before .before .before .before .before) .pre .1 .0 .1, fine-join ((c .before .before .before .before .before .before .before) .args .work .now) _ _ _ _ _ _ (c .before .before .before .before .before .before .if1 .left) refl _ _ _ _ _ e ((c .before .before .before .before .before .before .before) .pre .1 .0 .2)), share-disj ((c .before .before .before .before .before .before .before) .args .work .now) _ _ _ _ _ _ (c .before .before .before .before .before .before .if1 .left) refl ((c .before .before .before .before .before .before .before) .args .b) ((c .before .before .before .before .before .before .before) .args .m) _ _ _ _ (join-is e (c .before .if2 .taken)) ((c .before .before .before .before .before .before .before) .pre .1 .1 .0) ((c .before .before .before .before .before .before .before) .pre .1 .1 .1)),
+      ((placed-at _ ((c .before .before .before .before .before .before .before) .pre .1 .0 .0) (o .1), (c .before .before .before .before .before .before .before) .pre .1 .0 .1, fit-join ((c .before .before .before .before .before .before .before) .args .work .now) _ _ _ _ _ _ (c .before .before .before .before .before .before .if1 .left) refl _ _ _ _ _ e ((c .before .before .before .before .before .before .before) .pre .1 .0 .2)), share-disj ((c .before .before .before .before .before .before .before) .args .work .now) _ _ _ _ _ _ (c .before .before .before .before .before .before .if1 .left) refl ((c .before .before .before .before .before .before .before) .args .b) ((c .before .before .before .before .before .before .before) .args .m) _ _ _ _ (join-is e (c .before .if2 .taken)) ((c .before .before .before .before .before .before .before) .pre .1 .1 .0) ((c .before .before .before .before .before .before .before) .pre .1 .1 .1)),
     )
 
 pool-same-length : (t : ℕ) → pool-lts.Need-same-length (pool-claims t) (pool-at t) pool.Post
@@ -107,7 +107,7 @@ pool-returns-3 : (t : ℕ) → pool-lts.Need-returns-3 (pool-claims t) (pool-at 
 pool-returns-3 t c = pool-var ((c .before .before .before .before .before .before .before .before) .args .work .now) _ _ _ _ _ _ (c .before .before .before .before .before .before .before .if1 .left) refl _ _ _ _ _ _ _ (sym (c .before .before .before .before .v .given .1) ∙ c .before .before .before .before .before .before .node-at .ensures) (c .before .pool-var .ensures)
 
 pool-same-length-3 : (t : ℕ) → pool-lts.Need-same-length-3 (pool-claims t) (pool-at t) pool.Post
-pool-same-length-3 t c = compared-length (compares ((c .before .before .before .before .before .before .before .before) .args .work .now) _ _ _ (fine-cmp ((c .before .before .before .before .before .before .before .before) .args .work .now) _ _ _ _ _ _ (c .before .before .before .before .before .before .before .if1 .left) refl _ _ (sym (c .before .before .before .before .enum-told .given .1) ∙ c .before .before .before .before .before .before .node-at .ensures) ((c .before .before .before .before .before .before .before .before) .pre .1 .0 .2))) (c .before .pool-cmp .ensures)
+pool-same-length-3 t c = compared-length (compares ((c .before .before .before .before .before .before .before .before) .args .work .now) _ _ _ (fit-cmp ((c .before .before .before .before .before .before .before .before) .args .work .now) _ _ _ _ _ _ (c .before .before .before .before .before .before .before .if1 .left) refl _ _ (sym (c .before .before .before .before .enum-told .given .1) ∙ c .before .before .before .before .before .before .node-at .ensures) ((c .before .before .before .before .before .before .before .before) .pre .1 .0 .2))) (c .before .pool-cmp .ensures)
 
 pool-returns-4 : (t : ℕ) → pool-lts.Need-returns-4 (pool-claims t) (pool-at t) pool.Post
 pool-returns-4 t c = pool-cmp ((c .before .before .before .before .before .before .before .before) .args .work .now) _ _ _ _ _ _ (c .before .before .before .before .before .before .before .if1 .left) refl _ _ _ _ _ _ _ (sym (c .before .before .before .before .enum-told .given .1) ∙ c .before .before .before .before .before .before .node-at .ensures) ((c .before .before .before .before .before .before .before .before) .pre .1 .0 .2) _ (c .before .before .before .word .ensures) (c .before .pool-cmp .ensures)

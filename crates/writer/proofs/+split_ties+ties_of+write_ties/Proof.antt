@@ -29,7 +29,7 @@ use Rattle.walk.specs.Decode.{decode, many-ties, ties-at, read-part}
 use Rattle.walk.specs.MeetTies.{reaches-sides, reaches-none, reaches-var, reaches-cmp, reaches-not, reaches-join, reaches-cross, reaches-split}
 use Rattle.writer.specs.Placed.{Listed}
 use Rattle.writer.proofs.Steps.{part-length, placed-in, okay, placed-at, placed-with, placed-base}
-use Rattle.writer.proofs.Extras.{listed-open, listed-none, listed-lines, listed-zero, ties-none, fine-not, fine-join, fine-cross, fine-plain, ties-var, ties-cmp, ties-not, ties-join, ties-cross, ties-plain, members-none, members-first, members-more, Going, going-none, going-more, going-done, split-first, split-tie, split-second, split-other, split-listed}
+use Rattle.writer.proofs.Extras.{listed-open, listed-none, listed-lines, listed-zero, ties-none, fit-not, fit-join, fit-cross, fit-plain, ties-var, ties-cmp, ties-not, ties-join, ties-cross, ties-plain, members-none, members-first, members-more, Going, going-none, going-more, going-done, split-first, split-tie, split-second, split-other, split-listed}
 
 abbrev μ-split-ties : Measures 2 split-ties-kinds.ps ℕ
 μ-split-ties κs a = 4 * (4608 - a .1 .0) + 3
@@ -123,7 +123,7 @@ ties-of-loop-holds t c = (going-none (c .pre .1 .0 .0) (c .pre .1 .0 .1) (c .pre
 ties-of-write-ties-requires : (t : ℕ) → ties-of-lts.Need-write-ties-requires (ties-of-claims t) (ties-of-at t) ties-of.Post ties-of-Inv-loop ties-of-μ-loop
 ties-of-write-ties-requires t c κs = let y = c .before .loop-test .taken in
     let i = c .before .before .loop .inv .0 in
-    (omega (arith, y, i .after, i .fewer, i .placed .inside, (c .before .before .before) .pre .0), ((i .placed, i .opened, members-first ((c .before .before .before) .args .work .now) _ _ _ _ _ y _ _ refl refl (i .fine)), omega (arith, ((c .before .before .before) .pre .1 .1))))
+    (omega (arith, y, i .after, i .fewer, i .placed .inside, (c .before .before .before) .pre .0), ((i .placed, i .opened, members-first ((c .before .before .before) .args .work .now) _ _ _ _ _ y _ _ refl refl (i .fit)), omega (arith, ((c .before .before .before) .pre .1 .1))))
 
 ties-of-loop-again : (t : ℕ) → ties-of-lts.Need-loop-again (ties-of-claims t) (ties-of-at t) ties-of.Post ties-of-Inv-loop ties-of-μ-loop
 ties-of-loop-again t c = let i = c .before .before .before .before .before .loop .inv in
@@ -145,15 +145,15 @@ write-ties-node-at-requires t c κs = (omega (arith, (c .before) .pre .1 .0 .0 .
 
 write-ties-write-ties-requires : (t : ℕ) → write-ties-lts.Need-write-ties-requires (write-ties-claims t) (write-ties-at t) write-ties.Post
 write-ties-write-ties-requires t c κs = let o = okay ((c .before .before .before .before .before .before) .args .work .now) _ _ _ _ _ _ ((c .before .before .before .before .before .before) .pre .1 .0 .0) (sym (c .before .before .q3 .given .1) ∙ c .before .before .before .before .node-at .ensures) in
-    (omega (arith, o .0, o .1, part-length ((c .before .before .before .before .before .before) .args .work .now) ((c .before .before .before .before .before .before) .pre .1 .0 .0 .size), (c .before .before .before .before .before .before) .pre .0), ((placed-at _ ((c .before .before .before .before .before .before) .pre .1 .0 .0) (o .1), (c .before .before .before .before .before .before) .pre .1 .0 .1, fine-not ((c .before .before .before .before .before .before) .args .work .now) _ _ _ _ _ (c .before .before .before .before .before .if1 .left) refl _ (sym (c .before .before .q3 .given .1) ∙ c .before .before .before .before .node-at .ensures) ((c .before .before .before .before .before .before) .pre .1 .0 .2)), omega (arith, ((c .before .before .before .before .before .before) .pre .1 .1))))
+    (omega (arith, o .0, o .1, part-length ((c .before .before .before .before .before .before) .args .work .now) ((c .before .before .before .before .before .before) .pre .1 .0 .0 .size), (c .before .before .before .before .before .before) .pre .0), ((placed-at _ ((c .before .before .before .before .before .before) .pre .1 .0 .0) (o .1), (c .before .before .before .before .before .before) .pre .1 .0 .1, fit-not ((c .before .before .before .before .before .before) .args .work .now) _ _ _ _ _ (c .before .before .before .before .before .if1 .left) refl _ (sym (c .before .before .q3 .given .1) ∙ c .before .before .before .before .node-at .ensures) ((c .before .before .before .before .before .before) .pre .1 .0 .2)), omega (arith, ((c .before .before .before .before .before .before) .pre .1 .1))))
 
 write-ties-ties-of-requires : (t : ℕ) → write-ties-lts.Need-ties-of-requires (write-ties-claims t) (write-ties-at t) write-ties.Post
 write-ties-ties-of-requires t c κs = let o = okay ((c .before .before .before .before .before .before) .args .work .now) _ _ _ _ _ _ ((c .before .before .before .before .before .before) .pre .1 .0 .0) (sym (c .before .before .k .given .1) ∙ c .before .before .before .before .node-at .ensures) in
-    (omega (arith, o .0, o .1, o .2, part-length ((c .before .before .before .before .before .before) .args .work .now) ((c .before .before .before .before .before .before) .pre .1 .0 .0 .size), (c .before .before .before .before .before .before) .pre .0), ((placed-at _ ((c .before .before .before .before .before .before) .pre .1 .0 .0) (o .1), (c .before .before .before .before .before .before) .pre .1 .0 .1, fine-join ((c .before .before .before .before .before .before) .args .work .now) _ _ _ _ _ (c .before .before .before .before .before .if1 .left) refl _ _ _ _ _ (sym (c .before .before .k .given .1) ∙ c .before .before .before .before .node-at .ensures) ((c .before .before .before .before .before .before) .pre .1 .0 .2)), omega (arith, ((c .before .before .before .before .before .before) .pre .1 .1))))
+    (omega (arith, o .0, o .1, o .2, part-length ((c .before .before .before .before .before .before) .args .work .now) ((c .before .before .before .before .before .before) .pre .1 .0 .0 .size), (c .before .before .before .before .before .before) .pre .0), ((placed-at _ ((c .before .before .before .before .before .before) .pre .1 .0 .0) (o .1), (c .before .before .before .before .before .before) .pre .1 .0 .1, fit-join ((c .before .before .before .before .before .before) .args .work .now) _ _ _ _ _ (c .before .before .before .before .before .if1 .left) refl _ _ _ _ _ (sym (c .before .before .k .given .1) ∙ c .before .before .before .before .node-at .ensures) ((c .before .before .before .before .before .before) .pre .1 .0 .2)), omega (arith, ((c .before .before .before .before .before .before) .pre .1 .1))))
 
 write-ties-split-ties-requires : (t : ℕ) → write-ties-lts.Need-split-ties-requires (write-ties-claims t) (write-ties-at t) write-ties.Post
 write-ties-split-ties-requires t c κs = let o = okay ((c .before .before .before .before .before .before .before) .args .work .now) _ _ _ _ _ _ ((c .before .before .before .before .before .before .before) .pre .1 .0 .0) (sym (c .before .before .before .q4 .given .1) ∙ c .before .before .before .before .before .node-at .ensures) in
-    (omega (arith, o .0, o .1, part-length ((c .before .before .before .before .before .before .before) .args .work .now) ((c .before .before .before .before .before .before .before) .pre .1 .0 .0 .size), (c .before .before .before .before .before .before .before) .pre .0), ((placed-at _ ((c .before .before .before .before .before .before .before) .pre .1 .0 .0) (o .1), (c .before .before .before .before .before .before .before) .pre .1 .0 .1, fine-cross ((c .before .before .before .before .before .before .before) .args .work .now) _ _ _ _ _ (c .before .before .before .before .before .before .if1 .left) refl _ _ (sym (c .before .before .before .q4 .given .1) ∙ c .before .before .before .before .before .node-at .ensures) ((c .before .before .before .before .before .before .before) .pre .1 .0 .2) true (c .before .if2 .taken)), omega (arith, ((c .before .before .before .before .before .before .before) .pre .1 .1))))
+    (omega (arith, o .0, o .1, part-length ((c .before .before .before .before .before .before .before) .args .work .now) ((c .before .before .before .before .before .before .before) .pre .1 .0 .0 .size), (c .before .before .before .before .before .before .before) .pre .0), ((placed-at _ ((c .before .before .before .before .before .before .before) .pre .1 .0 .0) (o .1), (c .before .before .before .before .before .before .before) .pre .1 .0 .1, fit-cross ((c .before .before .before .before .before .before .before) .args .work .now) _ _ _ _ _ (c .before .before .before .before .before .before .if1 .left) refl _ _ (sym (c .before .before .before .q4 .given .1) ∙ c .before .before .before .before .before .node-at .ensures) ((c .before .before .before .before .before .before .before) .pre .1 .0 .2) true (c .before .if2 .taken)), omega (arith, ((c .before .before .before .before .before .before .before) .pre .1 .1))))
 
 write-ties-same-length : (t : ℕ) → write-ties-lts.Need-same-length (write-ties-claims t) (write-ties-at t) write-ties.Post
 write-ties-same-length t c = wrote-length (c .before .split-ties .ensures .0 .wrote)
@@ -163,7 +163,7 @@ write-ties-returns-2 t c = (ties-cross ((c .before .before .before .before .befo
 
 write-ties-ties-of-requires-2 : (t : ℕ) → write-ties-lts.Need-ties-of-requires-2 (write-ties-claims t) (write-ties-at t) write-ties.Post
 write-ties-ties-of-requires-2 t c κs = let o = okay ((c .before .before .before .before .before .before .before) .args .work .now) _ _ _ _ _ _ ((c .before .before .before .before .before .before .before) .pre .1 .0 .0) (sym (c .before .before .before .q4 .given .1) ∙ c .before .before .before .before .before .node-at .ensures) in
-    (omega (arith, o .0, o .1, part-length ((c .before .before .before .before .before .before .before) .args .work .now) ((c .before .before .before .before .before .before .before) .pre .1 .0 .0 .size), (c .before .before .before .before .before .before .before) .pre .0), ((placed-at _ ((c .before .before .before .before .before .before .before) .pre .1 .0 .0) (o .1), (c .before .before .before .before .before .before .before) .pre .1 .0 .1, fine-plain ((c .before .before .before .before .before .before .before) .args .work .now) _ _ _ _ _ (c .before .before .before .before .before .before .if1 .left) refl _ _ (sym (c .before .before .before .q4 .given .1) ∙ c .before .before .before .before .before .node-at .ensures) ((c .before .before .before .before .before .before .before) .pre .1 .0 .2) (c .before .if2 .left)), omega (arith, ((c .before .before .before .before .before .before .before) .pre .1 .1))))
+    (omega (arith, o .0, o .1, part-length ((c .before .before .before .before .before .before .before) .args .work .now) ((c .before .before .before .before .before .before .before) .pre .1 .0 .0 .size), (c .before .before .before .before .before .before .before) .pre .0), ((placed-at _ ((c .before .before .before .before .before .before .before) .pre .1 .0 .0) (o .1), (c .before .before .before .before .before .before .before) .pre .1 .0 .1, fit-plain ((c .before .before .before .before .before .before .before) .args .work .now) _ _ _ _ _ (c .before .before .before .before .before .before .if1 .left) refl _ _ (sym (c .before .before .before .q4 .given .1) ∙ c .before .before .before .before .before .node-at .ensures) ((c .before .before .before .before .before .before .before) .pre .1 .0 .2) (c .before .if2 .left)), omega (arith, ((c .before .before .before .before .before .before .before) .pre .1 .1))))
 
 write-ties-returns-3 : (t : ℕ) → write-ties-lts.Need-returns-3 (write-ties-claims t) (write-ties-at t) write-ties.Post
 write-ties-returns-3 t c = rw (c .no-ties2 .ensures) (ties-var ((c .before .before .before .before .before .before) .args .work .now) _ _ _ _ _ (c .before .before .before .before .before .if1 .left) refl _ _ _ _ _ _ _ _ _ (sym (c .before .before .q .given .1) ∙ c .before .before .before .before .node-at .ensures) (listed-none ((c .before .before .before .before .before .before) .pre .1 .0 .1) ((c .before .before .before .before .before .before) .pre .1 .0 .0 .low)), reaches-var ((c .before .before .before .before .before .before) .args .work .now) _ _ _ _ ((c .before .before .before .before .before .before) .pre .1 .0 .0 .low-base) _ (c .before .before .before .before .before .if1 .left) refl (placed-in ((c .before .before .before .before .before .before) .pre .1 .0 .0)) _ _ _ _ (sym (c .before .before .q .given .1) ∙ c .before .before .before .before .node-at .ensures) refl refl)

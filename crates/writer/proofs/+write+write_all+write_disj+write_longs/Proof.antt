@@ -54,7 +54,7 @@ use Rattle.walk.specs.Decode.{many, decode, read-part, items-at, added}
 use Rattle.output.specs.Suffix.{suffix, extra-lits}
 use Rattle.output.proofs.Laws.{open-next, stack-down, compared-length}
 use Rattle.walk.specs.Steps.{survey-none, survey-var, survey-cmp, survey-not, survey-conj, survey-disj, survey-cross, Sofar as Seen, sofar-none as seen-none, sofar-more as seen-more, sofar-done as seen-done}
-use Rattle.writer.proofs.Steps.{part-length, okay, placed-in, sofar-head, placed-at, placed-with, compares, fine-cmp, fine-not, fine-join, fine-cross, Sofar, sofar-none, sofar-more, sofar-skip}
+use Rattle.writer.proofs.Steps.{part-length, okay, placed-in, sofar-head, placed-at, placed-with, compares, fit-cmp, fit-not, fit-join, fit-cross, Sofar, sofar-none, sofar-more, sofar-skip}
 use Rattle.writer.proofs.PoolLaws.{items-lits}
 use Rattle.writer.proofs.Longer.{long-seen}
 use Rattle.writer.proofs.Written.{write-none, write-var, write-cmp, write-not, write-conj, write-disjoint, write-split, write-cross, texts-none, texts-more, longs-none, longs-skip, longs-more, one-lit, disj-pool, disj-pass, disj-two, disj-each, tallied}
@@ -134,7 +134,7 @@ write-node-at-requires t c κs = (omega (arith, (c .before) .pre .1 .0 .0 .size)
 write-write-requires : (t : ℕ) → write-lts.Need-write-requires (write-claims t) (write-at t) write.Post
 write-write-requires t c κs = let o = okay ((c .before .before .before .before .before .before) .args .work .now) _ _ _ _ _ _ ((c .before .before .before .before .before .before) .pre .1 .0 .0) (sym (c .before .before .q2 .given .1) ∙ c .before .before .before .before .node-at .ensures) in (
   omega (arith, o .0, o .1, part-length ((c .before .before .before .before .before .before) .args .work .now) ((c .before .before .before .before .before .before) .pre .1 .0 .0 .size), (c .before .before .before .before .before .before) .pre .0),
-  ((placed-at _ ((c .before .before .before .before .before .before) .pre .1 .0 .0) (o .1), (c .before .before .before .before .before .before) .pre .1 .0 .1, fine-not ((c .before .before .before .before .before .before) .args .work .now) _ _ _ _ _ _ (c .before .before .before .before .before .if1 .left) refl _ (sym (c .before .before .q2 .given .1) ∙ c .before .before .before .before .node-at .ensures) ((c .before .before .before .before .before .before) .pre .1 .0 .2)), stack-down _ ((c .before .before .before .before .before .before) .pre .1 .1) (omega arith)),
+  ((placed-at _ ((c .before .before .before .before .before .before) .pre .1 .0 .0) (o .1), (c .before .before .before .before .before .before) .pre .1 .0 .1, fit-not ((c .before .before .before .before .before .before) .args .work .now) _ _ _ _ _ _ (c .before .before .before .before .before .if1 .left) refl _ (sym (c .before .before .q2 .given .1) ∙ c .before .before .before .before .node-at .ensures) ((c .before .before .before .before .before .before) .pre .1 .0 .2)), stack-down _ ((c .before .before .before .before .before .before) .pre .1 .1) (omega arith)),
 )
 
 write-surveys-requires : (t : ℕ) → write-lts.Need-surveys-requires (write-claims t) (write-at t) write.Post
@@ -145,7 +145,7 @@ write-write-disj-requires : (t : ℕ) → write-lts.Need-write-disj-requires (wr
 write-write-disj-requires t c κs = let o = okay ((c .before .before .before .before .before .before .before .before) .args .work .now) _ _ _ _ _ _ ((c .before .before .before .before .before .before .before .before) .pre .1 .0 .0) (sym (c .before .before .before .before .d .given .1) ∙ c .before .before .before .before .before .before .node-at .ensures) in (
   omega (arith, o .0, o .1, o .2, part-length ((c .before .before .before .before .before .before .before .before) .args .work .now) ((c .before .before .before .before .before .before .before .before) .pre .1 .0 .0 .size), (c .before .before .before .before .before .before .before .before) .pre .0),
   (
-    (placed-at _ ((c .before .before .before .before .before .before .before .before) .pre .1 .0 .0) (o .1), (c .before .before .before .before .before .before .before .before) .pre .1 .0 .1, fine-join ((c .before .before .before .before .before .before .before .before) .args .work .now) _ _ _ _ _ _ (c .before .before .before .before .before .before .before .if1 .left) refl _ _ _ _ _ (sym (c .before .before .before .before .d .given .1) ∙ c .before .before .before .before .before .before .node-at .ensures) ((c .before .before .before .before .before .before .before .before) .pre .1 .0 .2)),
+    (placed-at _ ((c .before .before .before .before .before .before .before .before) .pre .1 .0 .0) (o .1), (c .before .before .before .before .before .before .before .before) .pre .1 .0 .1, fit-join ((c .before .before .before .before .before .before .before .before) .args .work .now) _ _ _ _ _ _ (c .before .before .before .before .before .before .before .if1 .left) refl _ _ _ _ _ (sym (c .before .before .before .before .d .given .1) ∙ c .before .before .before .before .before .before .node-at .ensures) ((c .before .before .before .before .before .before .before .before) .pre .1 .0 .2)),
     (tallied _ ((c .before .before .before .before .before .before .before .before) .pre .1 .0 .0 .size) (c .before .surveys .ensures), stack-down _ ((c .before .before .before .before .before .before .before .before) .pre .1 .1) (let y = (c .before .before .before .before .before .before .before .if1 .left) in omega arith), c .before .surveys .ensures .low),
   ),
 )
@@ -159,7 +159,7 @@ write-returns-2 t c = (survey-disj ((c .before .before .before .before .before .
 write-write-all-requires : (t : ℕ) → write-lts.Need-write-all-requires (write-claims t) (write-at t) write.Post
 write-write-all-requires t c κs = let o = okay ((c .before .before .before .before .before .before .before) .args .work .now) _ _ _ _ _ _ ((c .before .before .before .before .before .before .before) .pre .1 .0 .0) (sym (c .before .before .before .d .given .1) ∙ c .before .before .before .before .before .node-at .ensures) in (
   omega (arith, o .0, o .1, o .2, part-length ((c .before .before .before .before .before .before .before) .args .work .now) ((c .before .before .before .before .before .before .before) .pre .1 .0 .0 .size), (c .before .before .before .before .before .before .before) .pre .0),
-  ((placed-at _ ((c .before .before .before .before .before .before .before) .pre .1 .0 .0) (o .1), (c .before .before .before .before .before .before .before) .pre .1 .0 .1, fine-join ((c .before .before .before .before .before .before .before) .args .work .now) _ _ _ _ _ _ (c .before .before .before .before .before .before .if1 .left) refl _ _ _ _ _ (sym (c .before .before .before .d .given .1) ∙ c .before .before .before .before .before .node-at .ensures) ((c .before .before .before .before .before .before .before) .pre .1 .0 .2)), stack-down _ ((c .before .before .before .before .before .before .before) .pre .1 .1) (omega arith)),
+  ((placed-at _ ((c .before .before .before .before .before .before .before) .pre .1 .0 .0) (o .1), (c .before .before .before .before .before .before .before) .pre .1 .0 .1, fit-join ((c .before .before .before .before .before .before .before) .args .work .now) _ _ _ _ _ _ (c .before .before .before .before .before .before .if1 .left) refl _ _ _ _ _ (sym (c .before .before .before .d .given .1) ∙ c .before .before .before .before .before .node-at .ensures) ((c .before .before .before .before .before .before .before) .pre .1 .0 .2)), stack-down _ ((c .before .before .before .before .before .before .before) .pre .1 .1) (omega arith)),
 )
 
 write-put-split-requires : (t : ℕ) → write-lts.Need-put-split-requires (write-claims t) (write-at t) write.Post
@@ -183,7 +183,7 @@ write-write-disj-requires-2 : (t : ℕ) → write-lts.Need-write-disj-requires-2
 write-write-disj-requires-2 t c κs = let o = okay ((c .before .before .before .before .before .before .before .before .before) .args .work .now) _ _ _ _ _ _ ((c .before .before .before .before .before .before .before .before .before) .pre .1 .0 .0) (sym (c .before .before .before .before .before .h .given .1) ∙ c .before .before .before .before .before .before .before .node-at .ensures) in (
   omega (arith, o .0, o .1, part-length ((c .before .before .before .before .before .before .before .before .before) .args .work .now) ((c .before .before .before .before .before .before .before .before .before) .pre .1 .0 .0 .size), (c .before .before .before .before .before .before .before .before .before) .pre .0),
   (
-    (placed-at _ ((c .before .before .before .before .before .before .before .before .before) .pre .1 .0 .0) (o .1), (c .before .before .before .before .before .before .before .before .before) .pre .1 .0 .1, fine-cross ((c .before .before .before .before .before .before .before .before .before) .args .work .now) _ _ _ _ _ _ (c .before .before .before .before .before .before .before .before .if1 .left) refl _ _ (c .before .before .before .if3 .left) (sym (c .before .before .before .before .before .h .given .1) ∙ c .before .before .before .before .before .before .before .node-at .ensures) ((c .before .before .before .before .before .before .before .before .before) .pre .1 .0 .2) .0),
+    (placed-at _ ((c .before .before .before .before .before .before .before .before .before) .pre .1 .0 .0) (o .1), (c .before .before .before .before .before .before .before .before .before) .pre .1 .0 .1, fit-cross ((c .before .before .before .before .before .before .before .before .before) .args .work .now) _ _ _ _ _ _ (c .before .before .before .before .before .before .before .before .if1 .left) refl _ _ (c .before .before .before .if3 .left) (sym (c .before .before .before .before .before .h .given .1) ∙ c .before .before .before .before .before .before .before .node-at .ensures) ((c .before .before .before .before .before .before .before .before .before) .pre .1 .0 .2) .0),
     (tallied _ ((c .before .before .before .before .before .before .before .before .before) .pre .1 .0 .0 .size) (c .before .before .surveys2 .ensures), stack-down _ ((c .before .before .before .before .before .before .before .before .before) .pre .1 .1) (let y = (c .before .before .before .before .before .before .before .before .if1 .left) in omega arith), c .before .surveys3 .ensures .low),
   ),
 )
@@ -192,7 +192,7 @@ write-write-disj-requires-3 : (t : ℕ) → write-lts.Need-write-disj-requires-3
 write-write-disj-requires-3 t c κs = let o = okay ((c .before .before .before .before .before .before .before .before .before .before .before .before .before .before) .args .work .now) _ _ _ _ _ _ ((c .before .before .before .before .before .before .before .before .before .before .before .before .before .before) .pre .1 .0 .0) (sym (c .before .before .before .before .before .before .before .before .before .before .h .given .1) ∙ c .before .before .before .before .before .before .before .before .before .before .before .before .node-at .ensures) in (
   omega (arith, o .0, o .1, part-length ((c .before .before .before .before .before .before .before .before .before .before .before .before .before .before) .args .work .now) ((c .before .before .before .before .before .before .before .before .before .before .before .before .before .before) .pre .1 .0 .0 .size), (c .before .before .before .before .before .before .before .before .before .before .before .before .before .before) .pre .0),
   (
-    (placed-with _ (placed-at _ ((c .before .before .before .before .before .before .before .before .before .before .before .before .before .before) .pre .1 .0 .0) (o .1)) (c .before .before .before .before .before .before .before .surveys2 .ensures .low), open-next ((c .before .before .before .before .before .before .before .before .before .before .before .before .before .before) .pre .1 .0 .1) (c .before .before .before .before .write-disj2 .ensures), fine-cross ((c .before .before .before .before .before .before .before .before .before .before .before .before .before .before) .args .work .now) _ _ _ _ _ _ (c .before .before .before .before .before .before .before .before .before .before .before .before .before .if1 .left) refl _ _ (c .before .before .before .before .before .before .before .before .if3 .left) (sym (c .before .before .before .before .before .before .before .before .before .before .h .given .1) ∙ c .before .before .before .before .before .before .before .before .before .before .before .before .node-at .ensures) ((c .before .before .before .before .before .before .before .before .before .before .before .before .before .before) .pre .1 .0 .2) .1),
+    (placed-with _ (placed-at _ ((c .before .before .before .before .before .before .before .before .before .before .before .before .before .before) .pre .1 .0 .0) (o .1)) (c .before .before .before .before .before .before .before .surveys2 .ensures .low), open-next ((c .before .before .before .before .before .before .before .before .before .before .before .before .before .before) .pre .1 .0 .1) (c .before .before .before .before .write-disj2 .ensures), fit-cross ((c .before .before .before .before .before .before .before .before .before .before .before .before .before .before) .args .work .now) _ _ _ _ _ _ (c .before .before .before .before .before .before .before .before .before .before .before .before .before .if1 .left) refl _ _ (c .before .before .before .before .before .before .before .before .if3 .left) (sym (c .before .before .before .before .before .before .before .before .before .before .h .given .1) ∙ c .before .before .before .before .before .before .before .before .before .before .before .before .node-at .ensures) ((c .before .before .before .before .before .before .before .before .before .before .before .before .before .before) .pre .1 .0 .2) .1),
     (tallied _ ((c .before .before .before .before .before .before .before .before .before .before .before .before .before .before) .pre .1 .0 .0 .size) (c .before .before .before .before .before .before .surveys3 .ensures), stack-down _ ((c .before .before .before .before .before .before .before .before .before .before .before .before .before .before) .pre .1 .1) (let y = (c .before .before .before .before .before .before .before .before .before .before .before .before .before .if1 .left) in omega arith), omega (arith, c .before .bump2 .ensures)),
   ),
 )
@@ -204,7 +204,7 @@ write-returns-4 : (t : ℕ) → write-lts.Need-returns-4 (write-claims t) (write
 write-returns-4 t c = (survey-var ((c .before .before .before .before .before .before .before .before) .args .work .now) _ _ _ _ _ _ (placed-in ((c .before .before .before .before .before .before .before .before) .pre .1 .0 .0)) ((c .before .before .before .before .before .before .before .before) .pre .1 .0 .0 .low) ((c .before .before .before .before .before .before .before .before) .pre .1 .0 .0 .low-base) _ (c .before .before .before .before .before .before .before .if1 .left) refl _ _ _ _ (sym (c .before .before .before .before .v .given .1) ∙ c .before .before .before .before .before .before .node-at .ensures) refl (c .before .write-var .ensures .0), write-var ((c .before .before .before .before .before .before .before .before) .args .work .now) _ _ _ _ _ _ (c .before .before .before .before .before .before .before .if1 .left) refl _ _ _ _ _ _ _ _ (sym (c .before .before .before .before .v .given .1) ∙ c .before .before .before .before .before .before .node-at .ensures) (c .before .write-var .ensures .1))
 
 write-same-length-5 : (t : ℕ) → write-lts.Need-same-length-5 (write-claims t) (write-at t) write.Post
-write-same-length-5 t c = compared-length (compares ((c .before .before .before .before .before .before .before .before) .args .work .now) _ _ _ (fine-cmp ((c .before .before .before .before .before .before .before .before) .args .work .now) _ _ _ _ _ _ (c .before .before .before .before .before .before .before .if1 .left) refl _ _ (sym (c .before .before .before .before .q .given .1) ∙ c .before .before .before .before .before .before .node-at .ensures) ((c .before .before .before .before .before .before .before .before) .pre .1 .0 .2))) (c .before .write-cmp .ensures .1)
+write-same-length-5 t c = compared-length (compares ((c .before .before .before .before .before .before .before .before) .args .work .now) _ _ _ (fit-cmp ((c .before .before .before .before .before .before .before .before) .args .work .now) _ _ _ _ _ _ (c .before .before .before .before .before .before .before .if1 .left) refl _ _ (sym (c .before .before .before .before .q .given .1) ∙ c .before .before .before .before .before .before .node-at .ensures) ((c .before .before .before .before .before .before .before .before) .pre .1 .0 .2))) (c .before .write-cmp .ensures .1)
 
 write-returns-5 : (t : ℕ) → write-lts.Need-returns-5 (write-claims t) (write-at t) write.Post
 write-returns-5 t c = (survey-cmp ((c .before .before .before .before .before .before .before .before) .args .work .now) _ _ _ _ _ _ (placed-in ((c .before .before .before .before .before .before .before .before) .pre .1 .0 .0)) ((c .before .before .before .before .before .before .before .before) .pre .1 .0 .0 .low) ((c .before .before .before .before .before .before .before .before) .pre .1 .0 .0 .low-base) _ (c .before .before .before .before .before .before .before .if1 .left) refl _ _ _ (sym (c .before .before .before .before .q .given .1) ∙ c .before .before .before .before .before .before .node-at .ensures) (c .before .write-cmp .ensures .0), write-cmp ((c .before .before .before .before .before .before .before .before) .args .work .now) _ _ _ _ _ _ (c .before .before .before .before .before .before .before .if1 .left) refl _ _ _ _ _ _ _ _ (sym (c .before .before .before .before .q .given .1) ∙ c .before .before .before .before .before .before .node-at .ensures) ((c .before .before .before .before .before .before .before .before) .pre .1 .0 .2) _ refl (c .before .write-cmp .ensures .1))
@@ -350,7 +350,7 @@ write-write-var-requires : (t : ℕ) → write-lts.Need-write-var-requires (writ
 write-write-var-requires t c κs = let o = okay ((c .before .before .before .before .before .before) .args .work .now) _ _ _ _ _ _ ((c .before .before .before .before .before .before) .pre .1 .0 .0) (sym (c .before .before .v .given .1) ∙ c .before .before .before .before .node-at .ensures) in (o .2, (c .before .before .before .before .before .before) .pre .1 .0 .0 .low, stack-down 0 ((c .before .before .before .before .before .before) .pre .1 .1) (omega arith), (c .before .before .before .before .before .before) .pre .1 .0 .1)
 
 write-write-cmp-requires : (t : ℕ) → write-lts.Need-write-cmp-requires (write-claims t) (write-at t) write.Post
-write-write-cmp-requires t c κs = ((c .before .before .before .before .before .before) .pre .1 .0 .0 .size, (c .before .before .before .before .before .before) .pre .1 .0 .0 .inside, compares ((c .before .before .before .before .before .before) .args .work .now) _ _ _ (fine-cmp ((c .before .before .before .before .before .before) .args .work .now) _ _ _ _ _ _ (c .before .before .before .before .before .if1 .left) refl _ _ (sym (c .before .before .q .given .1) ∙ c .before .before .before .before .node-at .ensures) ((c .before .before .before .before .before .before) .pre .1 .0 .2)), stack-down 0 ((c .before .before .before .before .before .before) .pre .1 .1) (omega arith), (c .before .before .before .before .before .before) .pre .1 .0 .1)
+write-write-cmp-requires t c κs = ((c .before .before .before .before .before .before) .pre .1 .0 .0 .size, (c .before .before .before .before .before .before) .pre .1 .0 .0 .inside, compares ((c .before .before .before .before .before .before) .args .work .now) _ _ _ (fit-cmp ((c .before .before .before .before .before .before) .args .work .now) _ _ _ _ _ _ (c .before .before .before .before .before .if1 .left) refl _ _ (sym (c .before .before .q .given .1) ∙ c .before .before .before .before .node-at .ensures) ((c .before .before .before .before .before .before) .pre .1 .0 .2)), stack-down 0 ((c .before .before .before .before .before .before) .pre .1 .1) (omega arith), (c .before .before .before .before .before .before) .pre .1 .0 .1)
 
 write-surveys-requires-3 : (t : ℕ) → write-lts.Need-surveys-requires-3 (write-claims t) (write-at t) write.Post
 write-surveys-requires-3 t c κs = let o = okay ((c .before .before .before .before .before .before .before) .args .work .now) _ _ _ _ _ _ ((c .before .before .before .before .before .before .before) .pre .1 .0 .0) (sym (c .before .before .before .h .given .1) ∙ c .before .before .before .before .before .node-at .ensures) in

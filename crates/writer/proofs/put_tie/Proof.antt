@@ -4,7 +4,7 @@ use native.Mathlib.Omega.{arith}
 use Rattle.laws.specs.Writes.{wrote-length}
 use Rattle.output.proofs.Laws.{open-next, stack-down}
 use Rattle.writer.proofs.Steps.{placed-with}
-use Rattle.writer.proofs.Extras.{fine-tie, tie-listed, reaches-seen}
+use Rattle.writer.proofs.Extras.{fit-tie, tie-listed, reaches-seen}
 use borrow.Author.Needs.{needs}
 use Rattle.writer.proofs.put_tie.Statement.{statement}
 use Rattle.writer.proofs.put_tie.Tie as tie
@@ -16,7 +16,7 @@ one-literal-requires : tie.Need-one-literal-requires
 one-literal-requires c κs = search needs
 
 write-requires : tie.Need-write-requires
-write-requires c κs = ((c .before .before .pre .0 .0, c .before .before .pre .0 .1, fine-tie (c .before .before .args .work .now) _ _ _ _ (c .before .before .args .n) false (c .before .before .pre .0 .2)), stack-down _ (c .before .one-literal .ensures .1) (c .before .before .pre .1 .0))
+write-requires c κs = ((c .before .before .pre .0 .0, c .before .before .pre .0 .1, fit-tie (c .before .before .args .work .now) _ _ _ _ (c .before .before .args .n) false (c .before .before .pre .0 .2)), stack-down _ (c .before .one-literal .ensures .1) (c .before .before .pre .1 .0))
 
 add-one-literal-2 : tie.Need-add-one-literal-2
 add-one-literal-2 c = omega (arith, c .before .before .before .before .before .pre .1 .1)
@@ -25,7 +25,7 @@ one-literal-requires-2 : tie.Need-one-literal-requires-2
 one-literal-requires-2 c κs = search needs
 
 write-requires-2 : tie.Need-write-requires-2
-write-requires-2 c κs = ((placed-with _ (c .before .before .before .before .before .before .before .pre .0 .0) (c .before .before .before .before .write .ensures .0 .low), open-next (c .before .before .before .before .before .before .before .pre .0 .1) (c .before .before .before .before .write .ensures .1), fine-tie (c .before .before .before .before .before .before .before .args .work .now) _ _ _ _ (c .before .before .before .before .before .before .before .args .n) true (c .before .before .before .before .before .before .before .pre .0 .2)), stack-down _ (c .before .one-literal2 .ensures .1) (c .before .before .before .before .before .before .before .pre .1 .0))
+write-requires-2 c κs = ((placed-with _ (c .before .before .before .before .before .before .before .pre .0 .0) (c .before .before .before .before .write .ensures .0 .low), open-next (c .before .before .before .before .before .before .before .pre .0 .1) (c .before .before .before .before .write .ensures .1), fit-tie (c .before .before .before .before .before .before .before .args .work .now) _ _ _ _ (c .before .before .before .before .before .before .before .args .n) true (c .before .before .before .before .before .before .before .pre .0 .2)), stack-down _ (c .before .one-literal2 .ensures .1) (c .before .before .before .before .before .before .before .pre .1 .0))
 
 bump-requires : tie.Need-bump-requires
 bump-requires c κs = search needs

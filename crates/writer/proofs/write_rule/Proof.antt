@@ -2,10 +2,10 @@ use mathlib.Core.Path.{_∙_}
 use mathlib.Core.Bool.{false}
 use native.Mathlib.Omega.{arith}
 use Rattle.laws.specs.Writes.{wrote-length}
-use Rattle.writer.specs.Rules.{writable-fine}
+use Rattle.writer.specs.Rules.{writable-fit}
 use Rattle.output.proofs.Laws.{open-next}
 use Rattle.writer.proofs.Steps.{placed-with}
-use Rattle.writer.proofs.Extras.{rule-ties-fine, rule-tree-fine, rule-wrote, bare-rule-wrote}
+use Rattle.writer.proofs.Extras.{rule-ties-fit, rule-tree-fit, rule-wrote, bare-rule-wrote}
 use borrow.Author.Needs.{needs}
 use Rattle.writer.proofs.write_rule.Statement.{statement}
 use Rattle.writer.proofs.write_rule.Tie as tie
@@ -19,7 +19,7 @@ no-suffix-requires c κs = search needs
 write-requires : tie.Need-write-requires
 write-requires c κs =
     let s = c .before .before .before .before .before in
-    ((s .pre .0, s .pre .1, rule-tree-fine (s .args .work .now) _ _ (writable-fine _ _ _ (s .pre .2))), c .before .no-suffix .ensures .1)
+    ((s .pre .0, s .pre .1, rule-tree-fit (s .args .work .now) _ _ (writable-fit _ _ _ (s .pre .2))), c .before .no-suffix .ensures .1)
 
 same-length : tie.Need-same-length
 same-length c = wrote-length (c .before .before .write .ensures .1)
@@ -32,7 +32,7 @@ returns c =
 write-ties-requires : tie.Need-write-ties-requires
 write-ties-requires c κs =
     let s = c .before .before .before in
-    ((placed-with _ (s .pre .0) (c .before .before .skip .ensures .low), s .pre .1, rule-ties-fine (s .args .work .now) _ _ (writable-fine _ _ _ (s .pre .2))), omega arith)
+    ((placed-with _ (s .pre .0) (c .before .before .skip .ensures .low), s .pre .1, rule-ties-fit (s .args .work .now) _ _ (writable-fit _ _ _ (s .pre .2))), omega arith)
 
 no-suffix-requires-2 : tie.Need-no-suffix-requires-2
 no-suffix-requires-2 c κs = search needs
@@ -41,7 +41,7 @@ write-requires-2 : tie.Need-write-requires-2
 write-requires-2 c κs =
     let s = c .before .before .before .before .before .before .before in
     let e = c .before .before .before .write-ties .ensures .0 in
-    ((placed-with _ (s .pre .0) (e .low), open-next (s .pre .1) (e .wrote), rule-tree-fine (s .args .work .now) _ _ (writable-fine _ _ _ (s .pre .2))), c .before .no-suffix2 .ensures .1)
+    ((placed-with _ (s .pre .0) (e .low), open-next (s .pre .1) (e .wrote), rule-tree-fit (s .args .work .now) _ _ (writable-fit _ _ _ (s .pre .2))), c .before .no-suffix2 .ensures .1)
 
 bump-requires : tie.Need-bump-requires
 bump-requires c κs = search needs

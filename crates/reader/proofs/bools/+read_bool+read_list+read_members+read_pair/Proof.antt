@@ -33,8 +33,8 @@ use Rattle.reader.proofs.bools.read_pair.Kinds as read-pair-kinds
 use Rattle.reader.proofs.bools.+read_bool+read_list+read_members+read_pair.Lts-read_pair as read-pair-lts
 use Rattle.reader.proofs.bools.read_comparison.Reads as read-comparison-reads
 use Rattle.reader.proofs.leaves.bool_too_deep.Reads as bool-too-deep-reads
-use Rattle.reader.proofs.leaves.pass_index.Reads as pass-index-reads
-use Rattle.reader.proofs.leaves.pass_up_to.Reads as pass-up-to-reads
+use Rattle.reader.proofs.leaves.check_index.Reads as check-index-reads
+use Rattle.reader.proofs.leaves.check_up_to.Reads as check-up-to-reads
 use Rattle.words.proofs.Cursor.up_to.Reads as up-to-reads
 use Rattle.words.proofs.Cursor.word.Reads as word-reads
 use Rattle.reader.proofs.bools.+read_bool+read_list+read_members+read_pair.{statement}
@@ -86,7 +86,7 @@ read-pair-below t =
     and 1 read-pair-kinds.ps (falls 1 read-pair-kinds.ps _<_ μ-read-pair t) read-pair.Pre
 
 abbrev read-bool-claims : ℕ → read-bool-lts.Claims
-read-bool-claims t = (word-reads.Asked, word-reads.Learnt, bool-too-deep-reads.Asked, bool-too-deep-reads.Learnt, pass-up-to-reads.Asked, pass-up-to-reads.Learnt, pass-index-reads.Asked, pass-index-reads.Learnt, read-list-below t, read-list.Post, read-bool-below t, read-bool.Post, read-pair-below t, read-pair.Post, read-comparison-reads.Asked, read-comparison-reads.Learnt)
+read-bool-claims t = (word-reads.Asked, word-reads.Learnt, bool-too-deep-reads.Asked, bool-too-deep-reads.Learnt, check-up-to-reads.Asked, check-up-to-reads.Learnt, check-index-reads.Asked, check-index-reads.Learnt, read-list-below t, read-list.Post, read-bool-below t, read-bool.Post, read-pair-below t, read-pair.Post, read-comparison-reads.Asked, read-comparison-reads.Learnt)
 
 abbrev read-list-claims : ℕ → read-list-lts.Claims
 read-list-claims t = (up-to-reads.Asked, up-to-reads.Learnt, read-members-below t, read-members.Post)
@@ -145,12 +145,12 @@ read-bool-returns-2 t c = bool-end _ _ _ _ _ _ (sym (c .before .before .before .
 read-bool-returns-3 : (t : ℕ) → read-bool-lts.Need-returns-3 (read-bool-claims t) (read-bool-at t) read-bool.Post
 read-bool-returns-3 t c =
     let f : SFits w32 (c .before .before .before .before .w .given .0 .0) = search needs in
-    bool-const _ _ _ _ _ _ _ (read-at t (c .before .before .before .before)) (c .before .before .if1 .left) _ (value-is f (c .before .match2 .keys1)) (c .pass-up-to .ensures)
+    bool-const _ _ _ _ _ _ _ (read-at t (c .before .before .before .before)) (c .before .before .if1 .left) _ (value-is f (c .before .match2 .keys1)) (c .check-up-to .ensures)
 
 read-bool-returns-4 : (t : ℕ) → read-bool-lts.Need-returns-4 (read-bool-claims t) (read-bool-at t) read-bool.Post
 read-bool-returns-4 t c =
     let f : SFits w32 (c .before .before .before .before .w .given .0 .0) = search needs in
-    bool-var _ _ _ _ _ _ _ (read-at t (c .before .before .before .before)) (c .before .before .if1 .left) _ (value-is f (c .before .match2 .keys2)) (c .pass-index .ensures)
+    bool-var _ _ _ _ _ _ _ (read-at t (c .before .before .before .before)) (c .before .before .if1 .left) _ (value-is f (c .before .match2 .keys2)) (c .check-index .ensures)
 
 read-bool-returns-5 : (t : ℕ) → read-bool-lts.Need-returns-5 (read-bool-claims t) (read-bool-at t) read-bool.Post
 read-bool-returns-5 t c =

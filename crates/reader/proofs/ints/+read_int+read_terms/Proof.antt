@@ -26,8 +26,8 @@ use Rattle.reader.proofs.ints.read_terms.Reads as read-terms
 use Rattle.reader.proofs.ints.read_terms.Kinds as read-terms-kinds
 use Rattle.reader.proofs.ints.+read_int+read_terms.Lts-read_terms as read-terms-lts
 use Rattle.reader.proofs.leaves.int_too_deep.Reads as int-too-deep-reads
-use Rattle.reader.proofs.leaves.pass_index.Reads as pass-index-reads
-use Rattle.reader.proofs.leaves.pass_value.Reads as pass-value-reads
+use Rattle.reader.proofs.leaves.check_index.Reads as check-index-reads
+use Rattle.reader.proofs.leaves.check_value.Reads as check-value-reads
 use Rattle.words.proofs.Cursor.up_to.Reads as up-to-reads
 use Rattle.words.proofs.Cursor.value.Reads as value-reads
 use Rattle.words.proofs.Cursor.word.Reads as word-reads
@@ -56,7 +56,7 @@ read-terms-below t =
     and 1 read-terms-kinds.ps (falls 1 read-terms-kinds.ps _<_ μ-read-terms t) read-terms.Pre
 
 abbrev read-int-claims : ℕ → read-int-lts.Claims
-read-int-claims t = (word-reads.Asked, word-reads.Learnt, int-too-deep-reads.Asked, int-too-deep-reads.Learnt, pass-value-reads.Asked, pass-value-reads.Learnt, pass-index-reads.Asked, pass-index-reads.Learnt, up-to-reads.Asked, up-to-reads.Learnt, read-terms-below t, read-terms.Post)
+read-int-claims t = (word-reads.Asked, word-reads.Learnt, int-too-deep-reads.Asked, int-too-deep-reads.Learnt, check-value-reads.Asked, check-value-reads.Learnt, check-index-reads.Asked, check-index-reads.Learnt, up-to-reads.Asked, up-to-reads.Learnt, read-terms-below t, read-terms.Post)
 
 abbrev read-terms-claims : ℕ → read-terms-lts.Claims
 read-terms-claims t = (value-reads.Asked, value-reads.Learnt, read-int-below t, read-int.Post)
@@ -93,12 +93,12 @@ read-int-returns-2 t c = int-end _ _ _ _ _ (sym (c .before .before .before .word
 read-int-returns-3 : (t : ℕ) → read-int-lts.Need-returns-3 (read-int-claims t) (read-int-at t) read-int.Post
 read-int-returns-3 t c =
     let f : SFits w32 (c .before .before .before .before .w .given .0 .0) = search needs in
-    int-const _ _ _ _ _ _ (read-at t (c .before .before .before .before)) (c .before .before .if1 .left) _ (value-is f (c .before .match2 .keys1)) (c .pass-value .ensures)
+    int-const _ _ _ _ _ _ (read-at t (c .before .before .before .before)) (c .before .before .if1 .left) _ (value-is f (c .before .match2 .keys1)) (c .check-value .ensures)
 
 read-int-returns-4 : (t : ℕ) → read-int-lts.Need-returns-4 (read-int-claims t) (read-int-at t) read-int.Post
 read-int-returns-4 t c =
     let f : SFits w32 (c .before .before .before .before .w .given .0 .0) = search needs in
-    int-var _ _ _ _ _ _ (read-at t (c .before .before .before .before)) (c .before .before .if1 .left) _ (value-is f (c .before .match2 .keys2)) (c .pass-index .ensures)
+    int-var _ _ _ _ _ _ (read-at t (c .before .before .before .before)) (c .before .before .if1 .left) _ (value-is f (c .before .match2 .keys2)) (c .check-index .ensures)
 
 read-int-returns-5 : (t : ℕ) → read-int-lts.Need-returns-5 (read-int-claims t) (read-int-at t) read-int.Post
 read-int-returns-5 t c =
