@@ -1,19 +1,19 @@
 -- A law for each answer of the functions that print bytes and numbers, over variables. Assumes nothing.
 use mathlib.Core.Path.{_≡_, refl, sym, ap, _∙_}
-use mathlib.Core.Bool.{Bool, true, false, cond}
-use mathlib.Core.List.{List, [], _∷_, _++_}
-use Prim.Native.Nat.{ℕ, zero, suc, _+_, _-_, _/_, _%_, _≤_, _<_}
+use mathlib.Core.Bool.{true}
+use mathlib.Core.List.{List, [], _∷_}
+use Prim.Native.Nat.{ℕ, suc, _+_, _-_, _/_, _%_, _≤_, _<_}
 use native.Mathlib.Omega.{arith}
-use native.Mathlib.Nat.{div-add-mod'}
 use lib.IntN.{ℤ, pos, negsuc, natAbs, _-ℤ_}
-use lib.Dec.{T, leb}
+use lib.Dec.{T}
 use lib.Signed.{ltZ, nonNeg, mag}
 use lib.ListN.{length, drop, getD, drop-of-length-le}
-use borrow.Author.Tests.{ltb-true, le-ltb, leb-true, le-leb, lt-leb}
+use borrow.Author.Tests.{ltb-true, le-ltb}
 use mir.Syntax.{w32, w64}
 use mir.Val.{SFits, Fits}
 use Rattle.decimal.specs.Bytes.{minus}
-use Rattle.decimal.specs.Decimal.{digit, print-steps, print-natural, print-number}
+use Rattle.decimal.specs.Decimal.{print-natural, print-number}
+use Rattle.decimal.specs.Widths.{natural-small, natural-large}
 use Rattle.decimal.specs.Puts.{puts, Puts, puts-left, puts-then, puts-as, cons-at}
 
 -- ---- all bytes of a list: i of them are written
@@ -27,28 +27,6 @@ module _ (bytes out₀ : List ℕ) (at : ℕ) (out : List ℕ) (o i : ℕ) (inv 
   bytes-end h s = record { size = s; bytes = sym inv ∙ rw (drop-of-length-le bytes h) refl }
 
 -- ---- decimal numbers
-
-steps-enough : (k j n : ℕ) → n < k → n < j → print-steps k n ≡ print-steps j n
-unfolding print-steps
-steps-enough zero j n h l = absurd (omega arith)
-steps-enough (suc k) zero n h l = absurd (omega arith)
-steps-enough (suc k) (suc j) n h l = go (leb 10 n) refl (λ a b. steps-enough k j (n / 10) a b)
-  where
-    go : (t : Bool) → leb 10 n ≡ t → (n / 10 < k → n / 10 < j → print-steps k (n / 10) ≡ print-steps j (n / 10))
-        → cond t (print-steps k (n / 10) ++ (digit (n % 10) ∷ [])) (digit n ∷ []) ≡ cond t (print-steps j (n / 10) ++ (digit (n % 10) ∷ [])) (digit n ∷ [])
-    go true e f = let m = leb-true 10 n e in let d = div-add-mod' n 10 in ap (λ l. l ++ (digit (n % 10) ∷ [])) (f (omega arith) (omega arith))
-    go false e f = refl
-
-natural-small : (n : ℕ) → n < 10 → digit n ∷ [] ≡ print-natural n
-unfolding print-natural print-steps
-natural-small n h = rw (lt-leb 10 n h) refl
-
-natural-large : (n : ℕ) → 10 ≤ n → print-natural (n / 10) ++ (digit (n % 10) ∷ []) ≡ print-natural n
-unfolding print-natural print-steps
-natural-large n h =
-    let d = div-add-mod' n 10 in
-    let e : print-steps (suc (n / 10)) (n / 10) ≡ print-steps n (n / 10) = steps-enough (suc (n / 10)) n (n / 10) (omega arith) (omega arith) in
-    rw (le-leb 10 n h) (ap (λ l. l ++ (digit (n % 10) ∷ [])) e)
 
 pub put-small : {out out' : List ℕ} {at r : ℕ} (n : ℕ) → n < 10 → Puts out at ((48 + n) ∷ []) out' r → Puts out at (print-natural n) out' r
 put-small n h w = puts-as (print-natural n) (natural-small n h) w

@@ -21,7 +21,8 @@ use Rattle.lines.specs.Lines.{print-more, print-numbers}
 use Rattle.lines.specs.Output.{cons-word}
 use Rattle.page.specs.Sheet.{spaces}
 use Rattle.page.specs.Writes.{Wrote}
-use Rattle.page.specs.Widths.{one-digit, more-digits, number-short, more-length, numbers-length}
+use Rattle.page.specs.Widths.{one-digit, more-digits, more-length, numbers-length}
+use Rattle.decimal.specs.Widths.{number-short}
 
 -- ---- storing one after another
 

@@ -9,11 +9,11 @@ use lib.ListN.{length, take, drop, length-drop, drop-of-length-le}
 use lib.Seq.{sets}
 use Rattle.laws.specs.Lists.{flat, flat-append}
 use Rattle.decimal.specs.Decimal.{print-natural}
+use Rattle.decimal.specs.Widths.{natural-short}
 use Rattle.lines.specs.Lines.{count-word, literals, after-literals, print-comparisons, print-clause}
 use Rattle.lines.specs.Output.{Stops}
 use Rattle.page.specs.Sheet.{spaces, Item, literal-item, comparison-items, clause-items, Page, full, place-item, place-items, numbered, all-lines, sheet-lines, print-sheet}
 use Rattle.page.specs.Writes.{Wrote, page-text, On, Moves, Shows, Starts}
-use Rattle.page.specs.Widths.{natural-short}
 use Rattle.page.specs.declared.Place.{Place}
 use Rattle.page.proofs.Bytes.{Left, left-as, left-next, left-all, left-start, wrote-then, wrote-to, wrote-length}
 use Rattle.page.proofs.Pages.{place, map-append}
@@ -22,7 +22,7 @@ use Rattle.page.proofs.Comparisons.{stop-short, stop-one}
 -- ---- a clause's number
 
 pub number-room : (k w : ℕ) → k < 100000000 → w ≡ length (print-natural k) → w ≤ 8
-number-room k w h e = let s = natural-short k h in omega arith
+number-room k w h e = let s = natural-short 7 k (omega arith) in omega arith
 
 pub clause-started : {out m₁ m₂ out' : List ℕ} {at o e w : ℕ} (k : ℕ) → k < 100000000 → w ≡ length (print-natural k) → Wrote out at (spaces (8 - w)) m₁ o → o ≡ at + (8 - w) → m₂ ≡ sets m₁ o (print-natural k) → Wrote m₂ (o + w) (spaces 2) out' e → e ≡ o + w + 2
     → Starts (numbered k) at out out' (place at e true)

@@ -4,39 +4,26 @@ use mathlib.Core.Bool.{Bool, true, false}
 use mathlib.Core.List.{List, [], _∷_, _++_}
 use Prim.Native.Nat.{ℕ, zero, suc, _+_, _-_, _*_, _≤_, _<_}
 use native.Mathlib.Omega.{arith}
-use native.Mathlib.Numerals.{add-one}
-use lib.IntN.{ℤ, pos, negsuc}
-use lib.ListN.{length, take, drop, getD, length-append, length-take, length-drop, drop-of-length-le}
-use lib.Seq.{sets, take-suc, take-all}
-use borrow.Author.Tests.{le-leb, leb-true, leb-false}
+use lib.IntN.{ℤ}
+use lib.ListN.{length, take, drop, length-append, length-take, length-drop, drop-of-length-le}
+use lib.Seq.{sets}
+use borrow.Author.Tests.{leb-true, leb-false}
 use lib.Dec.{leb}
-use mir.Syntax.{w32}
-use mir.Val.{SFits}
 use Rattle.laws.specs.Bools.{and-l, and-r}
-use Rattle.laws.specs.Lists.{all, all-append, all-take, all-drop, flat}
+use Rattle.laws.specs.Lists.{all, all-take, all-drop, flat}
 use Rattle.decimal.specs.Bytes.{comma, colon}
 use Rattle.decimal.specs.Decimal.{print-number}
+use Rattle.decimal.specs.Widths.{fitting, number-short}
 use Rattle.lines.specs.Lines.{count-word, print-more, print-numbers, times, print-comparison, print-comparisons}
 use Rattle.lines.specs.Output.{Stops}
 use Rattle.page.specs.Sheet.{Item, pair-parts, in-front, comparison-item, comparison-items, put, place-part, place-parts, place-item, place-items}
 use Rattle.page.specs.Writes.{Wrote, Line, Moves, Shows, Begins, head-text}
-use Rattle.page.specs.Widths.{fitting, number-short}
 use Rattle.page.specs.declared.Place.{Place}
 use Rattle.page.proofs.Bytes.{wrote-then}
 use Rattle.page.proofs.Pages.{place, moves-none, moves-then, moves-as, on-as, item-moves, part-moves}
 use Rattle.page.specs.Placing.{put-put, part-fits, flat-front, flat-pairs}
 
 -- ---- words within i32
-
-fits-fitting : (z : ℤ) → SFits w32 z → fitting z ≡ true
-fits-fitting (pos n) f = le-leb n 2147483648 (let l = f .sfits in omega arith)
-fits-fitting (negsuc n) f = le-leb (suc n) 2147483648 (let l = f .sfits in omega arith)
-
-pub fit-next : (ws : List ℤ) (i : ℕ) → i < length ws → all fitting (take i ws) ≡ true → SFits w32 (getD ws i (pos 0)) → all fitting (take (i + 1) ws) ≡ true
-fit-next ws i h e f = rw (add-one i, take-suc ws i (pos 0) h) (all-append fitting (take i ws) (getD ws i (pos 0) ∷ []) ∙ rw (e, fits-fitting (getD ws i (pos 0)) f) refl)
-
-pub fit-all : (ws : List ℤ) (i : ℕ) → length ws ≤ i → all fitting (take i ws) ≡ true → all fitting ws ≡ true
-fit-all ws i h e = rw (← take-all i ws h) e
 
 pub fit-part : (ws : List ℤ) (i n : ℕ) → all fitting ws ≡ true → all fitting (take n (drop i ws)) ≡ true
 fit-part ws i n h = all-take fitting n (drop i ws) (all-drop fitting i ws h)

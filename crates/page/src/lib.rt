@@ -14,7 +14,7 @@ ghost use Rattle.laws.specs.Lists.{all, flat};
 ghost use Rattle.lines.specs.Lines.{count-word, print-numbers, print-comparison, print-comparisons, print-clause};
 ghost use Rattle.page.specs.Sheet.{spaces, literal-item, in-front, pair-parts, comparison-item, comparison-items, clause-items, turn as turned, place-part, place-parts, place-item, place-items, numbered, all-lines, full, sheet-lines, print-sheet};
 ghost use Rattle.page.specs.Writes.{Wrote, Few, far, Line, Moves, Shows, Begins, Rooms, pair-text, head-text, Starts};
-ghost use Rattle.page.specs.Widths.{fitting};
+ghost use Rattle.decimal.specs.Widths.{fitting};
 
 // Where a line starts, where its next byte goes, and whether no item stands on it yet.
 pub struct Place {

@@ -2,11 +2,10 @@
 use mathlib.Core.Path.{_≡_, refl, sym, ap, _∙_}
 use mathlib.Core.Bool.{Bool, true, false, _||_, cond}
 use mathlib.Core.List.{List, [], _∷_, _++_, map}
-use Prim.Native.Nat.{ℕ, zero, suc, _+_, _*_, _/_, _%_, _≤_, _<_}
+use Prim.Native.Nat.{ℕ, zero, suc, _+_, _*_, _≤_, _<_}
 use native.Mathlib.Omega.{arith}
-use native.Mathlib.Nat.{div-add-mod'}
-use lib.IntN.{ℤ, pos, negsuc, natAbs}
-use lib.Dec.{leb, ltb}
+use lib.IntN.{ℤ, pos}
+use lib.Dec.{ltb}
 use lib.ListN.{length, drop, length-append, length-map}
 use borrow.Author.Tests.{leb-true, ltb-false}
 use Rattle.laws.specs.Bools.{and-l, and-r}
@@ -24,46 +23,14 @@ use Rattle.answer.specs.Answer.{Answer, layout, answer-of, normalize, fixed-wor
 use Rattle.call.specs.Call.{Result, compiled, contradiction, refused, measured, answered, checked, when-read, call-with}
 use Rattle.call.specs.declared.Choices.{Choices}
 use Rattle.decimal.specs.Bytes.{colon, line-feed, bools-key, ints-key, fixed-key, emitted-key, domain-key, clause-key, clauses-key, total-key, compiled-line}
-use Rattle.decimal.specs.Decimal.{digit, print-steps, print-natural, print-number}
+use Rattle.decimal.specs.Decimal.{print-natural, print-number}
+use Rattle.decimal.specs.Widths.{natural-short, fitting, number-short}
 use Rattle.lines.specs.Lines.{count-word, print-more, print-numbers, print-line}
 use Rattle.text.specs.Listing.{print-compiled, print-answer}
 use Rattle.readback.specs.Shown.{terms-words, linear-text, lits-words, lits-length, clause-text, members-in}
 use Rattle.readback.specs.Lines.{last-text}
 use Rattle.readback.specs.Listed.{print-result}
 use Rattle.readback.specs.ListingBack.{domain-text, tail-text, clauses-text, compiled-printed, whole, bools-word, ints-word}
-
--- ---- numbers
-
-abbrev tens : ℕ → ℕ
-tens zero = 1
-tens (suc d) = 10 * tens d
-
--- d + 1 digits
-steps-short : (k d n : ℕ) → n < tens (suc d) → length (print-steps k n) ≤ suc d
-unfolding print-steps
-steps-short zero d n h = omega arith
-steps-short (suc k) d n h = go (leb 10 n) refl d h (λ d l. steps-short k d (n / 10) l)
-  where
-    go : (t : Bool) → leb 10 n ≡ t → (d : ℕ) → n < tens (suc d) → ((d : ℕ) → n / 10 < tens (suc d) → length (print-steps k (n / 10)) ≤ suc d) → length (cond t (print-steps k (n / 10) ++ (digit (n % 10) ∷ [])) (digit n ∷ [])) ≤ suc d
-    go false e d h f = omega arith
-    go true e zero h f = absurd (let l = leb-true 10 n e in omega arith)
-    go true e (suc d) h f =
-        let v = div-add-mod' n 10 in
-        let r = f d (omega arith) in
-        omega (arith, length-append (print-steps k (n / 10)) (digit (n % 10) ∷ []))
-
-natural-short : (n : ℕ) → n ≤ 2147483648 → length (print-natural n) ≤ 10
-unfolding print-natural
-natural-short n h = steps-short (suc n) 9 n (omega arith)
-
--- within i32
-abbrev pub fitting : ℤ → Bool
-fitting z = leb (natAbs z) 2147483648
-
-number-short : (z : ℤ) → fitting z ≡ true → length (print-number z) ≤ 11
-unfolding print-number
-number-short (pos n) h = let l = natural-short n (leb-true n 2147483648 h) in omega arith
-number-short (negsuc n) h = let l = natural-short (suc n) (leb-true (suc n) 2147483648 h) in omega arith
 
 -- ---- a byte for each number's separator
 
@@ -79,7 +46,7 @@ bytes-append (x ∷ xs) ys = omega (arith, bytes-append xs ys)
 bytes-few : (ws : List ℤ) → all fitting ws ≡ true → bytes ws ≤ 12 * length ws
 unfolding bytes
 bytes-few [] h = omega arith
-bytes-few (w ∷ ws) h = let u = number-short w (and-l (fitting w) (all fitting ws) h) in let v = bytes-few ws (and-r (fitting w) (all fitting ws) h) in omega arith
+bytes-few (w ∷ ws) h = let u = number-short w (leb-true _ 2147483648 (and-l (fitting w) (all fitting ws) h)) in let v = bytes-few ws (and-r (fitting w) (all fitting ws) h) in omega arith
 
 more-short : (zs : List ℤ) → length (print-more zs) ≡ bytes zs
 unfolding print-more bytes
@@ -143,7 +110,7 @@ members-few (clause ls ks ∷ cs) =
 
 last-short : (k t : ℕ) → t ≤ 2147483648 → length (last-text k t) ≤ bytes (pos k ∷ []) + 26
 last-short k t h =
-    omega (arith, length-append (print-line clauses-key (pos k ∷ [])) (total-key ++ (print-natural t ++ (line-feed ∷ []))), length-append total-key (print-natural t ++ (line-feed ∷ [])), length-append (print-natural t) (line-feed ∷ []), line-short clauses-key (pos k ∷ []), natural-short t h)
+    omega (arith, length-append (print-line clauses-key (pos k ∷ [])) (total-key ++ (print-natural t ++ (line-feed ∷ []))), length-append total-key (print-natural t ++ (line-feed ∷ [])), length-append (print-natural t) (line-feed ∷ []), line-short clauses-key (pos k ∷ []), natural-short 9 t (omega (arith, h)))
 
 module _ (fs ms is : List ℤ) (b i : ℕ) (fs-count : length fs ≡ b) (ms-count : length ms ≡ b) (is-count : length is ≡ i) (eb : ℕ) (ds : List Domain) (cs : List Clause) where
   abbrev words : List ℤ
@@ -214,8 +181,8 @@ unfolding print-result print-answer
 contradiction-room set q = omega arith
 
 refused-room : (set : List ℤ) (k : ℕ) → Room set (refused k)
-unfolding print-result print-answer print-natural
-refused-room set k q = omega (arith, length-append (print-steps (suc k) k) (line-feed ∷ []), steps-short (suc k) 19 k (omega (arith, q)))
+unfolding print-result print-answer
+refused-room set k q = omega (arith, length-append (print-natural k) (line-feed ∷ []), natural-short 19 k (omega (arith, q)))
 
 module _ (set : List ℤ) (p : Problem) (r : List ℤ) (read : read-set set ≡ ok p r) where
   settled-room : (merge : Bool) (f : Fixed) (ss : List Stmt) → length (layout (normalize merge p f ss)) ≤ 16384 → Room set (compiled (layout (normalize merge p f ss)))

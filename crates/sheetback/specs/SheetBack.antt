@@ -26,7 +26,7 @@ use Rattle.readback.specs.Split.{avoids, split-at, avoids-append, natural-avoid
 use Rattle.readback.specs.Shown.{terms-words, terms-length, linear-body, lits-words, lits-length, clause-filled, clause-shown}
 use Rattle.page.specs.Sheet.{space, spaces, Item, literal-item, pair-parts, in-front, comparison-item, comparison-items, clause-items, place-items, numbered, all-lines, sheet-lines, full, print-sheet}
 use Rattle.page.specs.Placing.{flat-front, flat-pairs}
-use Rattle.page.specs.Widths.{natural-short}
+use Rattle.decimal.specs.Widths.{natural-short}
 use Rattle.sheetback.specs.ReadSheet.{tokens, ends-open, glued, is-comparison, read-items, goes-on, line-tokens, Grouped, grouped, read-clauses, read-sheet}
 use Rattle.sheetback.specs.Tokens.{select-append, tokens-pad, tokens-none, closed, open-append}
 use Rattle.sheetback.specs.Placed.{toks, toks-snoc, led, sound, Read, Plain, Good, AllGood, filled-append, items-read}
@@ -246,7 +246,7 @@ module _ (k : ℕ) (h : k < 100000000) where
   line = spaces (8 - length digits) ++ (digits ++ spaces 2)
 
   line-ten : length line ≡ 10
-  line-ten = omega (arith, length-append (spaces (8 - length digits)) (digits ++ spaces 2), length-append digits (spaces 2), length-replicate {A = ℕ} (8 - length digits) 32, natural-short k h)
+  line-ten = omega (arith, length-append (spaces (8 - length digits)) (digits ++ spaces 2), length-append digits (spaces 2), length-replicate {A = ℕ} (8 - length digits) 32, natural-short 7 k (omega (arith, h)))
 
   line-free : avoids line-feed line ≡ true
   line-free = avoids-append line-feed (spaces (8 - length digits)) (digits ++ spaces 2) (spaces-avoid (8 - length digits)) (avoids-append line-feed digits (spaces 2) (natural-avoids line-feed (λ b l u e. omega arith) k) refl)

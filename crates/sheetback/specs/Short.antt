@@ -21,7 +21,8 @@ use Rattle.decimal.specs.Decimal.{print-natural, print-number}
 use Rattle.lines.specs.Lines.{print-more, print-numbers}
 use Rattle.readback.specs.Shown.{terms-words, lits-words}
 use Rattle.page.specs.Sheet.{space, spaces, Item, literal-item, pair-parts, in-front, Page, put, turn, place-part, place-parts, place-item, place-items, numbered, all-lines, full, print-sheet, sheet-lines}
-use Rattle.page.specs.Widths.{fitting, number-short, natural-short, more-length, numbers-length}
+use Rattle.decimal.specs.Widths.{fitting, number-short, natural-short}
+use Rattle.page.specs.Widths.{more-length, numbers-length}
 use Rattle.page.specs.Writes.{begun}
 use Rattle.page.specs.Placing.{begun-here, begun-space, begun-turn, parts-fit, place-begun, flat-pairs}
 use Rattle.sheetback.specs.SheetBack.{head, linear-item, items-of, page-lines, lines-of, lines-shown}
@@ -259,7 +260,7 @@ numbered-tight : (k : ℕ) → k < 100000000 → Tight (numbered k) 0
 unfolding numbered
 numbered-tight k h =
     let ds : List ℕ = print-natural k in
-    let e : length (spaces (8 - length ds) ++ (ds ++ spaces 2)) ≡ 10 = omega (arith, length-append (spaces (8 - length ds)) (ds ++ spaces 2), length-append ds (spaces 2), length-replicate {A = ℕ} (8 - length ds) 32, natural-short k h) in
+    let e : length (spaces (8 - length ds) ++ (ds ++ spaces 2)) ≡ 10 = omega (arith, length-append (spaces (8 - length ds)) (ds ++ spaces 2), length-append ds (spaces 2), length-replicate {A = ℕ} (8 - length ds) 32, natural-short 7 k (omega (arith, h))) in
     record { lines = refl; low = omega arith; high = omega arith; start = λ b. e; paid = omega arith }
 
 pub record Few (ls : List (List ℕ)) (n : ℕ) : Type 0 where

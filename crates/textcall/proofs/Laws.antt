@@ -1,17 +1,15 @@
 -- A law for each answer of the functions from text to listing, over variables. Assumes nothing.
 use mathlib.Core.Path.{_≡_, refl, sym, ap, _∙_}
 use mathlib.Core.Bool.{true}
-use mathlib.Core.List.{List, [], _∷_}
+use mathlib.Core.List.{List, []}
 use mathlib.Core.Option.{Option, none, some}
-use Prim.Native.Nat.{ℕ, suc, _+_, _-_, _≤_, _<_, min}
+use Prim.Native.Nat.{ℕ, _+_, _-_, _≤_, _<_, min}
 use native.Mathlib.Omega.{arith}
-use native.Mathlib.Numerals.{add-one}
-use lib.IntN.{ℤ, pos, negsuc}
-use lib.ListN.{length, take, drop, getD, length-append, length-replicate}
-use lib.Seq.{sets, sets-eq, length-sets, take-suc, take-all, take-append-seam, length-take-le}
-use borrow.Author.Tests.{le-leb}
-use mir.Syntax.{w32, w64}
-use mir.Val.{SFits, Fits}
+use lib.IntN.{ℤ, pos}
+use lib.ListN.{length, take, drop, length-append, length-replicate}
+use lib.Seq.{sets, sets-eq, length-sets, take-append-seam, length-take-le}
+use mir.Syntax.{w64}
+use mir.Val.{Fits}
 use Rattle.laws.specs.Bools.{and-l}
 use Rattle.laws.specs.Lists.{all, all-append}
 use Rattle.laws.specs.Slices.{zeros}
@@ -25,23 +23,12 @@ use Rattle.lines.specs.Lines.{count-word}
 use Rattle.text.specs.Listing.{print-answer}
 use Rattle.text.specs.declared.Answer.the-variants as said
 use Rattle.readback.specs.Listed.{print-result, list-words, list-text}
-use Rattle.readback.specs.Room.{fitting, Typed, listing-room}
+use Rattle.readback.specs.Room.{Typed, listing-room}
+use Rattle.decimal.specs.Widths.{fitting}
 use Rattle.planner.specs.declared.Answer.{Answer}
 use Rattle.planner.specs.declared.Answer.the-variants as planned
 use Rattle.planner.specs.Contract.{answer-of, Compiles}
 use Rattle.textcall.specs.Lists.{Answered, SomeAnswered, Bytes, Inside, Prints, output-left, work-left, Lists}
-
--- ---- words within i32
-
-fits-fitting : (z : ℤ) → SFits w32 z → fitting z ≡ true
-fits-fitting (pos n) f = le-leb n 2147483648 (let l = f .sfits in omega arith)
-fits-fitting (negsuc n) f = le-leb (suc n) 2147483648 (let l = f .sfits in omega arith)
-
-pub fit-next : (ws : List ℤ) (i : ℕ) → i < length ws → all fitting (take i ws) ≡ true → SFits w32 (getD ws i (pos 0)) → all fitting (take (i + 1) ws) ≡ true
-fit-next ws i h e f = rw (add-one i, take-suc ws i (pos 0) h) (all-append fitting (take i ws) (getD ws i (pos 0) ∷ []) ∙ rw (e, fits-fitting (getD ws i (pos 0)) f) refl)
-
-pub fit-all : (ws : List ℤ) (i : ℕ) → length ws ≤ i → all fitting (take i ws) ≡ true → all fitting ws ≡ true
-fit-all ws i h e = rw (← take-all i ws h) e
 
 -- ---- the listing of an answer
 

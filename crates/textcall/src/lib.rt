@@ -9,7 +9,7 @@ ghost use mathlib.Core.Bool.{true};
 ghost use Prim.Native.Nat.{_≤_};
 ghost use lib.ListN.{length};
 ghost use Rattle.laws.specs.Lists.{all};
-ghost use Rattle.readback.specs.Room.{fitting};
+ghost use Rattle.decimal.specs.Widths.{fitting};
 ghost use Rattle.textcall.specs.Lists.{SomeAnswered, Prints, Lists};
 
 // Every word lies within i32: the loop only learns this of the whole slice, and does nothing.

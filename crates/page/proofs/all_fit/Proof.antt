@@ -4,8 +4,7 @@ use Prim.Native.Nat.{_-_, _≤_}
 use lib.ListN.{length, take}
 use borrow.Author.Needs.{needs, sfits-of}
 use Rattle.laws.specs.Lists.{all}
-use Rattle.page.specs.Widths.{fitting}
-use Rattle.page.proofs.Comparisons.{fit-next, fit-all}
+use Rattle.decimal.specs.Widths.{fitting, fit-next, fit-all}
 use borrow.Author.Needs.{needs}
 use Rattle.page.proofs.all_fit.Statement.{statement}
 use Rattle.page.proofs.all_fit.Tie as tie

@@ -5,8 +5,7 @@ use Prim.Native.Nat.{_-_, _≤_}
 use lib.ListN.{length, take}
 use borrow.Author.Needs.{needs, sfits-of}
 use Rattle.laws.specs.Lists.{all}
-use Rattle.readback.specs.Room.{fitting}
-use Rattle.textcall.proofs.Laws.{fit-next, fit-all}
+use Rattle.decimal.specs.Widths.{fitting, fit-next, fit-all}
 use Rattle.textcall.proofs.all_fit.Statement.{statement}
 use Rattle.textcall.proofs.all_fit.Tie as tie
 
