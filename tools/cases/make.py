@@ -2,8 +2,8 @@
 """Writes crates/cases/stdin and stdout: texts with the listings that tools/reference gives them.
 
 Run at the repository's root, after `cargo build --release --manifest-path tools/reference/Cargo.toml`.
-The named cases are document 01's P1 to P12 and "Also" cases, each refusal that a text can reach, and texts of
-each form that is unread; the others are generated sets of each family, and generated texts, good and damaged.
+The named cases are document 01's P1 to P12 and "Also" cases, AllDifferents (document 02, 2.1), each refusal that a text
+can reach, and texts of each form that is unread; the others are generated sets of each family, and generated texts, good and damaged.
 Each listing's `total=` is held to a recount of its clauses (document 02, 2.2; recount.py).
 Nothing here is taken from the port."""
 import re
@@ -39,7 +39,26 @@ def ands(*pairs):
     return ",".join(f"12,2,11,{a},11,{b}" for a, b in pairs)
 
 
+def different(domains, *expressions):
+    return text(0, len(domains), domains, [f"3,{len(expressions)}" + "".join("," + e for e in expressions)])
+
+
+def pair_of(count):
+    """Two sums that have so many different variables together."""
+    sums = [range(0, count // 2), range(count // 2, count)]
+    words = [f"22,{len(s)}," + ",".join(f"1,21,{i}" for i in s) for s in sums]
+    return different(["0,0,1"] * count, *words)
+
+
+def listed(ints, domains, *clauses):
+    """The listing of an answer without Booleans."""
+    lines = ["answer=compiled", "fixed=", "bools=", "ints=" + ints, f"emitted=0,{len(domains)}"]
+    lines += ["domain=" + d for d in domains] + ["clause=" + c for c in clauses]
+    return "\n".join(lines + [f"clauses={len(clauses)}", f"total={sum(c.count(';') for c in clauses)}"]) + "\n"
+
+
 STAR = "-2147483648"
+BITS = ["0,1,2"] * 2
 NONE = text(0, 0, [], [])
 WIDE = "13,2045," + ",".join(["11,0"] * 2045)
 LONG = b"bools=0\nints=0\nstatements=0\nstatement="
@@ -85,6 +104,31 @@ NAMED = [
     ("stars only", column(1, STAR), "answer=compiled"),
     ("stars and values", text(0, 2, ["0,0,1", "1,2,0,5"], [f"2,2,2,21,0,21,1,0,{STAR},{STAR},5"]), "answer=compiled"),
     ("rule and table", text(1, 1, ["0,0,2"], ["1,17,11,0,18,2,21,0,20,1", "2,1,2,21,0,0,2"]), "answer=compiled"),
+    ("different, used up", different(["0,0,1", "1,2,0,1"], "21,0", "21,1"), listed("1,2", BITS, ";1:0:0,1,1,-1", ";0:0:0,1;0:0:1,1", ";0:-1:0,1;0:-1:1,1")),
+    ("different, turned", different(["0,0,2"] * 2, "21,1", "21,0"), listed("2,1", ["0,2,3"] * 2, ";1:0:0,1,1,-1")),
+    ("different, other values", different(["0,0,1", "1,2,0,2"], "21,0", "21,1"), listed("1,2", ["0,1,2", "0,2,2"], ";1:0:0,1,1,-1")),
+    ("different, twice", different(["0,0,1"], "21,0", "21,0"), listed("1", BITS[:1], ";1:0:", ";0:0:0,1;0:0:0,1", ";0:-1:0,1;0:-1:0,1")),
+    ("different, one value", different(["0,0,1", "0,1,1"], "21,0", "21,1"), listed("1,0", BITS[:1], ";1:-1:0,1")),
+    ("different, 1 times x", different(["0,0,1"] * 2, "22,1,1,21,0", "21,1"), listed("1,2", BITS, ";1:0:0,1,1,-1", ";0:0:0,1;0:0:1,1", ";0:-1:0,1;0:-1:1,1")),
+    ("different, a sum", different(["0,0,1"] * 2, "22,1,-1,21,0", "21,1"), listed("1,2", BITS, ";1:0:0,-1,1,-1")),
+    ("different, none", different(["0,0,1"]), listed("0", [])),
+    ("different, one", different(["0,0,1073741823"], "21,0"), listed("0", [])),
+    ("different, constants", different([], "20,4", "20,4"), listed("", [], ";1:0:")),
+    ("different, three", different(["0,1,3"] * 3, "21,0", "21,1", "21,2"), "answer=compiled"),
+    ("different, a wide pair", different(["0,0,500000000"] * 2, "21,0", "21,1"), listed("1,2", ["0,500000000,500000001"] * 2, ";1:0:0,1,1,-1")),
+    ("different and others", text(1, 2, ["0,0,1"] * 2, ["3,2,21,0,21,1", "1,17,11,0,18,0,21,0,20,1", "2,1,1,21,1,0"]), "answer=compiled"),
+    ("different, count -1", text(0, 0, [], ["3,-1"]), "answer=refused,4\n"),
+    ("different, count 4097", text(0, 0, [], ["3,4097"]), "answer=refused,4\n"),
+    ("different, a Boolean", text(1, 0, [], ["3,1,11,0"]), "answer=refused,5\n"),
+    ("statement 4", text(0, 0, [], ["4,0"]), "answer=refused,5\n"),
+    ("different, depth 64", different([], "22,1,1," * 63 + "20,0", "20,0"), listed("", [], ";1:0:")),
+    ("different, depth 65", different([], "22,1,1," * 64 + "20,0"), "answer=refused,8\n"),
+    ("different, weight 2^30-1", different([], "20,1073741823", "20,0"), listed("", [], ";1:1073741823:")),
+    ("different, weight 2^30", different([], "20,1073741823", "20,1"), "answer=refused,9\n"),
+    ("different, one too heavy", different([], "22,1,2,20,1073741823"), "answer=refused,9\n"),
+    ("different, 64 in a pair", pair_of(64), "answer=compiled"),
+    ("different, 65 in a pair", pair_of(65), "answer=refused,10\n"),
+    ("different, too long", different(["0,0,1"], *["21,0"] * 90), "answer=refused,12\n"),
     ("ends early", rules(1, "11"), "answer=refused,3\n"),
     ("words after the last", text(0, 0, [], ["1,12,0"]).replace(b"12,0", b"12,0,7"), "answer=refused,3\n"),
     ("statement missing", b"bools=0\nints=0\nstatements=1\n", "answer=refused,3\n"),
@@ -137,7 +181,7 @@ NAMED = [
 ]
 
 
-FAMILIES = ["rules", "chains", "comparisons", "tables", "mixed"]
+FAMILIES = ["rules", "chains", "comparisons", "tables", "mixed", "different", "kinds"]
 
 
 def sets(family, seed, count):

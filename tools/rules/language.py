@@ -10,8 +10,9 @@ CONSTANTS = {"false": 0, "true": 1}
 DECLARATIONS = ("bool", "int")
 RULES = [*LISTS, "not", *PAIRS, *OPERATORS]
 SUMS = ["+", "-", "*"]
-# `if` and `alldifferent` are kept for the forms that requests 2.5 and 2.1 bring.
-RESERVED = {*RULES, *SUMS, *CONSTANTS, *DECLARATIONS, "table", "if", "alldifferent"}
+# What stands only by itself, in no other rule. `if` is kept for the form that request 2.5 brings.
+STATEMENTS = ("table", "alldifferent")
+RESERVED = {*RULES, *SUMS, *CONSTANTS, *DECLARATIONS, *STATEMENTS, "if"}
 STAR = "*"
 
 NUMBER = re.compile(r"0|-?[1-9][0-9]*")  # as in a set's text

@@ -1,7 +1,7 @@
 """A set as rules with names: translating what is printed gives the same words."""
 
 from solve import sets
-from solve.sets import AND, CMP, CONST, ICONST, IVAR, NOT, OR, RANGE, RULE, VAR
+from solve.sets import AND, CMP, CONST, DIFFERENT, ICONST, IVAR, NOT, OR, RANGE, RULE, VAR
 
 from . import language
 
@@ -27,6 +27,8 @@ class Printer:
     def statement(self, statement):
         if statement[0] == RULE:
             return self.boolean(statement[1])
+        if statement[0] == DIFFERENT:
+            return bracket("alldifferent", map(self.integer, statement[1]))
         _, columns, rows = statement
         cells = [bracket(None, [language.STAR if cell == sets.STAR else cell for cell in row]) for row in rows]
         return bracket("table", [bracket(None, map(self.integer, columns)), *cells])

@@ -5,7 +5,7 @@ from collections import namedtuple
 
 from solve import sets
 from solve.errors import Failed
-from solve.sets import CMP, CONST, ICONST, IVAR, NOT, RANGE, RULE, SUM, TABLE, VALUES, VAR
+from solve.sets import CMP, CONST, DIFFERENT, ICONST, IVAR, NOT, RANGE, RULE, SUM, TABLE, VALUES, VAR
 
 from . import language, reader
 from .reader import Wrong
@@ -110,6 +110,8 @@ class Statement:
     def of(self, node):
         if head(node) == "table":
             return self.table(node)
+        if head(node) == "alldifferent":
+            return (DIFFERENT, [self.integer(part, 1) for part in node.items[1:]])
         return (RULE, self.boolean(node, 1))
 
     def table(self, node):
@@ -138,6 +140,8 @@ class Statement:
         if word in sets.OPERATORS:
             sides = [self.integer(part, level + 1) for part in exactly(node, 2)]
             return (CMP, sets.OPERATORS.index(word), *sides)
+        if word in language.STATEMENTS and level > 1:
+            raise Wrong(node, "a rule is expected: %s stands only by itself, in no other rule" % word)
         self.refuse(node, "a rule is expected, a Boolean or a bracket that begins with one of " + " ".join(language.RULES))
 
     def booleans(self, node, count, level):

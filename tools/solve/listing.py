@@ -26,7 +26,7 @@ REFUSALS = {
     7: "a domain is empty or its values do not rise",
     8: "an expression is deeper than 64 levels",
     9: "a weight is over 1073741823",
-    10: "over 64 different integer variables in one comparison, or over 63 in one column",
+    10: "over 64 different integer variables in one comparison or pair of an AllDifferent, or over 63 in one column",
     11: "a column's span is over 4096",
     12: "the answer is longer than the 16384 words that the program lends",
 }

@@ -1,11 +1,11 @@
-"""Whether a roster satisfies a set, worked out from the set's own statements (document 01, "When an assignment passes").
+"""Whether a roster satisfies a set, worked out from the set's own statements (document 01, "When an assignment passes"; AllDifferent: document 02, 2.1).
 
 It is the tools' own reading of a set: it shares nothing with the port, the listing or a solver.
 """
 
 import operator
 
-from .sets import AND, CMP, CONST, ICONST, IFF, IMP, IVAR, NOT, OR, RULE, STAR, VAR, XOR, values_of
+from .sets import AND, CMP, CONST, DIFFERENT, ICONST, IFF, IMP, IVAR, NOT, OR, RULE, STAR, VAR, XOR, values_of
 
 COMPARE = [operator.eq, operator.ne, operator.le, operator.lt, operator.ge, operator.gt]
 
@@ -39,7 +39,9 @@ def holds(tree, bools, ints):
 def statement_holds(statement, bools, ints):
     if statement[0] == RULE:
         return holds(statement[1], bools, ints)
-    values = [integer_value(column, ints) for column in statement[1]]
+    values = [integer_value(member, ints) for member in statement[1]]
+    if statement[0] == DIFFERENT:
+        return len(set(values)) == len(values)
     return any(all(cell in (STAR, value) for cell, value in zip(row, values)) for row in statement[2])
 
 

@@ -4,7 +4,7 @@ Trees are tuples that begin with the set's own code:
   Boolean    (CONST, 0 or 1) (VAR, index) (AND, members) (OR, members) (NOT, e) (XOR, l, r) (IFF, l, r) (IMP, l, r)
              (CMP, operator, l, r)
   integer    (ICONST, value) (IVAR, index) (SUM, [(coefficient, e), ..])
-  statement  (RULE, e) (TABLE, columns, rows)
+  statement  (RULE, e) (TABLE, columns, rows) (DIFFERENT, [integer, ..])
   domain     (RANGE, low, high) (VALUES, [value, ..])
 """
 
@@ -14,7 +14,7 @@ from collections import namedtuple
 from .errors import Failed
 
 RANGE, VALUES = 0, 1
-RULE, TABLE = 1, 2
+RULE, TABLE, DIFFERENT = 1, 2, 3
 CONST, VAR, AND, OR, NOT, XOR, IFF, IMP, CMP = range(10, 19)
 ICONST, IVAR, SUM = 20, 21, 22
 OPERATORS = ["=", "!=", "<=", "<", ">=", ">"]
@@ -95,6 +95,8 @@ class Cursor:
             width, height = self.count(), self.count()
             columns = [self.integer(1) for _ in range(width)]
             return (TABLE, columns, [[self.take() for _ in range(width)] for _ in range(height)])
+        if code == DIFFERENT:
+            return (DIFFERENT, self.many(lambda: self.integer(1)))
         self.unknown("statement", code)
 
     def boolean(self, level):
@@ -161,6 +163,8 @@ def expression_words(tree):
 def statement_words(statement):
     if statement[0] == RULE:
         return [RULE] + expression_words(statement[1])
+    if statement[0] == DIFFERENT:
+        return [DIFFERENT, len(statement[1])] + [word for member in statement[1] for word in expression_words(member)]
     _, columns, rows = statement
     return ([TABLE, len(columns), len(rows)] + [word for column in columns for word in expression_words(column)]
             + [cell for row in rows for cell in row])

@@ -50,6 +50,12 @@ static void numbers(void) {
     GIVES(PLANNER_BAD_DOMAIN, 0, 1, 0, 1, 0, 0);
     GIVES(PLANNER_TOO_HEAVY, 0, 0, 1, 1, 18, 0, 20, 1073741823, 20, 1);
     GIVES(PLANNER_WIDE_COLUMN, 0, 1, 0, 0, 4096, 1, 2, 1, 0, 21, 0);
+    GIVES(PLANNER_UNKNOWN_CODE, 0, 0, 1, 4, 0);
+    GIVES(3, 0, 0, 1, 3, 0);
+    GIVES(PLANNER_OUT_OF_RANGE, 0, 0, 1, 3, -1);
+    GIVES(PLANNER_TOO_HEAVY, 0, 0, 1, 3, 2, 20, 1073741823, 20, 1);
+    GIVES(8, 0, 0, 1, 3, 2, 20, 1073741823, 20, 0);
+    GIVES(4, 0, 1, 0, 0, 4096, 1, 3, 1, 21, 0);
     const int32_t p6[] = {0, 0, 0};
     claim(call(p6, 3, OUT, PLANNER_WORK_WORDS - 1) == PLANNER_SHORT_WORK, "PLANNER_SHORT_WORK", 0);
     claim(call(p6, 3, 2, PLANNER_WORK_WORDS) == PLANNER_SHORT_OUTPUT, "PLANNER_SHORT_OUTPUT", 0);
@@ -87,6 +93,23 @@ static void choices(void) {
     const size_t all = PLANNER_WORK_WORDS;
     claim(compile_set_with(COUNTED(xor_tie), out, 14, work, all, PLANNER_MERGE) == PLANNER_SHORT_OUTPUT && zeros(out, 0, 14), "one word short, merged", 14);
     claim(compile_set_with(NULL, 0, NULL, 0, NULL, 0, PLANNER_MERGE) == PLANNER_SHORT_WORK, "all three NULL, merged", 0);
+}
+
+/* AllDifferent: a clause for the pair, then one for each value where the values are used up. */
+static void different(void) {
+    const int32_t used_up[] = {0, 2, 0, 0, 1, 1, 2, 0, 1, 1, 3, 2, 21, 0, 21, 1};
+    const int32_t clauses[] = {1, 2, 0, 2, 0, 1, 2, 0, 1, 2, 3, 0, 1, 1, 0, 2, 0, 1, 1, -1,
+                               0, 2, 0, 0, 1, 0, 1, 0, 0, 1, 1, 1, 0, 2, 0, -1, 1, 0, 1, 0, -1, 1, 1, 1};
+    answers(0, COUNTED(used_up), COUNTED(clauses), "values used up by two variables");
+    answers(PLANNER_MERGE, COUNTED(used_up), COUNTED(clauses), "AllDifferent with merging");
+    const int32_t three_values[] = {0, 2, 0, 0, 2, 0, 0, 2, 1, 3, 2, 21, 0, 21, 1};
+    const int32_t pair[] = {1, 2, 0, 2, 0, 2, 3, 0, 2, 3, 1, 0, 1, 1, 0, 2, 0, 1, 1, -1};
+    answers(0, COUNTED(three_values), COUNTED(pair), "two variables of three values");
+    const int32_t apart[] = {0, 1}, equal[] = {1, 1}, outside[] = {2, 0};
+    const size_t all = PLANNER_WORK_WORDS;
+    claim(check_roster(COUNTED(used_up), COUNTED(apart), work, all) == 0, "different values", 0);
+    claim(check_roster(COUNTED(used_up), COUNTED(equal), work, all) == 1, "equal values", 1);
+    claim(check_roster(COUNTED(used_up), COUNTED(outside), work, all) == PLANNER_OUTSIDE_DOMAIN, "PLANNER_OUTSIDE_DOMAIN", 2);
 }
 
 /* A roster of the set "v0 or v1; x is not 1", x among 0, 1 and 3. */
@@ -139,7 +162,7 @@ static void sheets(void) {
     claim(paper(81, OUT, NULL, 0) == 11, "no word for the bytes", 0);
 }
 
-/* Sets that want some writing: 65 levels; 65 variables in one comparison. */
+/* Sets that want some writing: 65 levels; 65 variables in one comparison, and in one pair of an AllDifferent; alone they are no pair. */
 static void deep_and_many(void) {
     int32_t set[400] = {1, 0, 1, 1};
     size_t n = 4;
@@ -154,6 +177,12 @@ static void deep_and_many(void) {
     set[n++] = 20, set[n++] = 0;
     claim(n <= 400, "the set has room", (long)n);
     claim(call(set, n, OUT, PLANNER_WORK_WORDS) == PLANNER_MANY_VARIABLES, "PLANNER_MANY_VARIABLES", 0);
+    const size_t rule = 2 + 65 * 3 + 1; /* 1, 18, 0, the sum, 20, 0: the same sum and 0 as the expressions of statement 3 */
+    set[rule] = 3, set[rule + 1] = 2;
+    memmove(set + rule + 2, set + rule + 3, (n - rule - 3) * sizeof *set);
+    claim(call(set, n - 1, OUT, PLANNER_WORK_WORDS) == PLANNER_MANY_VARIABLES, "PLANNER_MANY_VARIABLES of a pair", 0);
+    set[rule + 1] = 1;
+    claim(call(set, n - 3, OUT, PLANNER_WORK_WORDS) == PLANNER_SHORT_OUTPUT, "65 variables in one expression", 0);
 }
 
 static void null_with_length_0(void) {
@@ -189,6 +218,7 @@ static void growing(void) {
 int main(void) {
     numbers();
     choices();
+    different();
     rosters();
     sheets();
     deep_and_many();

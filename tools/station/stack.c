@@ -175,6 +175,24 @@ static void measure_tables(void) {
     }
 }
 
+/* AllDifferent: nested sums of 64 levels, and as many variables as a set has room for. */
+static void measure_different(void) {
+    put_head();
+    put(3), put(3);
+    for (int i = 0; i < 3; i++) put_sum(1);
+    measure("differing sums of 64 levels");
+    put_head();
+    put(3), put(1900);
+    for (int i = 0; i < 1900; i++) put(INTEGER), put(i % 64);
+    measure("1900 differing variables");
+    words = 0;
+    put(0), put(64);
+    for (int i = 0; i < 64; i++) put(0), put(0), put(63);
+    put(1), put(3), put(64);
+    for (int i = 0; i < 64; i++) put(INTEGER), put(63 - i);
+    measure("64 variables of 64 values");
+}
+
 /* A chain that fixes one variable a pass, and one rule of many members. */
 static void measure_wide(void) {
     words = 0;
@@ -200,6 +218,7 @@ int main(int count, char **arguments) {
     least = used_by(rest);
     measure_regular();
     measure_tables();
+    measure_different();
     measure_wide();
     measure_random(sets);
     printf("%ld sets, %ld compiled: at most %zu bytes of stack\n", counted, compiled, most);

@@ -2,6 +2,8 @@ pub mod Sizes
 pub mod Laws
 pub mod CountLaws
 pub mod TestLaws
+pub mod PairLaws
+pub mod DifferentLaws
 pub mod RuleLaws
 pub mod StatementLaws
 pub mod SetLaws

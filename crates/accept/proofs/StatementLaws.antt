@@ -9,12 +9,12 @@ use lib.ListN.{length, getD, length-append}
 use Rattle.laws.specs.Lists.{any, flat}
 use Rattle.laws.specs.Slices.{Has, has-fits, has-front, has-back, has-word, has-rest}
 use Rattle.laws.specs.Ints.{pos-eq}
-use Rattle.syntax.specs.Syntax.{Domain, IntExpr, encode-int, BoolExpr, encode-bool, Cell, encode-cell, Stmt, Rule, Table, encode-stmt}
+use Rattle.syntax.specs.Syntax.{Domain, IntExpr, encode-int, BoolExpr, encode-bool, Cell, encode-cell, Stmt, Rule, Table, AllDifferent, encode-stmt}
 use Rattle.syntax.specs.Lengths.{rows-length}
 use Rattle.syntax.specs.Codes.{stmt-code, stmt-code-word}
 use Rattle.domains.specs.Declared.{Plain}
 use Rattle.limits.specs.Limits.{any-comparison, any-part}
-use Rattle.accept.specs.Walk.{Bounds, test-comparison, test-column, Columns-at, Ready-columns, Columns-post, Usable-all, Bools-at, Ready-bools, Bools-post, Usable-stmt, Usable-stmts, Stmt-at, Stmts-at, Ready-stmt, Ready-stmts, test-stmt, Stmt-post, Stmts-post, check-stmts, Check-post}
+use Rattle.accept.specs.Walk.{Bounds, test-comparison, test-column, Columns-at, Ready-columns, Columns-post, Different-post, Usable-all, Bools-at, Ready-bools, Bools-post, Usable-stmt, Usable-stmts, Stmt-at, Stmts-at, Ready-stmt, Ready-stmts, test-stmt, Stmt-post, Stmts-post, check-stmts, Check-post}
 use Rattle.accept.proofs.TestLaws.{hit-of, miss-of, or-false}
 
 -- ---- `statement`
@@ -23,6 +23,7 @@ stmt-some : (s : Stmt) → 0 < length (encode-stmt s)
 unfolding encode-stmt
 stmt-some (Rule e) = omega arith
 stmt-some (Table es rows) = omega arith
+stmt-some (AllDifferent es) = omega arith
 
 module _ (ws work : List ℤ) (at ni m : ℕ) where
   pub stmt-inside : Ready-stmt ws work at ni → at < length ws
@@ -45,6 +46,7 @@ module _ (ws work : List ℤ) (at ni m : ℕ) where
         go : (s : Stmt) → stmt-code s ≡ w → Stmt-at ni ws at s → Ready-bools ws work (at + 1) 1 ni
         go (Rule e) t r = record { ds = y .ds; bounds = y .bounds; few = y .few; them = e ∷ []; reads = one-rule e r }
         go (Table es rows) t r = absurd (omega arith)
+        go (AllDifferent es) t r = absurd (omega arith)
 
     pub rule-post : w ≡ 1 → (x : ℕ) → Bools-post ws work (at + 1) 1 ni m x → Stmt-post ws work at ni m x
     unfolding encode-stmt any-part
@@ -56,13 +58,52 @@ module _ (ws work : List ℤ) (at ni m : ℕ) where
             let n : at + 1 + length (encode-bool e ++ []) ≡ at + length (encode-stmt (Rule e)) = omega (arith, length-append (encode-bool e) []) in
             p ds (e ∷ []) b q (one-rule e r) ∙ rw (or-false a, n) refl
         go (Table es rows) t r = absurd (omega arith)
+        go (AllDifferent es) t r = absurd (omega arith)
 
-    module _ (z : w ≡ 1 → ⊥) where
+    -- a table or an AllDifferent: its count
+    pub stmt-second : (w ≡ 1 → ⊥) → Ready-stmt ws work at ni → Plain ws (at + 1)
+    unfolding encode-stmt
+    stmt-second z y = go (y .it) (y .reads .words)
+      where
+        go : (s : Stmt) → Has ws at (encode-stmt s) → Plain ws (at + 1)
+        go (Rule e) h = absurd (z (sym (code-is (Rule e) h)))
+        go (Table es rows) h = record { inside = omega (arith, has-fits ws at (encode-stmt (Table es rows)) h (omega arith)); value = length es; is = has-word ws (at + 1) _ _ (pos 0) (has-rest ws at _ _ h) }
+        go (AllDifferent es) h = record { inside = omega (arith, has-fits ws at (encode-stmt (AllDifferent es)) h (omega arith)); value = length es; is = has-word ws (at + 1) _ _ (pos 0) (has-rest ws at _ _ h) }
+
+    module _ (z : w ≡ 3) where
+      different-inv : {X : Type 0} (s : Stmt) → Stmt-at ni ws at s
+          → ((es : List IntExpr) → s ≡ AllDifferent es → getD ws (at + 1) (pos 0) ≡ pos (length es) → Columns-at ni ws (at + 2) (length es) es → at + 2 ≤ length ws → X) → X
+      unfolding encode-stmt Usable-stmt
+      different-inv (Rule e) r go = absurd (let c : 1 ≡ w = code-is (Rule e) (r .words) in omega arith)
+      different-inv (Table es rows) r go = absurd (let c : 2 ≡ w = code-is (Table es rows) (r .words) in omega arith)
+      different-inv (AllDifferent es) r go =
+          let h1 = has-rest ws at _ _ (r .words) in
+          let m2 : at + 2 ≡ at + 1 + 1 = omega arith in
+          go es refl (has-word ws (at + 1) _ _ (pos 0) h1) (record { words = rw m2 (has-rest ws (at + 1) _ _ h1); vars = r .usable; size = refl }) (omega (arith, has-fits ws at (encode-stmt (AllDifferent es)) (r .words) (omega arith)))
+
+      pub different-inside : Ready-stmt ws work at ni → at + 2 ≤ length ws
+      different-inside y = different-inv (y .it) (y .reads) λ es q a c l. l
+
+      module _ (n : ℕ) (hn : getD ws (at + 1) (pos 0) ≡ pos n) where
+        pub different-ready : Ready-stmt ws work at ni → Ready-columns ws work (at + 2) n ni
+        different-ready y =
+            different-inv (y .it) (y .reads) λ es q a c l.
+            record { ds = y .ds; bounds = y .bounds; few = y .few; them = es; reads = subst (λ i. Columns-at ni ws (at + 2) i es) (pos-eq _ _ _ a hn) c; behind = omega arith }
+
+        pub different-post : (x : ℕ) → Different-post ws work (at + 2) n ni m x → Stmt-post ws work at ni m x
+        unfolding any-part encode-stmt
+        different-post x p ds s b q r =
+            different-inv s r λ es t a c l.
+            let e : at + 2 + length (flat (map encode-int es)) ≡ at + length (encode-stmt (AllDifferent es)) = omega arith in
+            rw (t, ← e) (p ds es b q (subst (λ i. Columns-at ni ws (at + 2) i es) (pos-eq _ _ _ a hn) c))
+
+    module _ (z : w ≡ 1 → ⊥) (z3 : w ≡ 3 → ⊥) where
       table-inv : {X : Type 0} (s : Stmt) → Stmt-at ni ws at s
           → ((es : List IntExpr) (rows : List (List Cell)) → s ≡ Table es rows → getD ws (at + 1) (pos 0) ≡ pos (length es) → getD ws (at + 2) (pos 0) ≡ pos (length rows)
           → Columns-at ni ws (at + 3) (length es) es → at + (3 + (length (flat (map encode-int es)) + length es * length rows)) ≤ length ws → length (encode-stmt (Table es rows)) ≡ 3 + (length (flat (map encode-int es)) + length es * length rows) → X) → X
       unfolding encode-stmt Usable-stmt
       table-inv (Rule e) r go = absurd (z (sym (code-is (Rule e) (r .words))))
+      table-inv (AllDifferent es) r go = absurd (z3 (sym (code-is (AllDifferent es) (r .words))))
       table-inv (Table es rows) r go =
           let cs = flat (map encode-int es) in
           let rs = flat (map (map encode-cell) rows) in
@@ -77,9 +118,6 @@ module _ (ws work : List ℤ) (at ni m : ℕ) where
 
       pub table-inside : Ready-stmt ws work at ni → at + 3 ≤ length ws
       table-inside y = table-inv (y .it) (y .reads) λ es rows q a b c l k. omega arith
-
-      pub table-first : Ready-stmt ws work at ni → Plain ws (at + 1)
-      table-first y = table-inv (y .it) (y .reads) λ es rows q a b c l k. record { inside = omega arith; value = length es; is = a }
 
       pub table-second : Ready-stmt ws work at ni → Plain ws (at + 2)
       table-second y = table-inv (y .it) (y .reads) λ es rows q a b c l k. record { inside = omega arith; value = length rows; is = b }

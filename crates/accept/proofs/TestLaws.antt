@@ -1,6 +1,6 @@
 -- What the tests of a comparison and of columns ask and give at each step, over variables. Assumes nothing.
 use Prim.Native.Nat.{ℕ, suc, _+_, _-_, _≤_, _<_}
-use mathlib.Core.Path.{_≡_, refl, ap, _∙_, subst}
+use mathlib.Core.Path.{_≡_, refl, sym, ap, _∙_, subst}
 use mathlib.Core.Bool.{Bool, true, false, _||_, cond}
 use mathlib.Core.List.{List, [], _∷_, map}
 use native.Mathlib.Omega.{arith}
@@ -13,9 +13,10 @@ use Rattle.laws.specs.Slices.{has-front, has-back}
 use Rattle.syntax.specs.Syntax.{Domain, IntExpr, encode-int}
 use Rattle.syntax.specs.Written.{EveryColumn}
 use Rattle.syntax.specs.Lengths.{int-long}
+use Rattle.limits.specs.Limits.{many-comparison}
 use Rattle.limits.specs.Total.{total, cap, total-cap, heavy-total, heavy-comparison-total, wide-total}
 use Rattle.limits.specs.Count.{either, marked, many-comparison-marked, many-column-marked, few-comparison, few-column}
-use Rattle.accept.specs.Walk.{Bounds, Int-at, Ready-int, Int-post, Behind, Marked-post, test-comparison, test-column, Ready-pair, Pair-post, Ready-column, Column-post, Columns-at, Ready-columns, Columns-post}
+use Rattle.accept.specs.Walk.{Bounds, Int-at, Ready-int, Int-post, Behind, Marked-post, Many-post, test-comparison, test-column, Ready-pair, Pair-post, Ready-column, Column-post, Columns-at, Ready-columns, Columns-post}
 
 -- ---- an answer that is 0 where the test hits
 
@@ -31,8 +32,17 @@ pub or-false : (a : Bool) → a || false ≡ a
 or-false true = refl
 or-false false = refl
 
-few-as : (ws : List ℤ) (at ni n : ℕ) (e : IntExpr) → ni ≡ n → Int-at ni ws at e → Int-at n ws at e
+pub few-as : (ws : List ℤ) (at ni n : ℕ) (e : IntExpr) → ni ≡ n → Int-at ni ws at e → Int-at n ws at e
 few-as ws at ni n e q r = subst (λ k. Int-at k ws at e) q r
+
+-- ---- `many_comparison`
+
+module _ (ws : List ℤ) (a b words ni : ℕ) where
+  pub many-few : words < 128 → Many-post ws a b words ni false
+  many-few l x y i j w = sym (few-comparison x y (omega arith))
+
+  pub many-of : (n : ℕ) → Marked-post ws a b ni n → Many-post ws a b words ni (ltb 64 n)
+  many-of n p x y i j w = rw (p x y (i .words) (j .words)) (sym (many-comparison-marked ni x y (i .vars) (j .vars)))
 
 -- ---- `comparison`
 
@@ -76,21 +86,16 @@ module _ (ws work : List ℤ) (at ni m : ℕ) where
           let y : tb ≡ total true ds b = rw w at (right-of ds a b bs q i j .1) in
           h ∙ rw (x, y, right-of ds a b bs q i j .0, w, heavy-comparison-total ds (bs .bounded) a b) refl
 
-      pub pair-many : (m ≡ 9 → ⊥) → m ≡ 10 → (n r : ℕ) → Marked-post ws at na ni n → r ≡ cond (ltb 64 n) 0 nb → Pair-post ws work at ni m r
+      pub pair-many : (m ≡ 9 → ⊥) → m ≡ 10 → (hit : Bool) (r : ℕ) → Many-post ws at na (nb - at) ni hit → r ≡ cond hit 0 nb → Pair-post ws work at ni m r
       unfolding test-comparison
-      pair-many z z' n r p h ds a b bs q i j =
+      pair-many z z' hit r p h ds a b bs q i j =
           let e = left-of ds a bs q i .0 in
-          let k : n ≡ marked (either a b) ni = p a b (i .words) (rw e (j .words)) in
-          h ∙ rw (k, right-of ds a b bs q i j .0, ne-eqb m 9 z, eq-eqb m 10 z', many-comparison-marked ni a b (i .vars) (j .vars)) refl
+          let l : nb ≡ at + length (encode-int a) + length (encode-int b) = right-of ds a b bs q i j .0 in
+          let k : hit ≡ many-comparison a b = p a b i (rw e j) (omega arith) in
+          h ∙ rw (k, l, ne-eqb m 9 z, eq-eqb m 10 z') refl
 
       pub pair-on : Ready-pair ws work at ni → at ≤ nb
       pair-on r = omega (arith, right-of (r .ds) (r .left) (r .right) (r .bounds) (r .few) (r .left-at) (r .right-at) .0)
-
-      pub pair-small : (m ≡ 9 → ⊥) → m ≡ 10 → nb - at < 128 → Pair-post ws work at ni m nb
-      unfolding test-comparison
-      pair-small z z' l ds a b bs q i j =
-          let e = right-of ds a b bs q i j .0 in
-          rw (ne-eqb m 9 z, eq-eqb m 10 z', few-comparison a b (omega arith)) e
 
       pub pair-none : (m ≡ 9 → ⊥) → (m ≡ 10 → ⊥) → Pair-post ws work at ni m nb
       unfolding test-comparison
@@ -145,7 +150,7 @@ columns-none ws work at n ni m z ds [] b q r = omega arith
 columns-none ws work at n ni m z ds (e ∷ es) b q r = absurd (let s : n ≡ suc (length es) = r .size in omega arith)
 
 module _ (ws work : List ℤ) (at n ni m : ℕ) (z : n ≡ 0 → ⊥) where
-  columns-inv : {X : Type 0} (es : List IntExpr) → Columns-at ni ws at n es
+  pub columns-inv : {X : Type 0} (es : List IntExpr) → Columns-at ni ws at n es
       → ((e : IntExpr) (us : List IntExpr) → es ≡ e ∷ us → Int-at ni ws at e → Columns-at ni ws (at + length (encode-int e)) (n - 1) us → X) → X
   unfolding EveryColumn
   columns-inv [] r go = absurd (z (r .size))

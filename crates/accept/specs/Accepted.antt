@@ -16,7 +16,7 @@ use Rattle.laws.specs.Lists.{flat}
 use Rattle.laws.specs.Order.{leZ-refl, leZ-lt, leZ-trans}
 use Rattle.laws.specs.Slices.{Has, has-fits, has-front, has-back, has-word, has-rest, has-sets}
 use Rattle.syntax.specs.Words.{min-work-words, max-set-words}
-use Rattle.syntax.specs.Syntax.{Domain, Range, Enumerative, lower-bound, upper-bound, last-or, domain-of, encode-domain, Stmt, Rule, Table, encode-stmt, Problem, encode}
+use Rattle.syntax.specs.Syntax.{Domain, Range, Enumerative, lower-bound, upper-bound, last-or, domain-of, encode-domain, Stmt, Rule, Table, AllDifferent, encode-stmt, Problem, encode}
 use Rattle.syntax.specs.Written.{every-map, None, Any}
 use Rattle.words.specs.Exact.{Each}
 use Rattle.words.specs.Parse.{Parsed, ok, refuse}
@@ -29,7 +29,7 @@ use Rattle.read.specs.Vars.{columns-vars, bool-vars, rows-wide}
 use Rattle.domains.specs.Declared.{Domains, bounds-words, bounds-length}
 use Rattle.limits.specs.Limits.{largest, domain-weight, check}
 use Rattle.limits.specs.Total.{Bounded}
-use Rattle.accept.specs.Walk.{bounds-place, Bounds, Usable-stmt, Usable-stmts, Stmts-at, test-comparison, test-column, check-stmts}
+use Rattle.accept.specs.Walk.{bounds-place, Bounds, Usable-stmt, Usable-stmts, Stmts-at, test-comparison, test-column, test-one, check-stmts}
 
 -- ---- domains
 
@@ -77,6 +77,7 @@ module _ (nb ni : ℕ) where
   unfolding Usable-stmt
   stmt-usable (Rule e) h = every-map None (λ v. v < nb) (λ v. v < ni) None Any (λ v. v < ni) (λ n k. k) (λ v k. tt) (λ v k. k) e (bool-vars nb ni 64 e h)
   stmt-usable (Table es rows) h = (columns-vars ni 64 es (h .2), rows-wide (length es) rows (h .3))
+  stmt-usable (AllDifferent es) h = columns-vars ni 64 es (h .1)
 
   stmts-usable : (ss : List Stmt) → Each (WellStmt nb ni) ss → Usable-stmts ni ss
   unfolding Usable-stmts
@@ -86,7 +87,7 @@ module _ (nb ni : ℕ) where
 -- ---- the refusal that the walks test
 
 pub check-is : (p : Problem) → check-stmts (p .domains) (p .stmts) ≡ check p
-unfolding check-stmts check test-comparison test-column
+unfolding check-stmts check test-comparison test-column test-one
 check-is p = refl
 
 -- ---- a set's words

@@ -1,19 +1,19 @@
 -- What the walks over a set's words ask and give. Assumes nothing.
 -- A walk that tests what it passes answers with the place behind, or with 0 where the test hits.
 use mathlib.Core.Path.{_≡_}
-use mathlib.Core.Bool.{Bool, false, cond}
+use mathlib.Core.Bool.{Bool, true, false, _||_, cond}
 use mathlib.Core.List.{List, [], _∷_, map}
-use Prim.Native.Nat.{ℕ, _+_, _<_}
+use Prim.Native.Nat.{ℕ, _+_, _<_, max}
 use lib.IntN.{ℤ}
-use lib.ListN.{length}
-use lib.Dec.{eqb}
+use lib.ListN.{length, getD}
+use lib.Dec.{eqb, ltb}
 use Rattle.laws.specs.Lists.{any, flat}
 use Rattle.laws.specs.Slices.{Has}
-use Rattle.syntax.specs.Syntax.{Domain, lower-bound, upper-bound, domain-of, IntExpr, IConst, IVar, Linear, Terms, tnil, count-terms, encode-int, encode-terms, BoolExpr, Const, Var, NVar, And, Or, Not, Xor, Iff, Imp, Cmp, Members, mnil, more, encode-bool, Stmt, Rule, Table, encode-stmt}
+use Rattle.syntax.specs.Syntax.{Domain, lower-bound, upper-bound, domain-of, IntExpr, IConst, IVar, Linear, Terms, tnil, count-terms, encode-int, encode-terms, BoolExpr, Const, Var, NVar, And, Or, Not, Xor, Iff, Imp, Cmp, Members, mnil, more, encode-bool, Stmt, Rule, Table, AllDifferent, encode-stmt}
 use Rattle.syntax.specs.Written.{EveryInt, EveryTerm, EveryColumn, EveryOf, EveryMemberOf, Any, None}
 use Rattle.syntax.specs.Lengths.{Wide}
 use Rattle.domains.specs.Declared.{bounds-words}
-use Rattle.limits.specs.Limits.{any-comparison, any-part, heavy, heavy-comparison, many-comparison, many-column, wide-column}
+use Rattle.limits.specs.Limits.{any-comparison, any-pair, any-part, heavy, heavy-comparison, many-comparison, many-column, wide-column}
 use Rattle.limits.specs.Total.{Bounded, total, terms-total, joined, bounds-total}
 use Rattle.limits.specs.Count.{among, either, marked}
 use Rattle.limits.specs.Limits.{written}
@@ -76,25 +76,31 @@ pub record Behind (ws : List ℤ) (at : ℕ) : Type 0 where
   pub words : Has ws at (encode-int it)
   pub behind : 0 < at
 
--- is it this variable, and the terms in it
-abbrev pub is-var : ℕ → IntExpr → Bool
-is-var v (IConst c) = false
-is-var v (IVar u) = eqb v u
-is-var v (Linear ts) = false
+-- the variable that it is, or none; and the terms in it
+abbrev pub own-var : ℕ → IntExpr → ℕ
+own-var none (IConst c) = none
+own-var none (IVar u) = u
+own-var none (Linear ts) = none
 
 abbrev pub inner : IntExpr → Terms
 inner (IConst c) = tnil
 inner (IVar u) = tnil
 inner (Linear ts) = ts
 
-abbrev pub Head-post : List ℤ → ℕ → ℕ → Bool → ℕ → Type 0
-Head-post ws at v hit n = (e : IntExpr) → Has ws at (encode-int e) → (hit ≡ is-var v e) × (n ≡ count-terms (inner e))
+abbrev pub Head-post : List ℤ → ℕ → ℕ → ℕ → ℕ → Type 0
+Head-post ws at none var n = (e : IntExpr) → Has ws at (encode-int e) → (var ≡ own-var none e) × (n ≡ count-terms (inner e))
 
-abbrev pub Writes-post : List ℤ → ℕ → ℕ → Bool → Type 0
-Writes-post ws at v r = (e : IntExpr) → Has ws at (encode-int e) → r ≡ among (written e) v
+abbrev pub has-mark : List Bool → ℕ → Bool
+has-mark marks v = getD marks v false
 
-abbrev pub Either-post : List ℤ → ℕ → ℕ → ℕ → ℕ → Type 0
-Either-post ws a b v r = (x y : IntExpr) → Has ws a (encode-int x) → Has ws b (encode-int y) → r ≡ cond (either x y v) 1 0
+-- marks that gained the variables below n of which f holds: r of them had none
+pub record Marks (marks : List Bool) (f : ℕ → Bool) (n : ℕ) (marks' : List Bool) (r : ℕ) : Type 0 where
+  pub size : length marks' ≡ 256
+  pub each : (v : ℕ) → v < n → has-mark marks' v ≡ (has-mark marks v || f v)
+  pub gained : marked (has-mark marks) n + r ≡ marked (has-mark marks') n
+
+abbrev pub Written-post : List ℤ → ℕ → ℕ → List Bool → List Bool → ℕ → Type 0
+Written-post ws at n marks marks' r = (e : IntExpr) → Has ws at (encode-int e) → Marks marks (among (written e)) n marks' r
 
 abbrev pub Marked-post : List ℤ → ℕ → ℕ → ℕ → ℕ → Type 0
 Marked-post ws a b n r = (x y : IntExpr) → Has ws a (encode-int x) → Has ws b (encode-int y) → r ≡ marked (either x y) n
@@ -104,8 +110,15 @@ Marked-post ws a b n r = (x y : IntExpr) → Has ws a (encode-int x) → Has ws 
 unfoldable pub test-comparison : ℕ → List Domain → IntExpr → IntExpr → Bool
 test-comparison m ds a b = cond (eqb m 9) (heavy-comparison ds a b) (cond (eqb m 10) (many-comparison a b) false)
 
+-- of an AllDifferent's expression by itself
+unfoldable pub test-one : ℕ → List Domain → IntExpr → Bool
+test-one m ds e = cond (eqb m 9) (heavy ds e) false
+
 unfoldable pub test-column : ℕ → List Domain → IntExpr → Bool
 test-column m ds e = cond (eqb m 9) (heavy ds e) (cond (eqb m 10) (many-column e) (wide-column ds e))
+
+abbrev pub Many-post : List ℤ → ℕ → ℕ → ℕ → ℕ → Bool → Type 0
+Many-post ws a b words ni r = (x y : IntExpr) → Int-at ni ws a x → Int-at ni ws b y → words ≡ length (encode-int x) + length (encode-int y) → r ≡ many-comparison x y
 
 pub record Ready-pair (ws work : List ℤ) (at ni : ℕ) : Type 0 where
   pub ds : List Domain
@@ -150,6 +163,53 @@ abbrev pub Columns-post : List ℤ → List ℤ → ℕ → ℕ → ℕ → ℕ 
 Columns-post ws work at n ni m r =
     (ds : List Domain) (es : List IntExpr) → Bounds work ds → ni ≡ length ds → Columns-at ni ws at n es
     → r ≡ cond (any (test-column m ds) es) 0 (at + length (flat (map encode-int es)))
+
+-- ---- expressions that differ
+
+pub record Ready-totals (ws work : List ℤ) (at n : ℕ) : Type 0 where
+  pub ds : List Domain
+  pub bounds : Bounds work ds
+  pub them : List IntExpr
+  pub reads : Columns-at (length ds) ws at n them
+
+-- the total of some expression is over the limit with the largest one before it
+unfoldable pub over : List Domain → ℕ → List IntExpr → Bool
+over ds top [] = false
+over ds top (e ∷ es) = ltb 1073741823 (top + total true ds e) || over ds (max top (total true ds e)) es
+
+abbrev pub Over-post : List ℤ → List ℤ → ℕ → ℕ → ℕ → ℕ → Type 0
+Over-post ws work at n top r =
+    (ds : List Domain) (es : List IntExpr) → Bounds work ds → Columns-at (length ds) ws at n es → r ≡ cond (over ds top es) 0 (at + length (flat (map encode-int es)))
+
+-- one of two or more expressions, of 64 words at least, writes too many variables with one of them
+unfoldable pub crowds : List IntExpr → IntExpr → Bool
+crowds es e = cond (ltb (length es) 2) false (cond (ltb (length (encode-int e)) 64) false (any (many-comparison e) es))
+
+pub record Ready-among (ws work : List ℤ) (a words at n ni : ℕ) : Type 0 where
+  pub one : IntExpr
+  pub one-at : Int-at ni ws a one
+  pub long : words ≡ length (encode-int one)
+  pub one-behind : 0 < a
+  pub others : Ready-columns ws work at n ni
+
+abbrev pub Among-post : List ℤ → List ℤ → ℕ → ℕ → ℕ → ℕ → ℕ → Bool → Type 0
+Among-post ws work a words at n ni r =
+    (ds : List Domain) (e : IntExpr) (es : List IntExpr) → Bounds work ds → ni ≡ length ds → Int-at ni ws a e → words ≡ length (encode-int e) → Columns-at ni ws at n es
+    → r ≡ crowds es e
+
+-- of the expressions all, those from next on are left; a test that is not 10 hits none
+unfoldable pub crowded : ℕ → List IntExpr → List IntExpr → Bool
+crowded m all es = cond (eqb m 10) (any (crowds all) es) false
+
+abbrev pub Crowded-post : List ℤ → List ℤ → ℕ → ℕ → ℕ → ℕ → ℕ → ℕ → ℕ → Type 0
+Crowded-post ws work at n ni m next rest r =
+    (ds : List Domain) (all es : List IntExpr) → Bounds work ds → ni ≡ length ds → Columns-at ni ws at n all → Columns-at ni ws next rest es
+    → r ≡ cond (crowded m all es) 0 (next + length (flat (map encode-int es)))
+
+abbrev pub Different-post : List ℤ → List ℤ → ℕ → ℕ → ℕ → ℕ → ℕ → Type 0
+Different-post ws work at n ni m r =
+    (ds : List Domain) (es : List IntExpr) → Bounds work ds → ni ≡ length ds → Columns-at ni ws at n es
+    → r ≡ cond (any (test-one m ds) es || any-pair (test-comparison m ds) es) 0 (at + length (flat (map encode-int es)))
 
 -- ---- Boolean expressions that reading makes, with declared variables
 
@@ -246,6 +306,7 @@ Bools-post ws work at n ni m r =
 unfoldable pub Usable-stmt : ℕ → Stmt → Type 0
 Usable-stmt ni (Rule e) = Usable ni e
 Usable-stmt ni (Table es rows) = EveryColumn (λ v. v < ni) es × Wide (length es) rows
+Usable-stmt ni (AllDifferent es) = EveryColumn (λ v. v < ni) es
 
 unfoldable pub Usable-stmts : ℕ → List Stmt → Type 0
 Usable-stmts ni [] = Unit {0}
@@ -275,7 +336,7 @@ pub record Ready-stmts (ws work : List ℤ) (at n ni : ℕ) : Type 0 where
   pub reads : Stmts-at ni ws at n them
 
 abbrev pub test-stmt : ℕ → List Domain → Stmt → Bool
-test-stmt m ds s = any-part (test-comparison m ds) (test-column m ds) s
+test-stmt m ds s = any-part (test-comparison m ds) (test-column m ds) (test-one m ds) s
 
 abbrev pub Stmt-post : List ℤ → List ℤ → ℕ → ℕ → ℕ → ℕ → Type 0
 Stmt-post ws work at ni m r = (ds : List Domain) (s : Stmt) → Bounds work ds → ni ≡ length ds → Stmt-at ni ws at s → r ≡ cond (test-stmt m ds s) 0 (at + length (encode-stmt s))

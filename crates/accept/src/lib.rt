@@ -4,11 +4,12 @@ use reader::Set;
 ghost use mathlib.Core.Path.{_≡_};
 ghost use mathlib.Core.Bool.{cond};
 ghost use Prim.Native.Nat.{_<_, _≤_, min, max};
+ghost use lib.Dec.{eqb};
 ghost use lib.IntN.{natAbs, _-ℤ_};
 ghost use lib.ListN.{length};
 ghost use Rattle.limits.specs.Total.{cap, joined, product, constant-total, bounds-total};
 ghost use Rattle.accept.specs.Accepted.{Ready-set, Limits-post, accepted, table-after};
-ghost use Rattle.accept.specs.Walk.{Ready-var, Var-post, Ready-int, Ready-terms, Int-post, Terms-post, Behind, Head-post, Writes-post, Either-post, Marked-post, Ready-pair, Pair-post, Ready-column, Column-post, Ready-columns, Columns-post, Ready-bool, Ready-bools, Step-post, Bools-post, Ready-stmt, Stmt-post, Ready-stmts, Stmts-post, Check-post};
+ghost use Rattle.accept.specs.Walk.{Ready-var, Var-post, Ready-int, Ready-terms, Int-post, Terms-post, Behind, Head-post, Marks, Written-post, Marked-post, Many-post, Ready-pair, Pair-post, Ready-column, Column-post, Ready-columns, Columns-post, Ready-totals, Over-post, Ready-among, Among-post, Crowded-post, Different-post, Ready-bool, Ready-bools, Step-post, Bools-post, Ready-stmt, Stmt-post, Ready-stmts, Stmts-post, Check-post};
 
 // ---- sizes
 
@@ -153,81 +154,78 @@ fn int_total(set: &[i32], work: &[i32], at: usize, weigh: bool) -> Total
 // ---- variables written
 
 pub struct Head {
-    pub hit: bool,
+    pub var: usize,
     pub terms: usize,
 }
 
-// Whether the integer expression is variable v, and how many terms it has.
-fn int_head(set: &[i32], at: usize, v: usize) -> Head
+// The variable that the integer expression is, or `none`; and how many terms it has.
+fn int_head(set: &[i32], at: usize, none: usize) -> Head
     requires { ⌜ Behind (now set) at ⌝ }
-    ensures { λ r. ⌜ Head-post (now (set .entry)) at v (r .hit) (r .terms) ⌝ }
+    ensures { λ r. ⌜ Head-post (now (set .entry)) at none (r .var) (r .terms) ⌝ }
 {
     let code = domains::number(set, at);
     if code == 20 {
         return Head {
-            hit: false,
+            var: none,
             terms: 0,
         };
     }
     let n = domains::number(set, at + 1);
     if code == 21 {
-        let hit = v == n;
-        return Head { hit, terms: 0 };
+        return Head { var: n, terms: 0 };
     }
     Head {
-        hit: false,
+        var: none,
         terms: n,
     }
 }
 
-// Whether the integer expression writes variable v. Every expression's two words are followed by a coefficient or by the end.
-fn writes(set: &[i32], at: usize, v: usize) -> bool
-    requires { ⌜ Behind (now set) at ⌝ }
-    ensures { λ r. ⌜ Writes-post (now (set .entry)) at v r ⌝ }
+// Marks variable v if it is below n: 1 where it had no mark, else 0.
+fn mark(marks: &mut [bool; 256], v: usize, n: usize) -> usize
+    requires { ⌜ (n ≤ 256) × (length (now marks) ≡ 256) ⌝ }
+    ensures { λ r. ⌜ Marks (now (marks .entry)) (λ u. eqb u v) n (now (marks .exit)) r ⌝ }
+{
+    if v >= n {
+        return 0;
+    }
+    if marks[v] {
+        return 0;
+    }
+    marks[v] = true;
+    1
+}
+
+// Marks the variables below n that the integer expression writes: how many had no mark.
+// Every expression's two words are followed by a coefficient or by the end.
+fn mark_written(set: &[i32], at: usize, n: usize, marks: &mut [bool; 256]) -> usize
+    requires { ⌜ Behind (now set) at × (n ≤ 256) × (length (now marks) ≡ 256) ⌝ }
+    ensures { λ r. ⌜ Written-post (now (set .entry)) at n (now (marks .entry)) (now (marks .exit)) r ⌝ }
 {
     let mut q = at - 1;
     let mut rest = 1;
+    let mut count = 0;
     while rest != 0 {
-        let h = int_head(set, q + 1, v);
-        if h.hit {
-            return true;
-        }
+        let h = int_head(set, q + 1, n);
+        let k = mark(marks, h.var, n);
+        count = count + k;
         rest = rest - 1 + h.terms;
         q = q + 3;
-    }
-    false
-}
-
-// 1 where one of two integer expressions writes variable v, else 0.
-fn writes_either(set: &[i32], a: usize, b: usize, v: usize) -> usize
-    requires { ⌜ Behind (now set) a × Behind (now set) b ⌝ }
-    ensures { λ r. ⌜ Either-post (now (set .entry)) a b v r ⌝ }
-{
-    if writes(set, a, v) {
-        return 1;
-    }
-    if writes(set, b, v) {
-        return 1;
-    }
-    0
-}
-
-// How many of the first n variables two integer expressions write.
-fn different(set: &[i32], a: usize, b: usize, n: usize) -> usize
-    requires { ⌜ Behind (now set) a × Behind (now set) b × (n < 2147483648) ⌝ }
-    ensures { λ r. ⌜ Marked-post (now (set .entry)) a b n r ⌝ }
-{
-    let mut v = 0;
-    let mut count = 0;
-    while v < n {
-        let k = writes_either(set, a, b, v);
-        count = count + k;
-        v = v + 1;
     }
     count
 }
 
-// ---- the test of refusal m, on a comparison and on a column; below 128 words there are too few variables for 10
+// How many of the first n variables two integer expressions write.
+fn different(set: &[i32], a: usize, b: usize, n: usize) -> usize
+    requires { ⌜ Behind (now set) a × Behind (now set) b × (n ≤ 256) ⌝ }
+    ensures { λ r. ⌜ Marked-post (now (set .entry)) a b n r ⌝ }
+{
+    let mut marks: [bool; 256] = [false; 256];
+    let x = mark_written(set, a, n, &mut marks);
+    let y = mark_written(set, b, n, &mut marks);
+    x + y
+}
+
+// ---- the test of refusal m, on a comparison and on a column
 
 fn unless(hit: bool, next: usize) -> usize
     ensures { λ r. ⌜ r ≡ cond hit 0 next ⌝ }
@@ -238,8 +236,20 @@ fn unless(hit: bool, next: usize) -> usize
     next
 }
 
+// Whether two integer expressions of so many words write over 64 variables; below 128 words they cannot.
+fn many_comparison(set: &[i32], a: usize, b: usize, words: usize, ni: usize) -> bool
+    requires { ⌜ Behind (now set) a × Behind (now set) b × (ni ≤ 256) ⌝ }
+    ensures { λ r. ⌜ Many-post (now (set .entry)) a b words ni r ⌝ }
+{
+    if words < 128 {
+        return false;
+    }
+    let n = different(set, a, b, ni);
+    n > 64
+}
+
 fn comparison(set: &[i32], work: &[i32], at: usize, ni: usize, m: usize) -> usize
-    requires { ⌜ Ready-pair (now set) (now work) at ni × (ni < 2147483648) ⌝ }
+    requires { ⌜ Ready-pair (now set) (now work) at ni × (ni ≤ 256) ⌝ }
     ensures { λ r. ⌜ Pair-post (now (set .entry)) (now (work .entry)) at ni m r ⌝ }
 {
     let weigh = m == 9;
@@ -249,18 +259,14 @@ fn comparison(set: &[i32], work: &[i32], at: usize, ni: usize, m: usize) -> usiz
         return unless(a.total + b.total > 1073741823, b.next);
     }
     if m == 10 {
-        let words = b.next - at;
-        if words < 128 {
-            return b.next;
-        }
-        let n = different(set, at, a.next, ni);
-        return unless(n > 64, b.next);
+        let hit = many_comparison(set, at, a.next, b.next - at, ni);
+        return unless(hit, b.next);
     }
     b.next
 }
 
 fn column(set: &[i32], work: &[i32], at: usize, ni: usize, m: usize) -> usize
-    requires { ⌜ Ready-column (now set) (now work) at ni × (ni < 2147483648) ⌝ }
+    requires { ⌜ Ready-column (now set) (now work) at ni × (ni ≤ 256) ⌝ }
     ensures { λ r. ⌜ Column-post (now (set .entry)) (now (work .entry)) at ni m r ⌝ }
 {
     let weigh = m == 9;
@@ -280,7 +286,7 @@ fn column(set: &[i32], work: &[i32], at: usize, ni: usize, m: usize) -> usize
 }
 
 fn columns(set: &[i32], work: &[i32], at: usize, n: usize, ni: usize, m: usize) -> usize
-    requires { ⌜ Ready-columns (now set) (now work) at n ni × (ni < 2147483648) ⌝ }
+    requires { ⌜ Ready-columns (now set) (now work) at n ni × (ni ≤ 256) ⌝ }
     ensures { λ r. ⌜ Columns-post (now (set .entry)) (now (work .entry)) at n ni m r ⌝ }
 {
     let mut next = at;
@@ -296,6 +302,92 @@ fn columns(set: &[i32], work: &[i32], at: usize, n: usize, ni: usize, m: usize) 
     next
 }
 
+// ---- expressions that differ: each pair is tested as a comparison
+
+// 9: the largest total so far with the next one; the first comes beside 0.
+fn heavy_pairs(set: &[i32], work: &[i32], at: usize, n: usize) -> usize
+    requires { ⌜ Ready-totals (now set) (now work) at n ⌝ }
+    ensures { λ r. ⌜ Over-post (now (set .entry)) (now (work .entry)) at n 0 r ⌝ }
+{
+    let mut next = at;
+    let mut top = 0;
+    let mut rest = n;
+    while rest != 0 {
+        let t = int_total(set, work, next, true);
+        if top + t.total > 1073741823 {
+            return 0;
+        }
+        top = larger(top, t.total);
+        next = t.next;
+        rest = rest - 1;
+    }
+    next
+}
+
+// 10: whether the expression at `a`, of so many words, writes over 64 variables with one of the n. Of two with 128 words one has 64, and asks;
+// it asks itself too, which hits only if asking any other does.
+fn many_among(
+    set: &[i32],
+    work: &[i32],
+    a: usize,
+    words: usize,
+    at: usize,
+    n: usize,
+    ni: usize,
+) -> bool
+    requires { ⌜ Ready-among (now set) (now work) a words at n ni × (ni ≤ 256) ⌝ }
+    ensures { λ r. ⌜ Among-post (now (set .entry)) (now (work .entry)) a words at n ni r ⌝ }
+{
+    if n < 2 {
+        return false;
+    }
+    if words < 64 {
+        return false;
+    }
+    let mut next = at;
+    let mut rest = n;
+    while rest != 0 {
+        let t = int_total(set, work, next, false);
+        let both = words + (t.next - next);
+        if many_comparison(set, a, next, both, ni) {
+            return true;
+        }
+        next = t.next;
+        rest = rest - 1;
+    }
+    false
+}
+
+// 10, and 11, which nothing here hits.
+fn many_pairs(set: &[i32], work: &[i32], at: usize, n: usize, ni: usize, m: usize) -> usize
+    requires { ⌜ Ready-columns (now set) (now work) at n ni × (ni ≤ 256) ⌝ }
+    ensures { λ r. ⌜ Crowded-post (now (set .entry)) (now (work .entry)) at n ni m at n r ⌝ }
+{
+    let mut next = at;
+    let mut rest = n;
+    while rest != 0 {
+        let t = int_total(set, work, next, false);
+        if m == 10 {
+            if many_among(set, work, next, t.next - next, at, n, ni) {
+                return 0;
+            }
+        }
+        next = t.next;
+        rest = rest - 1;
+    }
+    next
+}
+
+fn all_different(set: &[i32], work: &[i32], at: usize, n: usize, ni: usize, m: usize) -> usize
+    requires { ⌜ Ready-columns (now set) (now work) at n ni × (ni ≤ 256) ⌝ }
+    ensures { λ r. ⌜ Different-post (now (set .entry)) (now (work .entry)) at n ni m r ⌝ }
+{
+    if m == 9 {
+        return heavy_pairs(set, work, at, n);
+    }
+    many_pairs(set, work, at, n, ni, m)
+}
+
 // ---- a rule: its expressions one after another, `rest` of them pending
 
 pub struct Step {
@@ -304,7 +396,7 @@ pub struct Step {
 }
 
 fn rule_step(set: &[i32], work: &[i32], at: usize, ni: usize, m: usize) -> Step
-    requires { ⌜ Ready-bool (now set) (now work) at ni × (ni < 2147483648) ⌝ }
+    requires { ⌜ Ready-bool (now set) (now work) at ni × (ni ≤ 256) ⌝ }
     ensures { λ r. ⌜ Step-post (now (set .entry)) (now (work .entry)) at ni m (r .next) (r .members) ⌝ }
 {
     let code = domains::number(set, at);
@@ -338,7 +430,7 @@ fn rule_step(set: &[i32], work: &[i32], at: usize, ni: usize, m: usize) -> Step
 }
 
 fn rules(set: &[i32], work: &[i32], at: usize, n: usize, ni: usize, m: usize) -> usize
-    requires { ⌜ Ready-bools (now set) (now work) at n ni × (ni < 2147483648) ⌝ }
+    requires { ⌜ Ready-bools (now set) (now work) at n ni × (ni ≤ 256) ⌝ }
     ensures { λ r. ⌜ Bools-post (now (set .entry)) (now (work .entry)) at n ni m r ⌝ }
 {
     let mut next = at;
@@ -359,7 +451,7 @@ fn rules(set: &[i32], work: &[i32], at: usize, n: usize, ni: usize, m: usize) ->
 
 // The place behind the statement, or 0 where the test hits.
 pub fn statement(set: &[i32], work: &[i32], at: usize, ni: usize, m: usize) -> usize
-    requires { ⌜ Ready-stmt (now set) (now work) at ni × (ni < 2147483648) ⌝ }
+    requires { ⌜ Ready-stmt (now set) (now work) at ni × (ni ≤ 256) ⌝ }
     ensures { λ r. ⌜ Stmt-post (now (set .entry)) (now (work .entry)) at ni m r ⌝ }
 {
     let code = domains::number(set, at);
@@ -367,6 +459,9 @@ pub fn statement(set: &[i32], work: &[i32], at: usize, ni: usize, m: usize) -> u
         return rules(set, work, at + 1, 1, ni, m);
     }
     let n = domains::number(set, at + 1);
+    if code == 3 {
+        return all_different(set, work, at + 2, n, ni, m);
+    }
     let k = domains::number(set, at + 2);
     let r = columns(set, work, at + 3, n, ni, m);
     if r == 0 {
@@ -376,7 +471,7 @@ pub fn statement(set: &[i32], work: &[i32], at: usize, ni: usize, m: usize) -> u
 }
 
 fn statements(set: &[i32], work: &[i32], at: usize, n: usize, ni: usize, m: usize) -> bool
-    requires { ⌜ Ready-stmts (now set) (now work) at n ni × (ni < 2147483648) ⌝ }
+    requires { ⌜ Ready-stmts (now set) (now work) at n ni × (ni ≤ 256) ⌝ }
     ensures { λ r. ⌜ Stmts-post (now (set .entry)) (now (work .entry)) at n ni m r ⌝ }
 {
     let mut next = at;
@@ -394,7 +489,7 @@ fn statements(set: &[i32], work: &[i32], at: usize, n: usize, ni: usize, m: usiz
 
 // The refusal of n statements from `at` on, or 0.
 fn check(set: &[i32], work: &[i32], at: usize, n: usize, ni: usize) -> usize
-    requires { ⌜ Ready-stmts (now set) (now work) at n ni × (ni < 2147483648) ⌝ }
+    requires { ⌜ Ready-stmts (now set) (now work) at n ni × (ni ≤ 256) ⌝ }
     ensures { λ r. ⌜ Check-post (now (set .entry)) (now (work .entry)) at n ni r ⌝ }
 {
     if statements(set, work, at, n, ni, 9) {

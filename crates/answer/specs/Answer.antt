@@ -6,7 +6,7 @@ use Prim.Native.Nat.{ℕ, suc}
 use lib.IntN.{ℤ, pos, negsuc}
 use lib.ListN.{length}
 use Rattle.laws.specs.Lists.{below, counted}
-use Rattle.syntax.specs.Syntax.{Domain, lower-bound, upper-bound, num-candidates, encode-op, Stmt, Rule, Table, Problem}
+use Rattle.syntax.specs.Syntax.{Domain, lower-bound, upper-bound, num-candidates, encode-op, Stmt, Rule, Table, AllDifferent, Problem}
 use Rattle.fold.specs.Fold.{Fixed}
 use Rattle.sums.specs.LinearSum.{Term, term, linear-sum}
 use Rattle.clauses.specs.Clause.{BoolLit, lit, LinearLit, linear, Clause, clause}
@@ -16,12 +16,14 @@ use Rattle.clauses.specs.Disjunction.{Out}
 use Rattle.clauses.specs.Normalize.{Run}
 use Rattle.clauses.specs.Split.{normalize-and-register-expr}
 use Rattle.tables.specs.Tables.{normalize-table, emitted-domains}
+use Rattle.different.specs.Different.{different-rules, normalize-rules}
 
 -- ---- normalize
 
 unfoldable pub normalize-stmt : List Domain → Stmt → Run
 normalize-stmt ds (Rule e) s = normalize-and-register-expr e s
 normalize-stmt ds (Table es rows) s = normalize-table ds es rows s
+normalize-stmt ds (AllDifferent es) s = normalize-rules (different-rules ds es) s
 
 unfoldable pub normalize-stmts : List Domain → List Stmt → Run
 normalize-stmts ds [] s = ([], s)

@@ -2,11 +2,12 @@
 use mathlib.Core.Path.{_≡_, refl}
 use mathlib.Core.Bool.{Bool, true, false, not, cond}
 use mathlib.Core.Option.{Option, none, some}
-use mathlib.Core.List.{List, [], _∷_, _++_}
+use mathlib.Core.List.{List, [], _∷_, _++_, map}
 use Prim.Native.Nat.{ℕ, suc, _<_}
 use lib.Dec.{eqb}
+use lib.IntN.{ℤ}
 use Rattle.laws.specs.Lists.{any}
-use Rattle.syntax.specs.Syntax.{Domain, Range, lower-bound, upper-bound, IntExpr, IConst, IVar, Linear, Terms, tnil, tmore, BoolExpr, Const, Var, NVar, And, Or, Not, Xor, Iff, Imp, Cmp, Members, mnil, more, Cell, Stmt, Rule, Table}
+use Rattle.syntax.specs.Syntax.{Domain, Range, lower-bound, upper-bound, Ne, IntExpr, IConst, IVar, Linear, Terms, tnil, tmore, BoolExpr, Const, Var, NVar, And, Or, Not, Xor, Iff, Imp, Cmp, Members, mnil, more, Cell, Stmt, Rule, Table, AllDifferent}
 use Rattle.syntax.specs.Written.{EveryInt, EveryTerm, EveryColumn, Every, EveryMember, EveryStmt, EveryStmts, EveryOf}
 use Rattle.sums.specs.LinearSum.{LinearSum, linear-sum, get-domain-linear-sum}
 use Rattle.clauses.specs.Clause.{BoolLit, LinearLit, Clause}
@@ -16,6 +17,7 @@ use Rattle.clauses.specs.Disjunction.{Sorted, satisfied, pool, sorted, Out, eac
 use Rattle.clauses.specs.Normalize.{normalize-int-var, normalize-term, normalize-int-expr, normalize-terms, Run, Runs, no-run, run-then, normalize-conjunction, disjunction-of, cross, normalize-var, normalize-comparison, normalize-bool-expr, normalize-members}
 use Rattle.clauses.specs.Split.{Split, Splits, unsplit, split-not, split-members, split-two, split-sides, split-more, tseitin-transformation-bool, tseitin-transformation-members, normalize-each, normalize-and-register-expr}
 use Rattle.tables.specs.Tables.{new-column, old-column, equivalent-int-var, equivalent-int-vars, star-table, is-star, normalize-extension-supports, normalize-table}
+use Rattle.different.specs.Different.{pair-rules, each-equals, value-rule, values-used-up, different-rules, normalize-rules}
 use Rattle.answer.specs.Answer.{normalize-stmt, normalize-stmts}
 
 range-sum : (domain : ℕ → Domain) (l : LinearSum) → get-domain-linear-sum domain l ≡ Range (lower-bound (get-domain-linear-sum domain l)) (upper-bound (get-domain-linear-sum domain l))
@@ -259,12 +261,44 @@ module _ (b i : ℕ) where
       let c = columns-declared ds es h s k in
       supports-declared (any (any is-star) rows) _ _ (disjunction-declared _ _ c) c
 
+  -- ---- AllDifferent
+
+  rules-declared : (es : List BoolExpr) → DeclaredAll es → Keeps (normalize-rules es)
+  unfolding normalize-rules
+  rules-declared [] h s k = k
+  rules-declared (e ∷ es) h s k = rules-declared es (h .1) _ (rule-declared e (h .0) s k)
+
+  row-declared : (e : IntExpr) (es : List IntExpr) → EveryInt (λ v. v < i) e → EveryColumn (λ v. v < i) es → DeclaredAll (map (Cmp Ne e) es)
+  unfolding EveryColumn EveryOf
+  row-declared e [] h k = tt
+  row-declared e (f ∷ es) h k = ((h, k .0), row-declared e es h (k .1))
+
+  pairs-declared : (es : List IntExpr) → EveryColumn (λ v. v < i) es → DeclaredAll (pair-rules es)
+  unfolding EveryColumn pair-rules
+  pairs-declared [] h = tt
+  pairs-declared (e ∷ es) h = declared-append (map (Cmp Ne e) es) (pair-rules es) (row-declared e es (h .0) (h .1)) (pairs-declared es (h .1))
+
+  equals-declared : (x : ℤ) (es : List IntExpr) → EveryColumn (λ v. v < i) es → EveryMember (λ v. v < b) (λ v. v < i) (each-equals x es)
+  unfolding EveryColumn EveryOf EveryInt
+  equals-declared x [] h = tt
+  equals-declared x (e ∷ es) h = ((h .0, tt), equals-declared x es (h .1))
+
+  values-declared : (es : List IntExpr) (xs : List ℤ) → EveryColumn (λ v. v < i) es → DeclaredAll (map (value-rule es) xs)
+  unfolding EveryOf
+  values-declared es [] h = tt
+  values-declared es (x ∷ xs) h = (equals-declared x es h, values-declared es xs h)
+
+  different-declared : (ds : List Domain) (es : List IntExpr) → EveryColumn (λ v. v < i) es → Keeps (normalize-rules (different-rules ds es))
+  unfolding different-rules
+  different-declared ds es h = rules-declared (pair-rules es ++ map (value-rule es) (values-used-up ds es)) (declared-append (pair-rules es) (map (value-rule es) (values-used-up ds es)) (pairs-declared es h) (values-declared es (values-used-up ds es) h))
+
   -- ---- statements
 
   stmt-declared : (ds : List Domain) (t : Stmt) → EveryStmt (λ v. v < b) (λ v. v < i) t → Keeps (normalize-stmt ds t)
   unfolding normalize-stmt EveryStmt
   stmt-declared ds (Rule e) h s k = rule-declared e h s k
   stmt-declared ds (Table es rows) h s k = table-declared ds es rows h s k
+  stmt-declared ds (AllDifferent es) h s k = different-declared ds es h s k
 
   pub stmts-declared : (ds : List Domain) (ts : List Stmt) → EveryStmts (λ v. v < b) (λ v. v < i) ts → Keeps (normalize-stmts ds ts)
   unfolding normalize-stmts EveryStmts
@@ -324,3 +358,4 @@ module _ (b i : ℕ) where
   merge-declared [] s h d = d
   merge-declared (Rule e ∷ ts) s h d = merge-declared ts (merge-rule e s) (h .1) (merge-rule-declared e s (h .0) d)
   merge-declared (Table es rows ∷ ts) s h d = merge-declared ts s (h .1) d
+  merge-declared (AllDifferent es ∷ ts) s h d = merge-declared ts s (h .1) d

@@ -12,9 +12,9 @@ use lib.ListN.{length, length-map}
 use Rattle.laws.specs.Bools.{and-i}
 use Rattle.laws.specs.Lists.{all, below, length-from}
 use Rattle.syntax.specs.Words.{min-work-words, max-set-words, max-answer-words}
-use Rattle.syntax.specs.Syntax.{Domain, Range, Enumerative, domain-of, Stmt, Rule, Table, Problem}
+use Rattle.syntax.specs.Syntax.{Domain, Range, Enumerative, domain-of, Stmt, Rule, Table, AllDifferent, Problem}
 use Rattle.syntax.specs.Satisfies.{Val, IVal, stmt-holds, in-domains, satisfies}
-use Rattle.syntax.specs.Written.{EveryStmt, EveryStmts, every-stmts-map, in-domains-within}
+use Rattle.syntax.specs.Written.{EveryStmt, EveryStmts, Within, every-column-map, every-stmts-map, in-domains-within}
 use Rattle.words.specs.Parse.{Parsed, ok, refuse}
 use Rattle.words.specs.Exact.{Each}
 use Rattle.read.specs.Read.{read-set}
@@ -36,6 +36,7 @@ use Rattle.clauses.specs.RuleMeaning.{read-rule-means}
 use Rattle.clauses.specs.Exist.{ints-of, bools-of, fitting-exists}
 use Rattle.tables.specs.ColumnMeaning.{WithinDomain}
 use Rattle.tables.specs.TableMeaning.{table-means}
+use Rattle.different.specs.Meaning.{different-means}
 use Rattle.answer.specs.Answer.{Answer, layout, answer-of, normalize-stmt, normalize-stmts, normalize, start-log}
 use Rattle.answer.specs.Passes.{Decoded, decode, between, passes-decoded, passes-with, Passes}
 use Rattle.answer.specs.ReadBack.{hull, view-of, answer-back}
@@ -59,6 +60,7 @@ module _ (δ : Val) (ε : IVal) (ρ : Val) (ι : IVal) (ds : List Domain) where
   unfolding normalize-stmt EveryStmt
   stmt-means (Rule e) s h k = read-rule-means δ ε ρ ι e s (λ n. false) h
   stmt-means (Table es rows) s h k = unfold stmt-holds in table-means δ ε ρ ι ds es rows s h k
+  stmt-means (AllDifferent es) s h k = unfold stmt-holds in different-means δ ε ρ ι ds es s (every-column-map (WithinDomain ds ε) (Within ds ε) (λ v h. h .1) es k)
 
   pub stmts-mean : (ts : List Stmt) (s : Log) → Each Plain ts → EveryStmts (λ v. Unit {0}) (WithinDomain ds ε) ts → Means δ ε ρ ι s (normalize-stmts ds ts s) (all truth ts)
   unfolding normalize-stmts EveryStmts

@@ -9,7 +9,7 @@ use lib.ListN.{length, length-map}
 use borrow.Author.Tests.{eq-eqb}
 use Rattle.laws.specs.Bools.{and-i}
 use Rattle.laws.specs.Lists.{all}
-use Rattle.syntax.specs.Syntax.{Domain, BoolExpr, Const, Var, NVar, And, Or, Not, Xor, Iff, Imp, Cmp, Members, mnil, more, Cell, Stmt, Rule, Table, Problem}
+use Rattle.syntax.specs.Syntax.{Domain, BoolExpr, Const, Var, NVar, And, Or, Not, Xor, Iff, Imp, Cmp, Members, mnil, more, Cell, Stmt, Rule, Table, AllDifferent, Problem}
 use Rattle.syntax.specs.Written.{EveryStmt, EveryStmts, EveryOf, every-map, Any, None, EveryMemberOf}
 use Rattle.words.specs.Exact.{Each}
 use Rattle.read.specs.WellFormed.{WellRow, WellStmt, WellFormed}
@@ -27,6 +27,7 @@ module _ (nb ni : ℕ) where
   stmts-ready [] h = tt
   stmts-ready (Rule e ∷ ss) h = (every-map None (λ v. v < nb) (λ v. v < ni) Any (λ v. v < nb) (λ v. v < ni) (λ n k. tt) (λ v k. k) (λ v k. k) e (bool-vars nb ni 64 e (h .0)), stmts-ready ss (h .1))
   stmts-ready (Table es rows ∷ ss) h = (columns-vars ni 64 es (h .0 .2), stmts-ready ss (h .1))
+  stmts-ready (AllDifferent es ∷ ss) h = (columns-vars ni 64 es (h .0 .1), stmts-ready ss (h .1))
 
 pub well-declared : (p : Problem) → WellFormed p → EveryStmts (λ v. v < p .bools) (λ v. v < length (p .domains)) (p .stmts)
 well-declared p w = stmts-ready (p .bools) (length (p .domains)) (p .stmts) (w .stmts-well)
@@ -58,6 +59,7 @@ module _ (P Q : ℕ → Type 0) where
 abbrev pub Plain : Stmt → Type 0
 Plain (Rule e) = expr-bound e ≤ 0
 Plain (Table es rows) = all (wide (length es)) rows ≡ true
+Plain (AllDifferent es) = Unit {0}
 
 pub rows-wide : (n : ℕ) (rows : List (List Cell)) → Each (WellRow n) rows → all (wide n) rows ≡ true
 rows-wide n [] h = refl
@@ -67,6 +69,7 @@ fold-plain : (ds : List Domain) (f : Fixed) (nb ni : ℕ) (s : Stmt) → WellStm
 unfolding fold-stmt
 fold-plain ds f nb ni (Rule e) h = unnamed (λ v. v < nb) (λ v. v < ni) (fold ds f e) (fold-every None (λ v. v < nb) (λ v. v < ni) ds f e (bool-vars nb ni 64 e h))
 fold-plain ds f nb ni (Table es rows) h = rw (length-map es (fold-int ds)) (rows-wide (length es) rows (h .3))
+fold-plain ds f nb ni (AllDifferent es) h = tt
 
 pub folded-plain : (ds : List Domain) (f : Fixed) (nb ni : ℕ) (ss : List Stmt) → Each (WellStmt nb ni) ss → Each Plain (map (fold-stmt ds f) ss)
 folded-plain ds f nb ni [] h = tt

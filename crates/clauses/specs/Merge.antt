@@ -8,7 +8,7 @@ use lib.Dec.{eqb}
 use borrow.Author.Tests.{eqb-true, eq-eqb}
 use Rattle.laws.specs.Bools.{and-l, and-r, beq-eq, never}
 use Rattle.laws.specs.Lists.{all}
-use Rattle.syntax.specs.Syntax.{BoolExpr, Const, Var, NVar, And, Or, Not, Xor, Iff, Imp, Cmp, Stmt, Rule, Table}
+use Rattle.syntax.specs.Syntax.{BoolExpr, Const, Var, NVar, And, Or, Not, Xor, Iff, Imp, Cmp, Stmt, Rule, Table, AllDifferent}
 use Rattle.syntax.specs.Satisfies.{Val, IVal, holds, stmt-holds}
 use Rattle.clauses.specs.Clause.{negate-if, BoolLit, lit, lit-true}
 use Rattle.clauses.specs.Log.{declared, merged, aux, side, declared-int, column, Log, next-bool, next-int, negate-lit, get-bool-var}
@@ -57,6 +57,7 @@ merge-rule (Cmp o a b) s = s
 abbrev pub merge-stmt : Stmt → Log → Log
 merge-stmt (Rule e) s = merge-rule e s
 merge-stmt (Table es rows) s = s
+merge-stmt (AllDifferent es) s = s
 
 unfoldable pub merge-stmts : List Stmt → Log → Log
 merge-stmts [] s = s
@@ -124,6 +125,7 @@ module _ (δ : Val) where
     merge-holds [] s h t = t
     merge-holds (Rule e ∷ ss) s h t = merge-holds ss (merge-rule e s) (and-r (holds δ ε ρ e) _ h) (rule-holds e s (and-l (holds δ ε ρ e) _ h) t)
     merge-holds (Table es rows ∷ ss) s h t = merge-holds ss s (and-r (stmt-holds δ ε ρ (Table es rows)) _ h) t
+    merge-holds (AllDifferent es ∷ ss) s h t = merge-holds ss s (and-r (stmt-holds δ ε ρ (AllDifferent es)) _ h) t
 
 -- ---- what the maps say of each variable is what each entry says
 
@@ -215,6 +217,7 @@ unfolding merge-stmts
 merge-well [] s w = w
 merge-well (Rule e ∷ ss) s w = merge-well ss (merge-rule e s) (rule-well e s w)
 merge-well (Table es rows ∷ ss) s w = merge-well ss s w
+merge-well (AllDifferent es ∷ ss) s w = merge-well ss s w
 
 -- ---- it has no integers
 

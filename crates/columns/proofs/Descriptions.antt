@@ -91,7 +91,7 @@ list-describes set at (x ∷ xs) w h =
 
 -- ---- the declared variable v
 
-well-at : (ds : List Domain) → Each WellDomain ds → (v : ℕ) → v < length ds → WellDomain (domain-of ds v)
+pub well-at : (ds : List Domain) → Each WellDomain ds → (v : ℕ) → v < length ds → WellDomain (domain-of ds v)
 well-at [] w v h = absurd (omega arith)
 well-at (d ∷ ds) w zero h = w .0
 well-at (d ∷ ds) w (suc v) h = well-at ds (w .1) v (omega arith)

@@ -14,7 +14,7 @@ ghost use Rattle.columns.specs.Equalities.{Column, Equality, EquatedOne,
 use rows::Written;
 
 // The number that stands at i plus 1; 0 for what is none.
-fn number_at(work: &[i32], i: usize) -> usize
+pub fn number_at(work: &[i32], i: usize) -> usize
     ensures { λ r. ⌜ (r ≡ nat (getD (now (work .entry)) i (pos 0)) - 1) × (r < 2147483648) ⌝ }
 {
     if i < work.len() {

@@ -13,6 +13,7 @@ use lib.Seq.{take-suc, take-all}
 use borrow.Author.Tests.{leb-true, le-leb, lt-leb}
 use mir.Syntax.{w32}
 use mir.Val.{SFits}
+use Rattle.laws.specs.Bools.{and-l}
 use Rattle.laws.specs.Lists.{all, all-append}
 use Rattle.decimal.specs.Decimal.{digit, print-steps, print-natural, print-number}
 
@@ -71,6 +72,9 @@ pub number-short : (z : ℤ) → natAbs z ≤ 2147483648 → length (print-numbe
 unfolding print-number
 number-short (pos n) h = omega (arith, natural-short 9 n (omega arith))
 number-short (negsuc n) h = omega (arith, natural-short 9 (suc n) (omega arith))
+
+pub one-short : (z : ℤ) (zs : List ℤ) → all fitting (z ∷ zs) ≡ true → length (print-number z) ≤ 11
+one-short z zs h = number-short z (leb-true _ 2147483648 (and-l (fitting z) (all fitting zs) h))
 
 fits-fitting : (z : ℤ) → SFits w32 z → fitting z ≡ true
 fits-fitting (pos n) f = le-leb n 2147483648 (let l = f .sfits in omega arith)

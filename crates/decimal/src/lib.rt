@@ -2,12 +2,15 @@
 pub mod keys; // keys.rt: the fixed bytes
 
 ghost use mathlib.Core.Path.{_≡_};
+ghost use mathlib.Core.Bool.{true};
 ghost use mathlib.Core.List.{[], _∷_};
 ghost use Prim.Native.Nat.{_≤_};
 ghost use lib.ListN.{length, drop};
 ghost use Rattle.decimal.specs.Decimal.{read-digits as digits, read-natural as natural, read-number as number, print-natural, print-number};
 ghost use Rattle.decimal.specs.Numbers.{limited, natural-of, number-of};
+ghost use Rattle.laws.specs.Lists.{all};
 ghost use Rattle.decimal.specs.Puts.{Puts};
+ghost use Rattle.decimal.specs.Widths.{fitting};
 
 // An absolute value read from digits, at most 2147483648.
 pub enum Natural {
@@ -140,4 +143,15 @@ pub fn put_bytes(out: &mut [u8], at: usize, bytes: &[u8]) -> usize
         i += 1;
     }
     o
+}
+
+// Every word lies within i32: the loop only learns this of the whole slice, and does nothing.
+pub fn all_fit(words: &[i32])
+    ensures { λ _. ⌜ all fitting (now (words .entry)) ≡ true ⌝ }
+{
+    let mut i = 0;
+    while i < words.len() {
+        let _w = words[i];
+        i += 1;
+    }
 }

@@ -18,7 +18,7 @@ use Rattle.syntax.specs.Satisfies.{in-domains}
 use Rattle.syntax.specs.Written.{in-domains-within}
 use Rattle.words.specs.Exact.{Each}
 use Rattle.read.specs.WellFormed.{WellStmt}
-use Rattle.limits.specs.Limits.{largest, domain-weight, heavy, heavy-comparison, any-part, check}
+use Rattle.limits.specs.Limits.{largest, domain-weight, check, heavy-stmt}
 use Rattle.limits.specs.Admitted.{admitted, limited}
 use Rattle.reader.specs.declared.Declared.{Declared}
 use Rattle.reader.specs.declared.Set.the-variants as set
@@ -65,9 +65,9 @@ each-is values p (d ∷ ds) =
 
 -- ---- no part weighs too much
 
-light-of : (p : Problem) → check p ≡ 0 → any (any-part (heavy-comparison (p .domains)) (heavy (p .domains))) (p .stmts) ≡ false
+light-of : (p : Problem) → check p ≡ 0 → any (heavy-stmt (p .domains)) (p .stmts) ≡ false
 unfolding check
-light-of p h = go _ (any (any-part (heavy-comparison (p .domains)) (heavy (p .domains))) (p .stmts)) h
+light-of p h = go _ (any (heavy-stmt (p .domains)) (p .stmts)) h
   where
     go : (m : ℕ) (t : Bool) → cond t 9 m ≡ 0 → t ≡ false
     go m true e = absurd (let z : _≡_ {A = ℕ} 9 0 = e in omega arith)

@@ -11,15 +11,15 @@ use Rattle.laws.specs.Bools.{or-no-l, or-no-r}
 use Rattle.laws.specs.Ints.{pos-eq}
 use Rattle.laws.specs.Lists.{any, any-cong, flat}
 use Rattle.laws.specs.Slices.{Has, has-fits, has-front, has-back, has-word, has-rest, has-sets}
-use Rattle.syntax.specs.Syntax.{Domain, IntExpr, encode-int, BoolExpr, encode-bool, Cell, encode-cell, Stmt, Rule, Table, encode-stmt}
+use Rattle.syntax.specs.Syntax.{Domain, IntExpr, encode-int, BoolExpr, encode-bool, Cell, encode-cell, Stmt, Rule, Table, AllDifferent, encode-stmt}
 use Rattle.syntax.specs.Satisfies.{int-value, permits, row-holds, stmt-holds}
 use Rattle.syntax.specs.Lengths.{int-long, rows-length}
 use Rattle.syntax.specs.Codes.{stmt-code, stmt-code-word}
 use Rattle.read.specs.Vars.{columns-vars, bool-vars, rows-wide}
 use Rattle.domains.specs.Declared.{Plain}
-use Rattle.limits.specs.Limits.{heavy, heavy-comparison, any-part}
+use Rattle.limits.specs.Limits.{heavy, any-part, heavy-stmt}
 use Rattle.evaluate.specs.Roster.{int-of, truth, first-broken}
-use Rattle.evaluate.specs.Contracts.{Bool-at, Ready-bool, Bool-post, Columns-at, Ready-columns, Columns-post, Rows-at, Ready-rows, row-permits, Rows-post, Stmt-at, Stmts-at, Ready-stmt, Ready-stmts, Stmt-post, checked-of, Broken-post}
+use Rattle.evaluate.specs.Contracts.{Bool-at, Ready-bool, Bool-post, Columns-at, Ready-columns, Columns-post, Rows-at, Ready-rows, row-permits, Rows-post, Words-at, Differ-post, Stmt-at, Stmts-at, Ready-stmt, Ready-stmts, Stmt-post, checked-of, Broken-post}
 use Rattle.evaluate.specs.declared.Checked.{Checked}
 use Rattle.evaluate.specs.declared.Checked.the-variants.{Yes, Broken}
 
@@ -29,6 +29,7 @@ stmt-some : (s : Stmt) → 0 < length (encode-stmt s)
 unfolding encode-stmt
 stmt-some (Rule e) = omega arith
 stmt-some (Table es rows) = omega arith
+stmt-some (AllDifferent es) = omega arith
 
 -- at most as many columns as words
 columns-long : (es : List IntExpr) → length es ≤ length (flat (map encode-int es))
@@ -59,6 +60,7 @@ module _ (ws values : List ℤ) (nb at : ℕ) (work : List ℤ) where
       unfolding encode-stmt any-part
       the-rule ds (Rule e) r go = go e refl (record { stands = record { words = has-rest ws at _ _ (r .words); vars = bool-vars nb (length ds) 64 e (r .well) }; light = r .light })
       the-rule ds (Table es rows) r go = absurd (let t : 2 ≡ w = code-is (Table es rows) (r .words) in omega arith)
+      the-rule ds (AllDifferent es) r go = absurd (let t : 3 ≡ w = code-is (AllDifferent es) (r .words) in omega arith)
 
       pub rule-ready : Ready-stmt ws values nb at work → Ready-bool ws values nb (at + 1)
       rule-ready r = the-rule (r .ds) (r .it) (r .reads) λ e q h. record { ds = r .ds; roster = r .roster; it = e; reads = h }
@@ -71,71 +73,132 @@ module _ (ws values : List ℤ) (nb at : ℕ) (work : List ℤ) where
           let l : next ≡ at + 1 + length (encode-bool e) = y .0 in
           rw q (omega arith, y .1)
 
-    -- ---- a table
+  -- ---- a table
 
-    module _ (z : w ≡ 1 → ⊥) where
-      the-table : {X : Type 0} (ds : List Domain) (s : Stmt) → Stmt-at nb ds ws at s
-          → ((es : List IntExpr) (rows : List (List Cell)) → s ≡ Table es rows → getD ws (at + 1) (pos 0) ≡ pos (length es) → getD ws (at + 2) (pos 0) ≡ pos (length rows)
-          → Columns-at ds ws (at + 3) (length es) es → Rows-at ws (at + 3 + length (flat (map encode-int es))) (length es) (length rows) rows
-          → at + (3 + (length (flat (map encode-int es)) + length es * length rows)) ≤ length ws → length (encode-stmt (Table es rows)) ≡ 3 + (length (flat (map encode-int es)) + length es * length rows) → X) → X
-      unfolding encode-stmt any-part
-      the-table ds (Rule e) r go = absurd (z (let t : 1 ≡ w = code-is (Rule e) (r .words) in sym t))
-      the-table ds (Table es rows) r go =
-          let cs = flat (map encode-int es) in
-          let rs = flat (map (map encode-cell) rows) in
-          let h1 = has-rest ws at _ _ (r .words) in
-          let h2 = has-rest ws (at + 1) _ _ h1 in
-          let m2 : at + 2 ≡ at + 1 + 1 = omega arith in
-          let m3 : at + 3 ≡ at + 1 + 1 + 1 = omega arith in
-          let h3 : Has ws (at + 3) (cs ++ rs) = rw m3 (has-rest ws (at + 1 + 1) _ _ h2) in
-          let l : length (encode-stmt (Table es rows)) ≡ 3 + (length cs + length es * length rows) = omega (arith, length-append cs rs, rows-length (length es) rows (rows-wide (length es) rows (r .well .3))) in
-          go es rows refl (has-word ws (at + 1) _ _ (pos 0) h1) (ap (λ i. getD ws i (pos 0)) m2 ∙ has-word ws (at + 1 + 1) _ _ (pos 0) h2)
-          (record { words = has-front ws (at + 3) cs rs h3; vars = columns-vars (length ds) 64 es (r .well .2); light = r .light; size = refl })
-          (record { words = has-back ws (at + 3) cs rs h3; well = r .well .3; size = refl }) (omega (arith, has-fits ws at (encode-stmt (Table es rows)) (r .words) (omega arith), l)) l
+  module _ (c2 : getD ws at (pos 0) ≡ pos 2) where
+    the-table : {X : Type 0} (ds : List Domain) (s : Stmt) → Stmt-at nb ds ws at s
+        → ((es : List IntExpr) (rows : List (List Cell)) → s ≡ Table es rows → getD ws (at + 1) (pos 0) ≡ pos (length es) → getD ws (at + 2) (pos 0) ≡ pos (length rows)
+        → Columns-at ds ws (at + 3) (length es) es → Rows-at ws (at + 3 + length (flat (map encode-int es))) (length es) (length rows) rows
+        → at + (3 + (length (flat (map encode-int es)) + length es * length rows)) ≤ length ws → length (encode-stmt (Table es rows)) ≡ 3 + (length (flat (map encode-int es)) + length es * length rows) → X) → X
+    unfolding encode-stmt any-part
+    the-table ds (Rule e) r go = absurd (let t : 1 ≡ 2 = code-is 2 c2 (Rule e) (r .words) in omega arith)
+    the-table ds (AllDifferent es) r go = absurd (let t : 3 ≡ 2 = code-is 2 c2 (AllDifferent es) (r .words) in omega arith)
+    the-table ds (Table es rows) r go =
+        let cs = flat (map encode-int es) in
+        let rs = flat (map (map encode-cell) rows) in
+        let h1 = has-rest ws at _ _ (r .words) in
+        let h2 = has-rest ws (at + 1) _ _ h1 in
+        let m2 : at + 2 ≡ at + 1 + 1 = omega arith in
+        let m3 : at + 3 ≡ at + 1 + 1 + 1 = omega arith in
+        let h3 : Has ws (at + 3) (cs ++ rs) = rw m3 (has-rest ws (at + 1 + 1) _ _ h2) in
+        let l : length (encode-stmt (Table es rows)) ≡ 3 + (length cs + length es * length rows) = omega (arith, length-append cs rs, rows-length (length es) rows (rows-wide (length es) rows (r .well .3))) in
+        go es rows refl (has-word ws (at + 1) _ _ (pos 0) h1) (ap (λ i. getD ws i (pos 0)) m2 ∙ has-word ws (at + 1 + 1) _ _ (pos 0) h2)
+        (record { words = has-front ws (at + 3) cs rs h3; vars = columns-vars (length ds) 64 es (r .well .2); light = r .light; size = refl })
+        (record { words = has-back ws (at + 3) cs rs h3; well = r .well .3; size = refl }) (omega (arith, has-fits ws at (encode-stmt (Table es rows)) (r .words) (omega arith), l)) l
 
-      pub table-inside : Ready-stmt ws values nb at work → at + 3 ≤ length ws
-      table-inside r = the-table (r .ds) (r .it) (r .reads) λ es rows q a b c d l k. omega (arith, l)
+    pub table-inside : Ready-stmt ws values nb at work → at + 3 ≤ length ws
+    table-inside r = the-table (r .ds) (r .it) (r .reads) λ es rows q a b c d l k. omega (arith, l)
 
-      pub table-columns : Ready-stmt ws values nb at work → Plain ws (at + 1)
-      table-columns r = the-table (r .ds) (r .it) (r .reads) λ es rows q a b c d l k. record { inside = omega (arith, l); value = length es; is = a }
+    pub table-columns : Ready-stmt ws values nb at work → Plain ws (at + 1)
+    table-columns r = the-table (r .ds) (r .it) (r .reads) λ es rows q a b c d l k. record { inside = omega (arith, l); value = length es; is = a }
 
-      pub table-rows : Ready-stmt ws values nb at work → Plain ws (at + 2)
-      table-rows r = the-table (r .ds) (r .it) (r .reads) λ es rows q a b c d l k. record { inside = omega (arith, l); value = length rows; is = b }
+    pub table-rows : Ready-stmt ws values nb at work → Plain ws (at + 2)
+    table-rows r = the-table (r .ds) (r .it) (r .reads) λ es rows q a b c d l k. record { inside = omega (arith, l); value = length rows; is = b }
 
-      module _ (n : ℕ) (hn : getD ws (at + 1) (pos 0) ≡ pos n) (k : ℕ) (hk : getD ws (at + 2) (pos 0) ≡ pos k) where
-        pub columns-start : Ready-stmt ws values nb at work → Ready-columns ws values nb (at + 3) n work 0
-        columns-start r =
+    module _ (n : ℕ) (hn : getD ws (at + 1) (pos 0) ≡ pos n) (k : ℕ) (hk : getD ws (at + 2) (pos 0) ≡ pos k) where
+      pub columns-start : Ready-stmt ws values nb at work → Ready-columns ws values nb (at + 3) n work 0
+      columns-start r =
+          the-table (r .ds) (r .it) (r .reads) λ es rows q a b c d l m.
+          let s : n ≡ length es = pos-eq _ _ _ hn a in
+          record { ds = r .ds; roster = r .roster; them = es; reads = rw s c; room = omega (arith, l, s, r .room, columns-long es) }
+
+      module _ (work' : List ℤ) (p : ℕ) (cp : Columns-post ws values nb (at + 3) n work 0 work' p) where
+        -- the columns' values, stored
+        pub rows-start : Ready-stmt ws values nb at work → Ready-rows ws p n k work' × (p + n * k ≤ length ws)
+        rows-start r =
             the-table (r .ds) (r .it) (r .reads) λ es rows q a b c d l m.
             let s : n ≡ length es = pos-eq _ _ _ hn a in
-            record { ds = r .ds; roster = r .roster; them = es; reads = rw s c; room = omega (arith, l, s, r .room, columns-long es) }
+            let t : k ≡ length rows = pos-eq _ _ _ hk b in
+            let y = cp (r .ds) es (r .roster) (rw s c) in
+            let e : p ≡ at + 3 + length (flat (map encode-int es)) = y .0 in
+            let xs = map (int-value (int-of nb values)) es in
+            let g : length xs ≡ length es = length-map es (int-value (int-of nb values)) in
+            let o : 0 + length xs ≤ length work = omega (arith, l, g, r .room, columns-long es) in
+            (record { them = rows; rows = rw (e, s, t) d; values = xs; stored = record { words = rw (y .1) (has-sets work 0 xs o); size = s ∙ sym g }; inside = omega (arith, l, e) }, rw (s, t) (omega (arith, l, e)))
 
-        module _ (work' : List ℤ) (p : ℕ) (cp : Columns-post ws values nb (at + 3) n work 0 work' p) where
-          -- the columns' values, stored
-          pub rows-start : Ready-stmt ws values nb at work → Ready-rows ws p n k work' × (p + n * k ≤ length ws)
-          rows-start r =
-              the-table (r .ds) (r .it) (r .reads) λ es rows q a b c d l m.
-              let s : n ≡ length es = pos-eq _ _ _ hn a in
-              let t : k ≡ length rows = pos-eq _ _ _ hk b in
-              let y = cp (r .ds) es (r .roster) (rw s c) in
-              let e : p ≡ at + 3 + length (flat (map encode-int es)) = y .0 in
-              let xs = map (int-value (int-of nb values)) es in
-              let g : length xs ≡ length es = length-map es (int-value (int-of nb values)) in
-              let o : 0 + length xs ≤ length work = omega (arith, l, g, r .room, columns-long es) in
-              (record { them = rows; rows = rw (e, s, t) d; values = xs; stored = record { words = rw (y .1) (has-sets work 0 xs o); size = s ∙ sym g }; inside = omega (arith, l, e) }, rw (s, t) (omega (arith, l, e)))
+        pub table-held : length ws ≤ length work → (h : Bool) → Rows-post ws p n k work' h → Stmt-post ws values nb at (p + n * k) h
+        unfolding stmt-holds
+        table-held room h rp ds st bb r =
+            the-table ds st r λ es rows q a b c d l m.
+            let s : n ≡ length es = pos-eq _ _ _ hn a in
+            let t : k ≡ length rows = pos-eq _ _ _ hk b in
+            let y = cp ds es bb (rw s c) in
+            let e : p ≡ at + 3 + length (flat (map encode-int es)) = y .0 in
+            let xs = map (int-value (int-of nb values)) es in
+            let g : length xs ≡ length es = length-map es (int-value (int-of nb values)) in
+            let o : 0 + length xs ≤ length work = omega (arith, l, g, room, columns-long es) in
+            let v = rp rows xs (rw (e, s, t) d) (record { words = rw (y .1) (has-sets work 0 xs o); size = s ∙ sym g }) in
+            rw q (rw (s, t) (omega (arith, e, m)), v ∙ any-cong (row-permits xs) (row-holds (int-of nb values) es) rows (row-is nb values es))
 
-          pub table-held : length ws ≤ length work → (h : Bool) → Rows-post ws p n k work' h → Stmt-post ws values nb at (p + n * k) h
-          unfolding stmt-holds
-          table-held room h rp ds st bb r =
-              the-table ds st r λ es rows q a b c d l m.
-              let s : n ≡ length es = pos-eq _ _ _ hn a in
-              let t : k ≡ length rows = pos-eq _ _ _ hk b in
-              let y = cp ds es bb (rw s c) in
-              let e : p ≡ at + 3 + length (flat (map encode-int es)) = y .0 in
-              let xs = map (int-value (int-of nb values)) es in
-              let g : length xs ≡ length es = length-map es (int-value (int-of nb values)) in
-              let o : 0 + length xs ≤ length work = omega (arith, l, g, room, columns-long es) in
-              let v = rp rows xs (rw (e, s, t) d) (record { words = rw (y .1) (has-sets work 0 xs o); size = s ∙ sym g }) in
-              rw q (rw (s, t) (omega (arith, e, m)), v ∙ any-cong (row-permits xs) (row-holds (int-of nb values) es) rows (row-is nb values es))
+  -- ---- an AllDifferent
+
+  -- whatever is neither a rule nor a table
+  pub different-code : Ready-stmt ws values nb at work → (w : ℕ) → getD ws at (pos 0) ≡ pos w → (w ≡ 1 → ⊥) → (w ≡ 2 → ⊥) → getD ws at (pos 0) ≡ pos 3
+  different-code r w hw a b = go (r .it) (r .reads .words)
+    where
+      go : (s : Stmt) → Has ws at (encode-stmt s) → getD ws at (pos 0) ≡ pos 3
+      go (Rule e) h = absurd (a (sym (code-is w hw (Rule e) h)))
+      go (Table es rows) h = absurd (b (sym (code-is w hw (Table es rows) h)))
+      go (AllDifferent es) h = stmt-code-word ws at (AllDifferent es) h
+
+  module _ (c3 : getD ws at (pos 0) ≡ pos 3) where
+    the-different : {X : Type 0} (ds : List Domain) (s : Stmt) → Stmt-at nb ds ws at s
+        → ((es : List IntExpr) → s ≡ AllDifferent es → getD ws (at + 1) (pos 0) ≡ pos (length es) → Columns-at ds ws (at + 2) (length es) es → at + (2 + length (flat (map encode-int es))) ≤ length ws → X) → X
+    unfolding encode-stmt any-part
+    the-different ds (Rule e) r go = absurd (let t : 1 ≡ 3 = code-is 3 c3 (Rule e) (r .words) in omega arith)
+    the-different ds (Table es rows) r go = absurd (let t : 2 ≡ 3 = code-is 3 c3 (Table es rows) (r .words) in omega arith)
+    the-different ds (AllDifferent es) r go =
+        let h1 = has-rest ws at _ _ (r .words) in
+        let m2 : at + 2 ≡ at + 1 + 1 = omega arith in
+        go es refl (has-word ws (at + 1) _ _ (pos 0) h1)
+        (record { words = rw m2 (has-rest ws (at + 1) _ _ h1); vars = columns-vars (length ds) 64 es (r .well .1); light = or-no-l (any (heavy ds) es) _ (r .light); size = refl })
+        (omega (arith, has-fits ws at (encode-stmt (AllDifferent es)) (r .words) (omega arith)))
+
+    pub different-inside : Ready-stmt ws values nb at work → at + 2 ≤ length ws
+    different-inside r = the-different (r .ds) (r .it) (r .reads) λ es q a c l. omega (arith, l)
+
+    pub different-count : Ready-stmt ws values nb at work → Plain ws (at + 1)
+    different-count r = the-different (r .ds) (r .it) (r .reads) λ es q a c l. record { inside = omega (arith, l); value = length es; is = a }
+
+    module _ (n : ℕ) (hn : getD ws (at + 1) (pos 0) ≡ pos n) where
+      pub different-columns : Ready-stmt ws values nb at work → Ready-columns ws values nb (at + 2) n work 0
+      different-columns r =
+          the-different (r .ds) (r .it) (r .reads) λ es q a c l.
+          let s : n ≡ length es = pos-eq _ _ _ hn a in
+          record { ds = r .ds; roster = r .roster; them = es; reads = rw s c; room = omega (arith, l, s, r .room, columns-long es) }
+
+      module _ (work' : List ℤ) (p : ℕ) (cp : Columns-post ws values nb (at + 2) n work 0 work' p) where
+        pub different-values : Ready-stmt ws values nb at work → Words-at work' 0 n
+        different-values r =
+            the-different (r .ds) (r .it) (r .reads) λ es q a c l.
+            let s : n ≡ length es = pos-eq _ _ _ hn a in
+            let y = cp (r .ds) es (r .roster) (rw s c) in
+            let xs = map (int-value (int-of nb values)) es in
+            let g : length xs ≡ length es = length-map es (int-value (int-of nb values)) in
+            let o : 0 + length xs ≤ length work = omega (arith, l, g, r .room, columns-long es) in
+            record { them = xs; words = rw (y .1) (has-sets work 0 xs o); size = s ∙ sym g }
+
+        pub different-held : length ws ≤ length work → (h : Bool) → Differ-post work' 0 n h → Stmt-post ws values nb at p h
+        unfolding encode-stmt stmt-holds
+        different-held room h dp ds st bb r =
+            the-different ds st r λ es q a c l.
+            let s : n ≡ length es = pos-eq _ _ _ hn a in
+            let y = cp ds es bb (rw s c) in
+            let e : p ≡ at + 2 + length (flat (map encode-int es)) = y .0 in
+            let xs = map (int-value (int-of nb values)) es in
+            let g : length xs ≡ length es = length-map es (int-value (int-of nb values)) in
+            let o : 0 + length xs ≤ length work = omega (arith, l, g, room, columns-long es) in
+            rw q (omega (arith, e), dp xs (rw (y .1) (has-sets work 0 xs o)) (s ∙ sym g))
 
 -- ---- `first_broken`
 
@@ -161,7 +224,7 @@ module _ (ws values : List ℤ) (nb at n : ℕ) (z : n ≡ 0 → ⊥) where
   the-stmt ds [] r go = absurd (z (r .size))
   the-stmt ds (s ∷ us) r go =
       let e : n ≡ suc (length us) = r .size in
-      let test = any-part (heavy-comparison ds) (heavy ds) in
+      let test = heavy-stmt ds in
       go s us refl (record { words = has-front ws at (encode-stmt s) _ (r .words); well = r .well .0; light = or-no-l (test s) (any test us) (r .light) })
       (record { words = has-back ws at (encode-stmt s) _ (r .words); well = r .well .1; light = or-no-r (test s) (any test us) (r .light); size = omega arith })
 

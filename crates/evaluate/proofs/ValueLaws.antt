@@ -12,8 +12,9 @@ use Rattle.laws.specs.Ints.{eqZ, pos-eq}
 use Rattle.laws.specs.Lists.{any, all, from, below}
 use Rattle.laws.specs.Slices.{Has, has-fits, has-front, has-back, has-word, has-rest}
 use Rattle.syntax.specs.Syntax.{Domain, Range, Enumerative, in-domain, encode-domain}
+use Rattle.syntax.specs.Satisfies.{distinct}
 use Rattle.domains.specs.Declared.{Plain, Domain-at, Domains}
-use Rattle.evaluate.specs.Contracts.{Words-at, Listed-post, Domain-post, Ready-domains, Inside-post}
+use Rattle.evaluate.specs.Contracts.{Words-at, Listed-post, Differ-post, Domain-post, Ready-domains, Inside-post}
 
 -- ---- `bools_inside`
 
@@ -59,6 +60,32 @@ module _ (ws : List ℤ) (at n : ℕ) (x : ℤ) where
 
     pub listed-more : eqZ x (getD ws at (pos 0)) ≡ false → (r : Bool) → Listed-post ws (at + 1) (n - 1) x r → Listed-post ws at n x r
     listed-more t r p xs h s = the-word xs h s λ y ys q g k l. let e : eqZ x y ≡ false = rw g at t in rw (q, e) (p ys k l)
+
+-- ---- `differ`
+
+module _ (ws : List ℤ) (at n : ℕ) where
+  pub differ-none : n ≡ 0 → Differ-post ws at n true
+  unfolding distinct
+  differ-none z [] h s = refl
+  differ-none z (y ∷ ys) h s = absurd (omega arith)
+
+  -- whether the first is among the later ones
+  module _ (z : n ≡ 0 → ⊥) (t : Bool) (p : Listed-post ws (at + 1) (n - 1) (getD ws at (pos 0)) t) where
+    pub differ-stop : t ≡ true → Differ-post ws at n false
+    unfolding distinct
+    differ-stop f xs h s =
+        the-word ws at n (pos 0) z xs h s λ y ys q g k l.
+        let e : t ≡ any (eqZ y) ys = rw g at (p ys k l) in
+        let m : any (eqZ y) ys ≡ true = sym e ∙ f in
+        rw (q, m) refl
+
+    pub differ-more : t ≡ false → (r : Bool) → Differ-post ws (at + 1) (n - 1) r → Differ-post ws at n r
+    unfolding distinct
+    differ-more f r o xs h s =
+        the-word ws at n (pos 0) z xs h s λ y ys q g k l.
+        let e : t ≡ any (eqZ y) ys = rw g at (p ys k l) in
+        let m : any (eqZ y) ys ≡ false = sym e ∙ f in
+        rw (q, m) (o ys k l)
 
 -- ---- `in_domain`
 

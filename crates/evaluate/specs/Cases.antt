@@ -6,9 +6,9 @@ use Prim.Native.Nat.{ℕ}
 use lib.IntN.{ℤ, pos, negsuc}
 use lib.Dec.{eqb}
 use Rattle.syntax.specs.Words.{star-word}
-use Rattle.syntax.specs.Satisfies.{int-value, terms-value, holds, holds-all, holds-any, stmt-holds, in-domains}
-use Rattle.read.specs.Read.{times, up-to, count, index, number, read-range, read-rising, read-enumerative, read-domain, kind-bool, kind-int, read-terms, read-members, step-int, read-int, step-bool, read-bool, read-cell, read-table, read-stmt, read-set}
-use Rattle.limits.specs.Limits.{any-comparison, any-comparison-members, any-part, weight, terms-weight, heavy, heavy-terms, heavy-comparison, written, written-terms, many-comparison, many-column, interval, terms-interval, span, wide-column, check}
+use Rattle.syntax.specs.Satisfies.{int-value, terms-value, holds, holds-all, holds-any, distinct, stmt-holds, in-domains}
+use Rattle.read.specs.Read.{times, up-to, count, index, number, read-range, read-rising, read-enumerative, read-domain, kind-bool, kind-int, read-terms, read-members, step-int, read-int, step-bool, read-bool, read-cell, read-table, read-different, read-stmt, read-set}
+use Rattle.limits.specs.Limits.{any-comparison, any-comparison-members, any-pair, any-part, weight, terms-weight, heavy, heavy-terms, heavy-comparison, written, written-terms, many-comparison, many-column, interval, terms-interval, span, wide-column, check}
 use Rattle.limits.specs.Admitted.{admitted, limited}
 use Rattle.evaluate.specs.Roster.{Verdict, satisfied, broken, refused, right-count, all-inside, first-false, judged, rostered, when-admitted, check-roster}
 
@@ -28,7 +28,7 @@ pub data Case : Type 0 where
   case : List ℤ → List ℤ → ℕ → Verdict → Case
 
 unfoldable pub agrees : Case → Bool
-unfolding same-verdict times up-to count index number read-range read-rising read-enumerative read-domain kind-bool kind-int read-terms read-members step-int read-int step-bool read-bool read-cell read-table read-stmt read-set any-comparison any-comparison-members any-part weight terms-weight heavy heavy-terms heavy-comparison written written-terms many-comparison many-column interval terms-interval span wide-column check int-value terms-value holds holds-all holds-any stmt-holds in-domains right-count all-inside first-false judged rostered when-admitted check-roster admitted limited
+unfolding same-verdict times up-to count index number read-range read-rising read-enumerative read-domain kind-bool kind-int read-terms read-members step-int read-int step-bool read-bool read-cell read-table read-different read-stmt read-set any-comparison any-comparison-members any-pair any-part weight terms-weight heavy heavy-terms heavy-comparison written written-terms many-comparison many-column interval terms-interval span wide-column check int-value terms-value holds holds-all holds-any distinct stmt-holds in-domains right-count all-inside first-false judged rostered when-admitted check-roster admitted limited
 agrees (case set values work-length v) = same-verdict (check-roster set values work-length) v
 
 unfoldable pub all-agree : List Case → Bool
@@ -74,6 +74,13 @@ gaps = 0 ∷ 1 ∷ 1 ∷ 3 ∷ 0 ∷ 2 ∷ 5 ∷ 0 ∷ []
 abbrev column : ℕ → List ℤ → List ℤ
 column k rows = words (0 ∷ 1 ∷ 0 ∷ 0 ∷ 3 ∷ 1 ∷ 2 ∷ 1 ∷ k ∷ 22 ∷ 2 ∷ 1 ∷ 20 ∷ 3 ∷ []) ++ negsuc 0 ∷ words (21 ∷ 0 ∷ []) ++ rows
 
+-- x, y and z over 0 to 2: the expressions that follow differ pairwise
+abbrev differ : ℕ → List ℕ → List ℕ
+differ n es = 0 ∷ 3 ∷ 0 ∷ 0 ∷ 2 ∷ 0 ∷ 0 ∷ 2 ∷ 0 ∷ 0 ∷ 2 ∷ 1 ∷ 3 ∷ n ∷ es
+
+abbrev three : List ℕ
+three = differ 3 (21 ∷ 0 ∷ 21 ∷ 1 ∷ 21 ∷ 2 ∷ [])
+
 -- ---- the table
 
 abbrev pub cases : List Case
@@ -111,6 +118,14 @@ cases =
     ∷ case (column 2 (words (1 ∷ 2 ∷ []))) (words (3 ∷ [])) 16384 (broken 1)
     ∷ case (column 1 (star-word ∷ [])) (words (3 ∷ [])) 16384 satisfied
     ∷ case (column 0 []) (words (3 ∷ [])) 16384 (broken 1)
+    -- AllDifferent: all differ; neighbours are equal; the first and the last are; a sum equals a constant; none, and a single one
+    ∷ given three (words (2 ∷ 0 ∷ 1 ∷ [])) satisfied
+    ∷ given three (words (2 ∷ 1 ∷ 1 ∷ [])) (broken 1)
+    ∷ given three (words (1 ∷ 0 ∷ 1 ∷ [])) (broken 1)
+    ∷ given (differ 2 (22 ∷ 2 ∷ 1 ∷ 21 ∷ 0 ∷ 2 ∷ 21 ∷ 1 ∷ 20 ∷ 5 ∷ [])) (words (1 ∷ 2 ∷ 0 ∷ [])) (broken 1)
+    ∷ given (differ 2 (22 ∷ 2 ∷ 1 ∷ 21 ∷ 0 ∷ 2 ∷ 21 ∷ 1 ∷ 20 ∷ 5 ∷ [])) (words (2 ∷ 1 ∷ 0 ∷ [])) satisfied
+    ∷ given (differ 0 []) (words (1 ∷ 1 ∷ 1 ∷ [])) satisfied
+    ∷ given (differ 1 (21 ∷ 0 ∷ [])) (words (1 ∷ 1 ∷ 1 ∷ [])) satisfied
     -- 14 before 15, and after 1 to 11
     ∷ given P5 [] (refused 14)
     ∷ given P5 (words (7 ∷ 7 ∷ [])) (refused 14)

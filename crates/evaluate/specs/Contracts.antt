@@ -12,11 +12,11 @@ use Rattle.laws.specs.Lists.{any, flat}
 use Rattle.laws.specs.Slices.{Has, zeros}
 use Rattle.syntax.specs.Words.{max-weight, star-word}
 use Rattle.syntax.specs.Syntax.{Domain, domain-of, in-domain, encode-domain, IntExpr, Terms, count-terms, encode-int, encode-terms, BoolExpr, Members, count-members, encode-bool, encode-members, Const, Var, NVar, And, Or, Not, Xor, Iff, Imp, Cmp, mnil, more, Cell, encode-cell, Stmt, encode-stmt}
-use Rattle.syntax.specs.Satisfies.{int-value, terms-value, permits, holds, holds-all, holds-any}
+use Rattle.syntax.specs.Satisfies.{int-value, terms-value, permits, holds, holds-all, holds-any, distinct}
 use Rattle.syntax.specs.Written.{EveryInt, EveryTerm, EveryColumn}
 use Rattle.words.specs.Exact.{Each}
 use Rattle.read.specs.WellFormed.{WellCell, WellRow, WellStmt}
-use Rattle.limits.specs.Limits.{domain-weight, terms-weight, heavy, heavy-terms, heavy-comparison, any-comparison, any-comparison-members, any-part}
+use Rattle.limits.specs.Limits.{domain-weight, terms-weight, heavy, heavy-terms, heavy-comparison, any-comparison, any-comparison-members, heavy-stmt}
 use Rattle.domains.specs.Declared.{Domains}
 use Rattle.fold.specs.Forms.{Declared, Declared-members}
 use Rattle.evaluate.specs.Roster.{bool-of, int-of, Verdict, satisfied, broken, refused, truth, first-broken, check-roster}
@@ -158,7 +158,7 @@ abbrev pub Members-post : List ℤ → List ℤ → ℕ → ℕ → ℕ → Bool
 Members-post ws values nb at n stop next h =
     (ds : List Domain) (ms : Members) → Roster nb ds values → Members-at nb ds ws at n ms → (next ≡ at + length (encode-members ms)) × (h ≡ decided nb values stop ms)
 
--- ---- tables: the columns' values are worked out once
+-- ---- tables and AllDifferent: the columns' values are worked out once
 
 pub record Columns-at (ds : List Domain) (ws : List ℤ) (at n : ℕ) (es : List IntExpr) : Type 0 where
   pub words : Has ws at (flat (map encode-int es))
@@ -225,12 +225,12 @@ Rows-post ws at n k work r = (rows : List (List Cell)) (xs : List ℤ) → Rows-
 pub record Stmt-at (nb : ℕ) (ds : List Domain) (ws : List ℤ) (at : ℕ) (s : Stmt) : Type 0 where
   pub words : Has ws at (encode-stmt s)
   pub well : WellStmt nb (length ds) s
-  pub light : any-part (heavy-comparison ds) (heavy ds) s ≡ false
+  pub light : heavy-stmt ds s ≡ false
 
 pub record Stmts-at (nb : ℕ) (ds : List Domain) (ws : List ℤ) (at n : ℕ) (ss : List Stmt) : Type 0 where
   pub words : Has ws at (flat (map encode-stmt ss))
   pub well : Each (WellStmt nb (length ds)) ss
-  pub light : any (any-part (heavy-comparison ds) (heavy ds)) ss ≡ false
+  pub light : any (heavy-stmt ds) ss ≡ false
   pub size : n ≡ length ss
 
 pub record Ready-stmt (ws values : List ℤ) (nb at : ℕ) (work : List ℤ) : Type 0 where
@@ -269,6 +269,10 @@ pub record Words-at (ws : List ℤ) (at n : ℕ) : Type 0 where
 
 abbrev pub Listed-post : List ℤ → ℕ → ℕ → ℤ → Bool → Type 0
 Listed-post ws at n x r = (xs : List ℤ) → Has ws at xs → n ≡ length xs → r ≡ any (eqZ x) xs
+
+-- the n words from `at` on differ pairwise
+abbrev pub Differ-post : List ℤ → ℕ → ℕ → Bool → Type 0
+Differ-post ws at n r = (xs : List ℤ) → Has ws at xs → n ≡ length xs → r ≡ distinct xs
 
 abbrev pub Domain-post : List ℤ → ℕ → ℤ → Bool → Type 0
 Domain-post ws at x r = (d : Domain) → Has ws at (encode-domain d) → r ≡ in-domain x d

@@ -9,7 +9,7 @@ ghost use Rattle.syntax.specs.Syntax.{op-at};
 ghost use Rattle.syntax.specs.Satisfies.{compare};
 ghost use Rattle.domains.specs.Declared.{Domain-at};
 ghost use Rattle.evaluate.specs.Roster.{is-bit, check-roster};
-ghost use Rattle.evaluate.specs.Contracts.{Ready-int, Ready-terms, Int-post, Terms-post, Some-bool, Some-members, Step-post, Skip-post, Ready-bool, Ready-members, side-value, Bool-post, Members-post, Ready-columns, Columns-post, Ready-row, Ready-rows, word-permits, Row-post, Rows-post, Ready-stmt, Ready-stmts, Stmt-post, Broken-post, Words-at, Listed-post, Domain-post, Ready-domains, Inside-post, checked-of, Checks};
+ghost use Rattle.evaluate.specs.Contracts.{Ready-int, Ready-terms, Int-post, Terms-post, Some-bool, Some-members, Step-post, Skip-post, Ready-bool, Ready-members, side-value, Bool-post, Members-post, Ready-columns, Columns-post, Ready-row, Ready-rows, word-permits, Row-post, Rows-post, Ready-stmt, Ready-stmts, Stmt-post, Broken-post, Words-at, Listed-post, Differ-post, Domain-post, Ready-domains, Inside-post, checked-of, Checks};
 
 pub enum Checked {
     Yes,
@@ -306,7 +306,7 @@ fn rows_hold(set: &[i32], at: usize, n: usize, k: usize, work: &[i32]) -> bool
 }
 
 fn table_holds(set: &[i32], values: &[i32], nb: usize, at: usize, work: &mut [i32]) -> Held
-    requires { ⌜ Ready-stmt (now set) (now values) nb at (now work) × (getD (now set) at (pos 0) ≡ pos 1 → ⊥) ⌝ }
+    requires { ⌜ Ready-stmt (now set) (now values) nb at (now work) × (getD (now set) at (pos 0) ≡ pos 2) ⌝ }
     ensures { λ r. ⌜ Stmt-post (now (set .entry)) (now (values .entry)) nb at (r .next) (r .held) ⌝ }
 {
     let n = domains::number(set, at + 1);
@@ -319,6 +319,36 @@ fn table_holds(set: &[i32], values: &[i32], nb: usize, at: usize, work: &mut [i3
     }
 }
 
+// ---- AllDifferent
+
+// Whether the n values from the start of the work slice on differ pairwise; the first equal pair decides.
+fn differ(work: &[i32], n: usize) -> bool
+    requires { ⌜ Words-at (now work) 0 n ⌝ }
+    ensures { λ r. ⌜ Differ-post (now (work .entry)) 0 n r ⌝ }
+{
+    let mut i = 0;
+    let mut later = n;
+    while later != 0 {
+        let x = work[i];
+        i = i + 1;
+        later = later - 1;
+        if listed(work, i, later, x) {
+            return false;
+        }
+    }
+    true
+}
+
+fn different_holds(set: &[i32], values: &[i32], nb: usize, at: usize, work: &mut [i32]) -> Held
+    requires { ⌜ Ready-stmt (now set) (now values) nb at (now work) × (getD (now set) at (pos 0) ≡ pos 3) ⌝ }
+    ensures { λ r. ⌜ Stmt-post (now (set .entry)) (now (values .entry)) nb at (r .next) (r .held) ⌝ }
+{
+    let n = domains::number(set, at + 1);
+    let next = column_values(set, values, nb, at + 2, n, work);
+    let held = differ(work, n);
+    Held { next, held }
+}
+
 // ---- statements
 
 fn statement_holds(set: &[i32], values: &[i32], nb: usize, at: usize, work: &mut [i32]) -> Held
@@ -329,7 +359,10 @@ fn statement_holds(set: &[i32], values: &[i32], nb: usize, at: usize, work: &mut
     if code == 1 {
         return bool_holds(set, values, nb, at + 1);
     }
-    table_holds(set, values, nb, at, work)
+    if code == 2 {
+        return table_holds(set, values, nb, at, work);
+    }
+    different_holds(set, values, nb, at, work)
 }
 
 // The number, from 1, of the first of n statements that is broken; nothing behind it is looked at.

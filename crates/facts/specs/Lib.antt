@@ -4,3 +4,4 @@ pub mod Loads
 pub mod Cases
 pub mod Loaded
 pub mod Each
+pub mod DifferentCases

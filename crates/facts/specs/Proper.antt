@@ -6,7 +6,7 @@ use Prim.Native.Nat.{ℕ, zero, suc, zero-le}
 use lib.IntN.{ℤ, pos, negℤ}
 use lib.ListN.{length}
 use Rattle.laws.specs.Lists.{any, all, select, keep-if, flat}
-use Rattle.syntax.specs.Syntax.{Domain, domain-of, enumerate, IntExpr, IConst, IVar, Linear, Terms, tnil, tmore, BoolExpr, Const, Var, NVar, And, Or, Not, Xor, Iff, Imp, Cmp, Members, mnil, more, Cell, star, value, Stmt, Rule, Table}
+use Rattle.syntax.specs.Syntax.{Domain, domain-of, enumerate, IntExpr, IConst, IVar, Linear, Terms, tnil, tmore, BoolExpr, Const, Var, NVar, And, Or, Not, Xor, Iff, Imp, Cmp, Members, mnil, more, Cell, star, value, Stmt, Rule, Table, AllDifferent}
 use Rattle.sums.specs.LinearSum.{LinearSum, linear-sum, term, constant, add-sum, mul-sum, singleton}
 use Rattle.sums.specs.Rising.{Rises, Proper, constant-proper, singleton-proper, add-sum-proper, sub-sum-proper}
 use Rattle.clauses.specs.Clause.{BoolLit, lit, LinearLit, linear, Clause, clause, negate-if}
@@ -15,6 +15,7 @@ use Rattle.clauses.specs.Disjunction.{add-bool-each, Sorted, satisfied, pool, p
 use Rattle.clauses.specs.Normalize.{IntOut, normalize-int-var, normalize-term, normalize-int-expr, normalize-terms, Run, Runs, no-run, run-then, normalize-conjunction, disjunction-of, cross, const-clauses, normalize-var, normalize-comparison, normalize-bool-expr, normalize-members}
 use Rattle.clauses.specs.Split.{Split, tseitin-transformation-bool, normalize-each, normalize-and-register-expr}
 use Rattle.tables.specs.Tables.{emitted-domains, Columns, new-column, old-column, equivalent-int-var, equivalent-int-vars, linear-eq, is-star, star-row, star-table, Row, cell-value, cell-at, sort-rows, within, groups, takes, variable, differs, column-clause, column-clauses, prefixes, plain-clauses, plain-table, normalize-extension-supports, normalize-table}
+use Rattle.different.specs.Different.{different-rules, normalize-rules}
 use Rattle.answer.specs.Answer.{normalize-stmt, normalize-stmts}
 
 abbrev pub ProperLinears : List LinearLit → Type 0
@@ -272,12 +273,22 @@ table-proper ds es rows s =
     let c : Columns = equivalent-int-vars ds es s in
     clauses-append (c .clauses) (normalize-extension-supports ds (c .vars) rows (c .log) .0) (columns-proper ds es s) (supports-proper ds (c .vars) rows (c .log))
 
+-- ---- rules one after another
+
+rules-proper : (es : List BoolExpr) → ProperRun (normalize-rules es)
+unfolding normalize-rules
+rules-proper [] s = tt
+rules-proper (e ∷ es) s =
+    let a : Out = normalize-and-register-expr e s in
+    clauses-append (a .0) (normalize-rules es (a .1) .0) (rule-proper e s) (rules-proper es (a .1))
+
 -- ---- statements
 
 stmt-proper : (ds : List Domain) (t : Stmt) → ProperRun (normalize-stmt ds t)
 unfolding normalize-stmt
 stmt-proper ds (Rule e) s = rule-proper e s
 stmt-proper ds (Table es rows) s = table-proper ds es rows s
+stmt-proper ds (AllDifferent es) s = rules-proper (different-rules ds es) s
 
 pub stmts-proper : (ds : List Domain) (ts : List Stmt) (s : Log) → ProperClauses (normalize-stmts ds ts s .0)
 unfolding normalize-stmts

@@ -1,33 +1,43 @@
 -- Within refusal 9 no sum that the Rust computes leaves i32, for every set that is accepted: the sums of comparisons and columns on the
--- way to them (normalize_int_expr), each column's difference with its new variable (equivalent_int_var), the products and the bounds of
+-- way to them (normalize_int_expr), an AllDifferent's pairs and values among them, each column's difference with its new variable (equivalent_int_var), the products and the bounds of
 -- a column's domain after each term (get_domain_linear_sum). For any emitted numbers of the declared variables.
-use mathlib.Core.Path.{_≡_, refl}
-use mathlib.Core.Bool.{Bool, true, false, cond}
+use mathlib.Core.Path.{_≡_, refl, sym, ap, _∙_}
+use mathlib.Core.Bool.{Bool, true, false, _||_, cond}
 use mathlib.Core.List.{List, [], _∷_, map}
-use Prim.Native.Nat.{ℕ, _+_, _≤_}
+use Prim.Native.Nat.{ℕ, _+_, _≤_, _<_, max}
 use native.Mathlib.Nat.{mul-le-mul-left}
 use native.Mathlib.Omega.{arith}
-use lib.IntN.{ℤ, negsuc, natAbs, _+ℤ_, _*ℤ_}
-use lib.ListN.{take}
-use Rattle.laws.specs.Bools.{or-no-l, or-no-r}
-use Rattle.laws.specs.Ints.{natAbs-add, natAbs-mul}
-use Rattle.laws.specs.Lists.{any}
+use lib.IntN.{ℤ, pos, negsuc, natAbs, _+ℤ_, _*ℤ_}
+use lib.Signed.{leZ}
+use lib.ListN.{length, take}
+use borrow.Author.Tests.{leb-true, ltb-false, le-ltb}
+use Rattle.laws.specs.Bools.{and-l, and-r, never, or-l, or-r, or-no-l, or-no-r}
+use Rattle.laws.specs.Ints.{eqZ, natAbs-add, natAbs-mul}
+use Rattle.laws.specs.Order.{eqZ-is, eqZ-refl}
+use Rattle.laws.specs.Same.{same-is}
+use Rattle.laws.specs.Lists.{any, all}
 use Rattle.syntax.specs.Words.{max-weight}
-use Rattle.syntax.specs.Syntax.{Domain, lower-bound, upper-bound, domain-of, IntExpr, BoolExpr, Const, Var, NVar, And, Or, Not, Xor, Iff, Imp, Cmp, Members, mnil, more, Stmt, Rule, Table, Problem}
+use Rattle.syntax.specs.Syntax.{Domain, Range, Enumerative, lower-bound, upper-bound, num-candidates, enumerate, domain-of, IntExpr, IConst, IVar, Linear, BoolExpr, Const, Var, NVar, And, Or, Not, Xor, Iff, Imp, Cmp, Members, mnil, more, Stmt, Rule, Table, AllDifferent, Problem}
+use Rattle.syntax.specs.Written.{EveryInt, EveryColumn, EveryStmt, EveryStmts}
 use Rattle.words.specs.Exact.{Each}
 use Rattle.read.specs.Exact.{set-sound}
-use Rattle.limits.specs.Limits.{any-comparison, any-comparison-members, any-part, heavy, heavy-comparison, written, check}
+use Rattle.limits.specs.Limits.{any-comparison, any-comparison-members, any-pair, any-part, largest, domain-weight, weight, heavy, heavy-comparison, written, heavy-stmt, check}
 use Rattle.fold.specs.Fold.{Fixed, constant-folding-stmt as fold-stmt}
 use Rattle.fold.specs.Optimize.{settled, optimize}
+use Rattle.fold.specs.Kept.{fold-stmts-every}
 use Rattle.fold.specs.Ends.{optimize-rests}
+use Rattle.sums.specs.Domain.{ordered}
 use Rattle.sums.specs.LinearSum.{Term, term, LinearSum, linear-sum, singleton, add-coef, mul-sum, lowest, highest}
 use Rattle.sums.specs.Rising.{terms-of, constant-of, Among}
 use Rattle.sums.specs.Linear.{linear-of}
 use Rattle.sums.specs.Norm.{norm, load, singleton-load, add-coef-norm, mul-sum-load}
 use Rattle.sums.specs.Bounds.{heavy-weight, size, Coefficients, Fits, Every, add-steps, sum-steps, computed, computed-comparison, linear-of-load, linear-of-size, reach, reach-weight, computed-fits, comparison-fits, domain-bounds-fit}
+use Rattle.tables.specs.Domains.{has, has-range}
+use Rattle.different.specs.Different.{is-like, values-of-first, values-used-up}
 use Rattle.folded.specs.Folded.{fold-stmt-light}
 use Rattle.call.specs.Call.{Accepted}
 use Rattle.call.specs.WellRead.{well-declared}
+use Rattle.call.specs.Demand.{domains-ordered}
 
 abbrev pub max-i32 : ℕ
 max-i32 = 2147483647
@@ -38,6 +48,15 @@ pub record InI32 (l : LinearSum) : Type 0 where
   pub coefficients-in : Coefficients max-i32 (terms-of l)
 
 -- ---- a property of every comparison and of every column of a statement
+
+-- of every pair
+abbrev pub EveryPair : (IntExpr → IntExpr → Type 0) → List IntExpr → Type 0
+EveryPair P [] = Unit {0}
+EveryPair P (e ∷ es) = Each (P e) es × EveryPair P es
+
+-- of each expression with each value
+abbrev pub EveryValue : (IntExpr → IntExpr → Type 0) → List IntExpr → List ℤ → Type 0
+EveryValue P es xs = Each (λ x. Each (λ e. P e (IConst x)) es) xs
 
 module _ (P : IntExpr → IntExpr → Type 0) (C : IntExpr → Type 0) where
   unfoldable mutual
@@ -57,9 +76,10 @@ module _ (P : IntExpr → IntExpr → Type 0) (C : IntExpr → Type 0) where
     EveryMembersComparison mnil = Unit {0}
     EveryMembersComparison (more e ms) = EveryComparison e × EveryMembersComparison ms
 
-  abbrev pub EveryPart : Stmt → Type 0
-  EveryPart (Rule e) = EveryComparison e
-  EveryPart (Table es rows) = Each C es
+  abbrev pub EveryPart : List Domain → Stmt → Type 0
+  EveryPart ds (Rule e) = EveryComparison e
+  EveryPart ds (Table es rows) = Each C es
+  EveryPart ds (AllDifferent es) = EveryPair P es × EveryValue P es (values-used-up ds es)
 
 -- ---- the sums of a column: its own, and with a new variable n
 
@@ -155,6 +175,84 @@ module _ (ds : List Domain) (number : ℕ → ℕ) where
     bounds = λ domain k i. let b = domain-bounds-fit domain ds number e k h i in (omega (arith, b .0), omega (arith, b .1));
   }
 
+-- ---- an AllDifferent's values: within the pairs' weights
+
+-- a value weighs no more than its domain
+largest-has : (x : ℤ) (xs : List ℤ) → has x xs ≡ true → natAbs x ≤ largest xs
+largest-has x [] h = never h
+largest-has x (y ∷ ys) h = go (eqZ x y) refl h (largest-has x ys)
+  where
+    go : (t : Bool) → eqZ x y ≡ t → t || has x ys ≡ true → (has x ys ≡ true → natAbs x ≤ largest ys) → natAbs x ≤ max (natAbs y) (largest ys)
+    go true e k r = let z : x ≡ y = eqZ-is x y e in omega (arith, ap natAbs z)
+    go false e k r = omega (arith, r k)
+
+between : (low x high : ℤ) → leZ low x ≡ true → leZ x high ≡ true → natAbs x ≤ max (natAbs low) (natAbs high)
+between low (pos b) (pos c) h k = omega (arith, leb-true b c k)
+between low (pos b) (negsuc c) h k = never k
+between (pos a) (negsuc b) high h k = never h
+between (negsuc a) (negsuc b) high h k = omega (arith, leb-true b a h)
+
+value-weight : (x : ℤ) (d : Domain) → ordered d ≡ true → has x (enumerate d) ≡ true → natAbs x ≤ domain-weight d
+value-weight x (Range low high) o h = let i = sym (has-range x low high o) ∙ h in omega (arith, between low x high (and-l (leZ low x) (leZ x high) i) (and-r (leZ low x) (leZ x high) i))
+value-weight x (Enumerative xs) o h = omega (arith, largest-has x xs h)
+
+module _ (ds : List Domain) (well : (v : ℕ) → v < length ds → ordered (domain-of ds v) ≡ true) where
+  -- beside a value as in a pair
+  beside-light : (a b : IntExpr) (x : ℤ) → heavy-comparison ds a b ≡ false → (natAbs x ≤ weight ds a → heavy-comparison ds b (IConst x) ≡ false) × (natAbs x ≤ weight ds b → heavy-comparison ds a (IConst x) ≡ false)
+  unfolding heavy-comparison heavy weight
+  beside-light a b x h =
+      let i = or-no-l (heavy ds a) _ h in
+      let r = or-no-r (heavy ds a) _ h in
+      let j = or-no-l (heavy ds b) _ r in
+      let s = ltb-false max-weight (weight ds a + weight ds b) (or-no-r (heavy ds b) _ r) in (
+        λ k. rw (j, le-ltb max-weight (natAbs x) (omega arith), le-ltb max-weight (weight ds b + natAbs x) (omega arith)) refl,
+        λ k. rw (i, le-ltb max-weight (natAbs x) (omega arith), le-ltb max-weight (weight ds a + natAbs x) (omega arith)) refl,
+      )
+
+  -- a variable like d has no value above its weight
+  like-weight : (n : ℕ) (d : Domain) (x : ℤ) (e : IntExpr) → EveryInt (λ v. v < length ds) e → has x (enumerate d) ≡ true → is-like ds n d e ≡ true → natAbs x ≤ weight ds e
+  unfolding weight EveryInt
+  like-weight n d x (IConst c) b h l = never l
+  like-weight n d x (IVar v) b h l =
+      let z = same-is (enumerate (domain-of ds v)) (enumerate d) (and-r (eqZ (num-candidates (domain-of ds v)) (pos n)) _ l) in
+      value-weight x (domain-of ds v) (well v b) (rw z h)
+  like-weight n d x (Linear ts) b h l = never l
+
+  module _ (P : IntExpr → IntExpr → Type 0) (f : (a b : IntExpr) → heavy-comparison ds a b ≡ false → P a b) (n : ℕ) (d : Domain) where
+    row-values : (x : ℤ) → has x (enumerate d) ≡ true → (e : IntExpr) (es : List IntExpr) → natAbs x ≤ weight ds e → any (heavy-comparison ds e) es ≡ false → Each (λ g. P g (IConst x)) es
+    row-values x h e [] w k = tt
+    row-values x h e (g ∷ es) w k =
+        (f g (IConst x) (beside-light e g x (or-no-l (heavy-comparison ds e g) _ k) .0 w), row-values x h e es w (or-no-r (heavy-comparison ds e g) _ k))
+
+    values-each : (e g : IntExpr) (es : List IntExpr) → EveryColumn (λ v. v < length ds) (e ∷ g ∷ es) → any-pair (heavy-comparison ds) (e ∷ g ∷ es) ≡ false → all (is-like ds n d) (e ∷ g ∷ es) ≡ true
+        → (xs : List ℤ) → ((x : ℤ) → has x xs ≡ true → has x (enumerate d) ≡ true) → EveryValue P (e ∷ g ∷ es) xs
+    unfolding any-pair EveryColumn
+    values-each e g es b k l [] i = tt
+    values-each e g es b k l (x ∷ xs) i =
+        let h : has x (enumerate d) ≡ true = i x (or-l (eqZ x x) _ (eqZ-refl x)) in
+        let r = or-no-l (any (heavy-comparison ds e) (g ∷ es)) _ k in
+        let a : natAbs x ≤ weight ds e = like-weight n d x e (b .0) h (and-l (is-like ds n d e) _ l) in
+        let c : natAbs x ≤ weight ds g = like-weight n d x g (b .1 .0) h (and-l (is-like ds n d g) _ (and-r (is-like ds n d e) _ l)) in
+        ((f e (IConst x) (beside-light e g x (or-no-l (heavy-comparison ds e g) _ r) .1 c), row-values x h e (g ∷ es) a r), values-each e g es b k l xs (λ y m. i y (or-r (eqZ y x) _ m)))
+
+  pub used-values : (P : IntExpr → IntExpr → Type 0) → ((a b : IntExpr) → heavy-comparison ds a b ≡ false → P a b) → (es : List IntExpr) → EveryColumn (λ v. v < length ds) es → any-pair (heavy-comparison ds) es ≡ false → EveryValue P es (values-used-up ds es)
+  unfolding values-used-up values-of-first
+  used-values P f [] b k = tt
+  used-values P f (e ∷ []) b k = tt
+  used-values P f (IConst c ∷ g ∷ es) b k = tt
+  used-values P f (IVar v ∷ g ∷ es) b k = go (all (is-like ds n d) (IVar v ∷ g ∷ es)) refl
+    where
+      n : ℕ
+      n = length (IVar v ∷ g ∷ es)
+
+      d : Domain
+      d = domain-of ds v
+
+      go : (t : Bool) → all (is-like ds n d) (IVar v ∷ g ∷ es) ≡ t → EveryValue P (IVar v ∷ g ∷ es) (cond t (enumerate d) [])
+      go false l = tt
+      go true l = values-each P f n d (IVar v) g es b k l (enumerate d) (λ x h. h)
+  used-values P f (Linear ts ∷ g ∷ es) b k = tt
+
 -- ---- what refusal 9 leaves has the property
 
 module _ (P : IntExpr → IntExpr → Type 0) (C : IntExpr → Type 0) (p : IntExpr → IntExpr → Bool) (c : IntExpr → Bool) (f : (a b : IntExpr) → p a b ≡ false → P a b) (g : (e : IntExpr) → c e ≡ false → C e) where
@@ -181,27 +279,37 @@ module _ (P : IntExpr → IntExpr → Type 0) (C : IntExpr → Type 0) (p : IntE
   columns-every [] h = tt
   columns-every (e ∷ es) h = (g e (or-no-l (c e) (any c es) h), columns-every es (or-no-r (c e) (any c es) h))
 
-  part-every : (t : Stmt) → any-part p c t ≡ false → EveryPart P C t
-  unfolding any-part
-  part-every (Rule e) h = comparisons-every e h
-  part-every (Table es rows) h = columns-every es h
+  row-every : (e : IntExpr) (es : List IntExpr) → any (p e) es ≡ false → Each (P e) es
+  row-every e [] h = tt
+  row-every e (d ∷ es) h = (f e d (or-no-l (p e d) (any (p e) es) h), row-every e es (or-no-r (p e d) (any (p e) es) h))
+
+  pairs-every : (es : List IntExpr) → any-pair p es ≡ false → EveryPair P es
+  unfolding any-pair
+  pairs-every [] h = tt
+  pairs-every (e ∷ es) h = (row-every e es (or-no-l (any (p e) es) (any-pair p es) h), pairs-every es (or-no-r (any (p e) es) (any-pair p es) h))
 
 -- ---- the theorem
 
-module _ (ds : List Domain) (f : Fixed) (number : ℕ → ℕ) where
+module _ (ds : List Domain) (well : (v : ℕ) → v < length ds → ordered (domain-of ds v) ≡ true) (number : ℕ → ℕ) where
   abbrev In : Stmt → Type 0
-  In = EveryPart (ComparisonIn number) (ColumnIn ds number)
+  In = EveryPart (ComparisonIn number) (ColumnIn ds number) ds
 
-  folded-in : (ts : List Stmt) → any (any-part (heavy-comparison ds) (heavy ds)) ts ≡ false → Each In (map (fold-stmt ds f) ts)
-  folded-in [] h = tt
-  folded-in (t ∷ ts) h = (
-    part-every (ComparisonIn number) (ColumnIn ds number) (heavy-comparison ds) (heavy ds) (comparison-in ds number) (column-in ds number) (fold-stmt ds f t) (fold-stmt-light ds f t (or-no-l (any-part (heavy-comparison ds) (heavy ds) t) _ h)),
-    folded-in ts (or-no-r (any-part (heavy-comparison ds) (heavy ds) t) _ h),
-  )
+  part-in : (nb : ℕ) (t : Stmt) → EveryStmt (λ v. v < nb) (λ v. v < length ds) t → heavy-stmt ds t ≡ false → In t
+  unfolding any-part EveryStmt
+  part-in nb (Rule e) d h = comparisons-every (ComparisonIn number) (ColumnIn ds number) (heavy-comparison ds) (heavy ds) (comparison-in ds number) (column-in ds number) e h
+  part-in nb (Table es rows) d h = columns-every (ComparisonIn number) (ColumnIn ds number) (heavy-comparison ds) (heavy ds) (comparison-in ds number) (column-in ds number) es h
+  part-in nb (AllDifferent es) d h =
+      let k = or-no-r (any (heavy ds) es) _ h in
+      (pairs-every (ComparisonIn number) (ColumnIn ds number) (heavy-comparison ds) (heavy ds) (comparison-in ds number) (column-in ds number) es k, used-values ds well (ComparisonIn number) (comparison-in ds number) es d k)
 
-unrefused-light : (p : Problem) → check p ≡ 0 → any (any-part (heavy-comparison (p .domains)) (heavy (p .domains))) (p .stmts) ≡ false
+  folded-in : (f : Fixed) (nb : ℕ) (ts : List Stmt) → EveryStmts (λ v. v < nb) (λ v. v < length ds) (map (fold-stmt ds f) ts) → any (heavy-stmt ds) ts ≡ false → Each In (map (fold-stmt ds f) ts)
+  unfolding EveryStmts
+  folded-in f nb [] d h = tt
+  folded-in f nb (t ∷ ts) d h = (part-in nb (fold-stmt ds f t) (d .0) (fold-stmt-light ds f t (or-no-l (heavy-stmt ds t) _ h)), folded-in f nb ts (d .1) (or-no-r (heavy-stmt ds t) _ h))
+
+unrefused-light : (p : Problem) → check p ≡ 0 → any (heavy-stmt (p .domains)) (p .stmts) ≡ false
 unfolding check
-unrefused-light p h = go (any (any-part (heavy-comparison (p .domains)) (heavy (p .domains))) (p .stmts)) _ h
+unrefused-light p h = go (any (heavy-stmt (p .domains)) (p .stmts)) _ h
   where
     go : (t : Bool) (k : ℕ) → cond t 9 k ≡ 0 → t ≡ false
     go true k h = absurd (omega arith)
@@ -209,7 +317,9 @@ unrefused-light p h = go (any (any-part (heavy-comparison (p .domains)) (heavy (
 
 -- the statements ss that the passes leave of an accepted set
 pub sums-in-i32 : (set : List ℤ) (p : Problem) → Accepted set p → (f : Fixed) (ss : List Stmt) → optimize p ≡ settled f ss → (number : ℕ → ℕ)
-    → Each (EveryPart (ComparisonIn number) (ColumnIn (p .domains) number)) ss
+    → Each (EveryPart (ComparisonIn number) (ColumnIn (p .domains) number) (p .domains)) ss
 sums-in-i32 set p a f ss end number =
-    let e : ss ≡ map (fold-stmt (p .domains) f) (p .stmts) = optimize-rests p (well-declared p (set-sound set p [] (a .says) .1)) f ss end .origin in
-    rw e (folded-in (p .domains) f number (p .stmts) (unrefused-light p (a .unrefused)))
+    let well = set-sound set p [] (a .says) .1 in
+    let declared = well-declared p well in
+    let e : ss ≡ map (fold-stmt (p .domains) f) (p .stmts) = optimize-rests p declared f ss end .origin in
+    rw e (folded-in (p .domains) (domains-ordered (p .domains) (well .domains-well)) number f (p .bools) (p .stmts) (fold-stmts-every (λ v. v < p .bools) (λ v. v < length (p .domains)) (p .domains) f (p .stmts) declared) (unrefused-light p (a .unrefused)))

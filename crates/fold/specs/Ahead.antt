@@ -9,7 +9,7 @@ use native.Mathlib.Omega.{arith}
 use lib.Dec.{eqb}
 use borrow.Author.Tests.{eqb-true}
 use Rattle.laws.specs.Bools.{or-no-l, or-no-r, never}
-use Rattle.syntax.specs.Syntax.{Domain, BoolExpr, Const, Var, NVar, And, Or, Not, Xor, Iff, Imp, Cmp, Members, mnil, more, Stmt, Rule, Table}
+use Rattle.syntax.specs.Syntax.{Domain, BoolExpr, Const, Var, NVar, And, Or, Not, Xor, Iff, Imp, Cmp, Members, mnil, more, Stmt, Rule, Table, AllDifferent}
 use Rattle.syntax.specs.Written.{EveryStmts, any-bool}
 use Rattle.fold.specs.Fold.{Fixed, op-imp, action, act, fold-binary, has-const, kept, fold-not, fold-var, constant-folding-bool as fold, constant-folding-members as fold-members, constant-folding-stmt as fold-stmt}
 use Rattle.fold.specs.Optimize.{Status, unsatisfiable, updated, fix, set-infeasible, worst, and-then, constant-prop-bool as prop, constant-prop-members as prop-members, constant-prop-stmts as prop-stmts, Outcome, inconsistent, settled, next-pass, passes}
@@ -20,10 +20,11 @@ use Rattle.fold.specs.Ends.{After, prop-after, prop-extends, still-steps
 
 -- ---- a single statement
 
--- requiring one statement: a table fixes nothing
+-- requiring one statement: a table fixes nothing, nor does AllDifferent
 abbrev pub prop-stmt : Stmt → Fixed → Status
 prop-stmt (Rule e) = prop e true
 prop-stmt (Table es rows) = λ f. updated false f
+prop-stmt (AllDifferent es) = λ f. updated false f
 
 idle-first : (s : Status) → s ≡ worst false s
 idle-first unsatisfiable = refl
@@ -33,6 +34,7 @@ pub prop-stmts-more : (s : Stmt) (ss : List Stmt) (f : Fixed) → prop-stmts (s 
 unfolding prop-stmts
 prop-stmts-more (Rule e) ss f = refl
 prop-stmts-more (Table es rows) ss f = idle-first (prop-stmts ss f)
+prop-stmts-more (AllDifferent es) ss f = idle-first (prop-stmts ss f)
 
 -- ---- values at rest
 
@@ -227,6 +229,7 @@ module _ (ds : List Domain) (g : Fixed) where
   unfolding fold-stmt
   stmt-under (Rule e) r q x = prop-under e true r q x
   stmt-under (Table es rows) r q x = x
+  stmt-under (AllDifferent es) r q x = x
 
   folded-under : (s : Stmt) (f r : Fixed) → Quiet g (prop-stmt (fold-stmt ds g s) g) → Extends f g → Extends r g → Under (prop-stmt (fold-stmt ds f s) r)
   folded-under s f r q y x = stmt-under (fold-stmt ds f s) r (rw (refold-stmt ds g f y s) q) x
@@ -236,6 +239,7 @@ module _ (ds : List Domain) (g : Fixed) where
   unfolding fold-stmt
   rest-more (Rule e) ss q = quiet-then g (fold ds g e) true (prop-stmts (map (fold-stmt ds g) ss)) (sym (prop-stmts-more (Rule (fold ds g e)) (map (fold-stmt ds g) ss) g) ∙ q)
   rest-more (Table es rows) ss q = (refl, idle-first (prop-stmts (map (fold-stmt ds g) ss) g) ∙ sym (prop-stmts-more (fold-stmt ds g (Table es rows)) (map (fold-stmt ds g) ss) g) ∙ q)
+  rest-more (AllDifferent es) ss q = (refl, idle-first (prop-stmts (map (fold-stmt ds g) ss) g) ∙ sym (prop-stmts-more (fold-stmt ds g (AllDifferent es)) (map (fold-stmt ds g) ss) g) ∙ q)
 
   rest-at : (before : List Stmt) (s : Stmt) (after : List Stmt) → AtRest ds (before ++ (s ∷ after)) g → Quiet g (prop-stmt (fold-stmt ds g s) g)
   rest-at [] s after q = rest-more s after q .0

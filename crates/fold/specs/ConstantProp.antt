@@ -9,7 +9,7 @@ use lib.Dec.{eqb}
 use borrow.Author.Tests.{eqb-true}
 use Rattle.laws.specs.Bools.{and-l, and-r, never, or-no-l, or-no-r}
 use Rattle.laws.specs.Lists.{all}
-use Rattle.syntax.specs.Syntax.{BoolExpr, Const, Var, NVar, And, Or, Not, Xor, Iff, Imp, Cmp, Members, mnil, more, Stmt, Rule, Table}
+use Rattle.syntax.specs.Syntax.{BoolExpr, Const, Var, NVar, And, Or, Not, Xor, Iff, Imp, Cmp, Members, mnil, more, Stmt, Rule, Table, AllDifferent}
 use Rattle.syntax.specs.Satisfies.{Val, IVal, holds, holds-all, holds-any, stmt-holds}
 use Rattle.fold.specs.Fold.{Fixed}
 use Rattle.fold.specs.Optimize.{Status, unsatisfiable, updated, fix, set-infeasible, worst, and-then, constant-prop-bool as prop, constant-prop-members as prop-members, constant-prop-stmts as prop-stmts}
@@ -103,3 +103,4 @@ module _ (δ : Val) (ε : IVal) (ρ : Val) where
   prop-stmts-have [] f h e = h
   prop-stmts-have (Rule e ∷ ss) f h q = then-has (prop e true f) (prop-stmts ss) (prop-has e true f h (and-l (holds δ ε ρ e) (all (stmt-holds δ ε ρ) ss) q)) (λ g k. prop-stmts-have ss g k (and-r (holds δ ε ρ e) (all (stmt-holds δ ε ρ) ss) q))
   prop-stmts-have (Table es rows ∷ ss) f h q = prop-stmts-have ss f h (and-r (stmt-holds δ ε ρ (Table es rows)) (all (stmt-holds δ ε ρ) ss) q)
+  prop-stmts-have (AllDifferent es ∷ ss) f h q = prop-stmts-have ss f h (and-r (stmt-holds δ ε ρ (AllDifferent es)) (all (stmt-holds δ ε ρ) ss) q)

@@ -10,7 +10,7 @@ use lib.Dec.{eqb}
 use lib.ListN.{length}
 use borrow.Author.Tests.{eqb-true, eqb-false}
 use Rattle.laws.specs.Bools.{or-no-l, or-no-r, never}
-use Rattle.syntax.specs.Syntax.{Domain, BoolExpr, Const, Var, NVar, And, Or, Not, Xor, Iff, Imp, Cmp, Members, mnil, more, Stmt, Rule, Table, Problem}
+use Rattle.syntax.specs.Syntax.{Domain, BoolExpr, Const, Var, NVar, And, Or, Not, Xor, Iff, Imp, Cmp, Members, mnil, more, Stmt, Rule, Table, AllDifferent, Problem}
 use Rattle.syntax.specs.Written.{Every, EveryMember, EveryStmt, EveryStmts, AllDeclared, any-stmts, EveryOf}
 use Rattle.fold.specs.Fold.{Fixed, constant-folding-stmt as fold-stmt}
 use Rattle.fold.specs.Optimize.{Status, unsatisfiable, updated, fix, set-infeasible, worst, and-then, constant-prop-bool as prop, constant-prop-members as prop-members, constant-prop-stmts as prop-stmts, Outcome, inconsistent, settled, next-pass, passes, optimize}
@@ -73,6 +73,7 @@ module _ (P Q : ℕ → Type 0) (R : Fixed → Bool → Fixed → Type 0) (steps
   prop-stmts-after [] f h = steps .idle f
   prop-stmts-after (Rule e ∷ ss) f h = then-after f (prop e true f) (prop-stmts ss) (prop-after e true f (h .0)) (λ g. prop-stmts-after ss g (h .1))
   prop-stmts-after (Table es rows ∷ ss) f h = prop-stmts-after ss f (h .1)
+  prop-stmts-after (AllDifferent es ∷ ss) f h = prop-stmts-after ss f (h .1)
 
 -- ---- what is fixed stays fixed, and where nothing changed all is as it was
 

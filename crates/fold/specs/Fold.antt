@@ -5,7 +5,7 @@ use mathlib.Core.List.{List, map}
 use Prim.Native.Nat.{ℕ}
 use lib.IntN.{ℤ, pos}
 use Rattle.laws.specs.Ints.{eqZ}
-use Rattle.syntax.specs.Syntax.{Domain, as-constant, domain-of, IntExpr, IConst, IVar, Linear, Terms, tnil, tmore, BoolExpr, Const, Var, NVar, And, Or, Not, Xor, Iff, Imp, Cmp, Members, mnil, more, Stmt, Rule, Table}
+use Rattle.syntax.specs.Syntax.{Domain, as-constant, domain-of, IntExpr, IConst, IVar, Linear, Terms, tnil, tmore, BoolExpr, Const, Var, NVar, And, Or, Not, Xor, Iff, Imp, Cmp, Members, mnil, more, Stmt, Rule, Table, AllDifferent}
 
 -- the Boolean variables fixed so far
 abbrev pub Fixed : Type 0
@@ -173,3 +173,4 @@ module _ (ds : List Domain) where
     unfoldable pub constant-folding-stmt : Stmt → Stmt
     constant-folding-stmt (Rule e) = Rule (constant-folding-bool e)
     constant-folding-stmt (Table es rows) = Table (map constant-folding-int es) rows
+    constant-folding-stmt (AllDifferent es) = AllDifferent (map constant-folding-int es)

@@ -11,8 +11,8 @@ use Rattle.laws.specs.Bools.{and-l, and-r, ∀2, at2, beq-eq, never}
 use Rattle.laws.specs.Ints.{eqZ}
 use Rattle.laws.specs.Order.{eqZ-is, leZ-antisym}
 use Rattle.laws.specs.Lists.{any, all}
-use Rattle.syntax.specs.Syntax.{Domain, Range, Enumerative, as-constant, in-domain, domain-of, IntExpr, IConst, IVar, Linear, Terms, tnil, tmore, BoolExpr, Const, Var, NVar, And, Or, Not, Xor, Iff, Imp, Cmp, Members, mnil, more, Cell, Stmt, Rule, Table}
-use Rattle.syntax.specs.Satisfies.{Val, IVal, int-value, terms-value, row-holds, holds, holds-all, holds-any, stmt-holds}
+use Rattle.syntax.specs.Syntax.{Domain, Range, Enumerative, as-constant, in-domain, domain-of, IntExpr, IConst, IVar, Linear, Terms, tnil, tmore, BoolExpr, Const, Var, NVar, And, Or, Not, Xor, Iff, Imp, Cmp, Members, mnil, more, Cell, Stmt, Rule, Table, AllDifferent}
+use Rattle.syntax.specs.Satisfies.{Val, IVal, int-value, terms-value, row-holds, holds, holds-all, holds-any, distinct, stmt-holds}
 use Rattle.syntax.specs.Written.{EveryInt, EveryTerm, EveryColumn, Every, EveryMember, EveryStmt, EveryStmts, Within, EveryOf}
 use Rattle.fold.specs.Fold.{Fixed, is-const, Op, op-xor, op-iff, op-imp, Action, be-false, be-true, left, not-left, right, not-right, keep, action, act, fold-binary, is-value, has-const, keep-member, kept, join-and, join-or, fold-and, fold-or, not-of, fold-not, fold-var, fold-int-var, fold-sum, constant-folding-int as fold-int, constant-folding-terms as fold-terms, constant-folding-bool as fold, constant-folding-members as fold-members, constant-folding-stmt as fold-stmt}
 use Rattle.fold.specs.Refold.{const-or}
@@ -69,6 +69,11 @@ module _ (ds : List Domain) (ε : IVal) where
   fold-row [] cs h = refl
   fold-row (e ∷ es) [] h = refl
   fold-row (e ∷ es) (c ∷ cs) h = rw (fold-int-value e (h .0), fold-row es cs (h .1)) refl
+
+  fold-values : (es : List IntExpr) → EveryColumn (Within ds ε) es → map (int-value ε) (map (fold-int ds) es) ≡ map (int-value ε) es
+  unfolding EveryColumn
+  fold-values [] h = refl
+  fold-values (e ∷ es) h = rw (fold-int-value e (h .0), fold-values es (h .1)) refl
 
   fold-rows : (es : List IntExpr) (rows : List (List Cell)) → EveryColumn (Within ds ε) es → any (row-holds ε (map (fold-int ds) es)) rows ≡ any (row-holds ε es) rows
   fold-rows es [] h = refl
@@ -259,6 +264,7 @@ module _ (ds : List Domain) (f : Fixed) (δ : Val) (ε : IVal) (ρ : Val) (agree
     unfolding fold-stmt stmt-holds EveryStmt
     fold-stmt-holds (Rule e) w = fold-holds e w
     fold-stmt-holds (Table es rows) w = fold-rows ds ε es rows w
+    fold-stmt-holds (AllDifferent es) w = ap distinct (fold-values ds ε es w)
 
     pub fold-stmts-hold : (ss : List Stmt) → EveryStmts P (Within ds ε) ss → all (stmt-holds δ ε ρ) (map (fold-stmt ds f) ss) ≡ all (stmt-holds δ ε ρ) ss
     unfolding EveryStmts

@@ -9,7 +9,7 @@ use lib.IntN.{ℤ, pos}
 use lib.ListN.{length, length-append}
 use Rattle.laws.specs.Ints.{eqZ}
 use Rattle.laws.specs.Lists.{flat}
-use Rattle.syntax.specs.Syntax.{Domain, as-constant, domain-of, IntExpr, IConst, IVar, Linear, Terms, tnil, tmore, BoolExpr, Const, Var, NVar, And, Or, Not, Xor, Iff, Imp, Cmp, Members, mnil, more, Stmt, Rule, Table, encode-int, encode-terms, encode-bool, encode-members, encode-cell, encode-stmt}
+use Rattle.syntax.specs.Syntax.{Domain, as-constant, domain-of, IntExpr, IConst, IVar, Linear, Terms, tnil, tmore, BoolExpr, Const, Var, NVar, And, Or, Not, Xor, Iff, Imp, Cmp, Members, mnil, more, Stmt, Rule, Table, AllDifferent, encode-int, encode-terms, encode-bool, encode-members, encode-cell, encode-stmt}
 use Rattle.syntax.specs.Written.{EveryInt, EveryTerm, EveryColumn, EveryStmt, EveryStmts, EveryOf, EveryMemberOf, Any}
 use Rattle.syntax.specs.Depth.{depth-int, depth-terms, depth, depth-members}
 use Rattle.fold.specs.Fold.{Fixed, is-const, Op, op-xor, op-iff, op-imp, Action, be-false, be-true, left, not-left, right, not-right, keep, action, act, fold-binary, has-const, keep-member, kept, join-and, join-or, fold-and, fold-or, not-of, fold-not, fold-var, fold-int-var, fold-sum, constant-folding-int as fold-int, constant-folding-terms as fold-terms, constant-folding-bool as fold, constant-folding-members as fold-members, constant-folding-stmt as fold-stmt}
@@ -142,6 +142,7 @@ module _ (P Q : ℕ → Type 0) where
     unfolding EveryStmt fold-stmt
     fold-stmt-every (Rule e) h = fold-every Any P Q ds f e h
     fold-stmt-every (Table es rows) h = fold-columns-every Q ds es h
+    fold-stmt-every (AllDifferent es) h = fold-columns-every Q ds es h
 
     pub fold-stmts-every : (ss : List Stmt) → EveryStmts P Q ss → EveryStmts P Q (map (fold-stmt ds f) ss)
     unfolding EveryStmts
@@ -269,6 +270,7 @@ module _ (ds : List Domain) (f : Fixed) where
   unfolding encode-stmt fold-stmt
   fold-stmt-size (Rule e) = omega (arith, fold-size e)
   fold-stmt-size (Table es rows) = omega (arith, fold-columns-size ds es, length-append (flat (map encode-int es)) (flat (map (map encode-cell) rows)), length-append (flat (map encode-int (map (fold-int ds) es))) (flat (map (map encode-cell) rows)))
+  fold-stmt-size (AllDifferent es) = omega (arith, fold-columns-size ds es)
 
   pub fold-stmts-size : (ss : List Stmt) → length (flat (map encode-stmt (map (fold-stmt ds f) ss))) ≤ length (flat (map encode-stmt ss))
   fold-stmts-size [] = omega arith

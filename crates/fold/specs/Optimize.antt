@@ -4,7 +4,7 @@ use mathlib.Core.Option.{Option, none, some}
 use mathlib.Core.List.{List, [], _∷_, map}
 use Prim.Native.Nat.{ℕ, zero, suc}
 use lib.Dec.{eqb}
-use Rattle.syntax.specs.Syntax.{Domain, BoolExpr, Const, Var, NVar, And, Or, Not, Xor, Iff, Imp, Cmp, Members, mnil, more, Stmt, Rule, Table, Problem}
+use Rattle.syntax.specs.Syntax.{Domain, BoolExpr, Const, Var, NVar, And, Or, Not, Xor, Iff, Imp, Cmp, Members, mnil, more, Stmt, Rule, Table, AllDifferent, Problem}
 use Rattle.fold.specs.Fold.{Fixed, constant-folding-stmt}
 
 -- unsatisfiable; or whether a variable changed, and what is fixed now
@@ -53,6 +53,7 @@ unfoldable pub constant-prop-stmts : List Stmt → Fixed → Status
 constant-prop-stmts [] f = updated false f
 constant-prop-stmts (Rule e ∷ ss) f = and-then (constant-prop-bool e true f) (constant-prop-stmts ss)
 constant-prop-stmts (Table es rows ∷ ss) f = constant-prop-stmts ss f
+constant-prop-stmts (AllDifferent es ∷ ss) f = constant-prop-stmts ss f
 
 -- ---- the passes
 

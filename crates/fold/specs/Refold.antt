@@ -7,7 +7,7 @@ use Prim.Native.Nat.{ℕ}
 use lib.IntN.{ℤ, pos}
 use Rattle.laws.specs.Bools.{or-r, or-no-l, or-no-r}
 use Rattle.laws.specs.Ints.{eqZ}
-use Rattle.syntax.specs.Syntax.{Domain, as-constant, domain-of, IntExpr, IConst, IVar, Linear, Terms, tnil, tmore, BoolExpr, Const, Var, NVar, And, Or, Not, Xor, Iff, Imp, Cmp, Members, mnil, more, Stmt, Rule, Table}
+use Rattle.syntax.specs.Syntax.{Domain, as-constant, domain-of, IntExpr, IConst, IVar, Linear, Terms, tnil, tmore, BoolExpr, Const, Var, NVar, And, Or, Not, Xor, Iff, Imp, Cmp, Members, mnil, more, Stmt, Rule, Table, AllDifferent}
 use Rattle.fold.specs.Fold.{Fixed, is-const, Op, op-xor, op-iff, op-imp, Action, be-false, be-true, left, not-left, right, not-right, keep, action, expr-of, act, fold-binary, is-value, has-const, kept, join-and, join-or, fold-and, fold-or, fold-not, fold-var, fold-int-var, fold-sum, constant-folding-int as fold-int, constant-folding-terms as fold-terms, constant-folding-bool as fold, constant-folding-members as fold-members, constant-folding-stmt as fold-stmt}
 
 -- g has every fixed value of f
@@ -274,6 +274,7 @@ module _ (ds : List Domain) (g : Fixed) where
     unfolding fold-stmt
     refold-stmt (Rule e) = ap Rule (refold e)
     refold-stmt (Table es rows) = ap (λ (l : List IntExpr). Table l rows) (refold-columns ds es)
+    refold-stmt (AllDifferent es) = ap AllDifferent (refold-columns ds es)
 
     pub refold-stmts : (ss : List Stmt) → map (fold-stmt ds g) (map (fold-stmt ds f) ss) ≡ map (fold-stmt ds g) ss
     refold-stmts [] = refl

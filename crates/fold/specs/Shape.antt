@@ -6,7 +6,7 @@ use mathlib.Core.Option.{Option, none, some}
 use mathlib.Core.List.{List, [], _∷_, map}
 use Prim.Native.Nat.{ℕ, _≤_}
 use native.Mathlib.Omega.{arith}
-use Rattle.syntax.specs.Syntax.{Domain, BoolExpr, Const, Var, NVar, And, Or, Not, Xor, Iff, Imp, Cmp, Members, mnil, more, count-members, Stmt, Rule, Table, Problem}
+use Rattle.syntax.specs.Syntax.{Domain, BoolExpr, Const, Var, NVar, And, Or, Not, Xor, Iff, Imp, Cmp, Members, mnil, more, count-members, Stmt, Rule, Table, AllDifferent, Problem}
 use Rattle.syntax.specs.Written.{AllDeclared}
 use Rattle.fold.specs.Fold.{Fixed, is-const, Op, op-xor, op-iff, op-imp, action, act, fold-binary, has-const, kept, join-and, join-or, fold-and, fold-or, fold-not, fold-var, constant-folding-int as fold-int, constant-folding-bool as fold, constant-folding-members as fold-members, constant-folding-stmt as fold-stmt}
 use Rattle.fold.specs.Optimize.{Status, unsatisfiable, updated, worst, and-then, constant-prop-bool as prop, constant-prop-stmts as prop-stmts, settled, optimize}
@@ -173,6 +173,7 @@ module _ (ds : List Domain) where
   SettledStmts [] = Unit {0}
   SettledStmts (Rule e ∷ ss) = SettledRoot (is-const e) e × SettledStmts ss
   SettledStmts (Table es rows ∷ ss) = (map (fold-int ds) es ≡ es) × SettledStmts ss
+  SettledStmts (AllDifferent es ∷ ss) = (map (fold-int ds) es ≡ es) × SettledStmts ss
 
   -- requiring met no contradiction
   abbrev Satisfiable : Status → Type 0
@@ -200,6 +201,7 @@ module _ (ds : List Domain) where
   settled-stmts [] f g fine = tt
   settled-stmts (Rule e ∷ ss) f g fine = then-fine (prop (fold ds f e) true g) (prop-stmts (map (fold-stmt ds f) ss)) fine (λ g' a b. (root-settled (fold ds f e) g (fold-folded f e) a, settled-stmts ss f g' b))
   settled-stmts (Table es rows ∷ ss) f g fine = (refold-columns ds es, settled-stmts ss f g fine)
+  settled-stmts (AllDifferent es ∷ ss) f g fine = (refold-columns ds es, settled-stmts ss f g fine)
 
   pub settled-shape : (ss : List Stmt) (f : Fixed) (folded : List Stmt) → Rests ds ss f folded → SettledStmts folded
   settled-shape ss f folded r =

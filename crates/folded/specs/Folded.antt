@@ -14,8 +14,8 @@ use Rattle.laws.specs.Ints.{eqZ}
 use Rattle.laws.specs.Order.{eqZ-is}
 use Rattle.laws.specs.Lists.{any, any-append, different}
 use Rattle.syntax.specs.Words.{max-weight, max-comparison-vars, max-column-vars}
-use Rattle.syntax.specs.Syntax.{Domain, Range, Enumerative, as-constant, domain-of, IntExpr, IConst, IVar, Linear, Terms, tnil, tmore, BoolExpr, Const, Var, NVar, And, Or, Not, Xor, Iff, Imp, Cmp, Members, mnil, more, Stmt, Rule, Table}
-use Rattle.limits.specs.Limits.{any-comparison, any-comparison-members, any-part, domain-weight, weight, terms-weight, heavy, heavy-terms, heavy-comparison, written, written-terms, many-comparison, many-column}
+use Rattle.syntax.specs.Syntax.{Domain, Range, Enumerative, as-constant, domain-of, IntExpr, IConst, IVar, Linear, Terms, tnil, tmore, BoolExpr, Const, Var, NVar, And, Or, Not, Xor, Iff, Imp, Cmp, Members, mnil, more, Stmt, Rule, Table, AllDifferent}
+use Rattle.limits.specs.Limits.{any-comparison, any-comparison-members, any-pair, any-part, domain-weight, weight, terms-weight, heavy, heavy-terms, heavy-comparison, written, written-terms, many-comparison, many-column, heavy-stmt, many-stmt}
 use Rattle.fold.specs.Fold.{Fixed, is-const, has-const, keep-member, kept, join-and, join-or, fold-and, fold-or, not-of, fold-not, fold-var, fold-binary, act, action, Op, op-xor, op-iff, op-imp, Action, be-false, be-true, left, not-left, right, not-right, keep, fold-int-var, fold-sum, constant-folding-int, constant-folding-terms, constant-folding-bool, constant-folding-members, constant-folding-stmt}
 use Rattle.sums.specs.Rising.{Among, among-left, among-right, different-part}
 use Rattle.sums.specs.Bounds.{heavy-weight}
@@ -240,18 +240,30 @@ module _ (P : IntExpr → IntExpr → Bool) (C : IntExpr → Bool) where
       fold-members-no mnil h = refl
       fold-members-no (more e ms) h = rw (fold-no e (or-no-l (any-comparison P C e) (any-comparison-members P C ms) h), fold-members-no ms (or-no-r (any-comparison P C e) (any-comparison-members P C ms) h)) refl
 
-    columns-no : ((e : IntExpr) → C e ≡ false → C (constant-folding-int ds e) ≡ false) → (es : List IntExpr) → any C es ≡ false → any C (map (constant-folding-int ds) es) ≡ false
-    columns-no column [] h = refl
-    columns-no column (e ∷ es) h = rw (column e (or-no-l (C e) (any C es) h), columns-no column es (or-no-r (C e) (any C es) h)) refl
+    columns-no : (D : IntExpr → Bool) → ((e : IntExpr) → D e ≡ false → D (constant-folding-int ds e) ≡ false) → (es : List IntExpr) → any D es ≡ false → any D (map (constant-folding-int ds) es) ≡ false
+    columns-no D column [] h = refl
+    columns-no D column (e ∷ es) h = rw (column e (or-no-l (D e) (any D es) h), columns-no D column es (or-no-r (D e) (any D es) h)) refl
 
-    pub fold-stmt-no : ((e : IntExpr) → C e ≡ false → C (constant-folding-int ds e) ≡ false) → (s : Stmt) → any-part P C s ≡ false → any-part P C (constant-folding-stmt ds f s) ≡ false
-    unfolding any-part constant-folding-stmt
-    fold-stmt-no column (Rule e) h = fold-no e h
-    fold-stmt-no column (Table es rows) h = columns-no column es h
+    row-no : (e : IntExpr) (es : List IntExpr) → any (P e) es ≡ false → any (P (constant-folding-int ds e)) (map (constant-folding-int ds) es) ≡ false
+    row-no e [] h = refl
+    row-no e (g ∷ es) h = rw (keeps e g (or-no-l (P e g) (any (P e) es) h), row-no e es (or-no-r (P e g) (any (P e) es) h)) refl
+
+    pairs-no : (es : List IntExpr) → any-pair P es ≡ false → any-pair P (map (constant-folding-int ds) es) ≡ false
+    unfolding any-pair
+    pairs-no [] h = refl
+    pairs-no (e ∷ es) h = rw (row-no e es (or-no-l (any (P e) es) (any-pair P es) h), pairs-no es (or-no-r (any (P e) es) (any-pair P es) h)) refl
+
+    -- O: the test of an expression by itself
+    module _ (O : IntExpr → Bool) (column : (e : IntExpr) → C e ≡ false → C (constant-folding-int ds e) ≡ false) (one : (e : IntExpr) → O e ≡ false → O (constant-folding-int ds e) ≡ false) where
+      pub fold-stmt-no : (s : Stmt) → any-part P C O s ≡ false → any-part P C O (constant-folding-stmt ds f s) ≡ false
+      unfolding any-part constant-folding-stmt
+      fold-stmt-no (Rule e) h = fold-no e h
+      fold-stmt-no (Table es rows) h = columns-no C column es h
+      fold-stmt-no (AllDifferent es) h = rw (columns-no O one es (or-no-l (any O es) (any-pair P es) h), pairs-no es (or-no-r (any O es) (any-pair P es) h)) refl
 
 -- refusals 9 and 10 of a statement, after folding under any fixed values
-pub fold-stmt-light : (ds : List Domain) (f : Fixed) (s : Stmt) → any-part (heavy-comparison ds) (heavy ds) s ≡ false → any-part (heavy-comparison ds) (heavy ds) (constant-folding-stmt ds f s) ≡ false
-fold-stmt-light ds f = fold-stmt-no (heavy-comparison ds) (heavy ds) ds f (fold-comparison-light ds) (fold-light ds)
+pub fold-stmt-light : (ds : List Domain) (f : Fixed) (s : Stmt) → heavy-stmt ds s ≡ false → heavy-stmt ds (constant-folding-stmt ds f s) ≡ false
+fold-stmt-light ds f = fold-stmt-no (heavy-comparison ds) (heavy ds) ds f (fold-comparison-light ds) (heavy ds) (fold-light ds) (fold-light ds)
 
-pub fold-stmt-few : (ds : List Domain) (f : Fixed) (s : Stmt) → any-part many-comparison many-column s ≡ false → any-part many-comparison many-column (constant-folding-stmt ds f s) ≡ false
-fold-stmt-few ds f = fold-stmt-no many-comparison many-column ds f (fold-comparison-few ds) (fold-column-few ds)
+pub fold-stmt-few : (ds : List Domain) (f : Fixed) (s : Stmt) → many-stmt s ≡ false → many-stmt (constant-folding-stmt ds f s) ≡ false
+fold-stmt-few ds f = fold-stmt-no many-comparison many-column ds f (fold-comparison-few ds) (λ e. false) (fold-column-few ds) (λ e h. h)

@@ -9,6 +9,7 @@ use lib.Dec.{ltb}
 use lib.ListN.{length, take, length-append}
 use lib.Seq.{take-append-seam, length-sets}
 use borrow.Author.Tests.{lt-ltb, le-ltb, ltb-false}
+use Rattle.laws.specs.Same.{same-words, same-is}
 use Rattle.laws.specs.Ints.{apart}
 use Rattle.laws.specs.Lists.{flat, counted, flat-append}
 use Rattle.syntax.specs.Words.{min-work-words, max-set-words}
@@ -22,8 +23,8 @@ use Rattle.domains.specs.Declared.{bounds-words}
 use Rattle.accept.specs.Walk.{bounds-place, Bounds}
 use Rattle.accept.specs.Accepted.{accepted, table-read, table-after}
 use Rattle.accept.specs.Taken.{Taken, accepted-ok, accepted-refused, taken-set, taken-bounds, declared-is}
-use Rattle.join.specs.Join.{declaration-words, same-words, both, Agreement, agreed, refusal, compared, agree-read, agreement}
-use Rattle.join.specs.Joined.{same-is, is-admitted, encode-parts, agreement-is}
+use Rattle.join.specs.Join.{declaration-words, both, Agreement, agreed, refusal, compared, agree-read, agreement}
+use Rattle.join.specs.Joined.{is-admitted, encode-parts, agreement-is}
 use Rattle.join.specs.Steps.{pair-of, agreed-of, Ready-both, Compare-post, Agree-post}
 use Rattle.join.specs.declared.Pair.{Pair}
 use Rattle.join.specs.declared.Agreed as declared-agreed

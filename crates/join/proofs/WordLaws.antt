@@ -8,10 +8,9 @@ use native.Mathlib.Numerals.{add-one}
 use lib.IntN.{ℤ, pos}
 use lib.ListN.{length, take, drop, getD, set, length-set, length-replicate, drop-of-length-le}
 use lib.Seq.{take-suc, getD-take, drop-cons, sets, sets-eq, set-set, set-comm}
+use Rattle.laws.specs.Same.{same-words, same-is, same-refl}
 use Rattle.laws.specs.Writes.{sets-append}
 use Rattle.laws.specs.Slices.{zeros}
-use Rattle.join.specs.Join.{same-words}
-use Rattle.join.specs.Joined.{same-is, same-refl}
 
 -- ---- the same words
 

@@ -3,11 +3,12 @@ use mathlib.Core.Path.{_≡_, refl}
 use mathlib.Core.List.{List, [], _∷_, map}
 use Prim.Native.Nat.{ℕ}
 use lib.IntN.{ℤ, pos}
+use Rattle.laws.specs.Same.{same-words}
 use Rattle.syntax.specs.Syntax.{encode-bool, encode-int, encode-terms, encode-members, encode-stmt, encode, Var, Not, Rule}
 use Rattle.read.specs.Read.{times, up-to, count, index, number, read-range, read-rising, read-enumerative, read-domain, kind-bool, kind-int, read-terms, read-members, read-cell, step-int, read-int, read-table, step-bool, read-bool, read-stmt, read-set}
 use Rattle.limits.specs.Limits.{any-comparison, any-part, weight, heavy, heavy-comparison, written, many-comparison, many-column, interval, span, wide-column, check}
 use Rattle.limits.specs.Admitted.{limited, admitted}
-use Rattle.join.specs.Join.{declaration-words, same-words, compared, agree-read, agreement, Joining, joined, refused, sized, join, Found, in-first, in-second, nowhere, placed, statements-of, statement-at}
+use Rattle.join.specs.Join.{declaration-words, compared, agree-read, agreement, Joining, joined, refused, sized, join, Found, in-first, in-second, nowhere, placed, statements-of, statement-at}
 
 -- ---- notation
 

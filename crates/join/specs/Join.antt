@@ -1,11 +1,11 @@
 -- Two sets with identical declarations as one, and a joined statement by its number (document 02, 2.8), for any words and lengths.
-use mathlib.Core.Bool.{Bool, true, false, _&&_, cond}
+use mathlib.Core.Bool.{cond}
 use mathlib.Core.List.{List, [], _∷_, _++_}
 use Prim.Native.Nat.{ℕ, _+_, _-_, _*_}
 use lib.IntN.{ℤ, pos}
 use lib.Dec.{ltb}
 use lib.ListN.{length, getD}
-use Rattle.laws.specs.Ints.{eqZ}
+use Rattle.laws.specs.Same.{same-words}
 use Rattle.laws.specs.Lists.{counted}
 use Rattle.laws.specs.Slices.{zeros}
 use Rattle.syntax.specs.Words.{max-set-words}
@@ -18,12 +18,6 @@ use Rattle.limits.specs.Admitted.{admitted}
 -- all words before the count of statements
 unfoldable pub declaration-words : Problem → List ℤ
 declaration-words p = pos (p .bools) ∷ counted encode-domain (p .domains)
-
-unfoldable pub same-words : List ℤ → List ℤ → Bool
-same-words [] [] = true
-same-words [] (y ∷ ys) = false
-same-words (x ∷ xs) [] = false
-same-words (x ∷ xs) (y ∷ ys) = eqZ x y && same-words xs ys
 
 -- the declarations, then the first set's statements, then the second's
 abbrev pub both : Problem → Problem → Problem

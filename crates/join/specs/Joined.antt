@@ -8,34 +8,21 @@ use lib.IntN.{ℤ, pos}
 use lib.Dec.{ltb}
 use lib.ListN.{length, length-append}
 use borrow.Author.Tests.{ltb-false, le-ltb}
-use Rattle.laws.specs.Bools.{and-l, and-r, and-i}
-use Rattle.laws.specs.Ints.{eqZ, apart}
-use Rattle.laws.specs.Order.{eqZ-is, eqZ-refl}
+use Rattle.laws.specs.Same.{same-words, same-is}
+use Rattle.laws.specs.Ints.{apart}
 use Rattle.laws.specs.Lists.{any, flat, counted, any-append}
 use Rattle.syntax.specs.Words.{min-work-words, max-set-words}
-use Rattle.syntax.specs.Syntax.{Problem, Domain, Stmt, Rule, Table, encode-domain, encode-stmt, encode}
+use Rattle.syntax.specs.Syntax.{Problem, Domain, Stmt, Rule, Table, AllDifferent, encode-domain, encode-stmt, encode}
 use Rattle.words.specs.Parse.{Parsed, ok, refuse, parse-then}
 use Rattle.words.specs.Exact.{Each}
 use Rattle.read.specs.Read.{read-set}
 use Rattle.read.specs.WellFormed.{WellStmt, WellFormed}
 use Rattle.read.specs.Exact.{set-sound, set-complete, set-unique}
-use Rattle.limits.specs.Limits.{any-part, heavy, heavy-comparison, many-comparison, many-column, wide-column, check}
+use Rattle.limits.specs.Limits.{heavy, check, heavy-stmt, many-stmt, wide-stmt}
 use Rattle.limits.specs.Admitted.{limited, admitted}
-use Rattle.join.specs.Join.{declaration-words, same-words, both, Agreement, agreed, refusal, compared, agree-read, agreement, joined, refused, sized, join}
+use Rattle.join.specs.Join.{declaration-words, both, Agreement, agreed, refusal, compared, agree-read, agreement, joined, refused, sized, join}
 
 -- ---- the same words
-
-pub same-is : (xs ys : List ℤ) → same-words xs ys ≡ true → xs ≡ ys
-unfolding same-words
-same-is [] [] h = refl
-same-is [] (y ∷ ys) h = apart (cc)
-same-is (x ∷ xs) [] h = apart (cc)
-same-is (x ∷ xs) (y ∷ ys) h = rw (eqZ-is x y (and-l (eqZ x y) _ h), same-is xs ys (and-r (eqZ x y) _ h)) refl
-
-pub same-refl : (xs : List ℤ) → same-words xs xs ≡ true
-unfolding same-words
-same-refl [] = refl
-same-refl (x ∷ xs) = and-i (eqZ x x) (same-words xs xs) (eqZ-refl x) (same-refl xs)
 
 -- ---- an admitted set: its words are those of a well-formed set that no limit refuses
 
@@ -131,13 +118,13 @@ no-limit false false true h = absurd (omega arith)
 no-limit false false false h = (refl, refl, refl)
 
 abbrev heavy-in : List Domain → List Stmt → Bool
-heavy-in ds ss = any (any-part (heavy-comparison ds) (heavy ds)) ss
+heavy-in ds ss = any (heavy-stmt ds) ss
 
 abbrev many-in : List Stmt → Bool
-many-in ss = any (any-part many-comparison many-column) ss
+many-in ss = any many-stmt ss
 
 abbrev wide-in : List Domain → List Stmt → Bool
-wide-in ds ss = any (any-part (λ a b. false) (wide-column ds)) ss
+wide-in ds ss = any (wide-stmt ds) ss
 
 check-parts : (p : Problem) → check p ≡ limit-of (heavy-in (p .domains) (p .stmts)) (many-in (p .stmts)) (wide-in (p .domains) (p .stmts))
 unfolding check
@@ -151,9 +138,9 @@ check-both p q d a b =
     let w : wide-in (p .domains) (q .stmts) ≡ false = rw (← d) (y .2) in
     check-parts (both p q)
     ∙ rw (
-      any-append (any-part (heavy-comparison (p .domains)) (heavy (p .domains))) (p .stmts) (q .stmts),
-      any-append (any-part many-comparison many-column) (p .stmts) (q .stmts),
-      any-append (any-part (λ a b. false) (wide-column (p .domains))) (p .stmts) (q .stmts),
+      any-append (heavy-stmt (p .domains)) (p .stmts) (q .stmts),
+      any-append many-stmt (p .stmts) (q .stmts),
+      any-append (wide-stmt (p .domains)) (p .stmts) (q .stmts),
       x .0,
       x .1,
       x .2,
@@ -173,6 +160,7 @@ pub stmt-long : (t : Stmt) → 1 ≤ length (encode-stmt t)
 unfolding encode-stmt
 stmt-long (Rule e) = omega arith
 stmt-long (Table es rows) = omega arith
+stmt-long (AllDifferent es) = omega arith
 
 stmts-long : (ss : List Stmt) → length ss ≤ length (flat (map encode-stmt ss))
 stmts-long [] = omega arith

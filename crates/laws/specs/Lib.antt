@@ -4,5 +4,6 @@ pub mod Lists
 pub mod Slices
 pub mod Writes
 pub mod Order
+pub mod Same
 pub mod Signed
 pub mod Gaps

@@ -7,9 +7,9 @@ use lib.Dec.{ltb}
 use Rattle.laws.specs.Ints.{times-low, times-high}
 use Rattle.laws.specs.Lists.{any, different}
 use Rattle.syntax.specs.Words.{max-weight, max-comparison-vars, max-column-vars, max-span}
-use Rattle.syntax.specs.Syntax.{Domain, Range, Enumerative, lower-bound, upper-bound, domain-of, IntExpr, IConst, IVar, Linear, Terms, tnil, tmore, BoolExpr, Const, Var, NVar, And, Or, Not, Xor, Iff, Imp, Cmp, Members, mnil, more, Stmt, Rule, Table, Problem}
+use Rattle.syntax.specs.Syntax.{Domain, Range, Enumerative, lower-bound, upper-bound, domain-of, IntExpr, IConst, IVar, Linear, Terms, tnil, tmore, BoolExpr, Const, Var, NVar, And, Or, Not, Xor, Iff, Imp, Cmp, Members, mnil, more, Stmt, Rule, Table, AllDifferent, Problem}
 
--- a test of every comparison and every column of a set
+-- a test of every comparison and every column
 module _ (onCmp : IntExpr → IntExpr → Bool) (onColumn : IntExpr → Bool) where
   unfoldable mutual
     pub any-comparison : BoolExpr → Bool
@@ -28,9 +28,17 @@ module _ (onCmp : IntExpr → IntExpr → Bool) (onColumn : IntExpr → Bool) wh
     any-comparison-members mnil = false
     any-comparison-members (more e ms) = any-comparison e || any-comparison-members ms
 
+-- a test of each pair: the first with each later one, then the second, and so on
+unfoldable pub any-pair : (IntExpr → IntExpr → Bool) → List IntExpr → Bool
+any-pair f [] = false
+any-pair f (e ∷ es) = any (f e) es || any-pair f es
+
+-- of every comparison, column and expression of an AllDifferent by itself; its pairs are comparisons
+module _ (onCmp : IntExpr → IntExpr → Bool) (onColumn onOne : IntExpr → Bool) where
   unfoldable pub any-part : Stmt → Bool
-  any-part (Rule e) = any-comparison e
+  any-part (Rule e) = any-comparison onCmp onColumn e
   any-part (Table es rows) = any onColumn es
+  any-part (AllDifferent es) = any onOne es || any-pair onCmp es
 
 -- ---- 9: weights
 
@@ -108,10 +116,21 @@ module _ (ds : List Domain) where
   unfoldable pub wide-column : IntExpr → Bool
   wide-column e = ltb max-span (span e)
 
+-- ---- of a statement; nothing of an AllDifferent's expression by itself is 10 or 11
+
+abbrev pub heavy-stmt : List Domain → Stmt → Bool
+heavy-stmt ds = any-part (heavy-comparison ds) (heavy ds) (heavy ds)
+
+abbrev pub many-stmt : Stmt → Bool
+many-stmt = any-part many-comparison many-column (λ e. false)
+
+abbrev pub wide-stmt : List Domain → Stmt → Bool
+wide-stmt ds = any-part (λ a b. false) (wide-column ds) (λ e. false)
+
 -- ---- the refusal, or 0
 
 unfoldable pub check : Problem → ℕ
 check p =
-    cond (any (any-part (heavy-comparison (p .domains)) (heavy (p .domains))) (p .stmts)) 9
-    (cond (any (any-part many-comparison many-column) (p .stmts)) 10
-    (cond (any (any-part (λ a b. false) (wide-column (p .domains))) (p .stmts)) 11 0))
+    cond (any (heavy-stmt (p .domains)) (p .stmts)) 9
+    (cond (any many-stmt (p .stmts)) 10
+    (cond (any (wide-stmt (p .domains)) (p .stmts)) 11 0))

@@ -1,17 +1,16 @@
 -- Laws of one step: what is stored, by whether the two variables have literals.
-use mathlib.Core.Path.{_≡_, refl, sym, ap, _∙_}
-use mathlib.Core.Bool.{Bool, true, false, _&&_, cond}
+use mathlib.Core.Path.{_≡_, refl, sym, _∙_}
+use mathlib.Core.Bool.{Bool, true, false}
 use mathlib.Core.List.{List}
 use Prim.Native.Nat.{ℕ, _+_, _≤_, _<_}
 use native.Mathlib.Omega.{arith}
-use lib.Dec.{eqb, ltb}
 use lib.IntN.{ℤ, pos}
-use lib.ListN.{length, getD, set, length-set}
+use lib.ListN.{set, length-set}
 use lib.Seq.{getD-set-other}
 use borrow.Author.Tests.{eq-eqb, ne-eqb, lt-ltb, le-ltb}
 use Rattle.laws.specs.Ints.{is-zero}
-use Rattle.walk.specs.Item.{limit, bump, bool-map, bool-at, signed, State, new-bool}
-use Rattle.walk.specs.Decode.{word, read-part}
+use Rattle.walk.specs.Item.{limit, bump, bool-map, bool-at, signed, State}
+use Rattle.walk.specs.Decode.{word}
 use Rattle.walk.specs.NumberingSteps.{part-set}
 use Rattle.statements.specs.Whole.{start}
 use Rattle.statements.specs.Ties.{give, tie-words, meet-tie, meet-sides, meet-ties-at}

@@ -8,7 +8,7 @@ use lib.IntN.{ℤ, pos}
 use lib.ListN.{length, getD, length-append}
 use lib.Seq.{getD-take}
 use Rattle.laws.specs.Slices.{Has, has-fits, has-front, has-back}
-use Rattle.syntax.specs.Syntax.{Domain, BoolExpr, Stmt, Rule, Table, encode-stmt, Problem}
+use Rattle.syntax.specs.Syntax.{Domain, BoolExpr, Stmt, Rule, Table, AllDifferent, encode-stmt, Problem}
 use Rattle.words.specs.Exact.{Each}
 use Rattle.fold.specs.Fold.{Fixed}
 use Rattle.clauses.specs.Log.{Log, next-bool}
@@ -105,6 +105,7 @@ module _ (p : Problem) (f : Fixed) (ss : List Stmt) (w : List ℤ) (h : Folded p
           go : (t : Stmt) → StmtFacts ds t → q + length (encode-stmt t) ≤ 4608 → Numerable 0 t
           go (Rule e) y l = (y .legal, omega (arith, rule-splits e (y .legal)))
           go (Table es rows) y l = (y .legal, y .cells)
+          go (AllDifferent es) y l = y .legal
 
       stmt-stands : read-part w' ≡ F → Stands w' q 0 t
       stmt-stands part = record { words = rw part here; numerable = numerable }

@@ -7,6 +7,7 @@ use lib.ListN.{length}
 use Rattle.walk.specs.Item.{limit, meet-int, meet-terms}
 use Rattle.walk.specs.Decode.{past, terms, int-at, int-end, read-part}
 use Rattle.walk.specs.NumberingSteps.{state-of, Met, met-to, met-after, TermsSofar, terms-start, terms-again, terms-done}
+use Rattle.walk.specs.Meets.{meet-row-at}
 use Rattle.walk.specs.declared.Counters.{Counters}
 use Rattle.survey.proofs.Leaves.{past-is, terms-more, terms-none}
 
@@ -35,8 +36,16 @@ module _ (l : ℕ) (w : List ℤ) (c : Counters) (k at : ℕ) where
       → Met (meet-terms (terms (read-part w) (int-at (read-part w) l) k at .0)) w c w' d × (q ≡ terms (read-part w) (int-at (read-part w) l) k at .1)
   int-done w' d rest q x e = (terms-done l w c k at w' d rest q (x .met) e, terms-none (read-part w) (int-at (read-part w) l) rest q e ∙ x .end)
 
+-- the expressions at a and b
+pub pair-met : (w v w' : List ℤ) (c d r : Counters) (l a b : ℕ) → Met (meet-int (int-at (read-part w) l a .0)) w c v d → Met (meet-int (int-at (read-part v) l b .0)) v d w' r
+    → Met (λ s. meet-int (int-at (read-part w) l b .0) (meet-int (int-at (read-part w) l a .0) s)) w c w' r
+pair-met w v w' c d r l a b x y = met-after (λ ws. meet-int (int-at ws l b .0)) x y
+
 -- both sides of a comparison; the first stands at a
-pub sides-met : (w v w' : List ℤ) (c d r : Counters) (l at a b : ℕ) → a ≡ past (read-part w) (at + 2) → Met (meet-int (int-at (read-part w) l a .0)) w c v d → Met (meet-int (int-at (read-part v) l b .0)) v d w' r
+pub sides-met : (w w' : List ℤ) (c r : Counters) (l at a b : ℕ) → a ≡ past (read-part w) (at + 2) → Met (λ s. meet-int (int-at (read-part w) l b .0) (meet-int (int-at (read-part w) l a .0) s)) w c w' r
     → Met (λ s. meet-int (int-at (read-part w) l b .0) (meet-int (int-at (read-part w) l (past (read-part w) (at + 2)) .0) s)) w c w' r
-sides-met w v w' c d r l at a b h x y =
-    met-to (ap (λ (p : ℕ). meet-int (int-at (read-part w) l b .0) (meet-int (int-at (read-part w) l p .0) (state-of w c))) h) (met-after (λ ws. meet-int (int-at ws l b .0)) x y)
+sides-met w w' c r l at a b h x = met-to (ap (λ (p : ℕ). meet-int (int-at (read-part w) l b .0) (meet-int (int-at (read-part w) l p .0) (state-of w c))) h) x
+
+-- a row that begins where its first side ends
+pub row-from : (w w' : List ℤ) (c r : Counters) (k a n : ℕ) → n ≡ int-end (read-part w) 64 a → Met (meet-row-at (read-part w) a k n) w c w' r → Met (meet-row-at (read-part w) a k (int-end (read-part w) 64 a)) w c w' r
+row-from w w' c r k a n e x = met-to (ap (λ (p : ℕ). meet-row-at (read-part w) a k p (state-of w c)) e) x

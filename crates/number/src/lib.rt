@@ -8,6 +8,7 @@ ghost use Rattle.walk.specs.Item.{limit, bump as bump-of, meet-bool, meet-int-v
 ghost use Rattle.walk.specs.Decode.{past, int-end as int-end-of, read-part, closed-disj, closed-cross, fresh-of, int-at, item-at, items-at, decode, many-ties, tie-at, cross-ties, ties-at};
 ghost use Rattle.walk.specs.NumberingSteps.{Met};
 ghost use Rattle.walk.specs.MeetTies.{Reaches, ReachesAll, meet-rule};
+ghost use Rattle.walk.specs.Meets.{meet-row-at, meet-pairs-at};
 ghost use Rattle.walk.specs.MeetColumns.{number-column, meet-column-at, meet-columns-at};
 ghost use Rattle.number.specs.Sized.{Sized, SizedAll};
 use survey::add_member;
@@ -17,6 +18,7 @@ use survey::close_cross;
 use survey::close_disj;
 use survey::entry;
 use survey::fresh;
+use survey::int_end;
 use survey::literal;
 use survey::longer;
 use survey::node_at;
@@ -119,14 +121,22 @@ fn number_int(work: &mut [i32], at: usize, left: usize, c: Counters) -> Numbered
     ended(d, q)
 }
 
+// The integers of the expressions at two places, the first one's before the second's. What a pair numbers is said here alone.
+pub fn number_pair(work: &mut [i32], a: usize, b: usize, left: usize, c: Counters) -> NumberedInt
+    requires { do ⌜ (4608 ≤ (← ⟦work.len()⟧)) × ((a ≤ 4608) × ((b ≤ 4608) × ((c .bools ≤ limit) × (c .ints ≤ limit)))) ⌝ }
+    ensures { λ r. ⌜ Met (λ s. meet-int (int-at (read-part (now (work .entry))) left b .0) (meet-int (int-at (read-part (now (work .entry))) left a .0) s)) (now (work .entry)) c (now (work .exit)) (r .counters) × ((r .at ≡ int-end-of (read-part (now (work .entry))) left b) × (r .at ≤ 4608)) ⌝ }
+{
+    let x = number_int(work, a, left, c);
+    number_int(work, b, left, x.counters)
+}
+
 // The integers of the comparison at a place, whose second side stands at b.
 fn number_comparison(work: &mut [i32], at: usize, b: usize, left: usize, c: Counters) -> Counters
     requires { do ⌜ (4608 ≤ (← ⟦work.len()⟧)) × ((at ≤ 4608) × ((b ≤ 4608) × ((c .bools ≤ limit) × (c .ints ≤ limit)))) ⌝ }
     ensures { λ r. ⌜ Met (λ s. meet-int (int-at (read-part (now (work .entry))) left b .0) (meet-int (int-at (read-part (now (work .entry))) left (past (read-part (now (work .entry))) (at + 2)) .0) s)) (now (work .entry)) c (now (work .exit)) r ⌝ }
 {
-    let d = number_int(work, within(at + 2), left, c);
-    let e = number_int(work, b, left, d.counters);
-    e.counters
+    let x = number_pair(work, within(at + 2), b, left, c);
+    x.counters
 }
 
 // What the numbering of an expression or of members leaves: the counters, and what a survey finds but for the counter behind.
@@ -450,6 +460,42 @@ pub fn number_columns(work: &mut [i32], at: usize, count: usize, c: Counters) ->
         d = x.counters;
         q = x.at;
         rest = rest - 1;
+    }
+    d
+}
+
+// ---- AllDifferent: pairs
+
+// The pairs of the expression at `a` with each of so many from `at` on.
+fn number_row(work: &mut [i32], a: usize, at: usize, count: usize, c: Counters) -> Counters
+    requires { do ⌜ (4608 ≤ (← ⟦work.len()⟧)) × ((a ≤ 4608) × ((at ≤ 4608) × ((c .bools ≤ limit) × (c .ints ≤ limit)))) ⌝ }
+    ensures { λ r. ⌜ Met (meet-row-at (read-part (now (work .entry))) a count at) (now (work .entry)) c (now (work .exit)) r ⌝ }
+{
+    let mut q = at;
+    let mut rest = count;
+    let mut d = c;
+    while rest != 0 {
+        let x = number_pair(work, a, q, 64, d);
+        d = x.counters;
+        q = x.at;
+        rest = rest - 1;
+    }
+    d
+}
+
+// All pairs of so many expressions from a place on: the first with each later one, then the second, and so on.
+pub fn number_pairs(work: &mut [i32], at: usize, count: usize, c: Counters) -> Counters
+    requires { do ⌜ (4608 ≤ (← ⟦work.len()⟧)) × ((at ≤ 4608) × ((c .bools ≤ limit) × (c .ints ≤ limit))) ⌝ }
+    ensures { λ r. ⌜ Met (meet-pairs-at (read-part (now (work .entry))) count at) (now (work .entry)) c (now (work .exit)) r ⌝ }
+{
+    let mut q = at;
+    let mut rest = count;
+    let mut d = c;
+    while rest != 0 {
+        let next = int_end(work, q, 64);
+        rest = rest - 1;
+        d = number_row(work, q, next, rest, d);
+        q = next;
     }
     d
 }

@@ -7,7 +7,7 @@ use native.Mathlib.Omega.{arith}
 use lib.IntN.{ℤ, pos}
 use lib.ListN.{length, getD, length-append}
 use Rattle.laws.specs.Slices.{Has, has-fits, has-front, has-back}
-use Rattle.syntax.specs.Syntax.{Domain, BoolExpr, Stmt, Rule, Table, encode-stmt, Problem}
+use Rattle.syntax.specs.Syntax.{Domain, BoolExpr, Stmt, Rule, Table, AllDifferent, encode-stmt, Problem}
 use Rattle.words.specs.Exact.{Each}
 use Rattle.fold.specs.Fold.{Fixed}
 use Rattle.clauses.specs.Log.{Log, next-bool, next-int}
@@ -46,6 +46,7 @@ rule-room e s l =
 stands-less : (w : List ℤ) (at n : ℕ) (t : Stmt) → Stands w at n t → Stands w at 0 t
 stands-less w at n (Rule e) h = record { words = h .words; numerable = (h .numerable .0, omega (arith, h .numerable .1)) }
 stands-less w at n (Table es rows) h = record { words = h .words; numerable = h .numerable }
+stands-less w at n (AllDifferent es) h = record { words = h .words; numerable = h .numerable }
 
 -- ---- before the statement at q: the statements left, the log so far
 
@@ -141,6 +142,7 @@ module _ (merge : Bool) (p : Problem) (f : Fixed) (ss : List Stmt) (w : List ℤ
           go : (t : Stmt) → StmtFacts ds t → Low (normalize-stmt ds t (x .log) .1) → Numerable (c .bools) t
           go (Rule e) y l = (y .legal, subst (λ (n : ℕ). n + splits e false ≤ limit) (sym (x .numbered .bools)) (rule-room e (x .log) (unfold normalize-stmt in l)))
           go (Table es rows) y l = (y .legal, y .cells)
+          go (AllDifferent es) y l = y .legal
 
       stmt-stands : read-part w' ≡ F → Stands w' q (c .bools) t
       stmt-stands part = record { words = rw part (has-front F q (encode-stmt t) (stmts-words ts) (x .stands)); numerable = numerable }

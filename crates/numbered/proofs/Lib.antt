@@ -1,3 +1,4 @@
 pub mod Tables
+pub mod Different
 pub mod Single
 pub mod All

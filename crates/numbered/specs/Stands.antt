@@ -6,7 +6,7 @@ use Prim.Native.Nat.{ℕ, _+_, _≤_}
 use lib.IntN.{ℤ}
 use lib.ListN.{length}
 use Rattle.laws.specs.Slices.{Has}
-use Rattle.syntax.specs.Syntax.{IntExpr, Cell, Stmt, Rule, Table, encode-stmt}
+use Rattle.syntax.specs.Syntax.{IntExpr, Cell, Stmt, Rule, Table, AllDifferent, encode-stmt}
 use Rattle.words.specs.Exact.{Each}
 use Rattle.read.specs.WellFormed.{WellRow}
 use Rattle.walk.specs.Tree.{splits}
@@ -17,12 +17,14 @@ use Rattle.walk.specs.Decode.{read-part}
 use Rattle.walk.specs.NumberingSteps.{Met}
 use Rattle.walk.specs.declared.Counters.{Counters}
 use Rattle.statements.specs.Table.{meet-table}
+use Rattle.statements.specs.Different.{meet-pairs}
 use Rattle.statements.specs.Statements.{meet-stmt}
 
 -- n: the next Boolean's number, from which the splitting of a rule takes its own
 abbrev pub Numerable : ℕ → Stmt → Type 0
 Numerable n (Rule e) = LegalRule e 64 × (n + splits e false ≤ limit)
 Numerable n (Table es rows) = Each (λ e. LegalInt e 64) es × Each (WellRow (length es)) rows
+Numerable n (AllDifferent es) = Each (λ e. LegalInt e 64) es
 
 pub record Stands (w : List ℤ) (at n : ℕ) (t : Stmt) : Type 0 where
   pub words : Has (read-part w) at (encode-stmt t)
@@ -38,6 +40,10 @@ pub record SomeTable (w : List ℤ) (at n : ℕ) : Type 0 where
   pub rows : List (List Cell)
   pub stands : Stands w at n (Table columns rows)
 
+pub record SomeDifferent (w : List ℤ) (at n : ℕ) : Type 0 where
+  pub exprs : List IntExpr
+  pub stands : Stands w at n (AllDifferent exprs)
+
 -- r: where whatever statement stands there ends
 abbrev pub StmtEnds : List ℤ → ℕ → ℕ → Type 0
 StmtEnds w at r = (t : Stmt) → Stands w at 0 t → r ≡ at + length (encode-stmt t)
@@ -49,4 +55,8 @@ pub record StmtMet (w : List ℤ) (at : ℕ) (c : Counters) (w' : List ℤ) (r :
 
 pub record TableMet (w : List ℤ) (at : ℕ) (c : Counters) (w' : List ℤ) (r : Counters) : Type 0 where
   pub met : (es : List IntExpr) (rows : List (List Cell)) → Stands w at (c .bools) (Table es rows) → Met (meet-table (at + 3) es rows) w c w' r
+  pub size : length w' ≡ length w
+
+pub record DifferentMet (w : List ℤ) (at : ℕ) (c : Counters) (w' : List ℤ) (r : Counters) : Type 0 where
+  pub met : (es : List IntExpr) → Stands w at (c .bools) (AllDifferent es) → Met (meet-pairs es) w c w' r
   pub size : length w' ≡ length w

@@ -9,7 +9,7 @@ ghost use Rattle.statements.specs.NumberColumns.{columns-end};
 ghost use Rattle.statements.specs.KnownTies.{KnownSides, KnownTie};
 ghost use Rattle.statements.specs.Stages.{SomeStarted};
 ghost use Rattle.numbered.specs.Fresh.{Freshens};
-ghost use Rattle.numbered.specs.Stands.{SomeStmt, SomeTable, StmtEnds, StmtMet, TableMet};
+ghost use Rattle.numbered.specs.Stands.{SomeStmt, SomeTable, SomeDifferent, StmtEnds, StmtMet, TableMet, DifferentMet};
 ghost use Rattle.numbered.specs.Numbered.{NumberedAll};
 use walk::Counters;
 
@@ -57,6 +57,15 @@ fn number_table(work: &mut [i32], at: usize, c: Counters) -> Counters
         bools: survey::bump(d.bools, f),
         ints: d.ints,
     }
+}
+
+// The pairs of the AllDifferent at a place.
+fn number_different(work: &mut [i32], at: usize, c: Counters) -> Counters
+    requires { ⌜ SomeDifferent (now work) at (c .bools) × ((4608 ≤ length (now work)) × ((c .bools ≤ limit) × (c .ints ≤ limit))) ⌝ }
+    ensures { λ r. ⌜ DifferentMet (now (work .entry)) at c (now (work .exit)) r ⌝ }
+{
+    let n = survey::word(work, at + 1);
+    number::number_pairs(work, at + 2, n, c)
 }
 
 // Whether the two sides from a place on are variables that have literals.
@@ -113,8 +122,12 @@ fn number_statement(work: &mut [i32], at: usize, c: Counters) -> Counters
     if known_tie(work, at) {
         return c;
     }
-    if survey::word(work, at) == 1 {
+    let code = survey::word(work, at);
+    if code == 1 {
         return number::number_rule(work, at + 1, c);
+    }
+    if code == 3 {
+        return number_different(work, at, c);
     }
     number_table(work, at, c)
 }
@@ -124,11 +137,15 @@ pub fn statement_end(work: &[i32], at: usize) -> usize
     requires { ⌜ SomeStmt (now work) at 0 × (4608 ≤ length (now work)) ⌝ }
     ensures { λ r. ⌜ StmtEnds (now (work .entry)) at r ⌝ }
 {
-    if survey::word(work, at) == 1 {
+    let kind = survey::word(work, at);
+    if kind == 1 {
         let s = survey::skip(work, at + 1, 64, false, 0);
         return s.at;
     }
     let n = survey::word(work, at + 1);
+    if kind == 3 {
+        return columns_end(work, at + 2, n);
+    }
     let k = survey::word(work, at + 2);
     let p = columns_end(work, at + 3, n);
     let cells = k * n;

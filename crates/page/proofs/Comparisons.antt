@@ -9,11 +9,11 @@ use lib.ListN.{length, take, drop, length-append, length-take, length-drop, drop
 use lib.Seq.{sets}
 use borrow.Author.Tests.{leb-true, leb-false}
 use lib.Dec.{leb}
-use Rattle.laws.specs.Bools.{and-l, and-r}
+use Rattle.laws.specs.Bools.{and-r}
 use Rattle.laws.specs.Lists.{all, all-take, all-drop, flat}
 use Rattle.decimal.specs.Bytes.{comma, colon}
 use Rattle.decimal.specs.Decimal.{print-number}
-use Rattle.decimal.specs.Widths.{fitting, number-short}
+use Rattle.decimal.specs.Widths.{fitting, one-short}
 use Rattle.lines.specs.Lines.{count-word, print-more, print-numbers, times, print-comparison, print-comparisons}
 use Rattle.lines.specs.Output.{Stops}
 use Rattle.page.specs.Sheet.{Item, pair-parts, in-front, comparison-item, comparison-items, put, place-part, place-parts, place-item, place-items}
@@ -27,9 +27,6 @@ use Rattle.page.specs.Placing.{put-put, part-fits, flat-front, flat-pair
 
 pub fit-part : (ws : List ℤ) (i n : ℕ) → all fitting ws ≡ true → all fitting (take n (drop i ws)) ≡ true
 fit-part ws i n h = all-take fitting n (drop i ws) (all-drop fitting i ws h)
-
-one-short : (z : ℤ) (zs : List ℤ) → all fitting (z ∷ zs) ≡ true → length (print-number z) ≤ 11
-one-short z zs h = number-short z (leb-true _ 2147483648 (and-l (fitting z) (all fitting zs) h))
 
 -- ---- operator and constant
 

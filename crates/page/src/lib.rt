@@ -234,17 +234,6 @@ fn place_pairs(out: &mut [u8], page: Place, part: &[i32]) -> Place
     p
 }
 
-// Every word lies within i32: the loop only learns this of the whole slice, and does nothing.
-fn all_fit(words: &[i32])
-    ensures { λ _. ⌜ all fitting (now (words .entry)) ≡ true ⌝ }
-{
-    let mut i = 0;
-    while i < words.len() {
-        let _w = words[i];
-        i += 1;
-    }
-}
-
 // Operator and constant of a comparison.
 fn put_head(out: &mut [u8], at: usize, o: &[i32], c: &[i32]) -> usize
     requires { ⌜ (at ≤ 70368744177664) × (length (now o) ≤ 1) × (length (now c) ≤ 1) ⌝ }
@@ -388,7 +377,7 @@ pub fn put_sheet(out: &mut [u8], words: &[i32], from: usize) -> usize
     requires { ⌜ (Few (now words)) × (from ≤ length (now words)) ⌝ }
     ensures { λ r. ⌜ (Wrote (now (out .entry)) 0 (print-sheet (drop from (now (words .entry)))) (now (out .exit)) r) × (all fitting (now (words .entry)) ≡ true) ⌝ }
 {
-    all_fit(words);
+    decimal::all_fit(words);
     let n = count_at(words, from);
     let a = stop(words, from, 1);
     put_clauses(out, words, a, n)

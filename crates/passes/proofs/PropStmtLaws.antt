@@ -10,14 +10,14 @@ use lib.ListN.{length, drop, getD, length-append}
 use Rattle.laws.specs.Lists.{flat}
 use Rattle.laws.specs.Ints.{pos-eq}
 use Rattle.syntax.specs.Words.{max-bools}
-use Rattle.syntax.specs.Syntax.{Stmt, encode-int, encode-cell, encode-stmt}
+use Rattle.syntax.specs.Syntax.{Stmt, Rule, Table, AllDifferent, encode-int, encode-cell, encode-stmt}
 use Rattle.fold.specs.Optimize.{constant-prop-stmts}
 use Rattle.domains.specs.Declared.{Plain}
 use Rattle.passes.specs.Want.{worst-num}
 use Rattle.passes.specs.Contracts.{Some-int, Skip-post, Stands, Prop-post}
 use Rattle.fold.specs.Ahead.{prop-stmt, prop-stmts-more}
-use Rattle.passes.specs.Statements.{Reads-stmt, Reads-stmts, Stands-stmt, Stand-stmts, Prop-stmt-post, Prop-stmts-post, Some-columns, Skip-columns-post, Skip-table-post}
-use Rattle.passes.proofs.StmtLaws.{columns-inv, stmt-inside, stmt-length, stmt-plain, rule-inv, table-inv, stmts-inv}
+use Rattle.passes.specs.Statements.{Reads-stmt, Reads-stmts, Stands-stmt, Stand-stmts, Prop-stmt-post, Prop-stmts-post, Some-columns, Skip-columns-post, Skip-stmt-post}
+use Rattle.passes.proofs.StmtLaws.{columns-inv, stmt-inside, stmt-length, stmt-plain, code-word, rule-inv, not-two, table-inv, table-inside, different-inv, stmts-inv}
 use Rattle.passes.proofs.PropLaws.{still, then-props, as-status, worst-assoc, worst-none, worst-zero, has-up}
 
 -- ---- `skip_columns`
@@ -47,38 +47,60 @@ module _ (ws : List ℤ) (at n : ℕ) (z : n ≡ 0 → ⊥) where
 -- ---- `skip_table`
 
 module _ (out : List ℤ) (at : ℕ) where
-  pub stmt-fits : Stands-stmt out at → at + 3 ≤ length out
+  pub stmt-fits : Stands-stmt out at → at + 2 ≤ length out
   stmt-fits s = omega (arith, stmt-inside _ out at (s .it) (s .reads), stmt-length _ out at (s .it) (s .reads))
 
-  module _ (n1 : getD out at (pos 0) ≡ pos 1 → ⊥) where
+  module _ (c2 : getD out at (pos 0) ≡ pos 2) where
+    pub header-fits : Stands-stmt out at → at + 3 ≤ length out
+    header-fits s = table-inside _ out at (s .it) (s .reads) c2
+
     pub columns-word : Stands-stmt out at → Plain out (at + 1)
-    columns-word s = table-inv _ out at (s .it) (s .reads) n1 λ es rows q hn hk rc rr ln. record { inside = omega (arith, stmt-fits s); value = length es; is = hn }
+    columns-word s = table-inv _ out at (s .it) (s .reads) c2 λ es rows q hn hk rc rr ln. record { inside = omega (arith, header-fits s); value = length es; is = hn }
 
     pub rows-word : Stands-stmt out at → Plain out (at + 2)
-    rows-word s = table-inv _ out at (s .it) (s .reads) n1 λ es rows q hn hk rc rr ln. record { inside = omega (arith, stmt-fits s); value = length rows; is = hk }
+    rows-word s = table-inv _ out at (s .it) (s .reads) c2 λ es rows q hn hk rc rr ln. record { inside = omega (arith, header-fits s); value = length rows; is = hk }
 
     module _ (n k : ℕ) (hn : getD out (at + 1) (pos 0) ≡ pos n) (hk : getD out (at + 2) (pos 0) ≡ pos k) where
       pub table-columns : Stands-stmt out at → Some-columns out (at + 3) n
       table-columns s =
-          table-inv _ out at (s .it) (s .reads) n1 λ es rows q hn' hk' rc rr ln.
+          table-inv _ out at (s .it) (s .reads) c2 λ es rows q hn' hk' rc rr ln.
           record { ints = s .ints; them = es; reads = record { words = rc .words; vars = rc .vars; size = pos-eq _ _ _ hn hn' } }
 
       module _ (m : ℕ) (p : Skip-columns-post out (at + 3) n m) where
         skips : (ni : ℕ) (s : Stmt) → Reads-stmt ni out at s → m + n * k ≡ at + length (encode-stmt s)
         unfolding encode-stmt
         skips ni s r =
-            table-inv ni out at s r n1 λ es rows q hn' hk' rc rr ln.
+            table-inv ni out at s r c2 λ es rows q hn' hk' rc rr ln.
             let en : n ≡ length es = pos-eq _ _ _ hn hn' in
             let ek : k ≡ length rows = pos-eq _ _ _ hk hk' in
             let x : m ≡ at + 3 + length (flat (map encode-int es)) = p ni es (record { words = rc .words; vars = rc .vars; size = en }) in
             let y : length (flat (map (map encode-cell) rows)) ≡ n * k = rw (en, ek) ln in
             rw q (omega (arith, length-append (flat (map encode-int es)) (flat (map (map encode-cell) rows))))
 
-        pub table-skips : Skip-table-post out at (m + n * k)
+        pub table-skips : Skip-stmt-post out at (m + n * k)
         table-skips ni s r = skips ni s r
 
         pub table-fits : Stands-stmt out at → m + n * k ≤ length out
         table-fits s = omega (arith, stmt-inside _ out at (s .it) (s .reads), skips _ (s .it) (s .reads))
+
+  -- ---- `skip_different`
+
+  module _ (c3 : getD out at (pos 0) ≡ pos 3) where
+    pub different-word : Stands-stmt out at → Plain out (at + 1)
+    different-word s = different-inv _ out at (s .it) (s .reads) c3 λ es q hn rc. record { inside = omega (arith, stmt-fits s); value = length es; is = hn }
+
+    module _ (n : ℕ) (hn : getD out (at + 1) (pos 0) ≡ pos n) where
+      pub different-columns : Stands-stmt out at → Some-columns out (at + 2) n
+      different-columns s =
+          different-inv _ out at (s .it) (s .reads) c3 λ es q hn' rc.
+          record { ints = s .ints; them = es; reads = record { words = rc .words; vars = rc .vars; size = pos-eq _ _ _ hn hn' } }
+
+      pub different-skips : (m : ℕ) → Skip-columns-post out (at + 2) n m → Skip-stmt-post out at m
+      unfolding encode-stmt
+      different-skips m p ni s r =
+          different-inv ni out at s r c3 λ es q hn' rc.
+          let x : m ≡ at + 2 + length (flat (map encode-int es)) = p ni es (record { words = rc .words; vars = rc .vars; size = pos-eq _ _ _ hn hn' }) in
+          rw q (omega arith)
 
   -- ---- `prop_stmt`
 
@@ -93,11 +115,14 @@ module _ (out : List ℤ) (at : ℕ) where
         let g = p ni f e (some true) vs re (omega arith) refl in
         rw q (record { nexts = g .nexts ∙ omega arith; props = g .props })
 
-  pub table-props : (next : ℕ) → (getD out at (pos 0) ≡ pos 1 → ⊥) → Skip-table-post out at next → Prop-stmt-post out at out next 0
-  table-props next n1 p ni f s vs r lo =
-      let n : next ≡ at + length (encode-stmt s) = p ni s r in
-      table-inv ni out at s r n1 λ es rows q hn hk rc rr ln.
-      record { nexts = n; props = rw q (still out f vs) }
+  -- what is no rule fixes nothing
+  pub idle-props : (next : ℕ) → (getD out at (pos 0) ≡ pos 1 → ⊥) → Skip-stmt-post out at next → Prop-stmt-post out at out next 0
+  idle-props next n1 p ni f (Rule e) vs r lo = absurd (n1 (code-word ni out at (Rule e) r))
+  idle-props next n1 p ni f (Table es rows) vs r lo = record { nexts = p ni (Table es rows) r; props = still out f vs }
+  idle-props next n1 p ni f (AllDifferent es) vs r lo = record { nexts = p ni (AllDifferent es) r; props = still out f vs }
+
+  pub stands-different : (w : ℕ) → getD out at (pos 0) ≡ pos w → (w ≡ 1 → ⊥) → (w ≡ 2 → ⊥) → Stands-stmt out at → getD out at (pos 0) ≡ pos 3
+  stands-different w hw a b s = not-two _ out at (s .it) (s .reads) w hw a b
 
   pub stands-plain : Stands-stmt out at → Plain out at
   stands-plain s = stmt-plain _ out at (s .it) (s .reads)

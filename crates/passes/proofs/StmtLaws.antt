@@ -11,7 +11,7 @@ use Rattle.laws.specs.Lists.{flat}
 use Rattle.laws.specs.Slices.{Has, has-fits, has-front, has-back, has-word, has-rest, Pushed, pushed-below, pushed-then, pushed-none, Stored, heads-one, drop-up}
 use Rattle.laws.specs.Ints.{pos-eq}
 use Rattle.syntax.specs.Words.{max-bools}
-use Rattle.syntax.specs.Syntax.{IntExpr, BoolExpr, Cell, Stmt, Rule, Table, encode-int, encode-bool, encode-cell, encode-stmt}
+use Rattle.syntax.specs.Syntax.{Domain, IntExpr, BoolExpr, Cell, Stmt, Rule, Table, AllDifferent, encode-int, encode-bool, encode-cell, encode-stmt}
 use Rattle.syntax.specs.Lengths.{rows-length}
 use Rattle.syntax.specs.Written.{EveryColumn}
 use Rattle.syntax.specs.Codes.{stmt-code}
@@ -101,21 +101,31 @@ module _ (ws : List ℤ) (d at n : ℕ) (out : List ℤ) (o : ℕ) (z : n ≡ 0 
 
 -- ---- one statement
 
-stmt-long : (ni : ℕ) (s : Stmt) → Declared-stmt max-bools ni s → 3 ≤ length (encode-stmt s)
+map-length : (ds : List Domain) (es : List IntExpr) → length (map (constant-folding-int ds) es) ≡ length es
+map-length ds [] = refl
+map-length ds (e ∷ es) = ap suc (map-length ds es)
+
+stmt-long : (ni : ℕ) (s : Stmt) → Declared-stmt max-bools ni s → 2 ≤ length (encode-stmt s)
 unfolding encode-stmt Declared-stmt
 stmt-long ni (Rule e) h = omega (arith, bool-long max-bools ni e h)
 stmt-long ni (Table es rows) h = omega arith
+stmt-long ni (AllDifferent es) h = omega arith
+
+table-long : (es : List IntExpr) (rows : List (List Cell)) → 3 ≤ length (encode-stmt (Table es rows))
+unfolding encode-stmt
+table-long es rows = omega arith
 
 module _ (ni : ℕ) (ws : List ℤ) (at : ℕ) where
   pub code-word : (s : Stmt) → Reads-stmt ni ws at s → getD ws at (pos 0) ≡ pos (stmt-code s)
   unfolding encode-stmt
   code-word (Rule e) r = has-word ws at _ _ (pos 0) (r .words)
   code-word (Table es rows) r = has-word ws at _ _ (pos 0) (r .words)
+  code-word (AllDifferent es) r = has-word ws at _ _ (pos 0) (r .words)
 
   pub stmt-inside : (s : Stmt) → Reads-stmt ni ws at s → at + length (encode-stmt s) ≤ length ws
   stmt-inside s r = has-fits ws at (encode-stmt s) (r .words) (omega (arith, stmt-long ni s (r .vars)))
 
-  pub stmt-length : (s : Stmt) → Reads-stmt ni ws at s → 3 ≤ length (encode-stmt s)
+  pub stmt-length : (s : Stmt) → Reads-stmt ni ws at s → 2 ≤ length (encode-stmt s)
   stmt-length s r = stmt-long ni s (r .vars)
 
   pub stmt-plain : (s : Stmt) → Reads-stmt ni ws at s → Plain ws at
@@ -125,13 +135,20 @@ module _ (ni : ℕ) (ws : List ℤ) (at : ℕ) where
   unfolding encode-stmt Declared-stmt
   rule-inv (Rule e) r w hw h go = go e refl (record { words = has-rest ws at _ _ (r .words); vars = r .vars })
   rule-inv (Table es rows) r w hw h go = absurd (let z : 2 ≡ w = pos-eq _ _ _ (code-word (Table es rows) r) hw in omega arith)
+  rule-inv (AllDifferent es) r w hw h go = absurd (let z : 3 ≡ w = pos-eq _ _ _ (code-word (AllDifferent es) r) hw in omega arith)
+
+  pub not-two : (s : Stmt) → Reads-stmt ni ws at s → (w : ℕ) → getD ws at (pos 0) ≡ pos w → (w ≡ 1 → ⊥) → (w ≡ 2 → ⊥) → getD ws at (pos 0) ≡ pos 3
+  not-two (Rule e) r w hw a b = absurd (a (pos-eq _ _ _ hw (code-word (Rule e) r)))
+  not-two (Table es rows) r w hw a b = absurd (b (pos-eq _ _ _ hw (code-word (Table es rows) r)))
+  not-two (AllDifferent es) r w hw a b = code-word (AllDifferent es) r
 
   -- header, columns, rows
-  pub table-inv : {X : Type 0} (s : Stmt) → Reads-stmt ni ws at s → (getD ws at (pos 0) ≡ pos 1 → ⊥)
+  pub table-inv : {X : Type 0} (s : Stmt) → Reads-stmt ni ws at s → getD ws at (pos 0) ≡ pos 2
       → ((es : List IntExpr) (rows : List (List Cell)) → s ≡ Table es rows → getD ws (at + 1) (pos 0) ≡ pos (length es) → getD ws (at + 2) (pos 0) ≡ pos (length rows) → Reads-columns ni ws (at + 3) (length es) es → Has ws (at + 3 + length (flat (map encode-int es))) (flat (map (map encode-cell) rows)) → length (flat (map (map encode-cell) rows)) ≡ length es * length rows → X) → X
   unfolding encode-stmt Declared-stmt
-  table-inv (Rule e) r n go = absurd (n (code-word (Rule e) r))
-  table-inv (Table es rows) r n go =
+  table-inv (Rule e) r c2 go = absurd (let z : 1 ≡ 2 = pos-eq _ _ _ (code-word (Rule e) r) c2 in omega arith)
+  table-inv (AllDifferent es) r c2 go = absurd (let z : 3 ≡ 2 = pos-eq _ _ _ (code-word (AllDifferent es) r) c2 in omega arith)
+  table-inv (Table es rows) r c2 go =
       let cs = flat (map encode-int es) in
       let rs = flat (map (map encode-cell) rows) in
       let h1 = has-rest ws at (pos 2) (pos (length es) ∷ pos (length rows) ∷ cs ++ rs) (r .words) in
@@ -140,12 +157,32 @@ module _ (ni : ℕ) (ws : List ℤ) (at : ℕ) where
       let a2 : at + 2 ≡ at + 1 + 1 = omega arith in
       go es rows refl (has-word ws (at + 1) _ _ (pos 0) h1) (ap (λ i. getD ws i (pos 0)) a2 ∙ has-word ws (at + 1 + 1) _ _ (pos 0) h2) (record { words = has-front ws (at + 3) cs rs h3; vars = r .vars .0; size = refl }) (has-back ws (at + 3) cs rs h3) (rows-length (length es) rows (r .vars .1))
 
+  pub table-inside : (s : Stmt) → Reads-stmt ni ws at s → getD ws at (pos 0) ≡ pos 2 → at + 3 ≤ length ws
+  table-inside s r c2 =
+      table-inv s r c2 λ es rows q hn hk rc rr ln.
+      let i : at + length (encode-stmt (Table es rows)) ≤ length ws = rw q at (stmt-inside s r) in
+      omega (arith, table-long es rows)
+
+  -- header, expressions
+  pub different-inv : {X : Type 0} (s : Stmt) → Reads-stmt ni ws at s → getD ws at (pos 0) ≡ pos 3
+      → ((es : List IntExpr) → s ≡ AllDifferent es → getD ws (at + 1) (pos 0) ≡ pos (length es) → Reads-columns ni ws (at + 2) (length es) es → X) → X
+  unfolding encode-stmt Declared-stmt
+  different-inv (Rule e) r c3 go = absurd (let z : 1 ≡ 3 = pos-eq _ _ _ (code-word (Rule e) r) c3 in omega arith)
+  different-inv (Table es rows) r c3 go = absurd (let z : 2 ≡ 3 = pos-eq _ _ _ (code-word (Table es rows) r) c3 in omega arith)
+  different-inv (AllDifferent es) r c3 go =
+      let cs = flat (map encode-int es) in
+      let h1 = has-rest ws at (pos 3) (pos (length es) ∷ cs) (r .words) in
+      go es refl (has-word ws (at + 1) _ _ (pos 0) h1) (record { words = has-back ws at (pos 3 ∷ pos (length es) ∷ []) cs (r .words); vars = r .vars; size = refl })
+
 module _ (ws : List ℤ) (d at : ℕ) (out : List ℤ) (o : ℕ) where
-  pub stmt-room : Ready-stmt ws d at out o → (at + 3 ≤ length ws) × (o + 3 ≤ length out)
+  pub stmt-room : Ready-stmt ws d at out o → (at + 2 ≤ length ws) × (o + 2 ≤ length out)
   stmt-room r = (omega (arith, stmt-inside _ ws at (r .it) (r .reads), stmt-length _ ws at (r .it) (r .reads)), omega (arith, r .room, stmt-length _ ws at (r .it) (r .reads)))
 
   pub stmt-first : Ready-stmt ws d at out o → Plain ws at
   stmt-first r = stmt-plain _ ws at (r .it) (r .reads)
+
+  pub ready-different : (w : ℕ) → getD ws at (pos 0) ≡ pos w → (w ≡ 1 → ⊥) → (w ≡ 2 → ⊥) → Ready-stmt ws d at out o → getD ws at (pos 0) ≡ pos 3
+  ready-different w hw a b r = not-two _ ws at (r .it) (r .reads) w hw a b
 
   stored-one : (u : ℤ) → o < length out → Stored out o (u ∷ []) (set out o u) (o + 1)
   stored-one u lo = rw (slice-empty (o + 1) out) at (heads-one out o u (o + 1) (omega arith) (omega arith))
@@ -178,18 +215,24 @@ module _ (ws : List ℤ) (d at : ℕ) (out : List ℤ) (o : ℕ) where
 
   -- ---- a table
 
-  module _ (n1 : getD ws at (pos 0) ≡ pos 1 → ⊥) where
+  module _ (c2 : getD ws at (pos 0) ≡ pos 2) where
+    pub table-room : Ready-stmt ws d at out o → (at + 3 ≤ length ws) × (o + 3 ≤ length out)
+    table-room r =
+        table-inv _ ws at (r .it) (r .reads) c2 λ es rows q hn hk rc rr ln.
+        let z : o + length (encode-stmt (Table es rows)) ≤ length out = rw q at (r .room) in
+        (table-inside _ ws at (r .it) (r .reads) c2, omega (arith, table-long es rows))
+
     pub columns-word : Ready-stmt ws d at out o → Plain ws (at + 1)
-    columns-word r = table-inv _ ws at (r .it) (r .reads) n1 λ es rows q hn hk rc rr ln. record { inside = omega (arith, stmt-room r .0); value = length es; is = hn }
+    columns-word r = table-inv _ ws at (r .it) (r .reads) c2 λ es rows q hn hk rc rr ln. record { inside = omega (arith, table-room r .0); value = length es; is = hn }
 
     pub rows-word : Ready-stmt ws d at out o → Plain ws (at + 2)
-    rows-word r = table-inv _ ws at (r .it) (r .reads) n1 λ es rows q hn hk rc rr ln. record { inside = omega (arith, stmt-room r .0); value = length rows; is = hk }
+    rows-word r = table-inv _ ws at (r .it) (r .reads) c2 λ es rows q hn hk rc rr ln. record { inside = omega (arith, table-room r .0); value = length rows; is = hk }
 
     module _ (n k : ℕ) (hn : getD ws (at + 1) (pos 0) ≡ pos n) (hk : getD ws (at + 2) (pos 0) ≡ pos k) where
       the-table : {X : Type 0} (ni : ℕ) (s : Stmt) → Reads-stmt ni ws at s
           → ((es : List IntExpr) (rows : List (List Cell)) → s ≡ Table es rows → n ≡ length es → k ≡ length rows → Reads-columns ni ws (at + 3) n es → Has ws (at + 3 + length (flat (map encode-int es))) (flat (map (map encode-cell) rows)) → length (flat (map (map encode-cell) rows)) ≡ n * k → X) → X
       the-table ni s r go =
-          table-inv ni ws at s r n1 λ es rows q hn' hk' rc rr ln.
+          table-inv ni ws at s r c2 λ es rows q hn' hk' rc rr ln.
           let en : n ≡ length es = pos-eq _ _ _ hn hn' in
           let ek : k ≡ length rows = pos-eq _ _ _ hk hk' in
           go es rows q en ek (record { words = rc .words; vars = rc .vars; size = en }) rr (rw (en, ek) ln)
@@ -230,13 +273,13 @@ module _ (ws : List ℤ) (d at : ℕ) (out : List ℤ) (o : ℕ) where
               the-table _ s r λ es rows q en ek rc rr ln.
               let y = p ds es hd rc in
               let nx : next ≡ at + 3 + length (flat (map encode-int es)) = y .nexts in
-              let hs = header (omega (arith, stmt-room rd .1)) in
+              let hs = header (omega (arith, table-room rd .1)) in
               let me : m ≡ o + 3 = hs .pushed .end in
               let ef : end ≡ m + length (flat (map encode-int (map (constant-folding-int ds) es))) = y .pushed .end in
               let cw : take (n * k) (drop next ws) ≡ flat (map (map encode-cell) rows) = rw (nx, ← ln) rr in
               let cp' : Stored mid″ end (flat (map (map encode-cell) rows)) out' end' = rw cw at cp in
               let ee : end' ≡ end + length (flat (map (map encode-cell) rows)) = cp' .pushed .end in
-              let lm : length es ≡ length (map (constant-folding-int ds) es) = sym (map-length es) in
+              let lm : length es ≡ length (map (constant-folding-int ds) es) = sym (map-length ds es) in
               rw q (record {
                 nexts = omega (arith, table-length es rows ln);
                 pushed = rw (← lm, ← en, ← ek) (pushed-then out o (pos 2 ∷ pos n ∷ pos k ∷ []) mid' m _ out' end' (hs .pushed) (pushed-then mid' m _ mid″ end _ out' end' (y .pushed) (cp' .pushed)));
@@ -244,10 +287,42 @@ module _ (ws : List ℤ) (d at : ℕ) (out : List ℤ) (o : ℕ) where
                     ∙ drop-up (m + length (flat (map encode-int es))) (o + length (encode-stmt (Table es rows))) mid″ mid' (y .above) (omega (arith, table-length es rows ln))
                     ∙ drop-up m (o + length (encode-stmt (Table es rows))) mid' out (hs .above) (omega (arith, table-length es rows ln));
               })
-            where
-              map-length : (es : List IntExpr) → length (map (constant-folding-int ds) es) ≡ length es
-              map-length [] = refl
-              map-length (e ∷ es) = ap suc (map-length es)
+
+  -- ---- an AllDifferent
+
+  module _ (c3 : getD ws at (pos 0) ≡ pos 3) where
+    pub different-word : Ready-stmt ws d at out o → Plain ws (at + 1)
+    different-word r = different-inv _ ws at (r .it) (r .reads) c3 λ es q hn rc. record { inside = omega (arith, stmt-room r .0); value = length es; is = hn }
+
+    module _ (n : ℕ) (hn : getD ws (at + 1) (pos 0) ≡ pos n) where
+      the-different : {X : Type 0} (ni : ℕ) (s : Stmt) → Reads-stmt ni ws at s → ((es : List IntExpr) → s ≡ AllDifferent es → n ≡ length es → Reads-columns ni ws (at + 2) n es → X) → X
+      the-different ni s r go =
+          different-inv ni ws at s r c3 λ es q hn' rc.
+          let en : n ≡ length es = pos-eq _ _ _ hn hn' in
+          go es q en (record { words = rc .words; vars = rc .vars; size = en })
+
+      module _ (mid : List ℤ) (m : ℕ) (st : Stored out o (pos 3 ∷ pos n ∷ []) mid m) where
+        pub different-columns : Ready-stmt ws d at out o → length mid ≡ length out → Ready-columns ws d (at + 2) n mid m
+        unfolding encode-stmt
+        different-columns r l =
+            the-different _ (r .it) (r .reads) λ es q en rc.
+            let z : o + suc (suc (length (flat (map encode-int es)))) ≤ length out = rw q at (r .room) in
+            let me : m ≡ o + 2 = st .pushed .end in
+            record { ds = r .ds; domains = r .domains; them = es; reads = rc; room = omega arith }
+
+        pub different-folds : (out' : List ℤ) (next end : ℕ) → Columns-post ws d (at + 2) n mid m out' next end → Stmt-post ws d at out o out' next end
+        unfolding encode-stmt constant-folding-stmt
+        different-folds out' next end p ds s hd r =
+            the-different _ s r λ es q en rc.
+            let y = p ds es hd rc in
+            let nx : next ≡ at + 2 + length (flat (map encode-int es)) = y .nexts in
+            let me : m ≡ o + 2 = st .pushed .end in
+            let lm : length es ≡ length (map (constant-folding-int ds) es) = sym (map-length ds es) in
+            rw q (record {
+              nexts = omega arith;
+              pushed = rw (← lm, ← en) (pushed-then out o (pos 3 ∷ pos n ∷ []) mid m _ out' end (st .pushed) (y .pushed));
+              above = drop-up (m + length (flat (map encode-int es))) (o + suc (suc (length (flat (map encode-int es))))) out' mid (y .above) (omega arith) ∙ drop-up m (o + suc (suc (length (flat (map encode-int es))))) mid out (st .above) (omega arith);
+            })
 
 -- ---- statements
 
@@ -300,3 +375,6 @@ module _ (ws : List ℤ) (d at n : ℕ) (out : List ℤ) (o : ℕ) (z : n ≡ 0 
 
 pub no-rule : (ws : List ℤ) (at w : ℕ) → getD ws at (pos 0) ≡ pos w → (w ≡ 1 → ⊥) → getD ws at (pos 0) ≡ pos 1 → ⊥
 no-rule ws at w hw h e = h (pos-eq _ _ _ hw e)
+
+pub code-is : (ws : List ℤ) (at w k : ℕ) → getD ws at (pos 0) ≡ pos w → w ≡ k → getD ws at (pos 0) ≡ pos k
+code-is ws at w k hw e = hw ∙ ap pos e

@@ -7,7 +7,7 @@ use lib.ListN.{length, drop}
 use Rattle.laws.specs.Lists.{flat}
 use Rattle.laws.specs.Slices.{Has, Pushed}
 use Rattle.syntax.specs.Words.{max-bools}
-use Rattle.syntax.specs.Syntax.{Domain, IntExpr, Stmt, Rule, Table, encode-int, encode-stmt}
+use Rattle.syntax.specs.Syntax.{Domain, IntExpr, Stmt, Rule, Table, AllDifferent, encode-int, encode-stmt}
 use Rattle.syntax.specs.Lengths.{Wide}
 use Rattle.syntax.specs.Written.{EveryColumn}
 use Rattle.fold.specs.Fold.{Fixed, constant-folding-int, constant-folding-stmt}
@@ -26,6 +26,7 @@ Declared-columns ni es = EveryColumn (λ v. v < ni) es
 unfoldable pub Declared-stmt : ℕ → ℕ → Stmt → Type 0
 Declared-stmt nb ni (Rule e) = Declared nb ni e
 Declared-stmt nb ni (Table es rows) = Declared-columns ni es × Wide (length es) rows
+Declared-stmt nb ni (AllDifferent es) = Declared-columns ni es
 
 unfoldable pub Declared-stmts : ℕ → ℕ → List Stmt → Type 0
 Declared-stmts nb ni [] = Unit {0}
@@ -124,7 +125,7 @@ Prop-stmt-post out at out' next status = (ni : ℕ) (f : Fixed) (s : Stmt) → V
 abbrev pub Prop-stmts-post : List ℤ → ℕ → ℕ → List ℤ → ℕ → Type 0
 Prop-stmts-post out at n out' status = (ni : ℕ) (f : Fixed) (ss : List Stmt) → Values out f → Reads-stmts ni out at n ss → max-bools ≤ at → Propagates (constant-prop-stmts ss f) out out' status
 
--- ---- passing over columns and tables
+-- ---- passing over columns and statements
 
 abbrev pub Skip-columns-post : List ℤ → ℕ → ℕ → ℕ → Type 0
 Skip-columns-post ws at n r = (ni : ℕ) (es : List IntExpr) → Reads-columns ni ws at n es → r ≡ at + length (flat (map encode-int es))
@@ -134,5 +135,5 @@ pub record Some-columns (ws : List ℤ) (at n : ℕ) : Type 0 where
   pub them : List IntExpr
   pub reads : Reads-columns ints ws at n them
 
-abbrev pub Skip-table-post : List ℤ → ℕ → ℕ → Type 0
-Skip-table-post ws at r = (ni : ℕ) (s : Stmt) → Reads-stmt ni ws at s → r ≡ at + length (encode-stmt s)
+abbrev pub Skip-stmt-post : List ℤ → ℕ → ℕ → Type 0
+Skip-stmt-post ws at r = (ni : ℕ) (s : Stmt) → Reads-stmt ni ws at s → r ≡ at + length (encode-stmt s)

@@ -9,7 +9,7 @@ ghost use Rattle.fold.specs.Table.{state-num};
 ghost use Rattle.folding.specs.Steps.{state-of};
 ghost use Rattle.passes.specs.Want.{worst-num, clash-num, set-status, set-words, flip-num, member-num, left-num, right-num};
 ghost use Rattle.passes.specs.Contracts.{Some-int, Some-terms, Count-post, Skip-post, Skip-terms-post, Stands, Stand-members, Comparison-post, Prop-post, Members-post};
-ghost use Rattle.passes.specs.Statements.{Ready-columns, Columns-post, Ready-stmt, Stmt-post, Ready-stmts, Stmts-post, Stands-stmt, Prop-stmt-post, Stand-stmts, Prop-stmts-post, Some-columns, Skip-columns-post, Skip-table-post};
+ghost use Rattle.passes.specs.Statements.{Ready-columns, Columns-post, Ready-stmt, Stmt-post, Ready-stmts, Stmts-post, Stands-stmt, Prop-stmt-post, Stand-stmts, Prop-stmts-post, Some-columns, Skip-columns-post, Skip-stmt-post};
 
 pub struct Span {
     pub next: usize,
@@ -243,7 +243,7 @@ fn fold_columns(words: &[i32], d: usize, at: usize, n: usize, work: &mut [i32], 
 // A table: its header and rows as they are, its columns folded.
 fn fold_table(words: &[i32], d: usize, at: usize, work: &mut [i32], o: usize) -> Span
     requires { ⌜ Ready-stmt (now words) d at (now work) o ⌝ }
-    requires { ⌜ (getD (now words) at (pos 0) ≡ pos 1 → ⊥) ⌝ }
+    requires { ⌜ getD (now words) at (pos 0) ≡ pos 2 ⌝ }
     ensures { λ r. ⌜ Stmt-post (now (words .entry)) d at (now (work .entry)) o (now (work .exit)) (r .next) (r .end) ⌝ }
 {
     let n = domains::number(words, at + 1);
@@ -259,6 +259,17 @@ fn fold_table(words: &[i32], d: usize, at: usize, work: &mut [i32], o: usize) ->
     }
 }
 
+// An AllDifferent: its header as it is, its expressions folded.
+fn fold_different(words: &[i32], d: usize, at: usize, work: &mut [i32], o: usize) -> Span
+    requires { ⌜ Ready-stmt (now words) d at (now work) o ⌝ }
+    requires { ⌜ getD (now words) at (pos 0) ≡ pos 3 ⌝ }
+    ensures { λ r. ⌜ Stmt-post (now (words .entry)) d at (now (work .entry)) o (now (work .exit)) (r .next) (r .end) ⌝ }
+{
+    let n = domains::number(words, at + 1);
+    let m = folding::put_two(work, o, 3, n);
+    fold_columns(words, d, at + 2, n, work, m)
+}
+
 pub fn fold_stmt(words: &[i32], d: usize, at: usize, work: &mut [i32], o: usize) -> Span
     requires { ⌜ Ready-stmt (now words) d at (now work) o ⌝ }
     ensures { λ r. ⌜ Stmt-post (now (words .entry)) d at (now (work .entry)) o (now (work .exit)) (r .next) (r .end) ⌝ }
@@ -272,7 +283,10 @@ pub fn fold_stmt(words: &[i32], d: usize, at: usize, work: &mut [i32], o: usize)
             end: f.end,
         };
     }
-    fold_table(words, d, at, work, o)
+    if w == 2 {
+        return fold_table(words, d, at, work, o);
+    }
+    fold_different(words, d, at, work, o)
 }
 
 // As many statements as `count` says.
@@ -316,13 +330,22 @@ fn skip_columns(words: &[i32], at: usize, n: usize) -> usize
 
 fn skip_table(words: &[i32], at: usize) -> usize
     requires { ⌜ Stands-stmt (now words) at ⌝ }
-    requires { ⌜ (getD (now words) at (pos 0) ≡ pos 1 → ⊥) ⌝ }
-    ensures { λ r. ⌜ Skip-table-post (now (words .entry)) at r ⌝ }
+    requires { ⌜ getD (now words) at (pos 0) ≡ pos 2 ⌝ }
+    ensures { λ r. ⌜ Skip-stmt-post (now (words .entry)) at r ⌝ }
 {
     let n = domains::number(words, at + 1);
     let k = domains::number(words, at + 2);
     let m = skip_columns(words, at + 3, n);
     m + n * k
+}
+
+fn skip_different(words: &[i32], at: usize) -> usize
+    requires { ⌜ Stands-stmt (now words) at ⌝ }
+    requires { ⌜ getD (now words) at (pos 0) ≡ pos 3 ⌝ }
+    ensures { λ r. ⌜ Skip-stmt-post (now (words .entry)) at r ⌝ }
+{
+    let n = domains::number(words, at + 1);
+    skip_columns(words, at + 2, n)
 }
 
 pub fn prop_stmt(work: &mut [i32], at: usize) -> Required
@@ -333,7 +356,11 @@ pub fn prop_stmt(work: &mut [i32], at: usize) -> Required
     if w == 1 {
         return constant_prop_bool(work, at + 1, 1);
     }
-    let next = skip_table(work, at);
+    if w == 2 {
+        let next = skip_table(work, at);
+        return Required { next, status: 0 };
+    }
+    let next = skip_different(work, at);
     Required { next, status: 0 }
 }
 

@@ -6,7 +6,7 @@ use mathlib.Core.List.{List, [], _∷_, map}
 use native.Mathlib.Omega.{arith}
 use lib.ListN.{length}
 use Rattle.syntax.specs.Words.{max-bools}
-use Rattle.syntax.specs.Syntax.{Domain, IntExpr, Stmt, Rule, Table}
+use Rattle.syntax.specs.Syntax.{Domain, IntExpr, Stmt, Rule, Table, AllDifferent}
 use Rattle.syntax.specs.Written.{EveryStmt, EveryStmts, every-map, Any, None}
 use Rattle.fold.specs.Fold.{Fixed, constant-folding-int, constant-folding-stmt}
 use Rattle.fold.specs.Optimize.{unsatisfiable, updated, constant-prop-stmts, inconsistent, settled, passes}
@@ -22,6 +22,7 @@ module _ (nb ni : ℕ) where
   stmts-every [] h = tt
   stmts-every (Rule e ∷ ss) h = (every-map None (λ v. v < nb) (λ v. v < ni) Any (λ v. v < nb) (λ v. v < ni) (λ n k. tt) (λ v k. k) (λ v k. k) e (h .0), stmts-every ss (h .1))
   stmts-every (Table es rows ∷ ss) h = (h .0 .0, stmts-every ss (h .1))
+  stmts-every (AllDifferent es ∷ ss) h = (h .0, stmts-every ss (h .1))
 
   -- ---- folding keeps it
 
@@ -34,6 +35,7 @@ module _ (nb ni : ℕ) where
     unfolding Declared-stmt constant-folding-stmt
     stmt-kept (Rule e) h = fold-every None (λ v. v < nb) (λ v. v < ni) ds f e h
     stmt-kept (Table es rows) h = (fold-columns-every (λ v. v < ni) ds es (h .0), rw (map-length es) (h .1))
+    stmt-kept (AllDifferent es) h = fold-columns-every (λ v. v < ni) ds es h
 
     pub stmts-kept : (ss : List Stmt) → Declared-stmts nb ni ss → Declared-stmts nb ni (map (constant-folding-stmt ds f) ss)
     unfolding Declared-stmts

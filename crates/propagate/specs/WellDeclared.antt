@@ -4,7 +4,7 @@ use mathlib.Core.List.{List, [], _∷_}
 use native.Mathlib.Omega.{arith}
 use lib.ListN.{length}
 use Rattle.syntax.specs.Words.{max-depth}
-use Rattle.syntax.specs.Syntax.{Stmt, Rule, Table, Problem}
+use Rattle.syntax.specs.Syntax.{Stmt, Rule, Table, AllDifferent, Problem}
 use Rattle.syntax.specs.Written.{every-map, None}
 use Rattle.words.specs.Exact.{Each}
 use Rattle.read.specs.WellFormed.{WellStmt, WellFormed}
@@ -18,6 +18,7 @@ module _ (nb ni m : ℕ) (few : nb ≤ m) where
   stmts-well [] h = tt
   stmts-well (Rule e ∷ ss) h = (every-map None (λ v. v < nb) (λ v. v < ni) None (λ v. v < m) (λ v. v < ni) (λ n k. k) (λ v k. omega (arith, k)) (λ v k. k) e (bool-vars nb ni max-depth e (h .0)), stmts-well ss (h .1))
   stmts-well (Table es rows ∷ ss) h = ((columns-vars ni max-depth es (h .0 .2), rows-wide (length es) rows (h .0 .3)), stmts-well ss (h .1))
+  stmts-well (AllDifferent es ∷ ss) h = (columns-vars ni max-depth es (h .0 .1), stmts-well ss (h .1))
 
 pub well-stmts : (p : Problem) → WellFormed p → (m : ℕ) → p .bools ≤ m → Declared-stmts m (length (p .domains)) (p .stmts)
 well-stmts p w m few = stmts-well (p .bools) (length (p .domains)) m few (p .stmts) (w .stmts-well)

@@ -62,7 +62,7 @@ fn store(a: &mut [i32], i: usize, n: usize)
 // ---- the watches and the queue
 // What they hold needs no proof, as any order of steps is right: at v, the place of the last occurrence of the variable v (0: none, or v is fixed);
 // at 512 + p, for an occurrence at p, the occurrence before it, and at 513 + p its statement's index; at 4610 + i, whether the statement of
-// index i is in the queue; at 6000 + k, the k-th statement of the queue.
+// index i is in the queue; at 6658 + k, the k-th statement of the queue. A set has at most 2046 statements, of two words.
 
 // The occurrence of a variable at p, if there is one, in the statement of index i: the first one in the statement counts.
 fn watch_at(words: &[i32], p: usize, i: usize, watches: &mut [i32]) {
@@ -117,7 +117,7 @@ fn enqueue(watches: &mut [i32], i: usize, count: usize) -> usize
         return count;
     }
     store(watches, 4610 + i, 1);
-    store(watches, 6000 + count, i);
+    store(watches, 6658 + count, i);
     count + 1
 }
 
@@ -197,7 +197,7 @@ fn step(words: &[i32], at: usize, work: &mut [i32]) -> Stepped
     }
 }
 
-// Whether the folded statement, once required, may fix something later: a table, a constant and a variable do not.
+// Whether the folded statement, once required, may fix something later: a table, an AllDifferent, a constant and a variable do not.
 fn lasting(work: &[i32], end: usize) -> bool {
     let kind = entry(work, 512);
     kind == 1 && end > 516
@@ -316,7 +316,7 @@ fn run_queue(
     let mut k = 0;
     let mut count = queued;
     while k < count {
-        let i = entry(watches, 6000 + k);
+        let i = entry(watches, 6658 + k);
         store(watches, 4610 + i, 0);
         let a = again(words, i, work, places, watches, count);
         let status = a.status;
@@ -334,8 +334,8 @@ fn run_worklist(words: &[i32], at: usize, statements: usize, work: &mut [i32]) -
     requires { ⌜ Ready-passes (now words) at statements (now work) ⌝ }
     ensures { λ r. ⌜ Worklist-post (now (words .entry)) at statements (now (work .entry)) (now (work .exit)) r ⌝ }
 {
-    let mut places = [0i32; 1366];
-    let mut watches = [0i32; 8048];
+    let mut places = [0i32; 2048];
+    let mut watches = [0i32; 8706];
     let a = sweep(words, at, statements, work, &mut places, &mut watches);
     let status = a.status;
     if status == 2 {

@@ -14,10 +14,10 @@ use Rattle.laws.specs.Ints.{eqZ}
 use Rattle.laws.specs.Order.{eqZ-is, not-eqZ, leZ-not}
 use Rattle.laws.specs.Lists.{flat, counted}
 use Rattle.syntax.specs.Words.{star-word, max-bools, max-ints, max-count, max-value, max-depth}
-use Rattle.syntax.specs.Syntax.{encode-domain, encode-int, encode-cell, encode-stmt, encode, Domain, Range, Enumerative, IntExpr, Cell, star, value, Stmt, Rule, Table, Problem}
+use Rattle.syntax.specs.Syntax.{encode-domain, encode-int, encode-cell, encode-stmt, encode, Domain, Range, Enumerative, IntExpr, Cell, star, value, Stmt, Rule, Table, AllDifferent, Problem}
 use Rattle.words.specs.Parse.{Parsed, ok, refuse, parse-then, times, word, up-to, count, in-value-range, number}
 use Rattle.words.specs.Exact.{Exact, refuse-ok, parse-then-ok, cond-ok, word-ok, number-words, Value, up-to-exact, count-exact, number-exact, Each, times-exact}
-use Rattle.read.specs.Read.{read-range, size-at, size-of, read-rising, read-enumerative, read-domain, read-cell, read-int, read-bool, read-table, read-stmt, at-end, read-problem, read-set}
+use Rattle.read.specs.Read.{read-range, size-at, size-of, read-rising, read-enumerative, read-domain, read-cell, read-int, read-bool, read-table, read-different, read-stmt, at-end, read-problem, read-set}
 use Rattle.read.specs.WellFormed.{RisingFrom, Rising, WellDomain, WellInt, WellCell, WellRow, WellStmt, WellFormed}
 use Rattle.read.specs.ExactExpr.{int-exact, bool-exact}
 
@@ -210,6 +210,21 @@ module _ (nb ni : ℕ) where
   table-complete es rs r h =
       rw (append-assoc (flat (map encode-int es)) (flat (map (map encode-cell) rs)) r, count-exact .complete (length es) (pos (length rs) ∷ flat (map encode-int es) ++ (flat (map (map encode-cell) rs) ++ r)) (h .0), count-exact .complete (length rs) (flat (map encode-int es) ++ (flat (map (map encode-cell) rs) ++ r)) (h .1), columns-exact ni (length es) .complete es (flat (map (map encode-cell) rs) ++ r) (refl, h .2), rows-exact (length es) (length rs) .complete rs r (refl, h .3)) refl
 
+  different-sound : (xs : List ℤ) (c : Stmt) (r : List ℤ) → read-different ni xs ≡ ok c r → (pos 3 ∷ xs ≡ encode-stmt c ++ r) × WellStmt nb ni c
+  unfolding read-different encode-stmt
+  different-sound xs c r h =
+      parse-then-ok (count xs) _ c r h λ n s hn h1.
+      parse-then-ok (times n (read-int ni max-depth) s) _ c r h1 λ es t he h2.
+      let m : AllDifferent es ≡ c = cc in
+      let q : t ≡ r = cc in
+      let i = count-exact .sound xs n s hn in
+      let l = columns-exact ni n .sound s es t he in
+      rw (← m, ← q, l .1 .0) (ap (λ z. pos 3 ∷ z) (i .0 ∙ ap (λ z. pos n ∷ z) (l .0)), (i .1, l .1 .1))
+
+  different-complete : (es : List IntExpr) (r : List ℤ) → WellStmt nb ni (AllDifferent es) → read-different ni (pos (length es) ∷ flat (map encode-int es) ++ r) ≡ ok (AllDifferent es) r
+  unfolding read-different
+  different-complete es r h = rw (count-exact .complete (length es) (flat (map encode-int es) ++ r) (h .0), columns-exact ni (length es) .complete es r (refl, h .1)) refl
+
   pub stmt-exact : Exact encode-stmt (WellStmt nb ni) (read-stmt nb ni)
   unfolding read-stmt encode-stmt
   stmt-exact = record {
@@ -225,18 +240,23 @@ module _ (nb ni : ℕ) where
           let i = bool-exact nb ni max-depth .sound s e t he in
           rw (← m, ← q) (ap (λ z. pos 1 ∷ z) (i .0), i .1)
 
-      table-or : (w : ℤ) (s : List ℤ) (c : Stmt) (r : List ℤ) (t : Bool) → eqZ w (pos 2) ≡ t → cond t (read-table ni s) (refuse 5) ≡ ok c r → (w ∷ s ≡ encode-stmt c ++ r) × WellStmt nb ni c
+      different-or : (w : ℤ) (s : List ℤ) (c : Stmt) (r : List ℤ) (t : Bool) → eqZ w (pos 3) ≡ t → cond t (read-different ni s) (refuse 5) ≡ ok c r → (w ∷ s ≡ encode-stmt c ++ r) × WellStmt nb ni c
+      different-or w s c r true e h = rw (eqZ-is w (pos 3) e) (different-sound s c r h)
+      different-or w s c r false e h = refuse-ok 5 c r h
+
+      table-or : (w : ℤ) (s : List ℤ) (c : Stmt) (r : List ℤ) (t : Bool) → eqZ w (pos 2) ≡ t → cond t (read-table ni s) (cond (eqZ w (pos 3)) (read-different ni s) (refuse 5)) ≡ ok c r → (w ∷ s ≡ encode-stmt c ++ r) × WellStmt nb ni c
       table-or w s c r true e h = rw (eqZ-is w (pos 2) e) (table-sound s c r h)
-      table-or w s c r false e h = refuse-ok 5 c r h
+      table-or w s c r false e h = different-or w s c r (eqZ w (pos 3)) refl h
 
       rule-or : (w : ℤ) (s : List ℤ) (c : Stmt) (r : List ℤ) (t : Bool) → eqZ w (pos 1) ≡ t
-          → cond t (parse-then (read-bool nb ni max-depth s) (λ e t. ok (Rule e) t)) (cond (eqZ w (pos 2)) (read-table ni s) (refuse 5)) ≡ ok c r → (w ∷ s ≡ encode-stmt c ++ r) × WellStmt nb ni c
+          → cond t (parse-then (read-bool nb ni max-depth s) (λ e t. ok (Rule e) t)) (cond (eqZ w (pos 2)) (read-table ni s) (cond (eqZ w (pos 3)) (read-different ni s) (refuse 5))) ≡ ok c r → (w ∷ s ≡ encode-stmt c ++ r) × WellStmt nb ni c
       rule-or w s c r true e h = rw (eqZ-is w (pos 1) e) (rule s c r h)
       rule-or w s c r false e h = table-or w s c r (eqZ w (pos 2)) refl h
 
       back : (c : Stmt) (r : List ℤ) → WellStmt nb ni c → read-stmt nb ni (encode-stmt c ++ r) ≡ ok c r
       back (Rule e) r h = rw (bool-exact nb ni max-depth .complete e r h) refl
       back (Table es rs) r h = table-complete es rs r h
+      back (AllDifferent es) r h = different-complete es r h
 
 -- ---- the set
 

@@ -7,7 +7,7 @@ use lib.Signed.{ltZ}
 use lib.Dec.{leb}
 use Rattle.laws.specs.Ints.{eqZ}
 use Rattle.syntax.specs.Words.{star-word, max-bools, max-ints, max-count, max-depth}
-use Rattle.syntax.specs.Syntax.{op-at, Domain, Range, Enumerative, IntExpr, IConst, IVar, Linear, Terms, tnil, tmore, BoolExpr, Const, Var, And, Or, Not, Xor, Iff, Imp, Cmp, Members, mnil, more, Cell, star, value, Stmt, Rule, Table, Problem}
+use Rattle.syntax.specs.Syntax.{op-at, Domain, Range, Enumerative, IntExpr, IConst, IVar, Linear, Terms, tnil, tmore, BoolExpr, Const, Var, And, Or, Not, Xor, Iff, Imp, Cmp, Members, mnil, more, Cell, star, value, Stmt, Rule, Table, AllDifferent, Problem}
 pub use Rattle.words.specs.Parse.{Parsed, ok, refuse}
 unfoldable pub use Rattle.words.specs.Parse.{times, up-to, count, index, number}
 use Rattle.words.specs.Parse.{Parser, parse-then, seq-parser, map-parser, word, in-value-range}
@@ -118,6 +118,10 @@ module _ (ni : ℕ) where
   unfoldable pub read-table : Parser Stmt
   read-table xs = parse-then (count xs) (λ n r. parse-then (count r) (λ k s. seq-parser Table (times n (read-int max-depth)) (λ es. times k (times n read-cell)) s))
 
+  -- a count and as many expressions
+  unfoldable pub read-different : Parser Stmt
+  read-different xs = parse-then (count xs) (λ n r. map-parser AllDifferent (times n (read-int max-depth)) r)
+
 module _ (nb ni : ℕ) where
   -- what follows a Boolean code; p and q read a part one level down
   unfoldable pub step-bool : Parser BoolExpr → Parser IntExpr → BoolKind → Parser BoolExpr
@@ -137,7 +141,7 @@ module _ (nb ni : ℕ) where
   read-bool (suc left) xs = parse-then (word xs) (λ w r. step-bool (read-bool left) (read-int ni left) (kind-bool w) r)
 
   unfoldable pub read-stmt : Parser Stmt
-  read-stmt xs = parse-then (word xs) (λ w r. cond (eqZ w (pos 1)) (map-parser Rule (read-bool max-depth) r) (cond (eqZ w (pos 2)) (read-table ni r) (refuse 5)))
+  read-stmt xs = parse-then (word xs) (λ w r. cond (eqZ w (pos 1)) (map-parser Rule (read-bool max-depth) r) (cond (eqZ w (pos 2)) (read-table ni r) (cond (eqZ w (pos 3)) (read-different ni r) (refuse 5))))
 
 -- ---- the set
 

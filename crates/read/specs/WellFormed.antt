@@ -8,7 +8,7 @@ use lib.IntN.{ℤ}
 use lib.Signed.{ltZ, leZ}
 use lib.ListN.{length}
 use Rattle.syntax.specs.Words.{max-bools, max-ints, max-count, max-depth}
-use Rattle.syntax.specs.Syntax.{count-terms, count-members, Domain, Range, Enumerative, IntExpr, IConst, IVar, Linear, Terms, tnil, tmore, BoolExpr, Const, Var, NVar, And, Or, Not, Xor, Iff, Imp, Cmp, Members, mnil, more, Cell, star, value, Stmt, Rule, Table, Problem}
+use Rattle.syntax.specs.Syntax.{count-terms, count-members, Domain, Range, Enumerative, IntExpr, IConst, IVar, Linear, Terms, tnil, tmore, BoolExpr, Const, Var, NVar, And, Or, Not, Xor, Iff, Imp, Cmp, Members, mnil, more, Cell, star, value, Stmt, Rule, Table, AllDifferent, Problem}
 use Rattle.words.specs.Exact.{Value, Each}
 
 -- each value above the one before it
@@ -66,6 +66,7 @@ WellRow n cs = (length cs ≡ n) × Each WellCell cs
 abbrev pub WellStmt : ℕ → ℕ → Stmt → Type 0
 WellStmt nb ni (Rule e) = WellBool nb ni max-depth e
 WellStmt nb ni (Table es rows) = (length es ≤ max-count) × (length rows ≤ max-count) × Each (WellInt ni max-depth) es × Each (WellRow (length es)) rows
+WellStmt nb ni (AllDifferent es) = (length es ≤ max-count) × Each (WellInt ni max-depth) es
 
 pub record WellFormed (p : Problem) : Type 0 where
   pub few-bools : p .bools ≤ max-bools

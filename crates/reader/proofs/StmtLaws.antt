@@ -11,7 +11,7 @@ use mir.Syntax.{w32}
 use mir.Val.{ofZ}
 use Rattle.laws.specs.Ints.{eqZ}
 use Rattle.syntax.specs.Words.{star-word, max-depth}
-use Rattle.syntax.specs.Syntax.{IntExpr, Cell, star, value, Stmt, Rule, Table}
+use Rattle.syntax.specs.Syntax.{IntExpr, Cell, star, value, Stmt, Rule, Table, AllDifferent}
 use Rattle.words.specs.Parse.{ok, refuse, Parser, parse-then, seq-parser, map-parser, times, word, up-to, count, in-value-range}
 use Rattle.words.specs.Exact.{word-ok, count-exact}
 use Rattle.words.specs.Cursor.{cursor, next-at, counted-at}
@@ -20,7 +20,7 @@ use Rattle.words.specs.declared.Next.the-variants as next
 use Rattle.words.specs.declared.Counted.the-variants as counted
 use Rattle.reader.specs.declared.Read.{Read}
 use Rattle.reader.specs.declared.Read.the-variants as read
-use Rattle.read.specs.Read.{read-cell, read-int, read-bool, read-table, read-stmt}
+use Rattle.read.specs.Read.{read-cell, read-int, read-bool, read-table, read-different, read-stmt}
 use Rattle.read.specs.ExactExpr.{bool-exact}
 use Rattle.read.specs.Exact.{columns-exact, rows-exact}
 use Rattle.reader.specs.Position.{read-at, reads}
@@ -115,16 +115,36 @@ module _ (ni at : ℕ) (ws : List ℤ) where
       table-rows c v f hv =
           body-then v (reads-then (columns-of n) (λ es. rows-of n m) (e .at) ws c v (exact-shortens (columns-exact ni n)) (λ es. exact-shortens (rows-exact n m)) f (λ es. hv))
 
+-- ---- expressions that differ
+
+module _ (ni at : ℕ) (ws : List ℤ) where
+  abbrev them-of : ℕ → Parser Stmt
+  them-of n r = map-parser AllDifferent (times n (read-int ni max-depth)) r
+
+  them-shortens : (n : ℕ) → Shortens (them-of n)
+  them-shortens n = parse-then-shortens (times n (read-int ni max-depth)) _ (exact-shortens (columns-exact ni n)) (λ es. ok-shortens (AllDifferent es))
+
+  pub different-no-count : (k : ℕ) → counted-at at (up-to 4096 4 (drop at ws)) ≡ counted.Refused k → read.Refused k ≡ reads (read-different ni) at ws
+  unfolding read-different count
+  different-no-count k h = number-refused count count-exact them-of at ws k h
+
+  pub different-them : (n : ℕ) (d : Cursor) → counted-at at (up-to 4096 4 (drop at ws)) ≡ counted.Number n d
+      → (v : Read) → v ≡ reads (times n (read-int ni 64)) (d .at) ws → v ≡ reads (read-different ni) at ws
+  unfolding read-different count
+  different-them n d h v hv =
+      number-then count count-exact them-of at ws n d v (them-shortens n) h (hv ∙ map-same AllDifferent (times n (read-int ni 64)) (d .at) ws)
+
 -- ---- statements
 
 stmt-at : ℕ → ℕ → ℤ → Parser Stmt
-stmt-at nb ni w r = cond (eqZ w (pos 1)) (map-parser Rule (read-bool nb ni max-depth) r) (cond (eqZ w (pos 2)) (read-table ni r) (refuse 5))
+stmt-at nb ni w r = cond (eqZ w (pos 1)) (map-parser Rule (read-bool nb ni max-depth) r) (cond (eqZ w (pos 2)) (read-table ni r) (cond (eqZ w (pos 3)) (read-different ni r) (refuse 5)))
 
 stmt-at-shortens : (nb ni : ℕ) (w : ℤ) → Shortens (stmt-at nb ni w)
-unfolding stmt-at read-table
+unfolding stmt-at read-table read-different
 stmt-at-shortens nb ni w =
     cond-shortens (eqZ w (pos 1)) (map-parser Rule (read-bool nb ni max-depth)) _ (parse-then-shortens (read-bool nb ni max-depth) _ (exact-shortens (bool-exact nb ni max-depth)) (λ e. ok-shortens (Rule e)))
-    (cond-shortens (eqZ w (pos 2)) (read-table ni) _ (parse-then-shortens count (sizes-of ni 0 []) (exact-shortens count-exact) (sizes-shortens ni 0 [])) (refuse-shortens 5))
+    (cond-shortens (eqZ w (pos 2)) (read-table ni) _ (parse-then-shortens count (sizes-of ni 0 []) (exact-shortens count-exact) (sizes-shortens ni 0 []))
+    (cond-shortens (eqZ w (pos 3)) (read-different ni) _ (parse-then-shortens count (them-of ni 0 []) (exact-shortens count-exact) (them-shortens ni 0 [])) (refuse-shortens 5)))
 
 module _ (nb ni at : ℕ) (ws : List ℤ) where
   pub stmt-end : (k : ℕ) → next-at at (word (drop at ws)) ≡ next.Refused k → read.Refused k ≡ reads (read-stmt nb ni) at ws
@@ -144,6 +164,10 @@ module _ (nb ni at : ℕ) (ws : List ℤ) where
     unfolding stmt-at reads
     stmt-table v e hv = stmt-then v (rw e hv)
 
-    pub stmt-unknown : eqZ w (pos 1) ≡ false → eqZ w (pos 2) ≡ false → read.Refused 5 ≡ reads (read-stmt nb ni) at ws
+    pub stmt-different : (v : Read) → w ≡ pos 3 → v ≡ reads (read-different ni) (d .at) ws → v ≡ reads (read-stmt nb ni) at ws
+    unfolding stmt-at reads
+    stmt-different v e hv = stmt-then v (rw e hv)
+
+    pub stmt-unknown : eqZ w (pos 1) ≡ false → eqZ w (pos 2) ≡ false → eqZ w (pos 3) ≡ false → read.Refused 5 ≡ reads (read-stmt nb ni) at ws
     unfolding stmt-at reads read-at
-    stmt-unknown a b = stmt-then (read.Refused 5) (rw (a, b) refl)
+    stmt-unknown a b c = stmt-then (read.Refused 5) (rw (a, b, c) refl)

@@ -1,4 +1,4 @@
-// Statements: a rule, or a table of columns and rows.
+// Statements: a rule, a table of columns and rows, or expressions that differ.
 use super::Read;
 use super::bools::read_bool;
 use super::ints::read_int;
@@ -7,7 +7,7 @@ use words::Cursor;
 use words::Next;
 ghost use mathlib.Core.Path.{_≡_};
 ghost use Rattle.words.specs.Parse.{times};
-ghost use Rattle.read.specs.Read.{read-cell as cell-of, read-int as int-of, read-table as table-of, read-stmt as stmt-of};
+ghost use Rattle.read.specs.Read.{read-cell as cell-of, read-int as int-of, read-table as table-of, read-different as different-of, read-stmt as stmt-of};
 ghost use Rattle.reader.specs.Position.{reads};
 
 // A value, or the star.
@@ -101,6 +101,16 @@ pub fn read_table(words: &[i32], c: Cursor, ints: usize) -> Read
     }
 }
 
+// A count and as many integer expressions.
+pub fn read_different(words: &[i32], c: Cursor, ints: usize) -> Read
+    ensures { λ r. ⌜ r ≡ reads (different-of ints) (c .at) (now (words .entry)) ⌝ }
+{
+    match c.up_to(words, 4096, 4) {
+        Counted::Refused(k) => Read::Refused(k),
+        Counted::Number(n, d) => read_columns(words, d, n, ints),
+    }
+}
+
 pub fn read_stmt(words: &[i32], c: Cursor, bools: usize, ints: usize) -> Read
     ensures { λ r. ⌜ r ≡ reads (stmt-of bools ints) (c .at) (now (words .entry)) ⌝ }
 {
@@ -109,6 +119,7 @@ pub fn read_stmt(words: &[i32], c: Cursor, bools: usize, ints: usize) -> Read
         Next::Word(w, d) => match w {
             1 => read_bool(words, d, bools, ints, 64),
             2 => read_table(words, d, ints),
+            3 => read_different(words, d, ints),
             _ => Read::Refused(5),
         },
     }

@@ -21,7 +21,7 @@ use Rattle.decimal.specs.Decimal.{print-natural, print-number}
 use Rattle.lines.specs.Lines.{print-more, print-numbers}
 use Rattle.readback.specs.Shown.{terms-words, lits-words}
 use Rattle.page.specs.Sheet.{space, spaces, Item, literal-item, pair-parts, in-front, Page, put, turn, place-part, place-parts, place-item, place-items, numbered, all-lines, full, print-sheet, sheet-lines}
-use Rattle.decimal.specs.Widths.{fitting, number-short, natural-short}
+use Rattle.decimal.specs.Widths.{fitting, natural-short, one-short}
 use Rattle.page.specs.Widths.{more-length, numbers-length}
 use Rattle.page.specs.Writes.{begun}
 use Rattle.page.specs.Placing.{begun-here, begun-space, begun-turn, parts-fit, place-begun, flat-pairs}
@@ -166,9 +166,6 @@ module _ {P : Page} {C : ℕ} (i : Tight P C) (t : List ℕ) (ts : Item) (first 
       go false b false e false f = long-on (begun-turn size P b (leb-false (length (P .line) + (1 + size)) 80 e)) turn-owes (leb-false size 70 f)
 
 -- ---- the items of a clause
-
-one-short : (z : ℤ) (zs : List ℤ) → all fitting (z ∷ zs) ≡ true → length (print-number z) ≤ 11
-one-short z zs h = number-short z (leb-true _ 2147483648 (and-l (fitting z) (all fitting zs) h))
 
 more-short : (zs : List ℤ) → all fitting zs ≡ true → length (print-more zs) ≤ 12 * length zs
 more-short [] h = unfold print-more in (omega arith)

@@ -9,7 +9,7 @@ use lib.Dec.{eqb}
 use lib.IntN.{ℤ}
 use lib.ListN.{length, length-append, length-map}
 use Rattle.laws.specs.Lists.{any, flat}
-use Rattle.syntax.specs.Syntax.{Domain, domain-of, encode-int, BoolExpr, Const, Var, NVar, And, Or, Not, Xor, Iff, Imp, Cmp, Members, mnil, more, encode-bool, encode-members, Cell, Stmt, Rule, Table, encode-stmt}
+use Rattle.syntax.specs.Syntax.{Domain, domain-of, encode-int, BoolExpr, Const, Var, NVar, And, Or, Not, Xor, Iff, Imp, Cmp, Members, mnil, more, encode-bool, encode-members, Cell, Stmt, Rule, Table, AllDifferent, encode-stmt}
 use Rattle.clauses.specs.Clause.{BoolLit, Clause, clause}
 use Rattle.clauses.specs.Log.{Log, next-bool, get-bool-var, bool-var-at, convert-bool-var}
 use Rattle.clauses.specs.Disjunction.{Sorted, satisfied, pool, pooled, with-longer, sorted, finish-sorted, normalize-disjunction}
@@ -26,6 +26,7 @@ use Rattle.walk.specs.Texts.{finish-count, disjunction-finish}
 use Rattle.walk.specs.Ints.{int-bools}
 use Rattle.walk.specs.Legal.{Legal, LegalMembers}
 use Rattle.walk.specs.Rule.{LegalRule, true-rule, legal-rule}
+use Rattle.statements.specs.Different.{pairs-bools, different-log}
 use Rattle.statements.specs.Table.{columns-bools}
 use Rattle.statements.specs.Statements.{LegalStmt, LegalStmts}
 
@@ -238,16 +239,19 @@ supports-low ds vs rows z = go (any (any is-star) rows)
 abbrev pub FewRows : Stmt → Type 0
 FewRows (Rule e) = Unit {0}
 FewRows (Table es rows) = length rows ≤ 4096
+FewRows (AllDifferent es) = Unit {0}
 
 stmt-words : (t : Stmt) → 1 ≤ length (encode-stmt t)
 unfolding encode-stmt
 stmt-words (Rule e) = omega arith
 stmt-words (Table es rows) = omega arith
+stmt-words (AllDifferent es) = omega arith
 
 stmt-low : (F : List ℤ) (ds : List Domain) (t : Stmt) (s : Log) → LegalStmt ds t → FewRows t → next-bool (normalize-stmt ds t s .1) ≤ next-bool s + 4110 * length (encode-stmt t)
 unfolding normalize-stmt normalize-table
 stmt-low F ds (Rule e) s x h = let n : length (encode-stmt (Rule e)) ≡ suc (length (encode-bool e)) = unfold encode-stmt in refl in omega (arith, rule-low e s x)
 stmt-low F ds (Table es rows) s x h = omega (arith, supports-low ds (equivalent-int-vars ds es s .vars) rows (equivalent-int-vars ds es s .log), columns-bools F ds es s, stmt-words (Table es rows))
+stmt-low F ds (AllDifferent es) s x h = rw (different-log ds es s) (omega (arith, pairs-bools es s))
 
 pub stmts-low : (F : List ℤ) (ds : List Domain) (ts : List Stmt) (s : Log) → LegalStmts F ds ts → Each FewRows ts → next-bool (normalize-stmts ds ts s .1) ≤ next-bool s + 4110 * length (flat (map encode-stmt ts))
 unfolding normalize-stmts
@@ -292,6 +296,7 @@ rule-more (Cmp o a b) s = (omega arith, omega arith)
 stmt-more : (t : Stmt) (s : Log) → OneMore s (merge-stmt t s)
 stmt-more (Rule e) s = rule-more e s
 stmt-more (Table es rows) s = (omega arith, omega arith)
+stmt-more (AllDifferent es) s = (omega arith, omega arith)
 
 pub merge-grows : (ts : List Stmt) (s : Log) → next-bool s ≤ next-bool (merge-stmts ts s)
 unfolding merge-stmts

@@ -10,7 +10,7 @@ use borrow.Author.Tests.{ne-eqb, eqb-true, eqb-false, ltb-true, ltb-false}
 use lib.IntN.{pos}
 use lib.ListN.{length, length-append}
 use Rattle.laws.specs.Lists.{any, flat}
-use Rattle.syntax.specs.Syntax.{Domain, domain-of, IntExpr, IConst, IVar, Linear, Terms, tnil, tmore, encode-int, BoolExpr, Const, Var, NVar, And, Or, Not, Xor, Iff, Imp, Cmp, Members, mnil, more, Cell, encode-cell, Stmt, Rule, Table, encode-stmt}
+use Rattle.syntax.specs.Syntax.{Domain, domain-of, IntExpr, IConst, IVar, Linear, Terms, tnil, tmore, encode-int, BoolExpr, Const, Var, NVar, And, Or, Not, Xor, Iff, Imp, Cmp, Members, mnil, more, Cell, encode-cell, Stmt, Rule, Table, AllDifferent, encode-stmt}
 use Rattle.syntax.specs.Satisfies.{IVal}
 use Rattle.syntax.specs.Lengths.{int-long}
 use Rattle.sums.specs.LinearSum.{LinearSum, constant}
@@ -23,6 +23,7 @@ use Rattle.clauses.specs.Grow.{Grows as GrowsFrom, same, grow}
 use Rattle.tables.specs.Tables.{is-star, star-row, star-table, plain-table, emitted-domains, new-column, old-column, equivalent-int-var, equivalent-int-vars, normalize-extension-supports, normalize-table}
 use Rattle.answer.specs.Answer.{normalize-stmt, normalize-stmts}
 use Rattle.answer.specs.Declared.{Declared}
+use Rattle.statements.specs.Different.{pair-log, row-log, pairs-log, different-log}
 use Rattle.walk.specs.Tree.{Tree, var, num, cmp, conj, disj, cross, tied, Trees, nil, cons, num-run, run, runs}
 use Rattle.walk.specs.Resolve.{rule-trees, rule-runs}
 use Rattle.walk.specs.Texts.{Auxed, here, above, disjunction-auxed}
@@ -199,10 +200,21 @@ module _ (ds : List Domain) where
   column-words [] = omega arith
   column-words (e ∷ es) = omega (arith, column-words es, int-long e, length-append (encode-int e) (flat (map encode-int es)))
 
+  row-columns : (a : IntExpr) (bs : List IntExpr) (s : Log) → columns (row-log a bs s) ≡ columns s
+  unfolding row-log
+  row-columns a [] s = refl
+  row-columns a (b ∷ bs) s = row-columns a bs (pair-log a b s) ∙ int-columns b (normalize-int-expr a s .1) ∙ int-columns a s
+
+  pairs-columns : (es : List IntExpr) (s : Log) → columns (pairs-log es s) ≡ columns s
+  unfolding pairs-log
+  pairs-columns [] s = refl
+  pairs-columns (e ∷ es) s = pairs-columns es (row-log e es s) ∙ row-columns e es s
+
   stmt-columns : (t : Stmt) (s : Log) → 2 * columns (normalize-stmt ds t s .1) ≤ 2 * columns s + length (encode-stmt t)
   unfolding normalize-stmt normalize-table encode-stmt
   stmt-columns (Rule e) s = omega (arith, rule-columns e s)
   stmt-columns (Table es rows) s = omega (arith, supports-columns (equivalent-int-vars ds es s .vars) rows (equivalent-int-vars ds es s .log), some-columns es s, column-words es, length-append (flat (map encode-int es)) (flat (map (map encode-cell) rows)))
+  stmt-columns (AllDifferent es) s = rw (different-log ds es s) (omega (arith, pairs-columns es s))
 
   stmts-columns : (ts : List Stmt) (s : Log) → 2 * columns (normalize-stmts ds ts s .1) ≤ 2 * columns s + length (flat (map encode-stmt ts))
   unfolding normalize-stmts

@@ -1,7 +1,7 @@
 -- A rule that ties two variables which have literals takes no number. F: the folded words in the work slice w.
 use mathlib.Core.Path.{_≡_, refl, sym, ap, _∙_}
 use mathlib.Core.Logic.{_⊎_, inl, inr}
-use mathlib.Core.Bool.{Bool, true, false, cond, false≢true}
+use mathlib.Core.Bool.{true, false, false≢true}
 use mathlib.Core.List.{List, [], _∷_, _++_}
 use Prim.Native.Nat.{ℕ, _+_, _≤_, _<_}
 use native.Mathlib.Omega.{arith}
@@ -10,7 +10,7 @@ use Rattle.laws.specs.Ints.{is-zero}
 use Rattle.laws.specs.Slices.{Has, has-front, has-back, has-rest}
 use Rattle.syntax.specs.Syntax.{BoolExpr, Const, Var, NVar, And, Or, Not, Xor, Iff, Imp, Cmp, encode-bool, Rule, encode-stmt}
 use Rattle.walk.specs.Tree.{splits, ties, resolve}
-use Rattle.walk.specs.Item.{limit, bump, bool-at, State, meet-bool, walk-bools, fresh, tallies, mets, var-item, cross-item, item, items}
+use Rattle.walk.specs.Item.{limit, bump, bool-at, State, meet-bool, walk-bools, tallies, mets, var-item, cross-item, item}
 use Rattle.walk.specs.Decode.{word}
 use Rattle.walk.specs.Legal.{Legal}
 use Rattle.walk.specs.Rule.{LegalRule, legal-rule}

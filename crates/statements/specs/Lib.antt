@@ -2,6 +2,7 @@ pub mod Kept
 pub mod Columns
 pub mod Star
 pub mod Table
+pub mod Different
 pub mod Statements
 pub mod Bounds
 pub mod Emitted

@@ -10,7 +10,7 @@ use lib.ListN.{length, getD, take, drop, length-append, length-take, length-drop
 use lib.Seq.{ext-getD, getD-take, getD-drop}
 use Rattle.laws.specs.Lists.{flat}
 use Rattle.laws.specs.Slices.{Has, has-fits, has-nth}
-use Rattle.syntax.specs.Syntax.{Domain, IntExpr, IConst, IVar, Linear, encode-int, Stmt, Rule, Table, encode-stmt}
+use Rattle.syntax.specs.Syntax.{Domain, IntExpr, IConst, IVar, Linear, encode-int, Stmt, Rule, Table, AllDifferent, encode-stmt}
 use Rattle.clauses.specs.Clause.{BoolLit}
 use Rattle.clauses.specs.Log.{Log, get-bool-var, get-int-var}
 use Rattle.tables.specs.Tables.{equivalent-int-var}
@@ -109,3 +109,4 @@ module _ (F : List ℤ) (ds : List Domain) where
   pub in-place-saved : {e : ℕ} {w w' : List ℤ} (q : ℕ) (t : Stmt) (s : Log) → e ≤ q → q + length (encode-stmt t) ≤ bool-map → Saved e w w' → InPlace F ds w q t s → InPlace F ds w' q t s
   in-place-saved q (Rule x) s l k v h = tt
   in-place-saved q (Table es rows) s l k v h = placed-saved (q + 3) es s (omega arith) (omega (arith, table-length F ds es rows)) v h
+  in-place-saved q (AllDifferent es) s l k v h = tt

@@ -9,12 +9,12 @@ use lib.IntN.{ℤ}
 use lib.ListN.{length}
 use Rattle.laws.specs.Bools.{or-no-l, or-no-r}
 use Rattle.laws.specs.Lists.{any}
-use Rattle.syntax.specs.Syntax.{Domain, IntExpr, IConst, IVar, Linear, Terms, tnil, tmore, BoolExpr, Const, Var, NVar, And, Or, Not, Xor, Iff, Imp, Cmp, Members, mnil, more, Stmt, Rule, Table, Problem}
+use Rattle.syntax.specs.Syntax.{Domain, IntExpr, IConst, IVar, Linear, Terms, tnil, tmore, BoolExpr, Const, Var, NVar, And, Or, Not, Xor, Iff, Imp, Cmp, Members, mnil, more, Stmt, Rule, Table, AllDifferent, Problem}
 use Rattle.syntax.specs.Depth.{depth-int, depth-terms, depth, depth-members}
 use Rattle.syntax.specs.Written.{EveryInt, EveryTerm, Every, EveryMember, EveryStmt, EveryStmts, every-stmts-map, EveryOf}
 use Rattle.words.specs.Exact.{Each}
 use Rattle.read.specs.WellFormed.{WellInt, WellTerms, WellBool, WellMembers, WellStmt, WellFormed}
-use Rattle.limits.specs.Limits.{any-part, heavy, heavy-comparison, many-comparison, many-column, check}
+use Rattle.limits.specs.Limits.{any-part, check, heavy-stmt, many-stmt}
 use Rattle.fold.specs.Fold.{Fixed, is-const, constant-folding-stmt as fold-stmt}
 use Rattle.fold.specs.Optimize.{settled, optimize}
 use Rattle.fold.specs.Ends.{optimize-rests}
@@ -121,17 +121,19 @@ module _ (ds : List Domain) where
   abbrev Shallow : Stmt → Type 0
   Shallow (Rule e) = depth e ≤ 64
   Shallow (Table es rows) = Unit {0}
+  Shallow (AllDifferent es) = Unit {0}
 
   -- refusals 9 and 10 of a statement
   pub record Light (t : Stmt) : Type 0 where
-    pub weight : any-part (heavy-comparison ds) (heavy ds) t ≡ false
-    pub variables : any-part many-comparison many-column t ≡ false
+    pub weight : heavy-stmt ds t ≡ false
+    pub variables : many-stmt t ≡ false
 
   stmts-legal : (F : List ℤ) (ss : List Stmt) → SettledStmts ds ss → EveryStmts (λ v. v < 512) (λ v. v < 256) ss → Each Plain ss → Each Shallow ss → Each Light ss → LegalStmts F ds ss
   unfolding SettledStmts EveryStmts EveryStmt any-part
   stmts-legal F [] s v n d l = tt
   stmts-legal F (Rule e ∷ ss) s v n d l = (root-legal e (s .0) (v .0) (n .0) (d .0), stmts-legal F ss (s .1) (v .1) (n .1) (d .1) (l .1))
   stmts-legal F (Table es rows ∷ ss) s v n d l = ((v .0, l .0 .weight, l .0 .variables), stmts-legal F ss (s .1) (v .1) (n .1) (d .1) (l .1))
+  stmts-legal F (AllDifferent es ∷ ss) s v n d l = (v .0, stmts-legal F ss (s .1) (v .1) (n .1) (d .1) (l .1))
 
   -- ---- after folding
 
@@ -140,15 +142,16 @@ module _ (ds : List Domain) where
   folded-shallow f nb ni [] h = tt
   folded-shallow f nb ni (Rule e ∷ ss) h = (omega (arith, fold-depth ds f e, bool-depth nb ni 64 e (h .0)), folded-shallow f nb ni ss (h .1))
   folded-shallow f nb ni (Table es rows ∷ ss) h = (tt, folded-shallow f nb ni ss (h .1))
+  folded-shallow f nb ni (AllDifferent es ∷ ss) h = (tt, folded-shallow f nb ni ss (h .1))
 
-  folded-light : (f : Fixed) (ss : List Stmt) → any (any-part (heavy-comparison ds) (heavy ds)) ss ≡ false → any (any-part many-comparison many-column) ss ≡ false → Each Light (map (fold-stmt ds f) ss)
+  folded-light : (f : Fixed) (ss : List Stmt) → any (heavy-stmt ds) ss ≡ false → any many-stmt ss ≡ false → Each Light (map (fold-stmt ds f) ss)
   folded-light f [] h k = tt
   folded-light f (t ∷ ss) h k = (
     record {
-      weight = fold-stmt-light ds f t (or-no-l (any-part (heavy-comparison ds) (heavy ds) t) _ h);
-      variables = fold-stmt-few ds f t (or-no-l (any-part many-comparison many-column t) _ k);
+      weight = fold-stmt-light ds f t (or-no-l (heavy-stmt ds t) _ h);
+      variables = fold-stmt-few ds f t (or-no-l (many-stmt t) _ k);
     },
-    folded-light f ss (or-no-r (any-part (heavy-comparison ds) (heavy ds) t) _ h) (or-no-r (any-part many-comparison many-column t) _ k),
+    folded-light f ss (or-no-r (heavy-stmt ds t) _ h) (or-no-r (many-stmt t) _ k),
   )
 
   folded-few : (f : Fixed) (nb ni : ℕ) (ss : List Stmt) → Each (WellStmt nb ni) ss → Each FewRows (map (fold-stmt ds f) ss)
@@ -156,13 +159,14 @@ module _ (ds : List Domain) where
   folded-few f nb ni [] h = tt
   folded-few f nb ni (Rule e ∷ ss) h = (tt, folded-few f nb ni ss (h .1))
   folded-few f nb ni (Table es rows ∷ ss) h = (h .0 .1, folded-few f nb ni ss (h .1))
+  folded-few f nb ni (AllDifferent es ∷ ss) h = (tt, folded-few f nb ni ss (h .1))
 
 -- ---- of an accepted set
 
 -- a set that `check` lets through is within refusals 9 and 10
-within : (p : Problem) → check p ≡ 0 → (any (any-part (heavy-comparison (p .domains)) (heavy (p .domains))) (p .stmts) ≡ false) × (any (any-part many-comparison many-column) (p .stmts) ≡ false)
+within : (p : Problem) → check p ≡ 0 → (any (heavy-stmt (p .domains)) (p .stmts) ≡ false) × (any many-stmt (p .stmts) ≡ false)
 unfolding check
-within p h = go (any (any-part (heavy-comparison (p .domains)) (heavy (p .domains))) (p .stmts)) (any (any-part many-comparison many-column) (p .stmts)) _ h
+within p h = go (any (heavy-stmt (p .domains)) (p .stmts)) (any many-stmt (p .stmts)) _ h
   where
     go : (a b : Bool) (n : ℕ) → cond a 9 (cond b 10 n) ≡ 0 → (a ≡ false) × (b ≡ false)
     go true b n h = absurd (omega (arith, h))

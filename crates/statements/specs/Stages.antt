@@ -7,14 +7,15 @@ use Prim.Native.Nat.{ℕ, _+_, _*_, _≤_, _<_}
 use native.Mathlib.Omega.{arith}
 use lib.IntN.{ℤ, pos}
 use lib.ListN.{length, getD, length-append, length-map}
+use Rattle.laws.specs.Bools.{or-no-r}
 use Rattle.laws.specs.Lists.{any, flat, below, counted}
 use Rattle.laws.specs.Slices.{Has}
 use Rattle.syntax.specs.Words.{max-count, max-set-words}
-use Rattle.syntax.specs.Syntax.{Domain, Range, Enumerative, IntExpr, BoolExpr, Cell, Stmt, Rule, Table, encode-domain, encode-stmt, Problem, encode}
+use Rattle.syntax.specs.Syntax.{Domain, Range, Enumerative, IntExpr, BoolExpr, Cell, Stmt, Rule, Table, AllDifferent, encode-domain, encode-stmt, Problem, encode}
 use Rattle.syntax.specs.Written.{EveryColumn, EveryStmt, EveryStmts, every-int-map}
 use Rattle.words.specs.Exact.{Each}
 use Rattle.read.specs.WellFormed.{WellDomain, WellInt, WellRow, WellStmt, WellFormed}
-use Rattle.limits.specs.Limits.{any-comparison, any-part, heavy, heavy-comparison, many-comparison, many-column, check}
+use Rattle.limits.specs.Limits.{any-comparison, any-pair, any-part, heavy, heavy-comparison, many-comparison, many-column, check}
 use Rattle.fold.specs.Fold.{Fixed, constant-folding-int as fold-int, constant-folding-stmt as fold-stmt}
 use Rattle.fold.specs.Optimize.{settled, optimize}
 use Rattle.fold.specs.Ends.{optimize-rests}
@@ -69,9 +70,17 @@ pub record TableFacts (ds : List Domain) (es : List IntExpr) (rows : List (List 
   pub few : any many-column es ≡ false
   pub cells : Each (WellRow (length es)) rows
 
+pub record DifferentFacts (ds : List Domain) (es : List IntExpr) : Type 0 where
+  pub few : length es ≤ max-count
+  pub legal : Each (λ e. LegalInt e 64) es
+  pub declared : EveryColumn (λ v. v < length ds) es
+  pub light : any-pair (heavy-comparison ds) es ≡ false
+  pub variables : any-pair many-comparison es ≡ false
+
 abbrev pub StmtFacts : List Domain → Stmt → Type 0
 StmtFacts ds (Rule e) = RuleFacts ds e
 StmtFacts ds (Table es rows) = TableFacts ds es rows
+StmtFacts ds (AllDifferent es) = DifferentFacts ds es
 
 module _ (ds : List Domain) (f : Fixed) (nb : ℕ) (small : length ds ≤ 256) where
   columns-legal : (es : List IntExpr) → Each (WellInt (length ds) 64) es → EveryColumn (λ v. v < length ds) (map (fold-int ds) es) → Each (λ e. LegalInt e 64) (map (fold-int ds) es)
@@ -98,6 +107,17 @@ module _ (ds : List Domain) (f : Fixed) (nb : ℕ) (small : length ds ≤ 256) w
           light = k .0 .weight;
           few = k .0 .variables;
           cells = rw n (w .0 .3);
+        },
+        stmts-facts F ss (w .1) (d .1) (l .1) (k .1),
+      )
+  stmts-facts F (AllDifferent es ∷ ss) w d l k =
+      let n : length (map (fold-int ds) es) ≡ length es = length-map es (fold-int ds) in (
+        record {
+          few = omega (arith, n, w .0 .0);
+          legal = columns-legal es (w .0 .1) (d .0);
+          declared = d .0;
+          light = or-no-r (any (heavy ds) (map (fold-int ds) es)) _ (k .0 .weight);
+          variables = or-no-r (any (λ e. false) (map (fold-int ds) es)) _ (k .0 .variables);
         },
         stmts-facts F ss (w .1) (d .1) (l .1) (k .1),
       )

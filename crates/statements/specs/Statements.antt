@@ -9,13 +9,14 @@ use lib.IntN.{ℤ, pos}
 use lib.ListN.{length, length-append}
 use Rattle.laws.specs.Lists.{any, flat}
 use Rattle.laws.specs.Slices.{Has, has-front, has-back}
-use Rattle.syntax.specs.Syntax.{Domain, domain-of, IntExpr, encode-int, BoolExpr, Cell, encode-cell, Stmt, Rule, Table, encode-stmt}
+use Rattle.syntax.specs.Syntax.{Domain, domain-of, IntExpr, encode-int, BoolExpr, Cell, encode-cell, Stmt, Rule, Table, AllDifferent, encode-stmt}
 use Rattle.syntax.specs.Satisfies.{IVal}
 use Rattle.syntax.specs.Written.{EveryColumn, EveryStmts}
 use Rattle.limits.specs.Limits.{heavy, many-column}
 use Rattle.words.specs.Exact.{Each}
 use Rattle.sums.specs.LinearSum.{LinearSum}
 use Rattle.clauses.specs.Log.{Log, next-bool, next-int}
+use Rattle.clauses.specs.Clause.{Clause}
 use Rattle.clauses.specs.Disjunction.{Out}
 use Rattle.clauses.specs.Normalize.{normalize-conjunction}
 use Rattle.clauses.specs.Split.{normalize-and-register-expr, tseitin-transformation-bool as split}
@@ -34,6 +35,8 @@ use Rattle.walk.specs.Texts.{Auxed, here, above, disjunction-auxed}
 use Rattle.walk.specs.Num.{max-emitted, Numbered}
 use Rattle.walk.specs.TwoWalks.{Low, low-back, runs-grow}
 use Rattle.walk.specs.Rule.{LegalRule, true-rule, legal-rule, rule-propers, split-num, rule-walks}
+use Rattle.different.specs.Different.{different-rules, normalize-rules}
+use Rattle.statements.specs.Different.{meet-pairs, different-clauses, pairs-log, pairs-grow, pairs-bools, different-log, different-out, pairs-num, pairs-kept}
 use Rattle.statements.specs.Kept.{Kept, kept-same, trees-kept}
 use Rattle.statements.specs.Columns.{ColumnRecord, Grown, grown-same, kept-grown, grown-then, grown-less, Placed, placed-keeps}
 use Rattle.statements.specs.Table.{starred, table-fresh, meet-table, table-text, table-walks, table-grows, words-append}
@@ -43,22 +46,25 @@ use Rattle.statements.specs.Table.{starred, table-fresh, meet-table, tab
 unfoldable pub meet-stmt : ℕ → Stmt → State → State
 meet-stmt at (Rule e) st = mets (items (rule-trees e (at + 1) (st .bools))) (walk-bools (splits e false) st)
 meet-stmt at (Table es rows) st = meet-table (at + 3) es rows st
+meet-stmt at (AllDifferent es) st = meet-pairs es st
 
-unfoldable pub stmt-text : List ℤ → (ℕ → Domain) → ℕ → Stmt → ℕ → List ℤ
-stmt-text w dom at (Rule e) n = texts (items (rule-trees e (at + 1) n)) w (bump n (splits e false)) []
-stmt-text w dom at (Table es rows) n = table-text w dom (at + 3) es rows n
+unfoldable pub stmt-text : List Domain → List ℤ → (ℕ → Domain) → ℕ → Stmt → ℕ → List ℤ
+stmt-text ds w dom at (Rule e) n = texts (items (rule-trees e (at + 1) n)) w (bump n (splits e false)) []
+stmt-text ds w dom at (Table es rows) n = table-text w dom (at + 3) es rows n
+stmt-text ds w dom at (AllDifferent es) n = flat (map clause-words (different-clauses ds w es))
 
 unfoldable pub stmt-count : List ℤ → ℕ → Stmt → ℕ → ℕ
 stmt-count w at (Rule e) n = counts (items (rule-trees e (at + 1) n)) w (bump n (splits e false))
 stmt-count w at (Table es rows) n = bump n (table-fresh (length es) rows)
+stmt-count w at (AllDifferent es) n = n
 
 unfoldable pub meet-stmts : ℕ → List Stmt → State → State
 meet-stmts at [] st = st
 meet-stmts at (t ∷ ts) st = meet-stmts (at + length (encode-stmt t)) ts (meet-stmt at t st)
 
-unfoldable pub stmts-text : List ℤ → (ℕ → Domain) → ℕ → List Stmt → ℕ → List ℤ
-stmts-text w dom at [] n = []
-stmts-text w dom at (t ∷ ts) n = stmt-text w dom at t n ++ stmts-text w dom (at + length (encode-stmt t)) ts (stmt-count w at t n)
+unfoldable pub stmts-text : List Domain → List ℤ → (ℕ → Domain) → ℕ → List Stmt → ℕ → List ℤ
+stmts-text ds w dom at [] n = []
+stmts-text ds w dom at (t ∷ ts) n = stmt-text ds w dom at t n ++ stmts-text ds w dom (at + length (encode-stmt t)) ts (stmt-count w at t n)
 
 -- ---- what a statement has to be
 
@@ -66,6 +72,7 @@ stmts-text w dom at (t ∷ ts) n = stmt-text w dom at t n ++ stmts-text w dom (a
 abbrev pub LegalStmt : List Domain → Stmt → Type 0
 LegalStmt ds (Rule e) = LegalRule e 64
 LegalStmt ds (Table es rows) = EveryColumn (λ v. v < 256) es × (any (heavy ds) es ≡ false) × (any many-column es ≡ false)
+LegalStmt ds (AllDifferent es) = EveryColumn (λ v. v < 256) es
 
 -- the words of the statement lie in the region of the folded words
 abbrev pub Inside : ℕ → Stmt → Type 0
@@ -100,13 +107,14 @@ module _ (F : List ℤ) (ds : List Domain) where
   abbrev pub InPlace : List ℤ → ℕ → Stmt → Log → Type 0
   InPlace w at (Rule e) s = Unit {0}
   InPlace w at (Table es rows) s = Placed F ds w (at + 3) es s
+  InPlace w at (AllDifferent es) s = Unit {0}
 
   pub record StmtWalks (at : ℕ) (t : Stmt) (st : State) (s : Log) : Type 0 where
     pub numbered : Numbered CR (meet-stmt at t st) (normalize-stmt ds t s .1)
     pub placed : InPlace (meet-stmt at t st .work) at t s
     pub grown : Grown at (st .work) (meet-stmt at t st .work)
     pub text : (w : List ℤ) (dom : ℕ → Domain) → Fit w (normalize-stmt ds t s .1) → InPlace w at t s → Stable ds dom (normalize-stmt ds t s .1)
-        → stmt-text w dom at t (st .bools) ≡ flat (map clause-words (normalize-stmt ds t s .0))
+        → stmt-text ds w dom at t (st .bools) ≡ flat (map clause-words (normalize-stmt ds t s .0))
     pub count : (w : List ℤ) → Fit w (normalize-stmt ds t s .1) → stmt-count w at t (st .bools) ≡ next-bool (normalize-stmt ds t s .1)
 
   -- ---- a rule
@@ -168,6 +176,21 @@ module _ (F : List ℤ) (ds : List Domain) where
         count = λ w f. t .count;
       }
 
+  -- ---- AllDifferent
+
+  different-stmt : (at : ℕ) (es : List IntExpr) (st : State) (s : Log) → EveryColumn (λ v. v < 256) es → Numbered CR st s → next-int (normalize-rules (different-rules ds es) s .1) < max-emitted → StmtWalks at (AllDifferent es) st s
+  unfolding meet-stmt stmt-text stmt-count normalize-stmt
+  different-stmt at es st s x h r =
+      let e = different-log ds es s in
+      let m : next-int (pairs-log es s) < max-emitted = rw e at r in
+      record {
+        numbered = subst (λ (t : Log). Numbered CR (meet-pairs es st) t) (sym e) (pairs-num CR es x st s h (omega (arith, m)));
+        placed = tt;
+        grown = kept-grown at (pairs-kept CR es x st s h m);
+        text = λ w dom f i d. ap (λ (cs : List Clause). flat (map clause-words cs)) (sym (different-out w ds es s (rw e at f)));
+        count = λ w f. h .bools ∙ sym (ap next-bool e ∙ pairs-bools es s);
+      }
+
   -- ---- all statements
 
   abbrev pub LegalStmts : List Stmt → Type 0
@@ -181,11 +204,13 @@ module _ (F : List ℤ) (ds : List Domain) where
   pub stmt-walks : (at : ℕ) (t : Stmt) (st : State) (s : Log) → Inside at t → Has F at (encode-stmt t) → LegalStmt ds t → Numbered CR st s → Low (normalize-stmt ds t s .1) → next-int (normalize-stmt ds t s .1) < max-emitted → StmtWalks at t st s
   stmt-walks at (Rule e) st s i f x h l r = rule-stmt at e st s x h (unfold normalize-stmt in l) (unfold normalize-stmt in r)
   stmt-walks at (Table es rows) st s i f x h l r = table-stmt at es rows st s i f x h (unfold normalize-stmt in l) (unfold normalize-stmt in r)
+  stmt-walks at (AllDifferent es) st s i f x h l r = different-stmt at es st s x h (unfold normalize-stmt in r)
 
   pub stmt-grows : (t : Stmt) (s : Log) → LegalStmt ds t → Grows s (normalize-stmt ds t s .1)
   unfolding normalize-stmt
   stmt-grows (Rule e) s x = rule-grows e s
   stmt-grows (Table es rows) s x = table-grows F ds es rows s
+  stmt-grows (AllDifferent es) s x = subst (λ (t : Log). Grows s t) (sym (different-log ds es s)) (pairs-grow es s)
 
   pub stmts-grow : (ts : List Stmt) (s : Log) → LegalStmts ts → Grows s (normalize-stmts ds ts s .1)
   unfolding normalize-stmts
@@ -195,6 +220,7 @@ module _ (F : List ℤ) (ds : List Domain) where
   in-place-keeps : (w w' : List ℤ) (at : ℕ) (t : Stmt) (s : Log) → 512 ≤ at → Grown (at + length (encode-stmt t)) w w' → InPlace w at t s → InPlace w' at t s
   in-place-keeps w w' at (Rule e) s l g h = tt
   in-place-keeps w w' at (Table es rows) s l g h = placed-keeps F ds w w' (at + 3) es s (omega arith) (grown-less F ds _ (at + length (encode-stmt (Table es rows))) (omega (arith, table-length es rows)) g) h
+  in-place-keeps w w' at (AllDifferent es) s l g h = tt
 
   -- what is stable behind the later statements is stable in front of them
   pub stable-back : (dom : ℕ → Domain) (ε : IVal) (ts : List Stmt) (s : Log) → Each Plain ts → EveryStmts (λ v. Unit {0}) (WithinDomain ds ε) ts → Stable ds dom (normalize-stmts ds ts s .1) → Stable ds dom s
@@ -208,7 +234,7 @@ module _ (F : List ℤ) (ds : List Domain) where
     pub placed : AllInPlace (meet-stmts at ts st .work) at ts s
     pub grown : Grown at (st .work) (meet-stmts at ts st .work)
     pub text : (w : List ℤ) (dom : ℕ → Domain) → Fit w (normalize-stmts ds ts s .1) → AllInPlace w at ts s → Stable ds dom (normalize-stmts ds ts s .1)
-        → stmts-text w dom at ts (st .bools) ≡ flat (map clause-words (normalize-stmts ds ts s .0))
+        → stmts-text ds w dom at ts (st .bools) ≡ flat (map clause-words (normalize-stmts ds ts s .0))
 
   abbrev words-of : List Stmt → List ℤ
   words-of ts = flat (map encode-stmt ts)

@@ -9,22 +9,22 @@ use native.Mathlib.Omega.{arith}
 use lib.Dec.{eqb, ltb}
 use borrow.Author.Tests.{eqb-true, eq-eqb, ne-eqb, lt-ltb}
 use lib.IntN.{ℤ, pos}
-use lib.ListN.{length, getD, set, length-append, length-set}
+use lib.ListN.{length, set, length-set}
 use lib.Seq.{getD-set-same}
 use Rattle.laws.specs.Ints.{is-zero}
 use Rattle.laws.specs.Lists.{flat}
 use Rattle.laws.specs.Slices.{Has, has-front, has-back, has-word, has-rest}
-use Rattle.syntax.specs.Syntax.{Domain, BoolExpr, Const, Var, NVar, And, Or, Not, Xor, Iff, Imp, Cmp, encode-bool, Stmt, Rule, Table, encode-stmt}
+use Rattle.syntax.specs.Syntax.{Domain, BoolExpr, Const, Var, NVar, And, Or, Not, Xor, Iff, Imp, Cmp, encode-bool, Stmt, Rule, Table, AllDifferent, encode-stmt}
 use Rattle.sums.specs.LinearSum.{LinearSum}
 use Rattle.clauses.specs.Clause.{BoolLit, lit}
-use Rattle.clauses.specs.Log.{declared, merged, Log, next-bool, next-int, negate-lit, negate-found, get-bool-var, get-int-var}
+use Rattle.clauses.specs.Log.{declared, merged, Log, next-bool, negate-lit, negate-found, get-bool-var, get-int-var}
 use Rattle.clauses.specs.Merge.{as-var, tie-found, tie, merge-rule, merge-stmt, merge-stmts}
 use Rattle.answer.specs.Answer.{bool-word}
 use Rattle.walk.specs.Item.{limit, bump, nat, bool-map, bool-at, signed, State, new-bool, meet-bool}
 use Rattle.walk.specs.Decode.{word}
 use Rattle.walk.specs.Grow.{bool-below, bool-here, lit-word, signed-lit}
 use Rattle.walk.specs.Legal.{Legal}
-use Rattle.walk.specs.Rule.{LegalRule, true-rule, legal-rule}
+use Rattle.walk.specs.Rule.{LegalRule, legal-rule}
 use Rattle.walk.specs.Num.{Recorded, Numbered, word-some, recorded-set, bool-other, int-other, bool-num}
 use Rattle.statements.specs.Bounds.{merge-grows}
 use Rattle.statements.specs.Statements.{LegalStmt, LegalStmts}
@@ -204,6 +204,7 @@ module _ (F : List ℤ) where
     unfolding encode-stmt meet-ties-at
     stmt-num at ds (Rule e) x k low = rule-num at e x k low
     stmt-num at ds (Table es rows) x k low = rw (word-is at 2 _ k) h
+    stmt-num at ds (AllDifferent es) x k low = rw (word-is at 3 _ k) h
 
   -- ---- all statements
 

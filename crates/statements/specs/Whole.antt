@@ -147,12 +147,12 @@ module _ (m : Bool) (p : Problem) (well : WellFormed p) (f : Fixed) (ss : List S
       ≡ map fixed-word (map f (below (p .bools)))
       ++ (map (bool-at (st .work)) (below (p .bools))
       ++ (map (λ v. pos (int-entry (st .work) v)) (below (length (p .domains)))
-      ++ (pos (st .bools) ∷ (counted domain-words (emitted-domains (p .domains) (out .1)) ++ (pos (length (out .0)) ∷ stmts-text (st .work) dom 512 ss n)))))
+      ++ (pos (st .bools) ∷ (counted domain-words (emitted-domains (p .domains) (out .1)) ++ (pos (length (out .0)) ∷ stmts-text (p .domains) (st .work) dom 512 ss n)))))
   unfolding layout normalize answer-of
   answer-words dom d =
       let k = set-walks .numbered in
       let fit = numbered-fit (ColumnRecord F (p .domains)) st (out .1) k (low .bools) in
       let b : map bool-word (map (λ v. get-bool-var v (out .1)) (below (p .bools))) ≡ map (bool-at (st .work)) (below (p .bools)) = words-at (bool-at (st .work)) (λ v. get-bool-var v (out .1)) 0 (p .bools) (λ v l. k .map v (omega (arith, well .few-bools))) in
       let i : map map-word (map (λ v. get-int-var v (out .1)) (below (length (p .domains)))) ≡ map (λ v. pos (int-entry (st .work) v)) (below (length (p .domains))) = entries (int-entry (st .work)) (λ v. get-int-var v (out .1)) 0 (length (p .domains)) (λ v l. k .map-int v (omega (arith, well .few-ints))) in
-      let t : stmts-text (st .work) dom 512 ss n ≡ flat (map clause-words (out .0)) = set-walks .text (st .work) dom fit (set-walks .placed) d in
+      let t : stmts-text (p .domains) (st .work) dom 512 ss n ≡ flat (map clause-words (out .0)) = set-walks .text (st .work) dom fit (set-walks .placed) d in
       rw (b, i, k .bools, t) refl

@@ -10,6 +10,7 @@ use lib.Dec.{ltb}
 use lib.ListN.{length}
 use lib.Seq.{sets}
 use borrow.Author.Tests.{ltb-false}
+use Rattle.laws.specs.Same.{same-words}
 use Rattle.laws.specs.Slices.{zeros}
 use Rattle.syntax.specs.Words.{min-work-words, max-set-words}
 use Rattle.syntax.specs.Syntax.{Problem, encode-stmt, encode}
@@ -17,7 +18,7 @@ use Rattle.words.specs.Parse.{Parsed, ok, refuse, parse-then}
 use Rattle.read.specs.Read.{read-set}
 use Rattle.limits.specs.Limits.{check}
 use Rattle.limits.specs.Admitted.{limited, admitted}
-use Rattle.join.specs.Join.{declaration-words, same-words, both, Agreement, agreed, refusal, compared, agree-read, agreement, Joining, joined, refused, sized, join, buffer-after, Found, in-first, in-second, nowhere, statement-at}
+use Rattle.join.specs.Join.{declaration-words, both, Agreement, agreed, refusal, compared, agree-read, agreement, Joining, joined, refused, sized, join, buffer-after, Found, in-first, in-second, nowhere, statement-at}
 use Rattle.station.specs.Small.{Number, Low, set-low, Checked, check-small}
 
 -- the joined set's words, or the refusal's number negated

@@ -12,10 +12,10 @@ use borrow.Author.Tests.{ltb-false}
 use Rattle.laws.specs.Ints.{eqZ}
 use Rattle.laws.specs.Lists.{any}
 use Rattle.syntax.specs.Words.{star-word, max-bools, max-ints, max-count, max-depth, max-set-words, min-work-words, max-answer-words}
-use Rattle.syntax.specs.Syntax.{op-at, Range, IntExpr, IConst, IVar, Linear, BoolExpr, Const, Var, And, Or, Not, Xor, Iff, Imp, Cmp, star, value, Rule, Table, Problem}
+use Rattle.syntax.specs.Syntax.{op-at, Range, IntExpr, IConst, IVar, Linear, BoolExpr, Const, Var, And, Or, Not, Xor, Iff, Imp, Cmp, star, value, Rule, Table, AllDifferent, Problem}
 use Rattle.words.specs.Parse.{Parsed, ok, refuse, Parser, parse-then, times, word, up-to-at, up-to, count, index-at, index, in-value-range, number}
-use Rattle.read.specs.Read.{read-range, size-at, size-of, read-rising, read-enumerative, read-domain, BoolKind, k-const, k-var, k-and, k-or, k-not, k-xor, k-iff, k-imp, k-cmp, k-unknown, kind-bool, IntKind, i-const, i-var, i-sum, i-unknown, kind-int, too-deep-bool, too-deep-int, read-terms, read-members, bit-at, read-cell, step-int, read-int, read-table, step-bool, read-bool, read-stmt, at-end, read-problem, read-set}
-use Rattle.limits.specs.Limits.{any-part, heavy-comparison, heavy, many-comparison, many-column, wide-column, check}
+use Rattle.read.specs.Read.{read-range, size-at, size-of, read-rising, read-enumerative, read-domain, BoolKind, k-const, k-var, k-and, k-or, k-not, k-xor, k-iff, k-imp, k-cmp, k-unknown, kind-bool, IntKind, i-const, i-var, i-sum, i-unknown, kind-int, too-deep-bool, too-deep-int, read-terms, read-members, bit-at, read-cell, step-int, read-int, read-table, read-different, step-bool, read-bool, read-stmt, at-end, read-problem, read-set}
+use Rattle.limits.specs.Limits.{check, heavy-stmt, many-stmt, wide-stmt}
 use Rattle.fold.specs.Optimize.{Outcome, inconsistent, settled, optimize}
 use Rattle.answer.specs.Answer.{layout, normalize}
 use Rattle.call.specs.Call.{Result, compiled, contradiction, refused, measured, answered, checked, when-read, call-with}
@@ -178,9 +178,13 @@ table-low ni xs = low-parse-then (count xs) _ (count-low xs) (λ n r. low-parse-
     low-parse-then (times n (read-int ni max-depth) s) _ (times-low (read-int ni max-depth) (int-low ni max-depth) n s) (λ es t.
     map-low (times k (times n read-cell)) (times-low (times n read-cell) (times-low read-cell cell-low n) k) (Table es) t)))
 
+different-low : (ni : ℕ) (xs : List ℤ) → Low (read-different ni xs)
+unfolding read-different
+different-low ni xs = low-parse-then (count xs) _ (count-low xs) (λ n r. map-low (times n (read-int ni max-depth)) (times-low (read-int ni max-depth) (int-low ni max-depth) n) AllDifferent r)
+
 stmt-low : (nb ni : ℕ) (xs : List ℤ) → Low (read-stmt nb ni xs)
 unfolding read-stmt
-stmt-low nb ni xs = low-parse-then (word xs) _ (word-low xs) (λ w r. low-cond (eqZ w (pos 1)) _ _ (map-low (read-bool nb ni max-depth) (bool-low nb ni max-depth) Rule r) (low-cond (eqZ w (pos 2)) (read-table ni r) (refuse 5) (table-low ni r) (omega arith)))
+stmt-low nb ni xs = low-parse-then (word xs) _ (word-low xs) (λ w r. low-cond (eqZ w (pos 1)) _ _ (map-low (read-bool nb ni max-depth) (bool-low nb ni max-depth) Rule r) (low-cond (eqZ w (pos 2)) (read-table ni r) _ (table-low ni r) (low-cond (eqZ w (pos 3)) (read-different ni r) (refuse 5) (different-low ni r) (omega arith))))
 
 end-low : (q : Parsed Problem) → Low q → Low (at-end q)
 end-low (ok p []) h = tt
@@ -228,7 +232,7 @@ Checked (suc k) = k < 12
 
 pub check-small : (p : Problem) → Checked (check p)
 unfolding check
-check-small p = go (any (any-part (heavy-comparison (p .domains)) (heavy (p .domains))) (p .stmts)) (any (any-part many-comparison many-column) (p .stmts)) (any (any-part (λ a b. false) (wide-column (p .domains))) (p .stmts))
+check-small p = go (any (heavy-stmt (p .domains)) (p .stmts)) (any many-stmt (p .stmts)) (any (wide-stmt (p .domains)) (p .stmts))
   where
     go : (a b c : Bool) → Checked (cond a 9 (cond b 10 (cond c 11 0)))
     go true b c = omega arith

@@ -1,13 +1,13 @@
 -- When an assignment satisfies a set, in whole numbers.
 use mathlib.Core.Bool.{Bool, true, false, not, _&&_, _||_, Bool·beq}
-use mathlib.Core.List.{List, [], _∷_}
+use mathlib.Core.List.{List, [], _∷_, map}
 use Prim.Native.Nat.{ℕ}
 use lib.IntN.{ℤ, pos, _+ℤ_, _*ℤ_}
 use lib.Signed.{ltZ, leZ}
 use lib.ListN.{length}
 use Rattle.laws.specs.Ints.{eqZ}
 use Rattle.laws.specs.Lists.{any, all, below}
-use Rattle.syntax.specs.Syntax.{in-domain, domain-of, CmpOp, Eq, Ne, Le, Lt, Ge, Gt, IntExpr, IConst, IVar, Linear, Terms, tnil, tmore, BoolExpr, Const, Var, NVar, And, Or, Not, Xor, Iff, Imp, Cmp, Members, mnil, more, Cell, star, value, Stmt, Rule, Table, Problem}
+use Rattle.syntax.specs.Syntax.{in-domain, domain-of, CmpOp, Eq, Ne, Le, Lt, Ge, Gt, IntExpr, IConst, IVar, Linear, Terms, tnil, tmore, BoolExpr, Const, Var, NVar, And, Or, Not, Xor, Iff, Imp, Cmp, Members, mnil, more, Cell, star, value, Stmt, Rule, Table, AllDifferent, Problem}
 
 -- values of Booleans and of integers, by their numbers
 abbrev pub Val : Type 0
@@ -44,6 +44,11 @@ module _ (ε : IVal) where
   row-holds (e ∷ es) [] = true
   row-holds (e ∷ es) (c ∷ cs) = permits c (int-value e) && row-holds es cs
 
+-- the values differ pairwise
+unfoldable pub distinct : List ℤ → Bool
+distinct [] = true
+distinct (x ∷ xs) = not (any (eqZ x) xs) && distinct xs
+
 -- δ, ε: the declared variables. ρ: the emitted numbers, which only splitting writes
 module _ (δ : Val) (ε : IVal) (ρ : Val) where
   unfoldable mutual
@@ -70,6 +75,7 @@ module _ (δ : Val) (ε : IVal) (ρ : Val) where
   unfoldable pub stmt-holds : Stmt → Bool
   stmt-holds (Rule e) = holds e
   stmt-holds (Table es rows) = any (row-holds ε es) rows
+  stmt-holds (AllDifferent es) = distinct (map (int-value ε) es)
 
 -- every declared integer has a value of its domain
 unfoldable pub in-domains : Problem → IVal → Bool

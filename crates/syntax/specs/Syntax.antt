@@ -101,6 +101,7 @@ pub data Cell : Type 0 where
 pub data Stmt : Type 0 where
   Rule : BoolExpr → Stmt
   Table : List IntExpr → List (List Cell) → Stmt
+  AllDifferent : List IntExpr → Stmt
 
 pub record Problem : Type 0 where
   pub bools : ℕ
@@ -176,6 +177,7 @@ encode-cell (value x) = x
 unfoldable pub encode-stmt : Stmt → List ℤ
 encode-stmt (Rule e) = pos 1 ∷ encode-bool e
 encode-stmt (Table es rows) = pos 2 ∷ pos (length es) ∷ pos (length rows) ∷ flat (map encode-int es) ++ flat (map (map encode-cell) rows)
+encode-stmt (AllDifferent es) = pos 3 ∷ counted encode-int es
 
 unfoldable pub encode : Problem → List ℤ
 encode p = pos (p .bools) ∷ counted encode-domain (p .domains) ++ counted encode-stmt (p .stmts)

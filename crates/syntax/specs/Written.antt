@@ -6,7 +6,7 @@ use mathlib.Core.List.{List, [], _∷_}
 use Prim.Native.Nat.{ℕ, _<_}
 use lib.ListN.{length}
 use Rattle.laws.specs.Lists.{all-below}
-use Rattle.syntax.specs.Syntax.{Domain, in-domain, domain-of, IntExpr, IConst, IVar, Linear, Terms, tnil, tmore, BoolExpr, Const, Var, NVar, And, Or, Not, Xor, Iff, Imp, Cmp, Members, mnil, more, Stmt, Rule, Table, Problem}
+use Rattle.syntax.specs.Syntax.{Domain, in-domain, domain-of, IntExpr, IConst, IVar, Linear, Terms, tnil, tmore, BoolExpr, Const, Var, NVar, And, Or, Not, Xor, Iff, Imp, Cmp, Members, mnil, more, Stmt, Rule, Table, AllDifferent, Problem}
 use Rattle.syntax.specs.Satisfies.{IVal, in-domains}
 
 module _ (Q : ℕ → Type 0) where
@@ -59,6 +59,7 @@ module _ (P Q : ℕ → Type 0) where
   unfoldable pub EveryStmt : Stmt → Type 0
   EveryStmt (Rule e) = Every e
   EveryStmt (Table es rows) = EveryColumn Q es
+  EveryStmt (AllDifferent es) = EveryColumn Q es
 
   unfoldable pub EveryStmts : List Stmt → Type 0
   EveryStmts [] = Unit {0}
@@ -113,6 +114,7 @@ module _ (P Q P' Q' : ℕ → Type 0) (toP : (v : ℕ) → P v → P' v) (toQ : 
   unfolding EveryStmt
   every-stmt-map (Rule e) h = every-map Any P Q Any P' Q' (λ n k. k) toP toQ e h
   every-stmt-map (Table es rows) h = every-column-map Q Q' toQ es h
+  every-stmt-map (AllDifferent es) h = every-column-map Q Q' toQ es h
 
   pub every-stmts-map : (ss : List Stmt) → EveryStmts P Q ss → EveryStmts P' Q' ss
   unfolding EveryStmts
@@ -162,6 +164,7 @@ unfolding EveryStmts EveryStmt
 any-stmts [] = tt
 any-stmts (Rule e ∷ ss) = (any-bool e, any-stmts ss)
 any-stmts (Table es rows ∷ ss) = (any-columns es, any-stmts ss)
+any-stmts (AllDifferent es ∷ ss) = (any-columns es, any-stmts ss)
 
 -- ---- every declared integer has a value of its domain
 

@@ -55,7 +55,7 @@ table-length : (es : List IntExpr) (rows : List (List Cell)) → length (encode-
 unfolding encode-stmt
 table-length es rows = omega (arith, length-append (flat (map encode-int es)) (cells-words rows))
 
-declared-has : (p : Problem) → Has (encode p) 2 (flat (map encode-domain (p .domains)))
+pub declared-has : (p : Problem) → Has (encode p) 2 (flat (map encode-domain (p .domains)))
 unfolding encode
 declared-has p = take-append-seam (flat (map encode-domain (p .domains))) _
 

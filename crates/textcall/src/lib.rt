@@ -4,24 +4,9 @@ use input::words_of_text;
 use lines::count_at;
 use text::Answer;
 use text::text_of_answer;
-ghost use mathlib.Core.Path.{_≡_};
-ghost use mathlib.Core.Bool.{true};
 ghost use Prim.Native.Nat.{_≤_};
 ghost use lib.ListN.{length};
-ghost use Rattle.laws.specs.Lists.{all};
-ghost use Rattle.decimal.specs.Widths.{fitting};
 ghost use Rattle.textcall.specs.Lists.{SomeAnswered, Prints, Lists};
-
-// Every word lies within i32: the loop only learns this of the whole slice, and does nothing.
-fn all_fit(words: &[i32])
-    ensures { λ _. ⌜ all fitting (now (words .entry)) ≡ true ⌝ }
-{
-    let mut i = 0;
-    while i < words.len() {
-        let _w = words[i];
-        i += 1;
-    }
-}
 
 // The listing of an answer, from the set's words and the output that the call left.
 fn print_answer(answer: planner::Answer, set: &[i32], output: &[i32], out: &mut [u8]) -> usize
@@ -67,7 +52,7 @@ fn list_with_room(
     };
     let set = &words[..n];
     let answer = planner::compile(set, output, work);
-    all_fit(output);
+    decimal::all_fit(output);
     print_answer(answer, set, output, out)
 }
 

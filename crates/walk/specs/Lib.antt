@@ -15,4 +15,5 @@ pub mod Steps
 pub mod NumberingSteps
 pub mod NoTies
 pub mod MeetTies
+pub mod Meets
 pub mod MeetColumns

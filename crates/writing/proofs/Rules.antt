@@ -7,8 +7,9 @@ use native.Mathlib.Omega.{arith}
 use lib.IntN.{ℤ, pos}
 use lib.ListN.{length, length-append}
 use Rattle.laws.specs.Lists.{counted}
-use Rattle.laws.specs.Slices.{Has, has-word, has-rest}
-use Rattle.syntax.specs.Syntax.{IntExpr, BoolExpr, Const, Var, NVar, And, Or, Not, Xor, Iff, Imp, Cmp, Members, mnil, more, encode-bool, Cell, Stmt, Rule, Table, encode-stmt}
+use Rattle.laws.specs.Slices.{Has, has-rest}
+use Rattle.syntax.specs.Syntax.{IntExpr, BoolExpr, Const, Var, NVar, And, Or, Not, Xor, Iff, Imp, Cmp, Members, mnil, more, encode-bool, Cell, Stmt, Rule, Table, AllDifferent, encode-stmt}
+use Rattle.syntax.specs.Codes.{stmt-code, stmt-code-word}
 use Rattle.limits.specs.Limits.{any-comparison, any-comparison-members}
 use Rattle.clauses.specs.Clause.{Clause, clause}
 use Rattle.clauses.specs.Log.{Log, next-bool}
@@ -29,7 +30,7 @@ use Rattle.statements.specs.Columns.{ColumnRecord}
 use Rattle.statements.specs.Statements.{stmt-grows}
 use Rattle.statements.specs.Saved.{saved-same}
 use Rattle.tabling.specs.Step.{Place, At, SomeAt, SomeTable, Did}
-use Rattle.writing.specs.Writing.{RuleStep}
+use Rattle.writing.specs.Writing.{RuleStep, SomeDifferent, DifferentDid}
 
 -- ---- a rule has no columns
 
@@ -75,13 +76,9 @@ clauses-two (c ∷ cs) = omega (arith, clause-two c, clauses-two cs, length-appe
 
 -- ---- the code word tells the statement
 
-code-rule : (w : List ℤ) (q : ℕ) (e : BoolExpr) → Has (read-part w) q (encode-stmt (Rule e)) → word (read-part w) q ≡ 1
-unfolding word nat encode-stmt
-code-rule w q e h = ap nat (has-word (read-part w) q (pos 1) (encode-bool e) (pos 0) h)
-
-code-table : (w : List ℤ) (q : ℕ) (es : List IntExpr) (rows : List (List Cell)) → Has (read-part w) q (encode-stmt (Table es rows)) → word (read-part w) q ≡ 2
-unfolding word nat encode-stmt
-code-table w q es rows h = ap nat (has-word (read-part w) q (pos 2) _ (pos 0) h)
+code-is : (w : List ℤ) (q : ℕ) (t : Stmt) → Has (read-part w) q (encode-stmt t) → word (read-part w) q ≡ stmt-code t
+unfolding word nat
+code-is w q t h = ap nat (stmt-code-word (read-part w) q t h)
 
 rule-has : (w : List ℤ) (q : ℕ) (e : BoolExpr) → Has (read-part w) q (encode-stmt (Rule e)) → Has (read-part w) (q + 1) (encode-bool e)
 unfolding encode-stmt
@@ -134,28 +131,50 @@ module _ {set w : List ℤ} {q triples m : ℕ} {out : List ℤ} {o : ℕ} where
           saved = saved-same e' w;
         }
 
-  -- the code word is a rule's
+  -- the code word is another statement's
+  not-here : {X : Type 0} {x : Place} (t : Stmt) → At x t set w q triples m out o → (word (read-part w) q ≡ stmt-code t → ⊥) → X
+  not-here t h c = absurd (c (code-is w q t (h .stands)))
+
+  -- it is a rule's
   pub is-rule : {X : Type 0} (x : Place) (t : Stmt) → At x t set w q triples m out o → word (read-part w) q ≡ 1 → ((e : BoolExpr) → At x (Rule e) set w q triples m out o → X) → X
   is-rule x (Rule e) h c f = f e h
-  is-rule x (Table es rows) h c f = absurd (omega (arith, c, code-table w q es rows (h .stands)))
+  is-rule x (Table es rows) h c f = not-here (Table es rows) h (λ z. omega (arith, c, z))
+  is-rule x (AllDifferent es) h c f = not-here (AllDifferent es) h (λ z. omega (arith, c, z))
 
   pub some-rule : SomeAt set w q triples m out o → word (read-part w) q ≡ 1 → Placed w (q + 1) m m × Writable w (q + 1) m
   some-rule s c = is-rule (s .place) (s .stmt) (s .it) c (λ e h. rule-writable h)
 
   -- it is a table's
-  pub some-table : SomeAt set w q triples m out o → (word (read-part w) q ≡ 1 → ⊥) → SomeTable set w q triples m out o
-  some-table s c = go (s .stmt) (s .it)
+  pub some-table : SomeAt set w q triples m out o → (word (read-part w) q ≡ 1 → ⊥) → (word (read-part w) q ≡ 3 → ⊥) → SomeTable set w q triples m out o
+  some-table s c d = go (s .stmt) (s .it)
     where
       go : (t : Stmt) → At (s .place) t set w q triples m out o → SomeTable set w q triples m out o
-      go (Rule e) h = absurd (c (code-rule w q e (h .stands)))
+      go (Rule e) h = not-here (Rule e) h c
       go (Table es rows) h = record { place = s .place; exprs = es; rows = rows; it = h }
+      go (AllDifferent es) h = not-here (AllDifferent es) h d
+
+  -- it is an AllDifferent's
+  pub some-different : SomeAt set w q triples m out o → word (read-part w) q ≡ 3 → SomeDifferent set w q m out o
+  some-different s c = go (s .stmt) (s .it)
+    where
+      go : (t : Stmt) → At (s .place) t set w q triples m out o → SomeDifferent set w q m out o
+      go (Rule e) h = not-here (Rule e) h (λ z. omega (arith, c, z))
+      go (Table es rows) h = not-here (Table es rows) h (λ z. omega (arith, c, z))
+      go (AllDifferent es) h = record { place = s .place; exprs = es; triples = triples; it = h }
 
   module _ {k : ℕ} {out' : List ℤ} {e' m' o' k' : ℕ} where
     pub did-rule : word (read-part w) q ≡ 1 → Behind out o k → RuleStep w q m out o k out' e' m' o' k' → (x : Place) (t : Stmt) → At x t set w q triples m out o → Did x t w q out o k w out' e' m' o' k'
     did-rule c b r x (Rule e) h = rule-did h b r
-    did-rule c b r x (Table es rows) h = absurd (omega (arith, c, code-table w q es rows (h .stands)))
+    did-rule c b r x (Table es rows) h = not-here (Table es rows) h (λ z. omega (arith, c, z))
+    did-rule c b r x (AllDifferent es) h = not-here (AllDifferent es) h (λ z. omega (arith, c, z))
 
-    pub did-table : {w' : List ℤ} → (word (read-part w) q ≡ 1 → ⊥) → ((x : Place) (es : List IntExpr) (rows : List (List Cell)) → At x (Table es rows) set w q triples m out o → Did x (Table es rows) w q out o k w' out' e' m' o' k')
+    pub did-different : word (read-part w) q ≡ 3 → DifferentDid set w q m out o k out' e' m' o' k' → (x : Place) (t : Stmt) → At x t set w q triples m out o → Did x t w q out o k w out' e' m' o' k'
+    did-different c f x (Rule e) h = not-here (Rule e) h (λ z. omega (arith, c, z))
+    did-different c f x (Table es rows) h = not-here (Table es rows) h (λ z. omega (arith, c, z))
+    did-different c f x (AllDifferent es) h = f x es triples h
+
+    pub did-table : {w' : List ℤ} → (word (read-part w) q ≡ 1 → ⊥) → (word (read-part w) q ≡ 3 → ⊥) → ((x : Place) (es : List IntExpr) (rows : List (List Cell)) → At x (Table es rows) set w q triples m out o → Did x (Table es rows) w q out o k w' out' e' m' o' k')
         → (x : Place) (t : Stmt) → At x t set w q triples m out o → Did x t w q out o k w' out' e' m' o' k'
-    did-table c f x (Rule e) h = absurd (c (code-rule w q e (h .stands)))
-    did-table c f x (Table es rows) h = f x es rows h
+    did-table c d f x (Rule e) h = not-here (Rule e) h c
+    did-table c d f x (Table es rows) h = f x es rows h
+    did-table c d f x (AllDifferent es) h = not-here (AllDifferent es) h d

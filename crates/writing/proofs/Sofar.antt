@@ -1,5 +1,5 @@
 -- The loop over the statements: so far the clauses of those before q are written, and the words of the work slice from q on are as numbering left them.
-use mathlib.Core.Path.{_≡_, refl, sym, _∙_, subst}
+use mathlib.Core.Path.{_≡_, sym, _∙_, subst}
 use mathlib.Core.Bool.{Bool}
 use mathlib.Core.List.{List, [], _∷_, _++_, append-nil}
 use Prim.Native.Nat.{ℕ, _+_, _*_, _≤_, _<_}
@@ -7,7 +7,7 @@ use native.Mathlib.Omega.{arith}
 use lib.IntN.{ℤ}
 use lib.ListN.{length, length-append}
 use Rattle.laws.specs.Writes.{wrote-length, wrote-low}
-use Rattle.syntax.specs.Syntax.{Domain, Stmt, Rule, Table, encode-stmt, Problem}
+use Rattle.syntax.specs.Syntax.{Domain, Stmt, Rule, Table, AllDifferent, encode-stmt, Problem}
 use Rattle.fold.specs.Fold.{Fixed}
 use Rattle.clauses.specs.Clause.{Clause}
 use Rattle.clauses.specs.Log.{Log, next-bool, next-int}
@@ -41,6 +41,7 @@ stmt-words : (t : Stmt) → 1 ≤ length (encode-stmt t)
 unfolding encode-stmt
 stmt-words (Rule e) = omega arith
 stmt-words (Table es rows) = omega arith
+stmt-words (AllDifferent es) = omega arith
 
 module _ {set w₀ : List ℤ} {end from triples : ℕ} {out₀ : List ℤ} {o₀ : ℕ} {merge : Bool} {p : Problem} {f : Fixed} {ss : List Stmt} {c : Counters} (h : Writable merge p f ss c set w₀ end from triples out₀ o₀) where
   abbrev ds : List Domain

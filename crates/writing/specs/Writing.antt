@@ -7,7 +7,7 @@ use lib.IntN.{ℤ}
 use lib.ListN.{length}
 use Rattle.laws.specs.Lists.{flat}
 use Rattle.laws.specs.Slices.{Has}
-use Rattle.syntax.specs.Syntax.{Stmt, Problem, encode}
+use Rattle.syntax.specs.Syntax.{IntExpr, Stmt, AllDifferent, Problem, encode}
 use Rattle.fold.specs.Fold.{Fixed}
 use Rattle.clauses.specs.Log.{next-bool}
 use Rattle.tables.specs.Tables.{emitted-domains}
@@ -19,6 +19,7 @@ use Rattle.rows.specs.Emit.{Clauses, Behind}
 use Rattle.rows.specs.declared.Written.{Written}
 use Rattle.statements.specs.Stages.{stmts-words, clauses-of, log-of, NumberedSet}
 use Rattle.statements.specs.Saved.{Saved}
+use Rattle.tabling.specs.Step.{Place, At, Did}
 
 -- the set's words, the work slice after numbering, and the answer with its emitted integers' words from `triples` on, in front of o.
 -- from: how many numbers merging gave
@@ -51,3 +52,14 @@ pub record RuleStep (w : List ℤ) (q m : ℕ) (out : List ℤ) (o k : ℕ) (out
   pub lines : ℕ
   pub wrote : RuleWrote w (q + 1) m out o out' e m' lines o'
   pub count : k' ≡ min (bump k lines) o'
+
+-- some AllDifferent stands at q
+pub record SomeDifferent (set w : List ℤ) (q m : ℕ) (out : List ℤ) (o : ℕ) : Type 0 where
+  pub place : Place
+  pub exprs : List IntExpr
+  pub triples : ℕ
+  pub it : At place (AllDifferent exprs) set w q triples m out o
+
+-- whatever AllDifferent stands there is written
+abbrev pub DifferentDid : List ℤ → List ℤ → ℕ → ℕ → List ℤ → ℕ → ℕ → List ℤ → ℕ → ℕ → ℕ → ℕ → Type 0
+DifferentDid set w q m out o k out' e m' o' k' = (x : Place) (es : List IntExpr) (triples : ℕ) → At x (AllDifferent es) set w q triples m out o → Did x (AllDifferent es) w q out o k w out' e m' o' k'

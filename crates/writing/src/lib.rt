@@ -5,7 +5,7 @@ ghost use Rattle.writer.specs.Placed.{Placed};
 ghost use Rattle.writer.specs.Rules.{Writable as WritableRule};
 ghost use Rattle.rows.specs.Emit.{Behind};
 ghost use Rattle.tabling.specs.Step.{Place, At, SomeAt, Did};
-ghost use Rattle.writing.specs.Writing.{SomeWritable, WrittenAll, RuleStep};
+ghost use Rattle.writing.specs.Writing.{SomeWritable, WrittenAll, RuleStep, SomeDifferent, DifferentDid};
 use rows::Written;
 use tabling::Step;
 
@@ -28,6 +28,29 @@ fn write_rule(work: &[i32], at: usize, m: usize, out: &mut [i32], o: usize, k: u
     }
 }
 
+// The clauses of the AllDifferent at `at`, behind k others. It takes no Boolean number.
+fn write_different(
+    set: &[i32],
+    work: &[i32],
+    at: usize,
+    m: usize,
+    out: &mut [i32],
+    o: usize,
+    k: usize,
+) -> Step
+    requires { ⌜ SomeDifferent (now set) (now work) at m (now out) o × Behind (now out) o k ⌝ }
+    ensures { λ r. ⌜ DifferentDid (now (set .entry)) (now (work .entry)) at m (now (out .entry)) o k (now (out .exit)) (r .next) (r .bools) (r .at) (r .clauses) ⌝ }
+{
+    let n = survey::word(work, at + 1);
+    let r = pairs::put_different(set, work, at + 2, n, out, o, k);
+    Step {
+        next: numbered::columns_end(work, at + 2, n),
+        bools: m,
+        at: r.at,
+        clauses: r.clauses,
+    }
+}
+
 // The clauses of the statement at `at`.
 fn write_statement(
     set: &[i32],
@@ -42,8 +65,12 @@ fn write_statement(
     requires { ⌜ SomeAt (now set) (now work) at triples m (now out) o × Behind (now out) o k ⌝ }
     ensures { λ r. ⌜ ((x : Place) (t : Stmt) → At x t (now (set .entry)) (now (work .entry)) at triples m (now (out .entry)) o → Did x t (now (work .entry)) at (now (out .entry)) o k (now (work .exit)) (now (out .exit)) (r .next) (r .bools) (r .at) (r .clauses)) ⌝ }
 {
-    if survey::word(work, at) == 1 {
+    let code = survey::word(work, at);
+    if code == 1 {
         return write_rule(work, at, m, out, o, k);
+    }
+    if code == 3 {
+        return write_different(set, work, at, m, out, o, k);
     }
     tabling::write_table(set, work, at, triples, m, out, o, k)
 }

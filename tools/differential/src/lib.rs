@@ -1,4 +1,5 @@
-//! What the programs share: the port's entries, the command line, lent slices, and sets of many passes.
+//! What the programs share: the port's entries, the command line, lent slices, sets of many passes and of many pairs.
+pub mod extremes;
 pub mod links;
 pub mod slices;
 

@@ -49,8 +49,14 @@ pub fn encode(answer: &Answer) -> Vec<i32> {
     let mut out = [&answer.fixed[..], &answer.bool_map, &answer.int_map].concat();
     out.extend([answer.bools, answer.domains.len() as i32]);
     out.extend(answer.domains.iter().flatten());
-    out.push(answer.clauses.len() as i32);
-    for clause in &answer.clauses {
+    out.extend(encode_clauses(&answer.clauses));
+    out
+}
+
+/// The count of the clauses and their words.
+pub fn encode_clauses(clauses: &[Clause]) -> Vec<i32> {
+    let mut out = vec![clauses.len() as i32];
+    for clause in clauses {
         out.push(clause.literals.len() as i32);
         out.extend(&clause.literals);
         out.push(clause.comparisons.len() as i32);

@@ -44,8 +44,8 @@ fn usage() -> bool {
         "p1 | listing | sheet | words [OUT] | merged | cases | generate SEED FAMILY COUNT | record SEED FAMILY COUNT [merged]"
     );
     eprintln!("meaning SEED FAMILY COUNT | merging SEED FAMILY COUNT | sizes SEED FAMILY COUNT | refusals SEED COUNT");
-    eprintln!("families: {}, text (generate and record only)", FAMILIES.join(", "));
-    eprintln!("meaning, merging and sizes also take all");
+    eprintln!("families: {}, longest, text (generate and record only)", FAMILIES.join(", "));
+    eprintln!("meaning, merging and sizes also take all, which is all but longest");
     false
 }
 
@@ -100,7 +100,7 @@ fn tally(seed: &str, family: &str, count: &str, test: fn(&[i32]) -> String) -> b
     let (Ok(seed), Ok(count)) = (seed.parse::<u64>(), count.parse::<u64>()) else {
         return usage();
     };
-    let families = if family == "all" { FAMILIES[..9].to_vec() } else { vec![family] };
+    let families = if family == "all" { FAMILIES.to_vec() } else { vec![family] };
     families.iter().all(|family| {
         let mut tallies: BTreeMap<String, u64> = BTreeMap::new();
         for index in 0..count {

@@ -193,6 +193,10 @@ pub fn statement_holds(statement: &Statement, a: &Assignment) -> bool {
     match statement {
         Statement::Rule(rule) => holds(rule, a),
         Statement::Table(table) => permits(table, a),
+        Statement::AllDifferent(exprs) => {
+            let values: Vec<i128> = exprs.iter().map(|e| value(e, a)).collect();
+            (0..values.len()).all(|j| (0..j).all(|i| values[i] != values[j]))
+        }
     }
 }
 

@@ -114,6 +114,7 @@ impl Reader<'_> {
         match self.word()? {
             1 => Ok(Statement::Rule(self.bool(1)?)),
             2 => Ok(Statement::Table(self.table()?)),
+            3 => Ok(Statement::AllDifferent(self.different()?)),
             _ => Err(5),
         }
     }
@@ -134,6 +135,15 @@ impl Reader<'_> {
             rows.push(row);
         }
         Ok(Table { columns, rows })
+    }
+
+    /// Each expression begins at level 1, as a column does.
+    fn different(&mut self) -> Read<Vec<Int>> {
+        let mut exprs = vec![];
+        for _ in 0..self.count(COUNT)? {
+            exprs.push(self.int(1)?);
+        }
+        Ok(exprs)
     }
 
     fn cell(&mut self) -> Read<Option<i32>> {

@@ -1,4 +1,4 @@
-//! Refusals 1, 2 and 9 to 11, by a plain reading of document 01.
+//! Refusals 1, 2 and 9 to 11, by a plain reading of document 01, and of document 02 for AllDifferent (2.1).
 use crate::read::{read, Refusal};
 use crate::set::{Bool, Domain, Int, Set, Statement, LIMIT};
 use std::collections::BTreeSet;
@@ -29,6 +29,8 @@ pub fn accept(words: &[i32], work_len: usize) -> Result<Set, Refusal> {
 enum Part<'a> {
     Comparison(&'a Int, &'a Int),
     Column(&'a Int),
+    /// The expressions of an AllDifferent: every two of them are compared.
+    Different(&'a [Int]),
 }
 
 fn parts(set: &Set) -> Vec<Part<'_>> {
@@ -37,6 +39,7 @@ fn parts(set: &Set) -> Vec<Part<'_>> {
         match statement {
             Statement::Rule(rule) => comparisons(rule, &mut parts),
             Statement::Table(table) => parts.extend(table.columns.iter().map(Part::Column)),
+            Statement::AllDifferent(exprs) => parts.push(Part::Different(exprs)),
         }
     }
     parts
@@ -55,12 +58,21 @@ fn comparisons<'a>(e: &'a Bool, parts: &mut Vec<Part<'a>>) {
     }
 }
 
-/// Refusal 9: every integer expression and part, and a comparison's two sides together.
+/// Refusal 9: every integer expression and part, a comparison's two sides together, and every pair of an AllDifferent.
 fn weights(domains: &[Domain], part: &Part) -> Result<(), Refusal> {
     match part {
         Part::Comparison(l, r) => light(weight(domains, l)? + weight(domains, r)?).map(|_| ()),
         Part::Column(column) => weight(domains, column).map(|_| ()),
+        Part::Different(exprs) => {
+            let weights = exprs.iter().map(|e| weight(domains, e)).collect::<Result<Vec<u128>, Refusal>>()?;
+            pairs(&weights, |l, r| light(l + r).map(|_| ()))
+        }
     }
+}
+
+/// A test of every two of them.
+fn pairs<T>(items: &[T], test: impl Fn(&T, &T) -> Result<(), Refusal>) -> Result<(), Refusal> {
+    items.iter().enumerate().try_for_each(|(i, l)| items[i + 1..].iter().try_for_each(|r| test(l, r)))
 }
 
 fn weight(domains: &[Domain], e: &Int) -> Result<u128, Refusal> {
@@ -87,33 +99,32 @@ fn light(weight: u128) -> Result<u128, Refusal> {
     Ok(weight)
 }
 
-/// Refusal 10: the different variables written, whatever becomes of them.
+/// Refusal 10: the different variables written, whatever becomes of them. An expression of an AllDifferent has no limit by itself.
 fn variables(part: &Part) -> Result<(), Refusal> {
-    let mut met = BTreeSet::new();
-    let most = match part {
-        Part::Comparison(l, r) => {
-            written(l, &mut met);
-            written(r, &mut met);
-            COMPARISON_VARIABLES
+    match part {
+        Part::Comparison(l, r) => few(&[&written(l), &written(r)], COMPARISON_VARIABLES),
+        Part::Column(column) => few(&[&written(column)], COLUMN_VARIABLES),
+        Part::Different(exprs) => {
+            let written: Vec<BTreeSet<usize>> = exprs.iter().map(written).collect();
+            pairs(&written, |l, r| few(&[l, r], COMPARISON_VARIABLES))
         }
-        Part::Column(column) => {
-            written(column, &mut met);
-            COLUMN_VARIABLES
-        }
-    };
-    if met.len() > most {
+    }
+}
+
+/// At most that many different variables in all of them.
+fn few(written: &[&BTreeSet<usize>], most: usize) -> Result<(), Refusal> {
+    let all: usize = written.iter().map(|met| met.len()).sum();
+    if all > most && written.iter().copied().flatten().collect::<BTreeSet<_>>().len() > most {
         return Err(10);
     }
     Ok(())
 }
 
-fn written(e: &Int, met: &mut BTreeSet<usize>) {
+fn written(e: &Int) -> BTreeSet<usize> {
     match e {
-        Int::Const(_) => (),
-        Int::Var(v) => {
-            met.insert(*v);
-        }
-        Int::Sum(terms) => terms.iter().for_each(|(_, term)| written(term, met)),
+        Int::Const(_) => BTreeSet::new(),
+        Int::Var(v) => BTreeSet::from([*v]),
+        Int::Sum(terms) => terms.iter().flat_map(|(_, term)| written(term)).collect(),
     }
 }
 

@@ -5,8 +5,12 @@ use crate::csp::{BoolExpr, BoolVar, BoolVarStatus, IntExpr, IntVar, Stmt, CSP};
 use crate::norm_csp::{Constraint, IntVarRepresentation, LinearLit, NormCSP};
 use crate::normalizer::{normalize, ConvertedBoolVar, NormalizeMap};
 use crate::set::{Bool, Domain, Int, Set, Statement};
+use crate::util::ConvertMapIndex;
 
 pub const OPERATORS: [CmpOp; 6] = [CmpOp::Eq, CmpOp::Ne, CmpOp::Le, CmpOp::Lt, CmpOp::Ge, CmpOp::Gt];
+
+/// Larger domains are not enumerated by the Rust here: it would need gigabytes.
+const ENUMERATED: u64 = 100_000;
 
 /// The problem after folding and propagation; nothing where the Rust finds it inconsistent.
 pub fn optimized(set: &Set) -> Option<CSP> {
@@ -31,7 +35,8 @@ pub fn optimized(set: &Set) -> Option<CSP> {
 pub fn answer(set: &Set, mut csp: CSP, merge: bool) -> Vec<i32> {
     let mut norm = NormCSP::new();
     let mut map = NormalizeMap::new();
-    let config = Config { merge_equivalent_variables: merge, ..Config::document_01() };
+    let config = Config { merge_equivalent_variables: merge, ..Config::documents() };
+    csp.constraints = std::mem::take(&mut csp.constraints).into_iter().flat_map(|stmt| spared(set, stmt)).collect();
     normalize(&mut csp, &mut norm, &mut map, &config);
     let mut out = vec![];
     maps(set, &csp, &map, &mut out);
@@ -39,6 +44,27 @@ pub fn answer(set: &Set, mut csp: CSP, merge: bool) -> Vec<i32> {
     out.push(norm.constraints.len() as i32);
     norm.constraints.iter().for_each(|c| clause(c, &mut out));
     out
+}
+
+/// The Rust enumerates the domains of an AllDifferent of variables before it compares counts. Where one has so many values, no set
+/// has as many expressions: there are no clauses for values, and the rules of the pairs are handed over in its place.
+fn spared(set: &Set, stmt: Stmt) -> Vec<Stmt> {
+    let wide = |v: &IntVar| set.domains[v.to_index()].count() > ENUMERATED;
+    let variable = |e: &IntExpr| if let IntExpr::Var(v) = e { Some(wide(v)) } else { None };
+    let Stmt::AllDifferent(exprs) = &stmt else {
+        return vec![stmt];
+    };
+    match exprs.iter().map(variable).collect::<Option<Vec<bool>>>() {
+        Some(wide) if wide.contains(&true) => pair_rules(exprs),
+        _ => vec![stmt],
+    }
+}
+
+/// The rules that `normalize` makes of an AllDifferent, in its order.
+fn pair_rules(exprs: &[IntExpr]) -> Vec<Stmt> {
+    let differ = |l: &IntExpr, r: &IntExpr| Stmt::Expr(l.clone().ne(r.clone()));
+    let behind = |(i, l)| exprs[i + 1..].iter().map(move |r| differ(l, r));
+    exprs.iter().enumerate().flat_map(behind).collect()
 }
 
 fn domain(declared: &Domain) -> crate::domain::Domain {
@@ -54,6 +80,7 @@ fn statement(declared: &Statement) -> Stmt {
         Statement::Table(table) => {
             Stmt::ExtensionSupports(table.columns.iter().map(int_expr).collect(), table.rows.clone())
         }
+        Statement::AllDifferent(exprs) => Stmt::AllDifferent(exprs.iter().map(int_expr).collect()),
     }
 }
 

@@ -44,6 +44,8 @@ pub struct Table {
 pub enum Statement {
     Rule(Bool),
     Table(Table),
+    /// Request 2.1: the values of the expressions differ pairwise.
+    AllDifferent(Vec<Int>),
 }
 
 #[derive(Clone, Debug, PartialEq)]
@@ -128,6 +130,10 @@ pub fn statement_words(statement: &Statement, out: &mut Vec<i32>) {
             for row in &table.rows {
                 out.extend(row.iter().map(|cell| cell.unwrap_or(STAR)));
             }
+        }
+        Statement::AllDifferent(exprs) => {
+            out.extend([3, exprs.len() as i32]);
+            exprs.iter().for_each(|e| int_words(e, out));
         }
     }
 }

@@ -50,7 +50,8 @@ fn statement(left: &Stmt) -> Statement {
         Stmt::ExtensionSupports(columns, rows) => {
             Statement::Table(Table { columns: columns.iter().map(int_expr).collect(), rows: rows.clone() })
         }
-        _ => panic!("a statement that document 01 leaves out"),
+        Stmt::AllDifferent(exprs) => Statement::AllDifferent(exprs.iter().map(int_expr).collect()),
+        _ => panic!("a statement that the documents leave out"),
     }
 }
 
@@ -80,6 +81,6 @@ fn int_expr(e: &IntExpr) -> Int {
         IntExpr::Const(c) => Int::Const(*c),
         IntExpr::Var(v) => Int::Var(v.to_index()),
         IntExpr::Linear(terms) => Int::Sum(terms.iter().map(|(e, c)| (*c, int_expr(e))).collect()),
-        _ => panic!("an expression that document 01 leaves out"),
+        _ => panic!("an expression that the documents leave out"),
     }
 }

@@ -40,6 +40,7 @@ impl Counter<'_> {
         match stmt {
             Stmt::Expr(e) => self.extras(e, false) + self.tally(e, false, false).words,
             Stmt::ExtensionSupports(columns, rows) => self.table(columns, rows),
+            Stmt::AllDifferent(exprs) => self.different(exprs),
             _ => 0,
         }
     }
@@ -117,6 +118,28 @@ impl Counter<'_> {
             IntExpr::Linear(terms) => terms.iter().for_each(|(e, c)| self.add(e, coefficient * *c as i128, sum)),
             _ => (),
         }
+    }
+
+    /// A clause for each pair; then, where all are variables with equal domains of as many values, a clause for each value.
+    fn different(&mut self, exprs: &[IntExpr]) -> u64 {
+        let mut words = 0;
+        for (i, l) in exprs.iter().enumerate() {
+            words += exprs[i + 1..].iter().map(|r| self.comparison(l, r).words).sum::<u64>();
+        }
+        let n = exprs.len() as u64;
+        words + if self.used_up(exprs) { n * (2 + EQUALITY * n) } else { 0 }
+    }
+
+    fn used_up(&self, exprs: &[IntExpr]) -> bool {
+        let n = exprs.len() as u64;
+        let domain = |e: &IntExpr| match e {
+            IntExpr::Var(v) => Some(&self.set.domains[v.to_index()]),
+            _ => None,
+        };
+        let Some(domains) = exprs.iter().map(domain).collect::<Option<Vec<&Domain>>>() else {
+            return false;
+        };
+        domains.iter().all(|d| d.count() == n) && domains.iter().all(|d| (0..n).all(|k| d.nth(k) == domains[0].nth(k)))
     }
 
     fn table(&mut self, columns: &[IntExpr], rows: &[Vec<Option<i32>>]) -> u64 {

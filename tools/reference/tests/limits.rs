@@ -3,7 +3,7 @@ use reference::generate::{case, limits, FAMILIES};
 use reference::{call, Outcome};
 
 #[test]
-fn limits_of_document_01() {
+fn limits_of_the_documents() {
     let found: Vec<String> = limits::all().iter().filter_map(|limit| limit.difference()).collect();
     assert!(found.is_empty(), "{}", found.join("\n"));
 }
@@ -20,13 +20,13 @@ fn every_refusal_is_met() {
 
 #[test]
 fn a_case_is_made_again() {
-    for family in FAMILIES {
+    for family in FAMILIES.into_iter().chain(["longest"]) {
         for index in [0, 15, 300] {
-            assert_eq!(case(family, 7, index), case(family, 7, index));
+            assert_eq!(case(family, 8, index), case(family, 8, index));
         }
-        assert_ne!(case(family, 7, 0), case(family, 7, 1));
+        assert_ne!(case(family, 8, 0), case(family, 8, 1));
     }
-    assert_eq!(case("none such", 7, 0), None);
+    assert_eq!(case("none such", 8, 0), None);
 }
 
 /// The lengths that the family `lengths` is made for.

@@ -1,14 +1,12 @@
 //! The meaning of answers over small sets of every family, and that wrong answers are noticed.
 use reference::call::counted;
-use reference::generate::{case, FAMILIES};
+use reference::generate::{case, FAMILIES, GOOD};
 use reference::meaning::{check, judge, Verdict};
 use reference::{call, Outcome};
 
-const SMALL: [&str; 5] = ["rules", "chains", "comparisons", "tables", "mixed"];
-
 #[test]
 fn no_difference_in_meaning() {
-    for family in &FAMILIES[..9] {
+    for family in FAMILIES {
         for index in 0..300 {
             let set = case(family, 11, index).unwrap().set;
             if let Verdict::Differs(how) = check(&set) {
@@ -20,7 +18,7 @@ fn no_difference_in_meaning() {
 
 #[test]
 fn the_counted_length_is_the_answers() {
-    for family in &FAMILIES[..9] {
+    for family in FAMILIES {
         for index in 0..200 {
             let set = case(family, 12, index).unwrap().set;
             if let Outcome::Compiled(answer) = call(&set, usize::MAX, 16384) {
@@ -51,7 +49,7 @@ fn wrong_answers_are_noticed() {
 #[test]
 fn nothing_panics_on_wrong_answers() {
     let extremes = [i32::MIN, -1, 0, 1, 3, 1_000_000, i32::MAX];
-    for family in SMALL {
+    for family in GOOD {
         for index in 0..20 {
             let set = case(family, 15, index).unwrap().set;
             let Outcome::Compiled(answer) = call(&set, 400, 16384) else {
@@ -78,7 +76,7 @@ fn nothing_panics_on_damaged_sets() {
 
 #[test]
 fn most_small_sets_are_enumerated() {
-    for family in SMALL {
+    for family in GOOD {
         let verdicts = (0..200).map(|index| check(&case(family, 14, index).unwrap().set));
         let enumerated = verdicts.filter(|v| matches!(v, Verdict::Agrees(_, _) | Verdict::Contradiction(_))).count();
         assert!(enumerated > 120, "{family}: {enumerated} of 200");

@@ -36,6 +36,9 @@ not [b3] or ana-5 = 1
 ana-6 = 1
 ana-6 != 1 or ben-6 != 0 or cem-6 = 1
 ana-6 != 1 or ben-6 != 1 or cem-6 = 0
+ben-1 + 2 cem-1 - ben-2 - 2 cem-2 != 0
+ben-1 + 2 cem-1 - ben-3 - 2 cem-3 != 0
+ben-2 + 2 cem-2 - ben-3 - 2 cem-3 != 0
 """
 
 
@@ -76,6 +79,8 @@ class Commands(unittest.TestCase):
         text = "(int x y 0 3) (table ((- x (* 2 y))) (1)) (= (+ 0) 1)"
         self.assertEqual(run_rules(text, "--explain")[1], "x - 2 y - [x2] = 0\n[x2] = 1\n0 = 1\n[x2] from -6 to 3   (new)\n")
         self.assertIn("contradiction", run_rules("false", "--explain")[1])
+        used_up = run_rules("(int x y 1 2) (alldifferent x y)", "--explain")
+        self.assertEqual(used_up, (0, "x - y != 0\nx = 1 or y = 1\nx = 2 or y = 2\n", ""))
 
     def test_set_and_print(self):
         status, text, _ = run_rules(RULES)
@@ -88,16 +93,23 @@ class Commands(unittest.TestCase):
     def test_conflict(self):
         status, out, _ = run_rules(RULES + "(and late-cem (= (+ ana-1 ben-1) 0))\n", "--conflict")
         self.assertEqual(status, 0)
-        self.assertEqual([line.split(":")[0] for line in out.splitlines()[1:]], ["line 12", "line 15", "line 27"])
+        self.assertEqual([line.split(":")[0] for line in out.splitlines()[1:]], ["line 12", "line 15", "line 30"])
         self.assertIn("without any one of them", out)
         self.assertEqual(run_rules(RULES, "--conflict")[:2], (1, "there is no conflict: a roster keeps all the rules\n"))
         status, out, _ = run_rules("(bool a) a (not a)", "--solve")
         self.assertEqual((status, "--conflict" in out), (1, True))
 
+    def test_different_readers(self):
+        text = "(int a b c 1 3) (alldifferent a b c) (= a 2) (< b c)"
+        self.assertEqual(run_rules(text, "--solve"), (0, "a = 2\nb = 1\nc = 3\n", ""))
+        status, out, _ = run_rules("(int a b c 1 2)\n(alldifferent a b c)\n(< a 9)", "--conflict")
+        self.assertEqual((status, out.splitlines()[1:]), (0, ["line 2: (alldifferent a b c)"]))
+
     def test_errors_name_file_and_place(self):
         for text, why in [("(bool a)\n (and a x)", "rules: FILE: line 2, column 9: x is not declared\n"),
                           ("(int x 0 1073741823)\ntrue\n (= x 1)", "rules: FILE: line 3, column 2: answer=refused,9: a weight is over 1073741823\n"),
-                          ("(int x 0 5000)\n(table (x) (1))", "rules: FILE: line 2, column 1: answer=refused,11: a column's span is over 4096\n")]:
+                          ("(int x 0 5000)\n(table (x) (1))", "rules: FILE: line 2, column 1: answer=refused,11: a column's span is over 4096\n"),
+                          ("(int x 0 1073741823)\n(alldifferent x x)", "rules: FILE: line 2, column 1: answer=refused,9: a weight is over 1073741823\n")]:
             self.assertEqual(run_rules(text, "--solve"), (2, "", why))
 
     def test_missing_file(self):

@@ -40,6 +40,17 @@ class Documents(unittest.TestCase):
             self.assertIn("`%s`" % line, text)
             self.assertIn("%s\n" % line, printed)
 
+    def test_the_set_of_all_different_readers(self):
+        shown = re.search(r"```\n(bools=0\nints=3\n.*?)```.*?```\n(answer=compiled\n.*?)```", read("docs", "FORMAT.md"), re.S)
+        self.assertEqual(listing.run(shown[1]), shown[2])
+
+    def test_the_clauses_and_the_sheet_of_the_example(self):
+        text, printed = read("docs", "EXAMPLE.md"), read("crates", "listing", "stdout").splitlines()
+        counts = [line for line in printed if line.startswith(("clauses=", "total="))]
+        self.assertEqual([line for line in counts if "`%s`" % line not in text], [])
+        for line in read("crates", "sheet", "stdout").splitlines():
+            self.assertIn("    %s\n" % line.rstrip(), text + "\n")
+
     def test_the_words_of_a_week(self):
         words = len(sets.words_of_problem(translate.translate(week(34, 6)).problem))
         self.assertIn("{:,} words (`tools/rules/week 34 6`)".format(words), read("docs", "FORMAT.md"))

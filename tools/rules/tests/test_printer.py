@@ -26,7 +26,7 @@ class Printing(unittest.TestCase):
         for seed in range(SETS):
             self.same(Generator(seed).problem())
 
-    def test_document_01_cases(self):
+    def test_cases(self):
         for _, words, _ in CASES:
             self.same(sets.problem_of_words([int(word) for word in words.split()]))
 
@@ -44,6 +44,6 @@ class Printing(unittest.TestCase):
         self.assertIn("(<= (+ cem-1 cem-2 cem-3 cem-4 cem-5 cem-6) 2)\n", text)
 
     def test_printed_forms(self):
-        text = "(bool a b)\n(int x 0 9)\n(int y (-3 5))\n(=> a (!= (+ (* -2 x) (+ y) 4) 0))\n(table (x) (1) (*))\ntrue\n"
+        text = "(bool a b)\n(int x 0 9)\n(int y (-3 5))\n(=> a (!= (+ (* -2 x) (+ y) 4) 0))\n(table (x) (1) (*))\n(alldifferent x (+ (* 2 y)) 4)\ntrue\n"
         rules = translate.translate(text)
         self.assertEqual(printer.Printer(rules.problem, rules.bools, rules.ints).text(), text)

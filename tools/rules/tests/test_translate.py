@@ -25,6 +25,8 @@ FORMS = [
     ("(= (* 2 (+ x y)) 0)", "1 18 0 22 1 2 22 2 1 21 0 1 21 1 20 0"),
     ("(table (x (+ x y)) (1 *) (2 3))", "2 2 2 21 0 22 2 1 21 0 1 21 1 1 -2147483648 2 3"),
     ("(table (x))", "2 1 0 21 0"), ("(table () () ())", "2 0 2"),
+    ("(alldifferent x y)", "3 2 21 0 21 1"), ("(alldifferent)", "3 0"), ("(alldifferent (* 2 x))", "3 1 22 1 2 21 0"),
+    ("(alldifferent (+ x (* 2 y)) 7 x)", "3 3 22 2 1 21 0 2 21 1 20 7 21 0"),
 ]
 
 ERRORS = [  # the text, the place, a part of what is said
@@ -46,6 +48,9 @@ ERRORS = [  # the text, the place, a part of what is said
     (NAMES + "(table (x) (y))", 2, 13, "a number is expected"), (NAMES + "(table (a) (1))", 2, 9, "a is a Boolean"),
     (NAMES + "(not " * 64 + "a" + ")" * 64, 2, 1 + 64 * 5, "64 levels"),
     ("; one\n\n (foo ; two\n)", 3, 2, "not \\(foo \\)"),
+    (NAMES + "(alldifferent x a)", 2, 17, "a is a Boolean"), (NAMES + "(alldifferent x z)", 2, 17, "z is not declared"),
+    (NAMES + "(not (alldifferent x y))", 2, 6, "alldifferent stands only by itself"), (NAMES + "(or (table (x)) a)", 2, 5, "table stands only by itself"),
+    ("(int alldifferent 0 1)", 1, 6, "a name is expected"), (NAMES + "(alldifferent " + "(- " * 64 + "x" + ")" * 65, 2, 15 + 64 * 3, "64 levels"),
 ]
 
 

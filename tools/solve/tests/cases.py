@@ -1,4 +1,4 @@
-"""P1 to P12 of document 01 as words, each with the rosters that satisfy it as document 01 has it (None: too many to list)."""
+"""P1 to P12 of document 01 and AllDifferents (document 02, 2.1) as words, each with the rosters that satisfy it (None: too many to list)."""
 
 X = "0 1 0 0 2"  # one integer over 0 to 2
 CASES = [
@@ -14,4 +14,10 @@ CASES = [
     ("P10", X + " 1  2 1 3 21 0 0 1 2", ["0", "1", "2"]),
     ("P11", X + " 1  2 1 1 21 0 5", []),
     ("P12", "0 2 0 0 1 0 0 1 1  2 2 2 21 0 21 1 0 0 1 1", ["0,0", "1,1"]),
+    ("values used up", "0 2 0 0 1 1 2 0 1 1  3 2 21 0 21 1", ["0,1", "1,0"]),
+    ("one value more", "0 2 0 0 2 0 0 1 1  3 2 21 0 21 1", ["0,1", "1,0", "2,0", "2,1"]),
+    ("more variables than values", "0 3 0 0 1 0 0 1 0 0 1 1  3 3 21 0 21 1 21 2", []),
+    ("a sum and a constant", X + " 1  3 3 21 0 22 1 2 21 0 20 1", ["2"]),
+    ("none and one", X + " 2  3 0  3 1 21 0", ["0", "1", "2"]),
+    ("a variable twice", X + " 1  3 2 21 0 21 0", []),
 ]

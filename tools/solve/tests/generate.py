@@ -3,7 +3,7 @@
 import random
 
 from .. import sets
-from ..sets import AND, CMP, CONST, ICONST, IFF, IMP, IVAR, NOT, OR, RANGE, RULE, STAR, SUM, TABLE, VALUES, VAR, XOR
+from ..sets import AND, CMP, CONST, DIFFERENT, ICONST, IFF, IMP, IVAR, NOT, OR, RANGE, RULE, STAR, SUM, TABLE, VALUES, VAR, XOR
 
 
 class Generator:
@@ -13,6 +13,8 @@ class Generator:
     def problem(self):
         bools, ints = self.random.randint(0, 4), self.random.randint(0, 3)
         domains = [self.domain() for _ in range(ints)]
+        if self.random.random() < 0.3:  # equal domains, whose values an AllDifferent may use up
+            domains = domains[:1] * ints
         statements = [self.statement(bools, ints) for _ in range(self.random.randint(1, 4))]
         return sets.Problem(bools, domains, statements)
 
@@ -24,8 +26,11 @@ class Generator:
         return (VALUES, sorted(self.random.sample(range(-6, 7), self.random.randint(1, 4))))
 
     def statement(self, bools, ints):
-        if self.random.random() < 0.25:
+        kind = self.random.random()
+        if kind < 0.25:
             return self.table(ints)
+        if kind < 0.45:
+            return self.different(ints)
         return (RULE, self.boolean(bools, ints, 3))
 
     def boolean(self, bools, ints, levels):
@@ -53,6 +58,12 @@ class Generator:
             return (IVAR, self.random.randrange(ints))
         terms = range(self.random.choice([0, 1, 1, 2, 2, 3]))
         return (SUM, [(self.random.choice([1, 1, 1, -1, 2, -3, 0]), self.integer(ints, levels - 1)) for _ in terms])
+
+    def different(self, ints):
+        """All the variables, as often as not, or any expressions."""
+        if self.random.random() < 0.5:
+            return (DIFFERENT, [(IVAR, index) for index in self.random.sample(range(ints), ints)])
+        return (DIFFERENT, [self.integer(ints, 1) for _ in range(self.random.randint(0, 4))])
 
     def table(self, ints):
         columns = [self.integer(ints, 1) for _ in range(self.random.choice([0, 1, 2, 2, 3]))]

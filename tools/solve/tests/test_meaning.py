@@ -33,7 +33,15 @@ class Meaning(unittest.TestCase):
         problem = sets.Problem(0, [(sets.RANGE, 0, 4), (sets.VALUES, [0, 4])], [])
         self.assertEqual([meaning.outside(problem, ints) for ints in ([4, 4], [5, 4], [2, 2])], [None, 0, 1])
 
-    def test_document_01_cases(self):
+    def test_all_different(self):
+        x, y = (sets.IVAR, 0), (sets.IVAR, 1)
+        different = (sets.DIFFERENT, [x, y, (sets.SUM, [(2, x)])])
+        found = [meaning.statement_holds(different, [], ints) for ints in ([1, 3], [1, 1], [1, 2], [0, 3])]
+        self.assertEqual(found, [True, False, False, False])
+        for members in ([], [x]):
+            self.assertTrue(meaning.statement_holds((sets.DIFFERENT, members), [], [5]))
+
+    def test_cases(self):
         for name, words, expected in CASES:
             problem = sets.problem_of_words([int(word) for word in words.split()])
             if expected is not None:

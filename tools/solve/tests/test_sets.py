@@ -26,10 +26,16 @@ class Sets(unittest.TestCase):
         self.assertEqual(rule, (sets.RULE, (sets.IMP, (sets.VAR, 0), (sets.CMP, 4, total, (sets.ICONST, 7)))))
         self.assertEqual(table, (sets.TABLE, [(sets.IVAR, 1)], [[3], [sets.STAR]]))
 
+    def test_all_different(self):
+        problem = sets.problem_of_words(words("0 1 0 0 4 2  3 2 22 1 -2 21 0 20 7  3 0"))
+        self.assertEqual(problem.statements, [(sets.DIFFERENT, [(sets.SUM, [(-2, (sets.IVAR, 0))]), (sets.ICONST, 7)]), (sets.DIFFERENT, [])])
+        self.assertTrue(sets.text_of_problem(problem).endswith("statements=2\nstatement=3,2,22,1,-2,21,0,20,7\nstatement=3,0\n"))
+
     def test_words_that_say_no_set(self):
         for case, why in [("1 0", "end early"), ("0 0 0 7", "follow"), ("0 0 1 9", "no code of a statement"),
                           ("0 0 1 1 20 0", "no code of a Boolean"), ("0 1 2 0", "no code of a domain"),
-                          ("0 0 1 2 0 1000000000", "no count"), ("0 0 -1", "no count"),
+                          ("0 0 1 2 0 1000000000", "no count"), ("0 0 1 3 -1", "no count"), ("0 0 1 3 1 11 0", "no code of an? integer"),
+                          ("0 0 1 3 1 " + "22 1 1 " * 64 + "20 0", "deeper than 64 levels"), ("0 0 1 4 0", "no code of a statement"), ("0 0 -1", "no count"),
                           ("1 0 1 1 " + "14 " * 64 + "11 0", "deeper than 64 levels")]:
             with self.assertRaisesRegex(Failed, why, msg=case):
                 sets.problem_of_words(words(case))

@@ -1,4 +1,4 @@
-"""Both solvers against enumeration: P1 to P12, the worked example, 300 generated sets."""
+"""Both solvers against enumeration: P1 to P12, small AllDifferents, the worked example, 300 generated sets."""
 
 import os
 import unittest
@@ -24,7 +24,7 @@ class Solving(unittest.TestCase):
             self.assertTrue(got in expected if expected else got is None, (name, solver, got))
         return bool(expected)
 
-    def test_document_01_cases(self):
+    def test_cases(self):
         for name, words, _ in CASES:
             self.agree(sets.problem_of_words([int(word) for word in words.split()]), name)
 

@@ -1,11 +1,11 @@
-use Rattle.accept.proofs.TestLaws.{pair-left, pair-right, pair-behind, pair-totals, pair-heavy, pair-many, pair-none, pair-on, pair-small}
+use Rattle.accept.proofs.TestLaws.{pair-left, pair-right, pair-behind, pair-totals, pair-heavy, pair-on, pair-many, pair-none}
 use borrow.Author.Needs.{needs}
 use Rattle.accept.proofs.comparison.Statement.{statement}
 use Rattle.accept.proofs.comparison.Tie as tie
 use Rattle.accept.proofs.comparison.Reads as reads
 use Rattle.accept.proofs.comparison.Lts as lts
-use Rattle.accept.proofs.different.Reads as different-reads
 use Rattle.accept.proofs.int_total.Reads as int-total-reads
+use Rattle.accept.proofs.many_comparison.Reads as many-comparison-reads
 use Rattle.accept.proofs.unless.Reads as unless-reads
 
 int-total-requires : tie.Need-int-total-requires
@@ -23,23 +23,20 @@ unless-requires c κs = search needs
 returns : tie.Need-returns
 returns c = pair-heavy (c .before .before .before .before .before .before .args .set .now) (c .before .before .before .before .before .before .args .work .now) (c .before .before .before .before .before .before .args .at) (c .before .before .before .before .before .before .args .ni) (c .before .before .before .before .before .before .args .m) _ _ (c .before .before .before .before .before .int-total .ensures) _ _ (c .before .before .before .before .int-total2 .ensures) (c .before .before .before .if1 .taken) _ (c .unless .ensures)
 
-sub-words : tie.Need-sub-words
-sub-words c = let q = pair-on (c .before .before .before .before .before .args .set .now) (c .before .before .before .before .before .args .work .now) (c .before .before .before .before .before .args .at) (c .before .before .before .before .before .args .ni) (c .before .before .before .before .before .args .m) _ _ (c .before .before .before .before .int-total .ensures) _ _ (c .before .before .before .int-total2 .ensures) (c .before .before .before .before .before .pre .0) in search needs
+sub-many-comparison : tie.Need-sub-many-comparison
+sub-many-comparison c = let q = pair-on (c .before .before .before .before .before .args .set .now) (c .before .before .before .before .before .args .work .now) (c .before .before .before .before .before .args .at) (c .before .before .before .before .before .args .ni) (c .before .before .before .before .before .args .m) _ _ (c .before .before .before .before .int-total .ensures) _ _ (c .before .before .before .int-total2 .ensures) (c .before .before .before .before .before .pre .0) in search needs
 
-returns-2 : tie.Need-returns-2
-returns-2 c = pair-small (c .before .before .before .before .before .before .args .set .now) (c .before .before .before .before .before .before .args .work .now) (c .before .before .before .before .before .before .args .at) (c .before .before .before .before .before .before .args .ni) (c .before .before .before .before .before .before .args .m) _ _ (c .before .before .before .before .before .int-total .ensures) _ _ (c .before .before .before .before .int-total2 .ensures) (c .before .before .before .if1 .left) (c .before .before .if2 .taken) (c .if3 .taken)
-
-different-requires : tie.Need-different-requires
-different-requires c κs = let q = pair-behind (c .before .before .before .before .before .before .args .set .now) (c .before .before .before .before .before .before .args .work .now) (c .before .before .before .before .before .before .args .at) (c .before .before .before .before .before .before .args .ni) (c .before .before .before .before .before .before .args .m) _ _ (c .before .before .before .before .before .int-total .ensures) (c .before .before .before .before .before .before .pre .0) in (q .0, q .1, c .before .before .before .before .before .before .pre .1)
+many-comparison-requires : tie.Need-many-comparison-requires
+many-comparison-requires c κs = let q = pair-behind (c .before .before .before .before .before .args .set .now) (c .before .before .before .before .before .args .work .now) (c .before .before .before .before .before .args .at) (c .before .before .before .before .before .args .ni) (c .before .before .before .before .before .args .m) _ _ (c .before .before .before .before .int-total .ensures) (c .before .before .before .before .before .pre .0) in let l = q .0 in let r = q .1 in search needs
 
 unless-requires-2 : tie.Need-unless-requires-2
 unless-requires-2 c κs = search needs
 
-returns-3 : tie.Need-returns-3
-returns-3 c = pair-many (c .before .before .before .before .before .before .before .before .args .set .now) (c .before .before .before .before .before .before .before .before .args .work .now) (c .before .before .before .before .before .before .before .before .args .at) (c .before .before .before .before .before .before .before .before .args .ni) (c .before .before .before .before .before .before .before .before .args .m) _ _ (c .before .before .before .before .before .before .before .int-total .ensures) _ _ (c .before .before .before .before .before .before .int-total2 .ensures) (c .before .before .before .before .before .if1 .left) (c .before .before .before .before .if2 .taken) _ _ (c .before .different .ensures) (c .unless2 .ensures)
+returns-2 : tie.Need-returns-2
+returns-2 c = pair-many (c .before .before .before .before .before .before .before .args .set .now) (c .before .before .before .before .before .before .before .args .work .now) (c .before .before .before .before .before .before .before .args .at) (c .before .before .before .before .before .before .before .args .ni) (c .before .before .before .before .before .before .before .args .m) _ _ (c .before .before .before .before .before .before .int-total .ensures) _ _ (c .before .before .before .before .before .int-total2 .ensures) (c .before .before .before .before .if1 .left) (c .before .before .before .if2 .taken) _ _ (c .before .many-comparison .ensures) (c .unless2 .ensures)
 
-returns-4 : tie.Need-returns-4
-returns-4 c = pair-none (c .before .before .before .before .args .set .now) (c .before .before .before .before .args .work .now) (c .before .before .before .before .args .at) (c .before .before .before .before .args .ni) (c .before .before .before .before .args .m) _ _ (c .before .before .before .int-total .ensures) _ _ (c .before .before .int-total2 .ensures) (c .before .if1 .left) (c .if2 .left)
+returns-3 : tie.Need-returns-3
+returns-3 c = pair-none (c .before .before .before .before .args .set .now) (c .before .before .before .before .args .work .now) (c .before .before .before .before .args .at) (c .before .before .before .before .args .ni) (c .before .before .before .before .args .m) _ _ (c .before .before .before .int-total .ensures) _ _ (c .before .before .int-total2 .ensures) (c .before .if1 .left) (c .if2 .left)
 
 pub comparison-spec : {M : Type 1} → statement M
 comparison-spec =
@@ -50,9 +47,8 @@ comparison-spec =
     add-unless
     unless-requires
     returns
-    sub-words
-    returns-2
-    different-requires
+    sub-many-comparison
+    many-comparison-requires
     unless-requires-2
-    returns-3
-    returns-4)
+    returns-2
+    returns-3)

@@ -1,48 +1,24 @@
 use native.Mathlib.Omega.{arith}
-use Prim.Native.Nat.{_-_, _≤_}
-use Rattle.accept.specs.Walk.{Marked-post}
-use Rattle.accept.proofs.CountLaws.{marked-start, marked-next, marked-under, either-bit, marked-all}
+use Rattle.accept.proofs.CountLaws.{blank-of, first-size, second-size, different-post}
 use borrow.Author.Needs.{needs}
 use Rattle.accept.proofs.different.Statement.{statement}
 use Rattle.accept.proofs.different.Tie as tie
 use Rattle.accept.proofs.different.Reads as reads
 use Rattle.accept.proofs.different.Lts as lts
+use Rattle.accept.proofs.mark_written.Reads as mark-written-reads
 
-abbrev Inv-loop : tie.InvT-loop
-Inv-loop set a b n v₀ count₀ v count = Marked-post set a b v count × (v ≤ n)
+mark-written-requires : tie.Need-mark-written-requires
+mark-written-requires c κs = search needs
 
-abbrev μ-loop : tie.MeasureT-loop
-μ-loop set a b n v₀ count₀ v count = n - v
+mark-written-requires-2 : tie.Need-mark-written-requires-2
+mark-written-requires-2 c κs = let l = first-size (c .before .before .before .args .set .now) (c .before .before .before .args .a) (c .before .before .before .args .b) (c .before .before .before .args .n) _ (blank-of (c .before .before .before .args .n) (c .before .before .before .pre .2)) _ _ (c .before .mark-written .ensures) (c .before .before .before .pre .0) .0 in search needs
 
-loop-holds : tie.Need-loop-holds Inv-loop μ-loop
-loop-holds c = (marked-start (c .args .set .now) (c .args .a) (c .args .b), omega arith)
+add-result : tie.Need-add-result
+add-result c = omega (arith, first-size (c .before .before .before .before .args .set .now) (c .before .before .before .before .args .a) (c .before .before .before .before .args .b) (c .before .before .before .before .args .n) _ (blank-of (c .before .before .before .before .args .n) (c .before .before .before .before .pre .2)) _ _ (c .before .before .mark-written .ensures) (c .before .before .before .before .pre .0) .1, second-size (c .before .before .before .before .args .set .now) (c .before .before .before .before .args .a) (c .before .before .before .before .args .b) (c .before .before .before .before .args .n) _ (blank-of (c .before .before .before .before .args .n) (c .before .before .before .before .pre .2)) _ _ (c .before .before .mark-written .ensures) _ _ (c .mark-written2 .ensures) (c .before .before .before .before .pre .1), c .before .before .before .before .pre .2)
 
-writes-either-requires : tie.Need-writes-either-requires Inv-loop μ-loop
-writes-either-requires c κs = (c .before .before .pre .0, c .before .before .pre .1)
-
-add-count : tie.Need-add-count Inv-loop μ-loop
-add-count c = let p = marked-under (c .before .before .before .args .set .now) (c .before .before .before .args .a) (c .before .before .before .args .b) _ _ (c .before .before .before .pre .0) (c .before .before .before .pre .1) (c .before .before .loop .inv .0) in let k = either-bit (c .before .before .before .args .set .now) (c .before .before .before .args .a) (c .before .before .before .args .b) _ _ (c .before .before .before .pre .0) (c .before .before .before .pre .1) (c .writes-either .ensures) in let l = c .before .before .loop .inv .1 in let n = c .before .before .before .pre .2 in search needs
-
-add-v : tie.Need-add-v Inv-loop μ-loop
-add-v c = let l = c .before .before .loop .inv .1 in let n = c .before .before .before .pre .2 in search needs
-
-loop-less : tie.Need-loop-less Inv-loop μ-loop
-loop-less c = omega (arith, c .before .loop-test .taken)
-
-loop-again : tie.Need-loop-again Inv-loop μ-loop
-loop-again c = (marked-next (c .before .before .before .args .set .now) (c .before .before .before .args .a) (c .before .before .before .args .b) _ _ _ (c .before .before .loop .inv .0) (c .writes-either .ensures), omega (arith, c .before .loop-test .taken))
-
-returns : tie.Need-returns Inv-loop μ-loop
-returns c = marked-all (c .before .before .args .set .now) (c .before .before .args .a) (c .before .before .args .b) _ (c .before .before .args .n) _ (c .before .loop .inv .0) (omega (arith, c .loop-test .left, c .before .loop .inv .1))
+returns : tie.Need-returns
+returns c = different-post (c .before .before .before .before .args .set .now) (c .before .before .before .before .args .a) (c .before .before .before .before .args .b) (c .before .before .before .before .args .n) _ (blank-of (c .before .before .before .before .args .n) (c .before .before .before .before .pre .2)) _ _ (c .before .before .mark-written .ensures) _ _ (c .mark-written2 .ensures)
 
 pub different-spec : {M : Type 1} → statement M
 different-spec =
-    tie.close
-    (tie.spec Inv-loop μ-loop
-    loop-holds
-    writes-either-requires
-    add-count
-    add-v
-    loop-less
-    loop-again
-    returns)
+    tie.close (tie.spec mark-written-requires mark-written-requires-2 add-result returns)

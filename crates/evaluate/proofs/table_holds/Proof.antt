@@ -1,42 +1,40 @@
-use borrow.Author.Needs.{needs}
 use Rattle.evaluate.proofs.table_holds.Statement.{statement}
 use Rattle.evaluate.proofs.table_holds.Tie as tie
-use mathlib.Core.Path.{_∙_, ap}
-use Rattle.evaluate.proofs.StmtLaws.{stmt-first, table-inside, table-columns, table-rows, columns-start, rows-start, table-held}
-use lib.IntN.{pos}
+use Rattle.evaluate.proofs.StmtLaws.{table-inside, table-columns, table-rows, columns-start, rows-start, table-held}
+use borrow.Author.Needs.{needs}
 
 add-number : tie.Need-add-number
-add-number c = let q = table-inside (c .args .set .now) (c .args .values .now) (c .args .nb) (c .args .at) (c .args .work .now) ((stmt-first (c .args .set .now) (c .args .values .now) (c .args .nb) (c .args .at) (c .args .work .now) (c .pre .0)) .value) ((stmt-first (c .args .set .now) (c .args .values .now) (c .args .nb) (c .args .at) (c .args .work .now) (c .pre .0)) .is) (λ z. c .pre .1 ((stmt-first (c .args .set .now) (c .args .values .now) (c .args .nb) (c .args .at) (c .args .work .now) (c .pre .0)) .is ∙ ap pos z)) (c .pre .0) in search needs
+add-number c = let q = table-inside _ _ _ _ _ (c .pre .1) (c .pre .0) in search needs
 
 number-requires : tie.Need-number-requires
-number-requires c κs = table-columns (c .args .set .now) (c .args .values .now) (c .args .nb) (c .args .at) (c .args .work .now) ((stmt-first (c .args .set .now) (c .args .values .now) (c .args .nb) (c .args .at) (c .args .work .now) (c .pre .0)) .value) ((stmt-first (c .args .set .now) (c .args .values .now) (c .args .nb) (c .args .at) (c .args .work .now) (c .pre .0)) .is) (λ z. c .pre .1 ((stmt-first (c .args .set .now) (c .args .values .now) (c .args .nb) (c .args .at) (c .args .work .now) (c .pre .0)) .is ∙ ap pos z)) (c .pre .0)
+number-requires c κs = table-columns _ _ _ _ _ (c .pre .1) (c .pre .0)
 
 add-number-2 : tie.Need-add-number-2
-add-number-2 c = let q = table-inside (c .before .args .set .now) (c .before .args .values .now) (c .before .args .nb) (c .before .args .at) (c .before .args .work .now) ((stmt-first (c .before .args .set .now) (c .before .args .values .now) (c .before .args .nb) (c .before .args .at) (c .before .args .work .now) (c .before .pre .0)) .value) ((stmt-first (c .before .args .set .now) (c .before .args .values .now) (c .before .args .nb) (c .before .args .at) (c .before .args .work .now) (c .before .pre .0)) .is) (λ z. c .before .pre .1 ((stmt-first (c .before .args .set .now) (c .before .args .values .now) (c .before .args .nb) (c .before .args .at) (c .before .args .work .now) (c .before .pre .0)) .is ∙ ap pos z)) (c .before .pre .0) in search needs
+add-number-2 c = let q = table-inside _ _ _ _ _ (c .before .pre .1) (c .before .pre .0) in search needs
 
 number-requires-2 : tie.Need-number-requires-2
-number-requires-2 c κs = table-rows (c .before .args .set .now) (c .before .args .values .now) (c .before .args .nb) (c .before .args .at) (c .before .args .work .now) ((stmt-first (c .before .args .set .now) (c .before .args .values .now) (c .before .args .nb) (c .before .args .at) (c .before .args .work .now) (c .before .pre .0)) .value) ((stmt-first (c .before .args .set .now) (c .before .args .values .now) (c .before .args .nb) (c .before .args .at) (c .before .args .work .now) (c .before .pre .0)) .is) (λ z. c .before .pre .1 ((stmt-first (c .before .args .set .now) (c .before .args .values .now) (c .before .args .nb) (c .before .args .at) (c .before .args .work .now) (c .before .pre .0)) .is ∙ ap pos z)) (c .before .pre .0)
+number-requires-2 c κs = table-rows _ _ _ _ _ (c .before .pre .1) (c .before .pre .0)
 
 add-column-values : tie.Need-add-column-values
-add-column-values c = let q = table-inside (c .before .before .args .set .now) (c .before .before .args .values .now) (c .before .before .args .nb) (c .before .before .args .at) (c .before .before .args .work .now) ((stmt-first (c .before .before .args .set .now) (c .before .before .args .values .now) (c .before .before .args .nb) (c .before .before .args .at) (c .before .before .args .work .now) (c .before .before .pre .0)) .value) ((stmt-first (c .before .before .args .set .now) (c .before .before .args .values .now) (c .before .before .args .nb) (c .before .before .args .at) (c .before .before .args .work .now) (c .before .before .pre .0)) .is) (λ z. c .before .before .pre .1 ((stmt-first (c .before .before .args .set .now) (c .before .before .args .values .now) (c .before .before .args .nb) (c .before .before .args .at) (c .before .before .args .work .now) (c .before .before .pre .0)) .is ∙ ap pos z)) (c .before .before .pre .0) in search needs
+add-column-values c = let q = table-inside _ _ _ _ _ (c .before .before .pre .1) (c .before .before .pre .0) in search needs
 
 column-values-requires : tie.Need-column-values-requires
-column-values-requires c κs = columns-start (c .before .before .before .args .set .now) (c .before .before .before .args .values .now) (c .before .before .before .args .nb) (c .before .before .before .args .at) (c .before .before .before .args .work .now) ((stmt-first (c .before .before .before .args .set .now) (c .before .before .before .args .values .now) (c .before .before .before .args .nb) (c .before .before .before .args .at) (c .before .before .before .args .work .now) (c .before .before .before .pre .0)) .value) ((stmt-first (c .before .before .before .args .set .now) (c .before .before .before .args .values .now) (c .before .before .before .args .nb) (c .before .before .before .args .at) (c .before .before .before .args .work .now) (c .before .before .before .pre .0)) .is) (λ z. c .before .before .before .pre .1 ((stmt-first (c .before .before .before .args .set .now) (c .before .before .before .args .values .now) (c .before .before .before .args .nb) (c .before .before .before .args .at) (c .before .before .before .args .work .now) (c .before .before .before .pre .0)) .is ∙ ap pos z)) _ (c .before .before .number .ensures .0) _ (c .before .number2 .ensures .0) (c .before .before .before .pre .0)
+column-values-requires c κs = columns-start _ _ _ _ _ (c .before .before .before .pre .1) _ (c .before .before .number .ensures .0) _ (c .before .number2 .ensures .0) (c .before .before .before .pre .0)
 
 rows-hold-requires : tie.Need-rows-hold-requires
-rows-hold-requires c κs = rows-start (c .before .before .before .before .before .before .args .set .now) (c .before .before .before .before .before .before .args .values .now) (c .before .before .before .before .before .before .args .nb) (c .before .before .before .before .before .before .args .at) (c .before .before .before .before .before .before .args .work .now) ((stmt-first (c .before .before .before .before .before .before .args .set .now) (c .before .before .before .before .before .before .args .values .now) (c .before .before .before .before .before .before .args .nb) (c .before .before .before .before .before .before .args .at) (c .before .before .before .before .before .before .args .work .now) (c .before .before .before .before .before .before .pre .0)) .value) ((stmt-first (c .before .before .before .before .before .before .args .set .now) (c .before .before .before .before .before .before .args .values .now) (c .before .before .before .before .before .before .args .nb) (c .before .before .before .before .before .before .args .at) (c .before .before .before .before .before .before .args .work .now) (c .before .before .before .before .before .before .pre .0)) .is) (λ z. c .before .before .before .before .before .before .pre .1 ((stmt-first (c .before .before .before .before .before .before .args .set .now) (c .before .before .before .before .before .before .args .values .now) (c .before .before .before .before .before .before .args .nb) (c .before .before .before .before .before .before .args .at) (c .before .before .before .before .before .before .args .work .now) (c .before .before .before .before .before .before .pre .0)) .is ∙ ap pos z)) _ (c .before .before .before .before .before .number .ensures .0) _ (c .before .before .before .before .number2 .ensures .0) _ _ (c .before .before .column-values .ensures) (c .before .before .before .before .before .before .pre .0) .0
+rows-hold-requires c κs = rows-start _ _ _ _ _ (c .before .before .before .before .before .before .pre .1) _ (c .before .before .before .before .before .number .ensures .0) _ (c .before .before .before .before .number2 .ensures .0) _ _ (c .before .before .column-values .ensures) (c .before .before .before .before .before .before .pre .0) .0
 
 mul-t10 : tie.Need-mul-t10
-mul-t10 c = let q = rows-start (c .before .before .before .before .before .before .before .args .set .now) (c .before .before .before .before .before .before .before .args .values .now) (c .before .before .before .before .before .before .before .args .nb) (c .before .before .before .before .before .before .before .args .at) (c .before .before .before .before .before .before .before .args .work .now) ((stmt-first (c .before .before .before .before .before .before .before .args .set .now) (c .before .before .before .before .before .before .before .args .values .now) (c .before .before .before .before .before .before .before .args .nb) (c .before .before .before .before .before .before .before .args .at) (c .before .before .before .before .before .before .before .args .work .now) (c .before .before .before .before .before .before .before .pre .0)) .value) ((stmt-first (c .before .before .before .before .before .before .before .args .set .now) (c .before .before .before .before .before .before .before .args .values .now) (c .before .before .before .before .before .before .before .args .nb) (c .before .before .before .before .before .before .before .args .at) (c .before .before .before .before .before .before .before .args .work .now) (c .before .before .before .before .before .before .before .pre .0)) .is) (λ z. c .before .before .before .before .before .before .before .pre .1 ((stmt-first (c .before .before .before .before .before .before .before .args .set .now) (c .before .before .before .before .before .before .before .args .values .now) (c .before .before .before .before .before .before .before .args .nb) (c .before .before .before .before .before .before .before .args .at) (c .before .before .before .before .before .before .before .args .work .now) (c .before .before .before .before .before .before .before .pre .0)) .is ∙ ap pos z)) _ (c .before .before .before .before .before .before .number .ensures .0) _ (c .before .before .before .before .before .number2 .ensures .0) _ _ (c .before .before .before .column-values .ensures) (c .before .before .before .before .before .before .before .pre .0) .1 in search needs
+mul-t10 c = let q = rows-start _ _ _ _ _ (c .before .before .before .before .before .before .before .pre .1) _ (c .before .before .before .before .before .before .number .ensures .0) _ (c .before .before .before .before .before .number2 .ensures .0) _ _ (c .before .before .before .column-values .ensures) (c .before .before .before .before .before .before .before .pre .0) .1 in search needs
 
 add-t15 : tie.Need-add-t15
-add-t15 c = let q = rows-start (c .before .before .before .before .before .before .before .args .set .now) (c .before .before .before .before .before .before .before .args .values .now) (c .before .before .before .before .before .before .before .args .nb) (c .before .before .before .before .before .before .before .args .at) (c .before .before .before .before .before .before .before .args .work .now) ((stmt-first (c .before .before .before .before .before .before .before .args .set .now) (c .before .before .before .before .before .before .before .args .values .now) (c .before .before .before .before .before .before .before .args .nb) (c .before .before .before .before .before .before .before .args .at) (c .before .before .before .before .before .before .before .args .work .now) (c .before .before .before .before .before .before .before .pre .0)) .value) ((stmt-first (c .before .before .before .before .before .before .before .args .set .now) (c .before .before .before .before .before .before .before .args .values .now) (c .before .before .before .before .before .before .before .args .nb) (c .before .before .before .before .before .before .before .args .at) (c .before .before .before .before .before .before .before .args .work .now) (c .before .before .before .before .before .before .before .pre .0)) .is) (λ z. c .before .before .before .before .before .before .before .pre .1 ((stmt-first (c .before .before .before .before .before .before .before .args .set .now) (c .before .before .before .before .before .before .before .args .values .now) (c .before .before .before .before .before .before .before .args .nb) (c .before .before .before .before .before .before .before .args .at) (c .before .before .before .before .before .before .before .args .work .now) (c .before .before .before .before .before .before .before .pre .0)) .is ∙ ap pos z)) _ (c .before .before .before .before .before .before .number .ensures .0) _ (c .before .before .before .before .before .number2 .ensures .0) _ _ (c .before .before .before .column-values .ensures) (c .before .before .before .before .before .before .before .pre .0) .1 in search needs
+add-t15 c = let q = rows-start _ _ _ _ _ (c .before .before .before .before .before .before .before .pre .1) _ (c .before .before .before .before .before .before .number .ensures .0) _ (c .before .before .before .before .before .number2 .ensures .0) _ _ (c .before .before .before .column-values .ensures) (c .before .before .before .before .before .before .before .pre .0) .1 in search needs
 
 same-length : tie.Need-same-length
 same-length c = search needs
 
 returns : tie.Need-returns
-returns c = table-held (c .before .before .before .before .before .before .before .args .set .now) (c .before .before .before .before .before .before .before .args .values .now) (c .before .before .before .before .before .before .before .args .nb) (c .before .before .before .before .before .before .before .args .at) (c .before .before .before .before .before .before .before .args .work .now) ((stmt-first (c .before .before .before .before .before .before .before .args .set .now) (c .before .before .before .before .before .before .before .args .values .now) (c .before .before .before .before .before .before .before .args .nb) (c .before .before .before .before .before .before .before .args .at) (c .before .before .before .before .before .before .before .args .work .now) (c .before .before .before .before .before .before .before .pre .0)) .value) ((stmt-first (c .before .before .before .before .before .before .before .args .set .now) (c .before .before .before .before .before .before .before .args .values .now) (c .before .before .before .before .before .before .before .args .nb) (c .before .before .before .before .before .before .before .args .at) (c .before .before .before .before .before .before .before .args .work .now) (c .before .before .before .before .before .before .before .pre .0)) .is) (λ z. c .before .before .before .before .before .before .before .pre .1 ((stmt-first (c .before .before .before .before .before .before .before .args .set .now) (c .before .before .before .before .before .before .before .args .values .now) (c .before .before .before .before .before .before .before .args .nb) (c .before .before .before .before .before .before .before .args .at) (c .before .before .before .before .before .before .before .args .work .now) (c .before .before .before .before .before .before .before .pre .0)) .is ∙ ap pos z)) _ (c .before .before .before .before .before .before .number .ensures .0) _ (c .before .before .before .before .before .number2 .ensures .0) _ _ (c .before .before .before .column-values .ensures) ((c .before .before .before .before .before .before .before .pre .0) .room) _ (c .rows-hold .ensures)
+returns c = table-held _ _ _ _ _ (c .before .before .before .before .before .before .before .pre .1) _ (c .before .before .before .before .before .before .number .ensures .0) _ (c .before .before .before .before .before .number2 .ensures .0) _ _ (c .before .before .before .column-values .ensures) (c .before .before .before .before .before .before .before .pre .0 .room) _ (c .rows-hold .ensures)
 
 pub table-holds-spec : {M : Type 1} → statement M
 table-holds-spec =

@@ -1,7 +1,6 @@
 use Prim.Native.Nat.{_-_}
 use native.Mathlib.Omega.{arith}
 use Rattle.merging.proofs.Loop.{Sofar, all-start, stmt-here, here-inside, size-here, moved, all-again, all-done}
-use borrow.Author.Needs.{needs}
 use Rattle.merging.proofs.merge_statements.Statement.{statement}
 use Rattle.merging.proofs.merge_statements.Tie as tie
 use Rattle.merging.proofs.merge_statements.Reads as reads

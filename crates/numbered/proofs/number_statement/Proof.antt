@@ -1,14 +1,15 @@
-use native.Mathlib.Omega.{arith}
-use Rattle.numbered.proofs.Single.{stmt-inside, some-table, known-met, rule-met, stmt-table-met}
 use borrow.Author.Needs.{needs}
+use native.Mathlib.Omega.{arith}
+use Rattle.numbered.proofs.Single.{stmt-inside, some-table, some-different, known-met, rule-met, stmt-table-met, stmt-different-met}
+use Rattle.number.proofs.number_rule.Reads as number-rule-reads
+use Rattle.numbered.proofs.known_tie.Reads as known-tie-reads
+use Rattle.numbered.proofs.number_table.Reads as number-table-reads
+use Rattle.numbered.proofs.number_different.Reads as number-different-reads
+use Rattle.survey.proofs.word.Reads as word-reads
 use Rattle.numbered.proofs.number_statement.Statement.{statement}
 use Rattle.numbered.proofs.number_statement.Tie as tie
 use Rattle.numbered.proofs.number_statement.Reads as reads
 use Rattle.numbered.proofs.number_statement.Lts as lts
-use Rattle.number.proofs.number_rule.Reads as number-rule-reads
-use Rattle.numbered.proofs.known_tie.Reads as known-tie-reads
-use Rattle.numbered.proofs.number_table.Reads as number-table-reads
-use Rattle.survey.proofs.word.Reads as word-reads
 
 known-tie-requires : tie.Need-known-tie-requires
 known-tie-requires c κs = omega (arith, stmt-inside _ _ _ (c .before .pre .0))
@@ -34,14 +35,23 @@ same-length-2 c = c .before .number-rule .ensures .size
 returns-2 : tie.Need-returns-2
 returns-2 c = rule-met _ _ _ _ _ _ (c .before .before .before .before .word .ensures) (c .before .before .before .if2 .taken) (c .before .number-rule .ensures)
 
-number-table-requires : tie.Need-number-table-requires
-number-table-requires c κs = (some-table _ _ _ _ (c .before .before .word .ensures) (c .before .before .before .before .before .before .before .pre .0) (c .before .if2 .left), c .before .before .before .before .before .before .before .pre .1)
+number-different-requires : tie.Need-number-different-requires
+number-different-requires c κs = (some-different _ _ _ _ (c .before .before .before .word .ensures) (c .before .before .before .before .before .before .before .before .pre .0) (c .before .if3 .taken), c .before .before .before .before .before .before .before .before .pre .1)
 
 same-length-3 : tie.Need-same-length-3
-same-length-3 c = c .before .number-table .ensures .size
+same-length-3 c = c .before .number-different .ensures .size
 
 returns-3 : tie.Need-returns-3
-returns-3 c = stmt-table-met _ _ _ _ _ _ (c .before .before .before .before .word .ensures) (c .before .before .before .if2 .left) (c .before .number-table .ensures)
+returns-3 c = stmt-different-met _ _ _ _ _ _ (c .before .before .before .before .before .word .ensures) (c .before .before .before .if3 .taken) (c .before .number-different .ensures)
+
+number-table-requires : tie.Need-number-table-requires
+number-table-requires c κs = (some-table _ _ _ _ (c .before .before .before .word .ensures) (c .before .before .before .before .before .before .before .before .pre .0) (c .before .before .if2 .left) (c .before .if3 .left), c .before .before .before .before .before .before .before .before .pre .1)
+
+same-length-4 : tie.Need-same-length-4
+same-length-4 c = c .before .number-table .ensures .size
+
+returns-4 : tie.Need-returns-4
+returns-4 c = stmt-table-met _ _ _ _ _ _ (c .before .before .before .before .before .word .ensures) (c .before .before .before .before .if2 .left) (c .before .before .before .if3 .left) (c .before .number-table .ensures)
 
 pub number-statement-spec : {M : Type 1} → statement M
 number-statement-spec =
@@ -55,6 +65,9 @@ number-statement-spec =
     number-rule-requires
     same-length-2
     returns-2
-    number-table-requires
+    number-different-requires
     same-length-3
-    returns-3)
+    returns-3
+    number-table-requires
+    same-length-4
+    returns-4)

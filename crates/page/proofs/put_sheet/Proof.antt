@@ -6,7 +6,7 @@ use Rattle.page.proofs.put_sheet.Reads as reads
 use Rattle.page.proofs.put_sheet.Lts as lts
 use Rattle.lines.proofs.count_at.Reads as count-at-reads
 use Rattle.lines.proofs.stop.Reads as stop-reads
-use Rattle.page.proofs.all_fit.Reads as all-fit-reads
+use Rattle.decimal.proofs.all_fit.Reads as all-fit-reads
 use Rattle.page.proofs.put_clauses.Reads as put-clauses-reads
 
 all-fit-requires : tie.Need-all-fit-requires

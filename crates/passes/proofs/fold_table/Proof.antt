@@ -9,31 +9,31 @@ use Rattle.passes.proofs.copy_words.Reads as copy-words-reads
 use Rattle.passes.proofs.fold_columns.Reads as fold-columns-reads
 use mathlib.Core.Path.{_∙_}
 use native.Mathlib.Omega.{arith}
-use Rattle.passes.proofs.StmtLaws.{stmt-room, columns-word, rows-word, table-columns, table-rows, table-folds}
+use Rattle.passes.proofs.StmtLaws.{table-room, columns-word, rows-word, table-columns, table-rows, table-folds}
 
 add-number : tie.Need-add-number
-add-number c = let q = (stmt-room _ _ _ _ _ (c .pre .0)) in omega (arith, c .good .0 .0)
+add-number c = let q = (table-room _ _ _ _ _ (c .pre .1) (c .pre .0)) in omega (arith, c .good .0 .0)
 
 number-requires : tie.Need-number-requires
 number-requires c κs = columns-word _ _ _ _ _ (c .pre .1) (c .pre .0)
 
 add-number-2 : tie.Need-add-number-2
-add-number-2 c = let q = (stmt-room _ _ _ _ _ (c .before .pre .0)) in omega (arith, c .before .good .0 .0)
+add-number-2 c = let q = (table-room _ _ _ _ _ (c .before .pre .1) (c .before .pre .0)) in omega (arith, c .before .good .0 .0)
 
 number-requires-2 : tie.Need-number-requires-2
 number-requires-2 c κs = rows-word _ _ _ _ _ (c .before .pre .1) (c .before .pre .0)
 
 put-requires : tie.Need-put-requires
-put-requires c κs = let q = (stmt-room _ _ _ _ _ (c .before .before .before .pre .0)) in (omega arith, omega arith)
+put-requires c κs = let q = (table-room _ _ _ _ _ (c .before .before .before .pre .1) (c .before .before .before .pre .0)) in (omega arith, omega arith)
 
 add-put-two : tie.Need-add-put-two
-add-put-two c = let q = (stmt-room _ _ _ _ _ (c .before .before .before .before .before .before .pre .0)) in omega (arith, c .before .before .before .before .before .before .good .1 .1 .1 .0 .0)
+add-put-two c = let q = (table-room _ _ _ _ _ (c .before .before .before .before .before .before .pre .1) (c .before .before .before .before .before .before .pre .0)) in omega (arith, c .before .before .before .before .before .before .good .1 .1 .1 .0 .0)
 
 put-two-requires : tie.Need-put-two-requires
-put-two-requires c κs = let q = (stmt-room _ _ _ _ _ (c .before .before .before .before .before .before .pre .0)) in (omega (arith, c .before .before .put .kept .0), c .before .before .before .before .before .number .ensures .1, c .before .before .before .before .number2 .ensures .1)
+put-two-requires c κs = let q = (table-room _ _ _ _ _ (c .before .before .before .before .before .before .pre .1) (c .before .before .before .before .before .before .pre .0)) in (omega (arith, c .before .before .put .kept .0), c .before .before .before .before .before .number .ensures .1, c .before .before .before .before .number2 .ensures .1)
 
 add-fold-columns : tie.Need-add-fold-columns
-add-fold-columns c = let q = (stmt-room _ _ _ _ _ (c .before .before .before .before .before .before .before .before .pre .0)) in omega (arith, c .before .before .before .before .before .before .before .before .good .0 .0)
+add-fold-columns c = let q = (table-room _ _ _ _ _ (c .before .before .before .before .before .before .before .before .pre .1) (c .before .before .before .before .before .before .before .before .pre .0)) in omega (arith, c .before .before .before .before .before .before .before .before .good .0 .0)
 
 fold-columns-requires : tie.Need-fold-columns-requires
 fold-columns-requires c κs = table-columns _ _ _ _ _ (c .before .before .before .before .before .before .before .before .before .pre .1) _ _ (c .before .before .before .before .before .before .before .before .number .ensures .0) (c .before .before .before .before .before .before .before .number2 .ensures .0) _ (c .before .before .before .before .before .put .ensures) _ _ (c .before .before .put-two .ensures) (c .before .before .before .before .before .before .before .before .before .pre .0) (c .before .before .put-two .kept .0 ∙ c .before .before .before .before .before .put .kept .0)

@@ -5,22 +5,22 @@ use Rattle.passes.proofs.skip_table.Lts as lts
 use Rattle.domains.proofs.number.Reads as number-reads
 use Rattle.passes.proofs.skip_columns.Reads as skip-columns-reads
 use native.Mathlib.Omega.{arith}
-use Rattle.passes.proofs.PropStmtLaws.{stmt-fits, columns-word, rows-word, table-columns, table-skips, table-fits}
+use Rattle.passes.proofs.PropStmtLaws.{header-fits, columns-word, rows-word, table-columns, table-skips, table-fits}
 
 add-number : tie.Need-add-number
-add-number c = let q = stmt-fits _ _ (c .pre .0) in omega (arith, c .good .0 .0)
+add-number c = let q = header-fits _ _ (c .pre .1) (c .pre .0) in omega (arith, c .good .0 .0)
 
 number-requires : tie.Need-number-requires
 number-requires c κs = columns-word _ _ (c .pre .1) (c .pre .0)
 
 add-number-2 : tie.Need-add-number-2
-add-number-2 c = let q = stmt-fits _ _ (c .before .pre .0) in omega (arith, c .before .good .0 .0)
+add-number-2 c = let q = header-fits _ _ (c .before .pre .1) (c .before .pre .0) in omega (arith, c .before .good .0 .0)
 
 number-requires-2 : tie.Need-number-requires-2
 number-requires-2 c κs = rows-word _ _ (c .before .pre .1) (c .before .pre .0)
 
 add-skip-columns : tie.Need-add-skip-columns
-add-skip-columns c = let q = stmt-fits _ _ (c .before .before .pre .0) in omega (arith, c .before .before .good .0 .0)
+add-skip-columns c = let q = header-fits _ _ (c .before .before .pre .1) (c .before .before .pre .0) in omega (arith, c .before .before .good .0 .0)
 
 skip-columns-requires : tie.Need-skip-columns-requires
 skip-columns-requires c κs = table-columns _ _ (c .before .before .pre .1) _ _ (c .before .number .ensures .0) (c .number2 .ensures .0) (c .before .before .pre .0)

@@ -14,7 +14,7 @@ slice-aggregate-sweep-2 : tie.Need-slice-aggregate-sweep-2
 slice-aggregate-sweep-2 c = search needs
 
 sweep-requires : tie.Need-sweep-requires
-sweep-requires c κs = (c .before .before .before .pre, places-none _ _ _ 1366)
+sweep-requires c κs = (c .before .before .before .pre, places-none _ _ _ 2048)
 
 same-length : tie.Need-same-length
 same-length c = search needs

@@ -1,6 +1,5 @@
 use mathlib.Core.Path.{refl}
 use Rattle.station.specs.Returned.{choices-of}
-use borrow.Author.Needs.{needs}
 use Rattle.station.proofs.choices_of.Statement.{statement}
 use Rattle.station.proofs.choices_of.Tie as tie
 use Rattle.station.proofs.choices_of.Reads as reads

@@ -1,16 +1,19 @@
-//! The port's call against the Rust, in time. `bench SEED COUNT [FAMILY]`: COUNT sets of each family, refused ones left out.
+//! The port's call against the Rust, in time. `bench SEED COUNT [FAMILY]`: COUNT sets of each family, refused ones left out;
+//! `bench extremes`: the sets of `extremes`, each compared word for word before it is timed.
 //! The port's time is a whole call: clearing both slices, reading, refusals, answer, clearing the work slice.
 //! The Rust's is building its problem from a set that was read, `optimize`, `normalize`, and writing the answer's words.
 
+use differential::extremes::extremes;
 use differential::links::case;
+use differential::slices::{kind, Slices};
 use differential::{compile, exit_on_error, run_families};
-use reference::call::timed;
+use reference::call::{timed, ANSWER};
 use reference::generate::Case;
 use reference::{call, refuse, Outcome};
 use std::hint::black_box;
 use std::time::Instant;
 
-const FAMILIES: [&str; 6] = ["rules", "chains", "links", "comparisons", "tables", "mixed"];
+const FAMILIES: [&str; 8] = ["rules", "chains", "links", "comparisons", "tables", "mixed", "different", "kinds"];
 const ROUNDS: u32 = 5;
 
 /// The least time of some rounds, in nanoseconds.
@@ -84,6 +87,42 @@ fn run(seed: u64, count: u64, families: &[&str]) -> Result<(), String> {
     Ok(())
 }
 
+/// The time of the Rust in milliseconds; it is not run where the answer is too long.
+fn rust_time(set: &[i32], want: &Outcome) -> Option<f64> {
+    let read = refuse::accept(set, 16384).ok()?;
+    matches!(want, Outcome::Compiled(_)).then(|| {
+        least(|| {
+            black_box(timed(black_box(&read), false));
+        }) / 1e6
+    })
+}
+
+/// With an output of the longest answer's words, so that nothing but the answer's own length is refused 12.
+fn extreme() -> Result<(), String> {
+    let most = ANSWER as usize;
+    let mut slices = Slices::new();
+    for (name, set) in extremes() {
+        let want = call(&set, most, 16384);
+        slices.compare(compile, &set, most, 16384, &want).map_err(|e| format!("{name}: {e}"))?;
+        let length = if let Outcome::Compiled(words) = &want { words.len() } else { most };
+        let (mut out, mut work) = (vec![0; length], vec![0; 16384]);
+        let port = least(|| {
+            black_box(compile(black_box(&set), &mut out, &mut work));
+        }) / 1e6;
+        let rust = match rust_time(&set, &want) {
+            Some(rust) => format!("Rust {rust:7.1} ms, ratio {:5.2}", rust / port),
+            None => "the Rust is not run".to_string(),
+        };
+        println!(
+            "{name:40} {:4} words  {}, output {length:8} words  port {port:7.1} ms  {rust}",
+            set.len(),
+            kind(&want)
+        );
+    }
+    Ok(())
+}
+
 fn main() {
-    exit_on_error(run_families("bench", &FAMILIES, run));
+    let extremes = std::env::args().nth(1).is_some_and(|word| word == "extremes");
+    exit_on_error(if extremes { extreme() } else { run_families("bench extremes | bench", &FAMILIES, run) });
 }

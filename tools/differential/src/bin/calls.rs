@@ -27,7 +27,8 @@ fn run(seed: u64, count: u64, families: &[&str]) -> Result<(), String> {
     Ok(())
 }
 
-/// Not above Not .., 64 levels; nested Iff and sums; an Or of 2000 members; tables of many columns (the answer of 1000 is too long).
+/// Not above Not .., 64 levels; nested Iff and sums; an Or of 2000 members; differing sums of 64 levels, and 2044 times a variable;
+/// tables of many columns (the answer of 1000 is too long).
 fn extremes() -> Vec<(&'static str, Vec<i32>)> {
     let mut not = vec![1, 0, 1, 1];
     not.extend([14; 63]);
@@ -40,6 +41,12 @@ fn extremes() -> Vec<(&'static str, Vec<i32>)> {
     let mut sum = vec![0, 1, 0, 0, 9, 1, 1, 18, 2];
     (0..62).for_each(|_| sum.extend([22, 1, 1]));
     sum.extend([21, 0, 20, 3]);
+    let mut differing = vec![0, 1, 0, 0, 9, 1, 3, 2];
+    (0..2).for_each(|_| {
+        (0..63).for_each(|_| differing.extend([22, 1, 1]));
+        differing.extend([21, 0]);
+    });
+    let often = [vec![0, 1, 0, 0, 9, 1, 3, 2044], [21, 0].repeat(2044)].concat();
     let table = |n: i32| {
         let mut table = vec![0, 1, 0, 0, 9, 1, 2, n, 1];
         (0..n).for_each(|_| table.extend([21, 0]));
@@ -51,6 +58,8 @@ fn extremes() -> Vec<(&'static str, Vec<i32>)> {
         ("Iff", iff),
         ("Or", or),
         ("sum", sum),
+        ("differing sums", differing),
+        ("differing variables", often),
         ("table of 100", table(100)),
         ("table of 1000", table(1000)),
     ]
@@ -70,5 +79,5 @@ fn stack() -> Result<(), String> {
 
 fn main() {
     let stacked = std::env::args().nth(1).is_some_and(|word| word == "stack");
-    exit_on_error(if stacked { stack() } else { run_families("calls stack | calls", &FAMILIES[..9], run) });
+    exit_on_error(if stacked { stack() } else { run_families("calls stack | calls", &FAMILIES, run) });
 }

@@ -4,6 +4,7 @@
 
 use differential::{compile, exit_on_error, run_families};
 use reference::generate::pairs::{pair, Pair};
+use reference::generate::FAMILIES;
 use reference::join::{join, statements, Place};
 use reference::{call, Outcome};
 use std::collections::BTreeMap;
@@ -183,6 +184,5 @@ fn run(seed: u64, count: u64, families: &[&str]) -> Result<(), String> {
 }
 
 fn main() {
-    let families = ["rules", "chains", "comparisons", "tables", "mixed", "damaged", "limits", "lengths"];
-    exit_on_error(run_families("joins", &families, run));
+    exit_on_error(run_families("joins", &FAMILIES[..10], run));
 }

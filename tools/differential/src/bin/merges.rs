@@ -183,5 +183,5 @@ fn compiled_bools(words: &[i32]) -> i32 {
 
 fn main() {
     let speeds = std::env::args().nth(1).is_some_and(|word| word == "speed");
-    exit_on_error(if speeds { speed() } else { run_families("merges speed | merges", &FAMILIES[..9], run) });
+    exit_on_error(if speeds { speed() } else { run_families("merges speed | merges", &FAMILIES, run) });
 }

@@ -1,8 +1,11 @@
 //! Refusals 1 to 11 of the port against the reference: every limit case, and damaged sets.
-//! `refusals SEED COUNT`; status 1 on the first difference.
+//! `refusals SEED COUNT`; `refusals speed`: the time on the sets of `extremes`. Status 1 on the first difference.
 
+use differential::extremes::extremes;
 use differential::{exit_on_error, run_families};
-use reference::generate;
+use reference::generate::{self, GOOD};
+use std::hint::black_box;
+use std::time::Instant;
 
 extern "C" {
     fn refuse_set(set: *const i32, set_len: usize, work: *mut i32, work_len: usize) -> usize;
@@ -48,11 +51,11 @@ fn refusals(seed: u64, count: u64) -> Result<(), String> {
         check(&limit.case.set, 16384)?;
         check(&limit.case.set, 16383)?;
     }
-    let good = ["rules", "chains", "comparisons", "tables", "mixed", "limits", "lengths"];
+    let whole: Vec<&str> = GOOD.into_iter().chain(["limits", "lengths"]).collect();
     for index in 0..count {
         let case = generate::case("damaged", seed, index).ok_or("no case")?;
         check(&case.set, case.work_len)?;
-        let family = good[(index % good.len() as u64) as usize];
+        let family = whole[(index % whole.len() as u64) as usize];
         if index % 10 == 0 {
             let case = generate::case(family, seed, index).ok_or("no case")?;
             check(&case.set, case.work_len)?;
@@ -65,6 +68,24 @@ fn refusals(seed: u64, count: u64) -> Result<(), String> {
     Ok(())
 }
 
+/// The least time of some rounds: reading and refusals 3 to 11, and clearing the work slice.
+fn speed() -> Result<(), String> {
+    for (name, set) in extremes() {
+        compare(&set, 16384).map_err(|e| format!("{name}: {e}"))?;
+        let mut work = vec![0; 16384];
+        let mut once = || {
+            let start = Instant::now();
+            black_box(unsafe { refuse_set(black_box(set.as_ptr()), set.len(), work.as_mut_ptr(), work.len()) });
+            start.elapsed().as_secs_f64() * 1e3
+        };
+        let least = (0..20).map(|_| once()).fold(f64::INFINITY, f64::min);
+        println!("{name:40} {:4} words  {least:9.3} ms", set.len());
+    }
+    Ok(())
+}
+
 fn main() {
-    exit_on_error(run_families("refusals", &[], |seed, count, _| refusals(seed, count)));
+    let speeds = std::env::args().nth(1).is_some_and(|word| word == "speed");
+    let run = || run_families("refusals speed | refusals", &[], |seed, count, _| refusals(seed, count));
+    exit_on_error(if speeds { speed() } else { run() });
 }

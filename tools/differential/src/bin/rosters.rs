@@ -228,7 +228,7 @@ fn run(seed: u64, count: u64, families: &[&str]) -> Result<(), String> {
     Ok(())
 }
 
-/// The least time of many single checks, in nanoseconds.
+/// The least time of many single checks, for a second at most, in nanoseconds.
 fn time(name: &str, set: &[i32], values: &[i32]) {
     let mut work = vec![0; WORK];
     let want = number(check(set, values, WORK));
@@ -239,7 +239,9 @@ fn time(name: &str, set: &[i32], values: &[i32]) {
         assert_eq!(got, want);
         time
     };
-    let least = (0..20000).map(|_| once(&mut work)).fold(f64::INFINITY, f64::min);
+    let start = Instant::now();
+    let rounds = (0..20000).take_while(|round| *round < 20 || start.elapsed().as_secs_f64() < 1.0);
+    let least = rounds.map(|_| once(&mut work)).fold(f64::INFINITY, f64::min);
     println!(
         "{name:44} {:5} words  answer {want:5}  {least:9.0} ns  {:6.2} ns a word",
         set.len(),
@@ -278,6 +280,12 @@ fn speed() -> Result<(), String> {
     late[end] = 0;
     time("the same, the last holds", &late, &zeros);
     time("the same, the first holds", &or([11, 0]), &zeros);
+    integers();
+    Ok(())
+}
+
+/// Comparisons, a table and AllDifferents.
+fn integers() {
     let mut sums = vec![0, 64];
     (0..64).for_each(|_| sums.extend([0, 0, 9]));
     sums.push(14);
@@ -290,7 +298,14 @@ fn speed() -> Result<(), String> {
     let mut table = vec![0, 4, 0, 0, 99, 0, 0, 99, 0, 0, 99, 0, 0, 99, 1, 2, 4, 1000, 21, 0, 21, 1, 21, 2, 21, 3];
     (0..1000).for_each(|row| table.extend([row % 100, 1, 2, if row == 999 { 3 } else { 4 }]));
     time("a table of 1000 rows, the last holds", &table, &[99, 1, 2, 3]);
-    Ok(())
+    let different = |second: i32| {
+        let mut set = vec![0, 0, 1, 3, 2044];
+        (0..2044).for_each(|k| set.extend([20, if k == 1 { second } else { k }]));
+        set
+    };
+    time("2044 differing constants", &different(1), &[]);
+    time("the same, the first two equal", &different(0), &[]);
+    time("the same, the second and the last equal", &different(2043), &[]);
 }
 
 /// A text of the set's words and the values, its lines divided as their counts say where they can be.
@@ -355,7 +370,7 @@ fn spoilt(text: &str, numbers: &mut Numbers) -> String {
 fn texts(seed: u64, count: u64) -> Result<(), String> {
     let program = concat!(env!("CARGO_MANIFEST_DIR"), "/../../target/bin/roster");
     let mut answers: BTreeMap<String, u64> = BTreeMap::new();
-    for family in &FAMILIES[..7] {
+    for family in &FAMILIES[..9] {
         for index in 0..count {
             let mut numbers = Numbers(seed ^ (index << 20));
             let words = case(family, seed, index).ok_or("no case")?.set;
@@ -391,5 +406,5 @@ fn main() {
         }
     }
     let speeds = std::env::args().nth(1).is_some_and(|word| word == "speed");
-    exit_on_error(if speeds { speed() } else { run_families("rosters speed | rosters", &FAMILIES[..7], run) });
+    exit_on_error(if speeds { speed() } else { run_families("rosters speed | rosters", &FAMILIES[..9], run) });
 }

@@ -4,9 +4,9 @@
 
 use differential::links::case;
 use differential::{exit_on_error, run_families, settle};
+use reference::generate::FAMILIES;
 use reference::settled::{settled, Settled};
 
-const FAMILIES: [&str; 7] = ["rules", "chains", "comparisons", "tables", "mixed", "damaged", "limits"];
 const ROOMY: usize = 8192;
 
 /// The port's number and output. All slices are lent full of noise; the work slice must come back zero.
@@ -63,5 +63,5 @@ fn run(seed: u64, count: u64, families: &[&str]) -> Result<(), String> {
 }
 
 fn main() {
-    exit_on_error(run_families("settled", &FAMILIES, run));
+    exit_on_error(run_families("settled", &FAMILIES[..9], run));
 }

@@ -94,5 +94,5 @@ fn run(seed: u64, count: u64, families: &[&str]) -> Result<(), String> {
 }
 
 fn main() {
-    exit_on_error(run_families("sheetcalls", &FAMILIES[..9], run));
+    exit_on_error(run_families("sheetcalls", &FAMILIES, run));
 }

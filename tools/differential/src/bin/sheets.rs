@@ -2,7 +2,7 @@
 //! `sheets SEED COUNT`: COUNT lists of clauses, each with a slice of exactly the sheet's length, one less, none and some more;
 //! `sheets speed`: answers of 16 million words, against filling as many bytes. Status 1 on the first difference.
 
-use reference::answer::{Clause, Comparison};
+use reference::answer::{encode_clauses, Clause, Comparison};
 use reference::sheet::sheet;
 use std::time::Instant;
 
@@ -75,22 +75,8 @@ fn text(c: &Comparison) -> String {
     format!("{}:{}:{}", c.op, c.constant, terms.join(","))
 }
 
-fn words(clauses: &[Clause]) -> Vec<i32> {
-    let mut words = vec![clauses.len() as i32];
-    for clause in clauses {
-        words.push(clause.literals.len() as i32);
-        words.extend(&clause.literals);
-        words.push(clause.comparisons.len() as i32);
-        for c in &clause.comparisons {
-            words.extend([c.op, c.constant, c.terms.len() as i32]);
-            words.extend(c.terms.iter().flat_map(|(v, a)| [*v, *a]));
-        }
-    }
-    words
-}
-
 fn compare(clauses: &[Clause]) -> Result<usize, String> {
-    let (words, want) = (words(clauses), sheet(clauses));
+    let (words, want) = (encode_clauses(clauses), sheet(clauses));
     if 2 * (want.len() / 81) > words.len() - 1 || want.split_terminator('\n').any(|line| line.len() != 80) {
         return Err(format!("{} bytes of {} clause words", want.len(), words.len() - 1));
     }
@@ -125,7 +111,7 @@ fn speed() {
         })
         .collect();
     for (name, clauses) in [("literals", literals), ("empty", empty), ("long comparisons", long)] {
-        let words = words(&clauses);
+        let words = encode_clauses(&clauses);
         let words = &words[..words.len().min(16777216)];
         let mut out = vec![];
         let n = port(words, &mut out);

@@ -1,6 +1,6 @@
 //! Damaged copies of good sets: each word changed, dropped, doubled, or the last one kept.
 use super::rng::Rng;
-use super::{set, Case, Scale, SLICE};
+use super::{set, Case, Scale, GOOD, SLICE};
 use crate::set::{LIMIT, STAR};
 
 /// Copies of one set before the next is taken: enough for every word of a set of 64 words.
@@ -9,7 +9,7 @@ const COPIES: u64 = 256;
 pub fn damaged(seed: u64, index: u64) -> Case {
     let (base, copy) = (index / COPIES, index % COPIES);
     let mut rng = Rng::of(seed, "base", base);
-    let family = rng.pick(&["rules", "chains", "comparisons", "tables", "mixed"]);
+    let family = rng.pick(&GOOD);
     let scale = if base % 8 == 7 { Scale::Medium } else { Scale::Small };
     let words = set(family, &mut rng, scale).map_or(vec![], |set| set.words());
     let mut rng = Rng::of(seed, "damage", index);

@@ -1,6 +1,6 @@
 //! Declarations, Boolean trees with every operator, comparisons with nested sums of both signs.
 use super::rng::Rng;
-use super::Scale;
+use super::{different, Scale};
 use crate::set::{Bool, Domain, Int, Statement, LIMIT};
 
 /// What a set declares, and how often a leaf of its rules is a comparison.
@@ -19,6 +19,8 @@ impl World {
             "rules" => (rng.size(1, 8), 0, 0),
             "comparisons" => (rng.size(0, 3), rng.size(1, 4), 70),
             "tables" => (rng.size(0, 2), rng.size(1, 4), 50),
+            "different" => (0, rng.size(1, 6), 50),
+            "kinds" => (rng.size(0, 3), rng.size(1, 4), 50),
             _ => (rng.size(0, 4), rng.size(0, 3), 35),
         };
         let more = match scale {
@@ -27,7 +29,10 @@ impl World {
             Scale::Large => rng.size(1, 40),
         };
         let values = if scale == Scale::Small { 4 } else { 12 };
-        let domains = (0..(ints * more).min(200)).map(|_| domain(rng, values)).collect();
+        let mut domains: Vec<Domain> = (0..(ints * more).min(200)).map(|_| domain(rng, values)).collect();
+        if family == "different" || family == "kinds" {
+            different::alike(rng, &mut domains);
+        }
         World { bools: (bools * more).min(500), domains, comparisons }
     }
 }

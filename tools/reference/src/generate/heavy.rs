@@ -16,6 +16,11 @@ fn table(column: Int) -> Statement {
     Statement::Table(Table { columns: vec![column], rows: vec![] })
 }
 
+/// Request 2.1: every two of them are a pair.
+fn different(name: &str, domains: Vec<Domain>, exprs: Vec<Int>, expected: Expected) -> Limit {
+    Limit::new(name, Set { bools: 0, domains, statements: vec![Statement::AllDifferent(exprs)] }.words(), expected)
+}
+
 fn sum(terms: &[(i32, Int)]) -> Int {
     Int::Sum(terms.to_vec())
 }
@@ -110,12 +115,70 @@ pub fn spans() -> Vec<Limit> {
     ]
 }
 
+/// Weights of AllDifferent: every expression and part, and the total of every pair.
+pub fn pair_weights() -> Vec<Limit> {
+    let c = Int::Const;
+    let x = || Int::Var(0);
+    let wide = || vec![Domain::Range(0, LIMIT)];
+    let heavy = || sum(&[(2, c(LIMIT))]);
+    let half = (LIMIT - 1) / 2;
+    vec![
+        different("a pair at the limit", vec![], vec![c(LIMIT), c(0)], Compiled),
+        different("a pair past the limit", vec![], vec![c(LIMIT), c(1)], Refused(9)),
+        different("a pair past the limit, turned", vec![], vec![c(1), c(-LIMIT)], Refused(9)),
+        different("one at the limit", vec![], vec![c(LIMIT)], Compiled),
+        different("one past the limit", vec![], vec![heavy()], Refused(9)),
+        different("one past the limit under 0", vec![], vec![sum(&[(0, heavy())])], Refused(9)),
+        different("one past the limit behind others", vec![], vec![c(0), c(0), heavy()], Refused(9)),
+        different("a wide variable alone", wide(), vec![x()], Compiled),
+        different("a wide variable twice", wide(), vec![x(), x()], Refused(9)),
+        different("a wide variable and 0", wide(), vec![x(), c(0)], Compiled),
+        different("a wide variable and 1", wide(), vec![x(), c(1)], Refused(9)),
+        different("three halves", vec![], vec![c(half), c(half), c(-half)], Compiled),
+        different("the last pair past the limit", vec![], vec![c(0), c(half + 1), c(-half - 1)], Refused(9)),
+        different("first and last past the limit", vec![], vec![c(half + 1), c(0), c(half + 1)], Refused(9)),
+        different("a light one between", vec![], vec![c(half), c(0), c(half + 1)], Compiled),
+        different("a span of 4097", vec![Domain::Range(0, 4096)], vec![x(), c(0)], Compiled),
+        different("half a wide variable twice", vec![Domain::Range(0, LIMIT / 2)], vec![x(), x()], Compiled),
+    ]
+}
+
+/// Different variables in every pair; and counts of expressions.
+pub fn pair_variables() -> Vec<Limit> {
+    let bits = |count| vec![Domain::Range(0, 1); count];
+    let ones = |count| vec![Domain::Range(1, 1); count];
+    let x = Int::Var;
+    let many = |count| vec![x(0); count];
+    vec![
+        different("64 variables in a pair", bits(64), vec![vars(0, 32, 1), vars(32, 64, 1)], Compiled),
+        different("65 variables in a pair", bits(65), vec![vars(0, 32, 1), vars(32, 65, 1)], Refused(10)),
+        different("64 and one more", bits(65), vec![vars(0, 64, 1), x(64)], Refused(10)),
+        different("64 and one of them", bits(65), vec![vars(0, 64, 1), x(63)], Compiled),
+        different("65 in one alone", bits(65), vec![vars(0, 65, 1)], Compiled),
+        different("65 in one and 0", bits(65), vec![vars(0, 65, 1), Int::Const(0)], Refused(10)),
+        different("65 times 0", bits(65), vec![vars(0, 65, 0), Int::Const(0)], Refused(10)),
+        different("65 of one value", ones(65), vec![vars(0, 33, 1), vars(33, 65, 1)], Refused(10)),
+        different("the last pair has 65", bits(65), vec![x(0), vars(0, 64, 1), x(64)], Refused(10)),
+        different("first and last have 65", bits(65), vec![vars(0, 64, 1), x(0), x(64)], Refused(10)),
+        different("65 in three", bits(65), vec![vars(0, 32, 1), vars(32, 64, 1), x(64)], Compiled),
+        different("64 in both, the same", bits(64), vec![vars(0, 64, 1), vars(0, 64, 2)], Compiled),
+        different("no expression", vec![], vec![], Compiled),
+        different("one expression", bits(1), vec![x(0)], Compiled),
+        different("equal constants", vec![], vec![Int::Const(1), Int::Const(1)], Compiled),
+        different("150 expressions", bits(1), many(150), Compiled),
+        different("2044 expressions", bits(1), many(2044), Refused(12)),
+        different("2045 expressions", bits(1), many(2045), Refused(2)),
+    ]
+}
+
 /// 9 over the whole set, then 10, then 11, whatever the order of the statements.
 pub fn orders() -> Vec<Limit> {
     let domains = || [vec![Domain::Range(0, 1); 64], vec![Domain::Range(0, 4096)]].concat();
     let nine = || table(sum(&[(LIMIT, Int::Const(1)), (1, Int::Const(1))]));
     let ten = || table(vars(0, 64, 1));
     let eleven = || table(Int::Var(64));
+    let nine_paired = || Statement::AllDifferent(vec![Int::Const(LIMIT), Int::Const(1)]);
+    let ten_paired = || Statement::AllDifferent(vec![vars(0, 64, 1), Int::Var(64)]);
     let never = || Statement::Rule(Bool::Const(false));
     let of = |name: &str, statements: Vec<Statement>, expected| {
         Limit::new(name, Set { bools: 0, domains: domains(), statements }.words(), expected)
@@ -125,6 +188,11 @@ pub fn orders() -> Vec<Limit> {
         of("10, then 9", vec![ten(), nine()], Refused(9)),
         of("11, then 9", vec![eleven(), nine()], Refused(9)),
         of("11, 10, then 9", vec![eleven(), ten(), nine()], Refused(9)),
+        of("a pair's 10, then 9", vec![ten_paired(), nine()], Refused(9)),
+        of("10, then a pair's 9", vec![ten(), nine_paired()], Refused(9)),
+        of("11, then a pair's 10", vec![eleven(), ten_paired()], Refused(10)),
+        of("a pair's 10, then a pair's 9", vec![ten_paired(), nine_paired()], Refused(9)),
+        of("false, then a pair's 10", vec![never(), ten_paired()], Refused(10)),
         of("false, then 11", vec![never(), eleven()], Refused(11)),
         of("false", vec![never()], Contradiction),
     ]

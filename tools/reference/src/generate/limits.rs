@@ -1,4 +1,4 @@
-//! Every limit of document 01, at the limit and one past it, with the outcome written by hand.
+//! Every limit of document 01 and of AllDifferent (document 02, 2.1), at the limit and one past it, with the outcome written by hand.
 use super::rng::Rng;
 use super::{damage, heavy, places, Case, SLICE};
 use crate::call::{call, Outcome};
@@ -60,6 +60,8 @@ pub fn all() -> Vec<Limit> {
     all.extend(heavy::weights());
     all.extend(heavy::variables());
     all.extend(heavy::spans());
+    all.extend(heavy::pair_weights());
+    all.extend(heavy::pair_variables());
     all.extend(heavy::orders());
     all
 }

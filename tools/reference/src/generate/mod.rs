@@ -1,6 +1,7 @@
 //! Deterministic sets: seed, family and index decide a case, so that one case can be made again alone.
 mod chains;
 mod damage;
+mod different;
 mod expressions;
 mod heavy;
 mod lengths;
@@ -26,9 +27,11 @@ pub struct Case {
     pub work_len: usize,
 }
 
-/// The families of sets. `longest` needs a gigabyte a case.
-pub const FAMILIES: [&str; 10] =
-    ["rules", "chains", "comparisons", "tables", "mixed", "damaged", "limits", "lengths", "ties", "longest"];
+/// The families of sets. A further one, `longest`, is asked for by name: it needs a gigabyte a case.
+pub const FAMILIES: [&str; 11] =
+    ["rules", "chains", "comparisons", "tables", "mixed", "different", "kinds", "damaged", "limits", "lengths", "ties"];
+/// The families of good sets that others are made from: damaged, cut to lengths, written as texts.
+pub const GOOD: [&str; 7] = ["rules", "chains", "comparisons", "tables", "mixed", "different", "kinds"];
 
 const SLICE: usize = 16384;
 const SET: usize = 4096;
@@ -70,12 +73,14 @@ fn good(family: &str, rng: &mut Rng, scale: Scale) -> Option<Case> {
     Some(Case { set: set.words(), out_len, work_len: SLICE })
 }
 
-/// A good set of one of the first five families or of `ties`.
+/// A good set of one of those families or of `ties`.
 pub fn set(family: &str, rng: &mut Rng, scale: Scale) -> Option<Set> {
     let make: fn(&mut Rng, &World, Scale) -> Statement = match family {
         "rules" | "comparisons" => expressions::rule,
         "tables" => tables::table,
         "mixed" => mixed,
+        "different" => different::different,
+        "kinds" => kinds,
         "chains" => return Some(chains::chain(rng, scale)),
         "ties" => return Some(ties::ties(rng, scale)),
         _ => return None,
@@ -94,6 +99,15 @@ fn mixed(rng: &mut Rng, world: &World, scale: Scale) -> Statement {
         tables::table(rng, world, scale)
     } else {
         expressions::rule(rng, world, scale)
+    }
+}
+
+/// Statements of every kind.
+fn kinds(rng: &mut Rng, world: &World, scale: Scale) -> Statement {
+    if rng.chance(40) {
+        different::different(rng, world, scale)
+    } else {
+        mixed(rng, world, scale)
     }
 }
 

@@ -8,7 +8,7 @@ type Middle<'a> = (&'a [i32], Expected);
 type Place<'a> = (&'a str, &'a [i32], &'a [i32], &'a [Middle<'a>]);
 
 const PAST: i32 = LIMIT + 1;
-const COUNTS: [Place; 8] = [
+const COUNTS: [Place; 9] = [
     ("Booleans", &[], &[0, 0], &[(&[512], Compiled), (&[513], Refused(4)), (&[-1], Refused(4))]),
     ("integers", &[0], &[], &[(&[256], Refused(3)), (&[257], Refused(4)), (&[-1], Refused(4))]),
     ("statements", &[0, 0], &[], &MEMBERS),
@@ -16,6 +16,7 @@ const COUNTS: [Place; 8] = [
     ("Or", &[0, 0, 1, 1, 13], &[], &MEMBERS),
     ("terms", &[0, 0, 1, 1, 18, 0, 22], &[], &MEMBERS),
     ("columns", &[0, 0, 1, 2], &[], &MEMBERS),
+    ("differing expressions", &[0, 0, 1, 3], &[], &MEMBERS),
     ("rows", &[0, 0, 1, 2, 0], &[], &[(&[4096], Compiled), (&[4097], Refused(4)), (&[-1], Refused(4))]),
 ];
 const MEMBERS: [Middle; 3] = [(&[4096], Refused(3)), (&[4097], Refused(4)), (&[-1], Refused(4))];
@@ -118,8 +119,10 @@ pub fn codes() -> Vec<Limit> {
         [(&[-1], Refused(5)), (&[3], Refused(5)), (&[9], Refused(5)), (&[STAR], Refused(5))];
     let mut all = at("domain code", &[0, 1], &[0, 0, 0], &unknown);
     all.extend(at("domain code", &[0, 1], &[0, 0, 0], &[(&[2], Refused(5)), (&[0], Compiled)]));
-    all.extend(at("statement code", &[0, 0, 1], &[10, 1], &unknown));
-    all.extend(at("statement code", &[0, 0, 1], &[10, 1], &[(&[0], Refused(5)), (&[1], Compiled)]));
+    let unknown: [(&[i32], Expected); 5] =
+        [(&[-1], Refused(5)), (&[0], Refused(5)), (&[4], Refused(5)), (&[9], Refused(5)), (&[STAR], Refused(5))];
+    all.extend(at("statement code", &[0, 0, 1], &[0], &unknown));
+    all.extend(at("statement code", &[0, 0, 1], &[0], &[(&[1, 12], Compiled), (&[2, 0], Compiled), (&[3], Compiled)]));
     for code in [-1, 0, 9, 19, 20, 21, 22, 23, i32::MAX] {
         all.push(Limit::new(&format!("Boolean code {code}"), vec![1, 0, 1, 1, code, 0], Refused(5)));
         all.push(Limit::new(&format!("member code {code}"), vec![1, 0, 1, 1, 12, 1, code, 0], Refused(5)));
@@ -129,12 +132,15 @@ pub fn codes() -> Vec<Limit> {
         all.push(Limit::new(&format!("right code {code}"), vec![1, 0, 1, 1, 18, 0, 20, 0, code, 0], Refused(5)));
         all.push(Limit::new(&format!("term code {code}"), vec![1, 0, 1, 1, 18, 0, 22, 1, 1, code, 0], Refused(5)));
         all.push(Limit::new(&format!("column code {code}"), vec![1, 0, 1, 2, 1, 0, code, 0], Refused(5)));
+        all.push(Limit::new(&format!("differing code {code}"), vec![1, 0, 1, 3, 1, code, 0], Refused(5)));
     }
     for (count, index, expected) in [(2, 1, Compiled), (2, 2, Refused(6)), (2, -1, Refused(6)), (0, 0, Refused(6))] {
         all.push(Limit::new(&format!("Boolean {index} of {count}"), vec![count, 0, 1, 1, 11, index], expected));
         let ints = [vec![0, count], [0, 0, 1].repeat(count as usize)].concat();
-        let set = [ints, vec![1, 2, 1, 0, 21, index]].concat();
+        let set = [&ints[..], &[1, 2, 1, 0, 21, index]].concat();
         all.push(Limit::new(&format!("integer {index} of {count}"), set, expected));
+        let set = [&ints[..], &[1, 3, 1, 21, index]].concat();
+        all.push(Limit::new(&format!("differing integer {index} of {count}"), set, expected));
     }
     all
 }
@@ -206,6 +212,7 @@ fn deep_sums() -> Vec<Limit> {
     let left = |times| [vec![0, 0, 1, 1, 18, 0], nested(times), vec![20, 0]].concat();
     let right = |times| [vec![0, 0, 1, 1, 18, 0, 20, 0], nested(times)].concat();
     let column = |times| [vec![0, 0, 1, 2, 1, 0], nested(times)].concat();
+    let differing = |times| [vec![0, 0, 1, 3, 2, 20, 1], nested(times)].concat();
     vec![
         Limit::new("sums on the left, depth 64", left(62), Compiled),
         Limit::new("sums on the left, depth 65", left(63), Refused(8)),
@@ -213,5 +220,7 @@ fn deep_sums() -> Vec<Limit> {
         Limit::new("sums on the right, depth 65", right(63), Refused(8)),
         Limit::new("sums in a column, depth 64", column(63), Compiled),
         Limit::new("sums in a column, depth 65", column(64), Refused(8)),
+        Limit::new("differing sums, depth 64", differing(63), Compiled),
+        Limit::new("differing sums, depth 65", differing(64), Refused(8)),
     ]
 }

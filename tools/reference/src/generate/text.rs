@@ -1,6 +1,6 @@
 //! Texts for the listing program, well-formed and malformed.
 use super::rng::Rng;
-use super::{set, Scale};
+use super::{set, Scale, GOOD};
 
 const TEXT: usize = 65536;
 
@@ -24,7 +24,7 @@ pub fn text(seed: u64, index: u64) -> Vec<u8> {
 /// A good set in the listing's own form.
 pub fn good_text(seed: u64, index: u64) -> Vec<u8> {
     let mut rng = Rng::of(seed, "good text", index);
-    let family = rng.pick(&["rules", "chains", "comparisons", "tables", "mixed"]);
+    let family = rng.pick(&GOOD);
     let made = set(family, &mut rng, Scale::Small);
     made.map_or(String::new(), |set| lines(&set)).into_bytes()
 }

@@ -8,11 +8,11 @@ pub struct Config {
 }
 
 impl Config {
-    /// The settings of document 01's first paragraph. AllDifferent is left out, so its setting is never read.
-    pub fn document_01() -> Config {
+    /// The settings of document 01's first paragraph, and document 02's for AllDifferent (2.1).
+    pub fn documents() -> Config {
         Config {
             merge_equivalent_variables: false,
-            alldifferent_bijection_constraints: false,
+            alldifferent_bijection_constraints: true,
             use_native_extension_supports: false,
             verbose: false,
         }

@@ -4,7 +4,7 @@ use mir.Syntax.{w32}
 use mir.Val.{SFits}
 use Rattle.laws.specs.Signed.{value-is}
 use Rattle.reader.proofs.Codes.{not-code}
-use Rattle.reader.proofs.StmtLaws.{stmt-end, stmt-rule, stmt-table, stmt-unknown}
+use Rattle.reader.proofs.StmtLaws.{stmt-end, stmt-rule, stmt-table, stmt-different, stmt-unknown}
 use borrow.Author.Needs.{needs}
 use Rattle.reader.proofs.statements.read_stmt.Statement.{statement}
 use Rattle.reader.proofs.statements.read_stmt.Tie as tie
@@ -24,6 +24,9 @@ read-bool-requires c κs = search needs
 read-table-requires : tie.Need-read-table-requires
 read-table-requires c κs = search needs
 
+read-different-requires : tie.Need-read-different-requires
+read-different-requires c κs = search needs
+
 returns : tie.Need-returns
 returns c = stmt-end _ _ _ _ _ (sym (c .before .before .before .word .ensures) ∙ c .before .k .given .1)
 
@@ -38,7 +41,12 @@ returns-3 c =
     stmt-table _ _ _ _ _ _ (sym (c .before .before .before .before .before .word .ensures) ∙ c .before .before .before .w .given .1) _ (value-is f (c .before .match2 .keys2)) (c .read-table .ensures)
 
 returns-4 : tie.Need-returns-4
-returns-4 c = stmt-unknown _ _ _ _ _ _ (sym (c .before .before .before .before .word .ensures) ∙ c .before .before .w .given .1) (not-code (c .before .before .w .given .0 .0) 1 (c .match2 .rest .0 .1)) (not-code (c .before .before .w .given .0 .0) 2 (c .match2 .rest .1))
+returns-4 c =
+    let f : SFits w32 (c .before .before .before .w .given .0 .0) = search needs in
+    stmt-different _ _ _ _ _ _ (sym (c .before .before .before .before .before .word .ensures) ∙ c .before .before .before .w .given .1) _ (value-is f (c .before .match2 .keys3)) (c .read-different .ensures)
+
+returns-5 : tie.Need-returns-5
+returns-5 c = stmt-unknown _ _ _ _ _ _ (sym (c .before .before .before .before .word .ensures) ∙ c .before .before .w .given .1) (not-code (c .before .before .w .given .0 .0) 1 (c .match2 .rest .0 .0 .1)) (not-code (c .before .before .w .given .0 .0) 2 (c .match2 .rest .0 .1)) (not-code (c .before .before .w .given .0 .0) 3 (c .match2 .rest .1))
 
 pub read-stmt-spec : {M : Type 1} → statement M
 read-stmt-spec =
@@ -49,7 +57,9 @@ read-stmt-spec =
     enum-known-w
     read-bool-requires
     read-table-requires
+    read-different-requires
     returns
     returns-2
     returns-3
-    returns-4)
+    returns-4
+    returns-5)

@@ -4,12 +4,12 @@ use Prim.Native.Nat.{_-_, _≤_}
 use lib.ListN.{length, take}
 use borrow.Author.Needs.{needs, sfits-of}
 use Rattle.laws.specs.Lists.{all}
 use Rattle.decimal.specs.Widths.{fitting, fit-next, fit-all}
 use borrow.Author.Needs.{needs}
-use Rattle.page.proofs.all_fit.Statement.{statement}
-use Rattle.page.proofs.all_fit.Tie as tie
-use Rattle.page.proofs.all_fit.Reads as reads
-use Rattle.page.proofs.all_fit.Lts as lts
+use Rattle.decimal.proofs.all_fit.Statement.{statement}
+use Rattle.decimal.proofs.all_fit.Tie as tie
+use Rattle.decimal.proofs.all_fit.Reads as reads
+use Rattle.decimal.proofs.all_fit.Lts as lts
 
 abbrev Inv-loop : tie.InvT-loop
 Inv-loop words i₀ i = (i ≤ length words) × (all fitting (take i words) ≡ true)

@@ -1,0 +1,3 @@
+pub mod Different
+pub mod Taken
+pub mod Meaning

@@ -1,0 +1,1 @@
+// AllDifferent: definitions and theorems in specs/; no code here.

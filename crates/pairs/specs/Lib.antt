@@ -1,0 +1,4 @@
+pub mod Pair
+pub mod Rows
+pub mod Values
+pub mod Different
