@@ -1,2 +1,3 @@
 mod Members
 mod Terms
+mod Ties

@@ -277,7 +277,7 @@ fn number(
 
 // ---- the extras
 
-// A side tied to its number: plain, then negated.
+// A side tied to its number: plain, then negated. A side that is split itself meets nothing.
 fn number_tie(
     work: &mut [i32],
     v: usize,
@@ -289,6 +289,15 @@ fn number_tie(
     requires { do ⌜ (4608 ≤ (← ⟦work.len()⟧)) × ((at ≤ 4608) × ((base ≤ limit) × ((c .bools ≤ limit) × (c .ints ≤ limit)))) ⌝ }
     ensures { λ r. ⌜ Met (item (tie-at (decode (read-part (now (work .entry))) left true) v at base) .met) (now (work .entry)) c (now (work .exit)) r ⌝ }
 {
+    if left != 0 {
+        let code = word(work, at);
+        if code == 15 {
+            return c;
+        }
+        if code == 16 {
+            return c;
+        }
+    }
     let d = number(work, at, left, true, base, false, c);
     let e = number(work, at, left, true, base, true, d.counters);
     e.counters

@@ -51,6 +51,15 @@ pub word-outside : (w : List ℤ) (at : ℕ) → 4608 ≤ at → 0 ≡ word (rea
 unfolding word read-part
 word-outside w at h = no-entry (read-part w) at (omega (arith, length-take 4608 w))
 
+-- a word that is no sum's code
+no-code : (z : ℤ) → (ofZ w32 z ≡ 22 → ⊥) → nat z ≡ 22 → ⊥
+unfolding nat
+no-code (pos n) h e = h (ap (λ (m : ℕ). ofZ w32 (pos m)) e)
+no-code (negsuc n) h e = absurd (let z : _≡_ {A = ℕ} 0 22 = e in omega arith)
+
+pub no-sum : (w : List ℤ) (at : ℕ) → at < 4608 → (ofZ w32 (getD w at (pos 0)) ≡ 22 → ⊥) → word (read-part w) at ≡ 22 → ⊥
+no-sum w at h ne e = no-code (getD w at (pos 0)) ne (word-inside w at h ∙ e)
+
 pub past-is : (w : List ℤ) (p q : ℕ) → 4608 ≤ length w → q ≡ min p 4608 → q ≡ past (read-part w) p
 past-is w p q h e = omega (arith, read-length w h)
 

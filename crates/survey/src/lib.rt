@@ -148,8 +148,8 @@ pub fn met(work: &[i32], v: usize, n: usize) -> usize
     n
 }
 
-// The end of the integer expression at a place.
-pub fn int_end(work: &[i32], at: usize, left: usize) -> usize
+// The end of the integer expression at a place: the terms of a sum one after another.
+fn sum_end(work: &[i32], at: usize, left: usize) -> usize
     requires { do ⌜ (4608 ≤ (← ⟦work.len()⟧)) × (at ≤ 4608) ⌝ }
     ensures { λ r. ⌜ (r ≡ int-end-of (read-part (now (work .entry))) left at) × ((at ≤ r) × (r ≤ 4608)) ⌝ }
 {
@@ -161,14 +161,38 @@ pub fn int_end(work: &[i32], at: usize, left: usize) -> usize
     if code != 22 {
         return next;
     }
+    let under = left - 1;
     let mut rest = word(work, at + 1);
     let mut q = next;
     while rest != 0 {
-        let p = within(q + 1);
-        q = int_end(work, p, left - 1);
         rest = rest - 1;
+        if under != 0 {
+            if q < 4605 {
+                let inner = work[q + 1];
+                if inner != 22 {
+                    q = q + 3;
+                    continue;
+                }
+            }
+        }
+        let p = within(q + 1);
+        q = sum_end(work, p, under);
     }
     q
+}
+
+// The end of the integer expression at a place.
+pub fn int_end(work: &[i32], at: usize, left: usize) -> usize
+    requires { do ⌜ (4608 ≤ (← ⟦work.len()⟧)) × (at ≤ 4608) ⌝ }
+    ensures { λ r. ⌜ (r ≡ int-end-of (read-part (now (work .entry))) left at) × ((at ≤ r) × (r ≤ 4608)) ⌝ }
+{
+    if left == 0 {
+        return at;
+    }
+    if word(work, at) != 22 {
+        return within(at + 2);
+    }
+    sum_end(work, at, left)
 }
 
 fn comparison_at(work: &[i32], under: usize, a: usize) -> Node
