@@ -1,7 +1,7 @@
 -- What the walk that marks written variables asks and gives at each step: the terms that are pending stand one after another. Assumes nothing.
 use Prim.Native.Nat.{ℕ, zero, suc, _+_, _-_, _≤_, _<_}
 use mathlib.Core.Path.{_≡_, refl, sym, ap, _∙_, subst}
-use mathlib.Core.Bool.{Bool, true, false, _||_, cond}
+use mathlib.Core.Bool.{Bool, true, false, _||_, cond, or-false}
 use mathlib.Core.List.{List, [], _∷_, _++_, append-assoc, append-nil}
 use native.Mathlib.Omega.{arith}
 use native.Mathlib.Numerals.{add-one}
@@ -13,13 +13,12 @@ use borrow.Author.Tests.{eqb-true, eqb-false, ne-eqb}
 use Rattle.laws.specs.Bools.{or-assoc, eq4}
 use Rattle.laws.specs.Lists.{any-append}
 use Rattle.laws.specs.Slices.{Has, has-fits, has-front, has-rest}
-use Rattle.syntax.specs.Syntax.{IntExpr, IConst, IVar, Linear, Terms, tnil, tmore, count-terms, encode-int, encode-terms}
+use Rattle.syntax.specs.Syntax.{IntExpr, IConst, IVar, Linear, If, Terms, tnil, tmore, count-terms, encode-int, encode-terms}
 use Rattle.syntax.specs.Lengths.{int-long, int-fits, terms-long}
 use Rattle.domains.specs.Declared.{Plain}
 use Rattle.limits.specs.Limits.{written, written-terms}
 use Rattle.limits.specs.Count.{among, either, marked, marked-cong}
 use Rattle.accept.specs.Walk.{Behind, own-var, inner, Head-post, has-mark, Marks, Written-post, Marked-post}
-use Rattle.accept.proofs.TestLaws.{or-false}
 use Rattle.accept.proofs.Laws.{int-plain, const-inv, second-plain, var-inv, sum-inv}
 
 -- ---- `int_head`
@@ -72,6 +71,7 @@ among-inner : (n v : ℕ) (e : IntExpr) → v < n → among (written e) v ≡ eq
 unfolding written
 among-inner n v (IConst c) l = rw (ne-eqb v n (λ q. omega arith)) refl
 among-inner n v (IVar u) l = refl
+among-inner n v (If i c t f) l = absurd i
 among-inner n v (Linear ts) l = rw (ne-eqb v n (λ q. omega arith)) refl
 
 -- every expression's two words stand in front of its terms
@@ -85,6 +85,7 @@ int-split ws p e vs h = go e h
     go : (e : IntExpr) → Has ws p (encode-int e ++ vs) → Has ws (p + 2) (encode-terms (inner e) ++ vs)
     go (IConst c) h = rw m (has-rest ws (p + 1) _ _ (has-rest ws p _ _ h))
     go (IVar u) h = rw m (has-rest ws (p + 1) _ _ (has-rest ws p _ _ h))
+    go (If i c t f) h = absurd i
     go (Linear ts) h = rw m (has-rest ws (p + 1) _ _ (has-rest ws p _ _ h))
 
 or-true : (a : Bool) → a || true ≡ true
@@ -96,7 +97,7 @@ regroup = eq4 _ _ refl
 
 -- ---- `mark`
 
-pub marked-few : (f : ℕ → Bool) (n : ℕ) → marked f n ≤ n
+marked-few : (f : ℕ → Bool) (n : ℕ) → marked f n ≤ n
 unfolding marked
 marked-few f zero = omega arith
 marked-few f (suc n) = go (f n) (marked-few f n)

@@ -1,5 +1,6 @@
 pub mod Sizes
 pub mod Laws
+pub mod RangeLaws
 pub mod CountLaws
 pub mod TestLaws
 pub mod PairLaws

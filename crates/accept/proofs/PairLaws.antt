@@ -10,7 +10,7 @@ use borrow.Author.Tests.{ltb-true, ltb-false, lt-ltb, le-ltb}
 use Rattle.laws.specs.Bools.{never, imp2, eq2, eq4, or-l, or-r, or-pick, both-ways}
 use Rattle.laws.specs.Lists.{any, any-cong, any-mono}
 use Rattle.syntax.specs.Syntax.{Domain, IntExpr, encode-int}
-use Rattle.syntax.specs.Written.{EveryInt, EveryColumn}
+use Rattle.syntax.specs.Written.{EveryInt, EveryColumn, EveryColumnOf}
 use Rattle.limits.specs.Limits.{any-pair, heavy, heavy-comparison, written, many-comparison}
 use Rattle.limits.specs.Total.{Bounded, total, heavy-total, heavy-comparison-total}
 use Rattle.limits.specs.Count.{among, either, marked, marked-cong, many-comparison-marked, few-comparison}
@@ -53,17 +53,17 @@ larger-over a b c = go (ltb 1073741823 (a + c)) refl (ltb 1073741823 (b + c)) re
 
 module _ (ds : List Domain) where
   abbrev over-with : ℕ → IntExpr → Bool
-  over-with t e = ltb 1073741823 (t + total true ds e)
+  over-with t e = ltb 1073741823 (t + total ds e)
 
   abbrev over-both : IntExpr → IntExpr → Bool
-  over-both a b = ltb 1073741823 (total true ds a + total true ds b)
+  over-both a b = ltb 1073741823 (total ds a + total ds b)
 
   over-any : (top : ℕ) (es : List IntExpr) → over ds top es ≡ any (over-with top) es || any-pair over-both es
   unfolding over any-pair
   over-any top [] = refl
   over-any top (e ∷ es) =
-      let t = total true ds e in
-      rw (over-any (max top t) es, any-cong (over-with (max top t)) (λ x. over-with top x || over-with t x) es (λ x. larger-over top t (total true ds x)), any-or (over-with top) (over-with t) es)
+      let t = total ds e in
+      rw (over-any (max top t) es, any-cong (over-with (max top t)) (λ x. over-with top x || over-with t x) es (λ x. larger-over top t (total ds x)), any-or (over-with top) (over-with t) es)
       (regroup (over-with top e) (any (over-with top) es) (any (over-with t) es) (any-pair over-both es))
     where
       regroup : (a b c d : Bool) → a || ((b || c) || d) ≡ (a || b) || (c || d)
@@ -72,7 +72,7 @@ module _ (ds : List Domain) where
   pub over-pairs : Bounded ds → (es : List IntExpr) → over ds 0 es ≡ any (heavy ds) es || any-pair (heavy-comparison ds) es
   over-pairs b es =
       over-any 0 es
-      ∙ rw (any-cong (over-with 0) (heavy ds) es (λ e. let z : 0 + total true ds e ≡ total true ds e = omega arith in ap (ltb 1073741823) z ∙ sym (heavy-total ds b e)), any-pair-cong over-both (heavy-comparison ds) es (λ x y. sym (heavy-comparison-total ds b x y))) refl
+      ∙ rw (any-cong (over-with 0) (heavy ds) es (λ e. let z : 0 + total ds e ≡ total ds e = omega arith in ap (ltb 1073741823) z ∙ sym (heavy-total ds b e)), any-pair-cong over-both (heavy-comparison ds) es (λ x y. sym (heavy-comparison-total ds b x y))) refl
 
 -- ---- 10: each expression of 64 words or more, against all
 
@@ -125,7 +125,7 @@ module _ (ni : ℕ) where
           never (sym (few-comparison a b (omega arith)) ∙ m)
 
   any-of : (f g : IntExpr → Bool) (es : List IntExpr) → Lows es → ((x : IntExpr) → Low x → f x ≡ true → g x ≡ true) → any f es ≡ true → any g es ≡ true
-  unfolding EveryColumn
+  unfolding EveryColumnOf
   any-of f g [] l h k = k
   any-of f g (e ∷ es) l h k = or-pick (f e) (any f es) k (λ z. or-l (g e) (any g es) (h e (l .0) z)) (λ z. or-r (g e) (any g es) (any-of f g es (l .1) h z))
 
@@ -151,7 +151,7 @@ module _ (ni : ℕ) where
       go false k = k
 
   rows-of-pairs : (es : List IntExpr) → Lows es → any-pair many-comparison es ≡ true → any (row es) es ≡ true
-  unfolding any-pair EveryColumn
+  unfolding any-pair EveryColumnOf
   rows-of-pairs [] l h = h
   rows-of-pairs (e ∷ es) l h =
       or-pick (any (many-comparison e) es) (any-pair many-comparison es) h (here (short e) refl)
@@ -170,7 +170,7 @@ module _ (ni : ℕ) where
   -- a pair with the first, or two of the others
   rows-parted : (e y : IntExpr) (ys : List IntExpr) → Lows (e ∷ y ∷ ys) → full (e ∷ y ∷ ys) (e ∷ y ∷ ys) ≡ true
       → (full (y ∷ ys) (y ∷ ys) ≡ true → any-pair many-comparison (e ∷ y ∷ ys) ≡ true) → any-pair many-comparison (e ∷ y ∷ ys) ≡ true
-  unfolding any-pair EveryColumn
+  unfolding any-pair EveryColumnOf
   rows-parted e y ys l h later =
       or-pick (many-comparison e e || any (many-comparison e) (y ∷ ys)) (full (e ∷ y ∷ ys) (y ∷ ys)) h
       (λ z. with-first (or-pick (many-comparison e e) (any (many-comparison e) (y ∷ ys)) z (λ m. or-l (many-comparison e y) (any (many-comparison e) ys) (many-with e y (l .0) (l .1 .0) m)) (λ m. m)))
@@ -181,7 +181,7 @@ module _ (ni : ℕ) where
       with-first m = or-l (any (many-comparison e) (y ∷ ys)) (any-pair many-comparison (y ∷ ys)) m
 
   pairs-of-rows : (ys : List IntExpr) (e y : IntExpr) → Lows (e ∷ y ∷ ys) → full (e ∷ y ∷ ys) (e ∷ y ∷ ys) ≡ true → any-pair many-comparison (e ∷ y ∷ ys) ≡ true
-  unfolding any-pair EveryColumn
+  unfolding any-pair EveryColumnOf
   pairs-of-rows [] e y l h =
       rows-parted e y [] l h λ m.
       let q : many-comparison y y ≡ true = or-pick (many-comparison y y || false) false m (λ z. or-pick (many-comparison y y) false z (λ k. k) never) never in

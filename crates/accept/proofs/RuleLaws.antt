@@ -1,28 +1,29 @@
 -- What the walk over a rule's pending expressions asks and gives at each step, over variables. Assumes nothing.
-use Prim.Native.Nat.{ℕ, suc, _+_, _-_, _≤_, _<_}
+use Prim.Native.Nat.{ℕ, suc, _+_, _-_, _≤_, _<_, min}
 use mathlib.Core.Path.{_≡_, refl, sym, ap, _∙_, subst}
-use mathlib.Core.Bool.{Bool, true, _||_, cond}
+use mathlib.Core.Bool.{Bool, _||_, or-false}
 use mathlib.Core.List.{List, [], _∷_, _++_, map, append-assoc, append-nil}
 use native.Mathlib.Omega.{arith}
-use lib.IntN.{ℤ, pos}
+use lib.IntN.{ℤ, pos, negsuc}
 use lib.ListN.{length, getD, length-append}
+use Rattle.laws.specs.Bools.{or-assoc}
 use Rattle.laws.specs.Lists.{any, any-append, flat}
 use Rattle.laws.specs.Slices.{Has, has-fits, has-front, has-back, has-word, has-rest}
 use Rattle.laws.specs.Ints.{pos-eq}
-use Rattle.syntax.specs.Syntax.{IntExpr, encode-int, CmpOp, BoolExpr, Const, Var, NVar, And, Or, Not, Xor, Iff, Imp, Cmp, Members, mnil, more, count-members, encode-bit, encode-op, encode-bool, encode-members}
-use Rattle.syntax.specs.Written.{EveryOf}
+use Rattle.syntax.specs.Syntax.{Domain, IntExpr, encode-int, CmpOp, BoolExpr, Const, Var, NVar, And, Or, Not, Xor, Iff, Imp, Cmp, Members, mnil, more, count-members, encode-bit, encode-op, encode-bool, encode-members}
+use Rattle.syntax.specs.Written.{EveryOf, None, Any, ints-of}
 use Rattle.syntax.specs.Codes.{bool-code}
 use Rattle.domains.specs.Declared.{Plain}
 use Rattle.limits.specs.Limits.{any-comparison, any-comparison-members}
-use Rattle.accept.specs.Walk.{Int-at, test-comparison, test-column, Ready-pair, Pair-post, Usable, Usable-members, Usable-all, listed, parts, head-length, own-test, Bool-at, Bools-at, Ready-bool, Ready-bools, Step-post, Bools-post}
-use Rattle.accept.proofs.TestLaws.{hit-of, miss-of, or-false}
+use Rattle.accept.specs.Walk.{Int-at, first-of, test-comparison, test-column, Ready-pair, Pair-post, Usable, Usable-members, Usable-all, listed, parts, head-length, own-test, Bool-at, Bools-at, Ready-bool, Ready-bools, Step-post, Bools-post}
+use Rattle.accept.proofs.TestLaws.{first-cong, first-join}
 
 -- ---- an expression's own words, and those of its parts
 
 abbrev own-words : BoolExpr → List ℤ
 own-words (Const b) = pos 10 ∷ encode-bit b ∷ []
 own-words (Var v) = pos 11 ∷ pos v ∷ []
-own-words (NVar n) = []
+own-words (NVar n) = negsuc n ∷ []
 own-words (And ms) = pos 12 ∷ pos (count-members ms) ∷ []
 own-words (Or ms) = pos 13 ∷ pos (count-members ms) ∷ []
 own-words (Not e) = pos 14 ∷ []
@@ -132,6 +133,14 @@ flat-map : (es us : List BoolExpr) → flat (map encode-bool (es ++ us)) ≡ fla
 flat-map [] us = refl
 flat-map (e ∷ es) us = ap (λ l. encode-bool e ++ l) (flat-map es us) ∙ sym (append-assoc (encode-bool e) (flat (map encode-bool es)) (flat (map encode-bool us)))
 
+-- its own test, then those of its parts and of the rest
+own-first : (m : ℕ) (ds : List Domain) (e : BoolExpr) (us : List BoolExpr)
+    → own-test (test-comparison m ds) e || any (any-comparison (test-comparison m ds) (test-column m ds)) (parts e ++ us) ≡ any (any-comparison (test-comparison m ds) (test-column m ds)) (e ∷ us)
+own-first m ds e us =
+    let test = any-comparison (test-comparison m ds) (test-column m ds) in
+    let own = own-test (test-comparison m ds) e in
+    ap (λ b. own || b) (any-append test (parts e) us) ∙ sym (or-assoc own (any test (parts e)) (any test us)) ∙ ap (λ b. b || any test us) (sym (split-test (test-comparison m ds) (test-column m ds) e))
+
 -- ---- `rule_step`
 
 code-word : (ni : ℕ) (ws : List ℤ) (at : ℕ) (e : BoolExpr) → Bool-at ni ws at e → getD ws at (pos 0) ≡ pos (bool-code e)
@@ -151,7 +160,7 @@ listed-count : (ms : Members) → count-members ms ≡ length (listed ms)
 listed-count mnil = refl
 listed-count (more e ms) = ap suc (listed-count ms)
 
-module _ (ws work : List ℤ) (at ni m : ℕ) where
+module _ (ws work : List ℤ) (at ni : ℕ) where
   pub bool-inside : Ready-bool ws work at ni → at < length ws
   bool-inside r = omega (arith, has-fits ws at (encode-bool (r .it)) (r .reads .words) (bool-some ni (r .it) (r .reads .usable)), bool-some ni (r .it) (r .reads .usable))
 
@@ -162,13 +171,13 @@ module _ (ws work : List ℤ) (at ni m : ℕ) where
     code-is : (e : BoolExpr) → Bool-at ni ws at e → bool-code e ≡ w
     code-is e r = pos-eq _ _ _ (code-word ni ws at e r) hw
 
-    pub step-leaf : w < 12 → Step-post ws work at ni m (at + 2) 0
-    unfolding EveryOf
+    pub step-leaf : w < 12 → Step-post ws work at ni (at + 2) 0 12
+    unfolding EveryOf first-of test-comparison
     step-leaf l ds e b q r = go e (code-is e r) r
       where
-        go : (e : BoolExpr) → bool-code e ≡ w → Bool-at ni ws at e → (at + 2 ≡ cond (own-test (test-comparison m ds) e) 0 (at + head-length e)) × (0 ≡ length (parts e))
-        go (Const b) t r = (refl, refl)
-        go (Var v) t r = (refl, refl)
+        go : (e : BoolExpr) → bool-code e ≡ w → Bool-at ni ws at e → (at + 2 ≡ at + head-length e) × (0 ≡ length (parts e)) × (12 ≡ first-of (λ m. own-test (test-comparison m ds) e))
+        go (Const b) t r = (refl, refl, refl)
+        go (Var v) t r = (refl, refl, refl)
         go (NVar n) t r = absurd (r .usable)
         go (And ms) t r = absurd (omega arith)
         go (Or ms) t r = absurd (omega arith)
@@ -194,52 +203,52 @@ module _ (ws work : List ℤ) (at ni m : ℕ) where
         go (Imp a b) t r = absurd (omega arith)
         go (Cmp o a b) t r = absurd (omega arith)
 
-    pub step-list : (w < 12 → ⊥) → w < 14 → (n : ℕ) → getD ws (at + 1) (pos 0) ≡ pos n → Step-post ws work at ni m (at + 2) n
-    unfolding encode-bool EveryOf
+    pub step-list : (w < 12 → ⊥) → w < 14 → (n : ℕ) → getD ws (at + 1) (pos 0) ≡ pos n → Step-post ws work at ni (at + 2) n 12
+    unfolding encode-bool EveryOf first-of test-comparison
     step-list l k n hn ds e b q r = go e (code-is e r) r
       where
-        go : (e : BoolExpr) → bool-code e ≡ w → Bool-at ni ws at e → (at + 2 ≡ cond (own-test (test-comparison m ds) e) 0 (at + head-length e)) × (n ≡ length (parts e))
+        go : (e : BoolExpr) → bool-code e ≡ w → Bool-at ni ws at e → (at + 2 ≡ at + head-length e) × (n ≡ length (parts e)) × (12 ≡ first-of (λ m. own-test (test-comparison m ds) e))
         go (Const b) t r = absurd (omega arith)
         go (Var v) t r = absurd (omega arith)
         go (NVar n) t r = absurd (r .usable)
-        go (And ms) t r = (refl, pos-eq _ _ _ hn (has-word ws (at + 1) _ _ (pos 0) (has-rest ws at _ _ (r .words))) ∙ listed-count ms)
-        go (Or ms) t r = (refl, pos-eq _ _ _ hn (has-word ws (at + 1) _ _ (pos 0) (has-rest ws at _ _ (r .words))) ∙ listed-count ms)
+        go (And ms) t r = (refl, pos-eq _ _ _ hn (has-word ws (at + 1) _ _ (pos 0) (has-rest ws at _ _ (r .words))) ∙ listed-count ms, refl)
+        go (Or ms) t r = (refl, pos-eq _ _ _ hn (has-word ws (at + 1) _ _ (pos 0) (has-rest ws at _ _ (r .words))) ∙ listed-count ms, refl)
         go (Not e) t r = absurd (omega arith)
         go (Xor a b) t r = absurd (omega arith)
         go (Iff a b) t r = absurd (omega arith)
         go (Imp a b) t r = absurd (omega arith)
         go (Cmp o a b) t r = absurd (omega arith)
 
-    pub step-not : w ≡ 14 → Step-post ws work at ni m (at + 1) 1
-    unfolding EveryOf
+    pub step-not : w ≡ 14 → Step-post ws work at ni (at + 1) 1 12
+    unfolding EveryOf first-of test-comparison
     step-not z ds e b q r = go e (code-is e r) r
       where
-        go : (e : BoolExpr) → bool-code e ≡ w → Bool-at ni ws at e → (at + 1 ≡ cond (own-test (test-comparison m ds) e) 0 (at + head-length e)) × (1 ≡ length (parts e))
+        go : (e : BoolExpr) → bool-code e ≡ w → Bool-at ni ws at e → (at + 1 ≡ at + head-length e) × (1 ≡ length (parts e)) × (12 ≡ first-of (λ m. own-test (test-comparison m ds) e))
         go (Const b) t r = absurd (omega arith)
         go (Var v) t r = absurd (omega arith)
         go (NVar n) t r = absurd (r .usable)
         go (And ms) t r = absurd (omega arith)
         go (Or ms) t r = absurd (omega arith)
-        go (Not e) t r = (refl, refl)
+        go (Not e) t r = (refl, refl, refl)
         go (Xor a b) t r = absurd (omega arith)
         go (Iff a b) t r = absurd (omega arith)
         go (Imp a b) t r = absurd (omega arith)
         go (Cmp o a b) t r = absurd (omega arith)
 
-    pub step-two : (w < 14 → ⊥) → (w ≡ 14 → ⊥) → w < 18 → Step-post ws work at ni m (at + 1) 2
-    unfolding EveryOf
+    pub step-two : (w < 14 → ⊥) → (w ≡ 14 → ⊥) → w < 18 → Step-post ws work at ni (at + 1) 2 12
+    unfolding EveryOf first-of test-comparison
     step-two l z k ds e b q r = go e (code-is e r) r
       where
-        go : (e : BoolExpr) → bool-code e ≡ w → Bool-at ni ws at e → (at + 1 ≡ cond (own-test (test-comparison m ds) e) 0 (at + head-length e)) × (2 ≡ length (parts e))
+        go : (e : BoolExpr) → bool-code e ≡ w → Bool-at ni ws at e → (at + 1 ≡ at + head-length e) × (2 ≡ length (parts e)) × (12 ≡ first-of (λ m. own-test (test-comparison m ds) e))
         go (Const b) t r = absurd (omega arith)
         go (Var v) t r = absurd (omega arith)
         go (NVar n) t r = absurd (r .usable)
         go (And ms) t r = absurd (omega arith)
         go (Or ms) t r = absurd (omega arith)
         go (Not e) t r = absurd (omega arith)
-        go (Xor a b) t r = (refl, refl)
-        go (Iff a b) t r = (refl, refl)
-        go (Imp a b) t r = (refl, refl)
+        go (Xor a b) t r = (refl, refl, refl)
+        go (Iff a b) t r = (refl, refl, refl)
+        go (Imp a b) t r = (refl, refl, refl)
         go (Cmp o a b) t r = absurd (omega arith)
 
     -- the two sides of a comparison
@@ -248,7 +257,7 @@ module _ (ws work : List ℤ) (at ni m : ℕ) where
     sides o a b r =
         let k : at + 2 ≡ at + 1 + 1 = omega arith in
         let h : Has ws (at + 2) (encode-int a ++ encode-int b) = rw k (has-rest ws (at + 1) _ _ (has-rest ws at _ _ (r .words))) in
-        (record { words = has-front ws (at + 2) (encode-int a) (encode-int b) h; vars = r .usable .0 }, record { words = has-back ws (at + 2) (encode-int a) (encode-int b) h; vars = r .usable .1 })
+        (record { words = has-front ws (at + 2) (encode-int a) (encode-int b) h; vars = ints-of None Any (λ v. v < ni) a (r .usable .0) }, record { words = has-back ws (at + 2) (encode-int a) (encode-int b) h; vars = ints-of None Any (λ v. v < ni) b (r .usable .1) })
 
     pub cmp-ready : (w < 18 → ⊥) → Ready-bool ws work at ni → Ready-pair ws work (at + 2) ni
     unfolding EveryOf
@@ -266,11 +275,11 @@ module _ (ws work : List ℤ) (at ni m : ℕ) where
         go (Imp a b) t r = absurd (omega arith)
         go (Cmp o a b) t r = let s = sides o a b r in record { ds = y .ds; bounds = y .bounds; few = y .few; left = a; right = b; left-at = s .0; right-at = s .1; behind = omega arith }
 
-    pub step-cmp : (w < 18 → ⊥) → (x : ℕ) → Pair-post ws work (at + 2) ni m x → Step-post ws work at ni m x 0
+    pub step-cmp : (w < 18 → ⊥) → (x k : ℕ) → Pair-post ws work (at + 2) ni x k → Step-post ws work at ni x 0 k
     unfolding EveryOf
-    step-cmp l x p ds e bs q r = go e (code-is e r) r
+    step-cmp l x k p ds e bs q r = go e (code-is e r) r
       where
-        go : (e : BoolExpr) → bool-code e ≡ w → Bool-at ni ws at e → (x ≡ cond (own-test (test-comparison m ds) e) 0 (at + head-length e)) × (0 ≡ length (parts e))
+        go : (e : BoolExpr) → bool-code e ≡ w → Bool-at ni ws at e → (x ≡ at + head-length e) × (0 ≡ length (parts e)) × (k ≡ first-of (λ m. own-test (test-comparison m ds) e))
         go (Const b) t r = absurd (omega arith)
         go (Var v) t r = absurd (omega arith)
         go (NVar n) t r = absurd (r .usable)
@@ -280,15 +289,16 @@ module _ (ws work : List ℤ) (at ni m : ℕ) where
         go (Xor a b) t r = absurd (omega arith)
         go (Iff a b) t r = absurd (omega arith)
         go (Imp a b) t r = absurd (omega arith)
-        go (Cmp o a b) t r = let s = sides o a b r in (p ds a b bs q (s .0) (s .1) ∙ ap (λ n. cond (test-comparison m ds a b) 0 n) (omega arith), refl)
+        go (Cmp o a b) t r = let s = sides o a b r in let y = p ds a b bs q (s .0) (s .1) in let v = y .0 in (omega arith, refl, y .1)
 
 -- ---- `rules`
 
-pub rules-none : (ws work : List ℤ) (at n ni m : ℕ) → n ≡ 0 → Bools-post ws work at n ni m at
-rules-none ws work at n ni m z ds [] b q r = omega arith
-rules-none ws work at n ni m z ds (e ∷ es) b q r = absurd (let s : n ≡ suc (length es) = r .size in omega arith)
+pub rules-none : (ws work : List ℤ) (at n ni k : ℕ) → n ≡ 0 → k ≤ 12 → Bools-post ws work at n ni k at k
+unfolding first-of
+rules-none ws work at n ni k z l ds [] b q r = (omega arith, omega arith)
+rules-none ws work at n ni k z l ds (e ∷ es) b q r = absurd (let s : n ≡ suc (length es) = r .size in omega arith)
 
-module _ (ws work : List ℤ) (at n ni m : ℕ) (z : n ≡ 0 → ⊥) where
+module _ (ws work : List ℤ) (at n ni : ℕ) (z : n ≡ 0 → ⊥) where
   rules-inv : {X : Type 0} (es : List BoolExpr) → Bools-at ni ws at n es
       → ((e : BoolExpr) (us : List BoolExpr) → es ≡ e ∷ us → n ≡ suc (length us) → Bool-at ni ws at e → Has ws (at + head-length e) (flat (map encode-bool (parts e ++ us))) → Usable-all ni (parts e ++ us) → X) → X
   unfolding Usable-all
@@ -304,39 +314,28 @@ module _ (ws work : List ℤ) (at n ni m : ℕ) (z : n ≡ 0 → ⊥) where
   pub rule-first : Ready-bools ws work at n ni → Ready-bool ws work at ni
   rule-first r = rules-inv (r .them) (r .reads) λ e us q l i h u. record { ds = r .ds; bounds = r .bounds; few = r .few; it = e; reads = i }
 
-  module _ (x k : ℕ) (p : Step-post ws work at ni m x k) where
-    pub rules-hit : x ≡ 0 → Bools-post ws work at n ni m 0
-    rules-hit y ds es b q r =
-        rules-inv es r λ e us t l i h u.
-        let v : own-test (test-comparison m ds) e ≡ true = hit-of (own-test (test-comparison m ds) e) (at + head-length e) x (omega (arith, head-some ni e (i .usable))) (p ds e b q i .0) y in
-        rw (t, split-test (test-comparison m ds) (test-column m ds) e, v) refl
-
-    pub rules-ready : Ready-bools ws work at n ni → (x ≡ 0 → ⊥) → Ready-bools ws work x (n - 1 + k) ni
-    rules-ready r y =
+  module _ (x k w : ℕ) (p : Step-post ws work at ni x k w) where
+    pub rules-ready : Ready-bools ws work at n ni → Ready-bools ws work x (n - 1 + k) ni × (at < x)
+    rules-ready r =
         rules-inv (r .them) (r .reads) λ e us t l i h u.
         let s = p (r .ds) e (r .bounds) (r .few) i in
-        let v = miss-of (own-test (test-comparison m (r .ds)) e) (at + head-length e) x (s .0) y in
-        record { ds = r .ds; bounds = r .bounds; few = r .few; them = parts e ++ us; reads = record { words = rw (v .1) h; usable = u; size = omega (arith, length-append (parts e) us, s .1) } }
+        let v = s .0 in
+        (record { ds = r .ds; bounds = r .bounds; few = r .few; them = parts e ++ us; reads = record { words = rw v h; usable = u; size = omega (arith, length-append (parts e) us, s .1) } }, omega (arith, head-some ni e (i .usable)))
 
-    pub rules-on : Ready-bools ws work at n ni → (x ≡ 0 → ⊥) → at < x
-    rules-on r y =
-        rules-inv (r .them) (r .reads) λ e us t l i h u.
-        let v = miss-of (own-test (test-comparison m (r .ds)) e) (at + head-length e) x (p (r .ds) e (r .bounds) (r .few) i .0) y in
-        omega (arith, v .1, head-some ni e (i .usable))
-
-    pub rules-rest : (x ≡ 0 → ⊥) → (y : ℕ) → Bools-post ws work x (n - 1 + k) ni m y → Bools-post ws work at n ni m y
-    rules-rest y z' o ds es b q r =
+    pub rules-rest : (k₀ k₁ y k' : ℕ) → k₁ ≡ min k₀ w → Bools-post ws work x (n - 1 + k) ni k₁ y k' → Bools-post ws work at n ni k₀ y k'
+    rules-rest k₀ k₁ y k' g o ds es b q r =
         rules-inv es r λ e us t l i h u.
         let s = p ds e b q i in
-        let v = miss-of (own-test (test-comparison m ds) e) (at + head-length e) x (s .0) y in
-        let a = v .1 in
+        let a = s .0 in
         let c = o ds (parts e ++ us) b q (record { words = rw a h; usable = u; size = omega (arith, length-append (parts e) us, s .1) }) in
-        let test = any-comparison (test-comparison m ds) (test-column m ds) in
-        let own : own-test (test-comparison m ds) e || any test (parts e) ≡ any test (parts e) = rw (v .0) refl in
-        let d : any test (parts e ++ us) ≡ any test (e ∷ us) = any-append test (parts e) us ∙ ap (λ b. b || any test us) (sym (split-test (test-comparison m ds) (test-column m ds) e ∙ own)) in
-        let f : x + length (flat (map encode-bool (parts e ++ us))) ≡ at + length (flat (map encode-bool (e ∷ us))) =
-        omega (arith, ap length (flat-map (parts e) us), length-append (flat (map encode-bool (parts e))) (flat (map encode-bool us)), length-append (encode-bool e) (flat (map encode-bool us)), ap length (split-words e), length-append (own-words e) (flat (map encode-bool (parts e))), own-length e) in
-        rw t (c ∙ rw (d, f) refl)
+        let c0 : y ≡ x + length (flat (map encode-bool (parts e ++ us))) = c .0 in
+        let test : ℕ → BoolExpr → Bool = λ m. any-comparison (test-comparison m ds) (test-column m ds) in
+        let d : first-of (λ m. own-test (test-comparison m ds) e || any (test m) (parts e ++ us)) ≡ first-of (λ m. any (test m) (e ∷ us)) =
+        first-cong (λ m. own-test (test-comparison m ds) e || any (test m) (parts e ++ us)) (λ m. any (test m) (e ∷ us)) (λ m. own-first m ds e us) in
+        rw t (
+          omega (arith, ap length (flat-map (parts e) us), length-append (flat (map encode-bool (parts e))) (flat (map encode-bool us)), length-append (encode-bool e) (flat (map encode-bool us)), ap length (split-words e), length-append (own-words e) (flat (map encode-bool (parts e))), own-length e),
+          first-join (λ m. own-test (test-comparison m ds) e) (λ m. any (test m) (parts e ++ us)) k' k₀ k₁ w g (s .2) (c .1) ∙ ap (λ v. min k₀ v) d,
+        )
 
 pub rules-room : (ws work : List ℤ) (at n ni : ℕ) → Ready-bools ws work at n ni → n ≤ length ws
 rules-room ws work at n ni r = go (r .them) (r .reads)

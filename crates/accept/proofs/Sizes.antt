@@ -1,6 +1,6 @@
 -- The signed leaves: the size of a word and the distance of two. Assumes nothing.
 use mathlib.Core.Path.{_≡_, ap}
-use mathlib.Core.Bool.{Bool, true, false}
+use mathlib.Core.Bool.{true}
 use Prim.Native.Nat.{ℕ, _+_, _*_, _<_, _≤_, min}
 use native.Mathlib.Omega.{arith}
 use native.Mathlib.Nat.{mul-le-mul}
@@ -39,18 +39,10 @@ product-small n t h k = let l : n * t ≤ 2147483648 * 1073741824 = mul-le-mul h
 
 -- ---- `add_term`
 
-pub add-stuck : (weigh : Bool) (k t acc : ℕ) → weigh ≡ true → t ≡ cap → cap ≡ joined acc (product weigh k t)
+pub add-stuck : (k t acc : ℕ) → t ≡ cap → cap ≡ joined acc (product k t)
 unfolding joined product
-add-stuck weigh k t acc h e = rw (h, e) (omega arith)
+add-stuck k t acc e = rw e (omega arith)
 
-add-plain : (acc n : ℕ) → min (acc + n) cap ≡ min (acc + min n cap) cap
-add-plain acc n = omega arith
-
-pub add-light : (weigh : Bool) (k t acc : ℕ) → (t ≡ cap → ⊥) → min (acc + k * t) cap ≡ joined acc (product weigh k t)
+pub add-light : (k t acc : ℕ) → (t ≡ cap → ⊥) → min (acc + k * t) cap ≡ joined acc (product k t)
 unfolding joined product
-add-light true k t acc h = rw (ne-eqb t cap h) (add-plain acc (k * t))
-add-light false k t acc h = add-plain acc (k * t)
-
-pub add-width : (weigh : Bool) (k t acc : ℕ) → weigh ≡ false → min (acc + k * t) cap ≡ joined acc (product weigh k t)
-unfolding joined product
-add-width weigh k t acc h = rw h (add-plain acc (k * t))
+add-light k t acc h = rw (ne-eqb t cap h) (omega arith)

@@ -52,11 +52,6 @@ weight-ends (Range low high) h = refl
 weight-ends (Enumerative []) h = absurd (omega (arith, h .0))
 weight-ends (Enumerative (x ∷ xs)) h = ap (λ n. max 1 n) (largest-ends x xs (h .3))
 
-domain-ordered : (d : Domain) → WellDomain d → leZ (lower-bound d) (upper-bound d) ≡ true
-domain-ordered (Range low high) h = h .2
-domain-ordered (Enumerative []) h = absurd (omega (arith, h .0))
-domain-ordered (Enumerative (x ∷ xs)) h = last-high x xs (h .3)
-
 -- a property of every well-formed domain, and of the domain that stands for an undeclared variable
 module _ (P : Domain → Type 0) (to : (d : Domain) → WellDomain d → P d) (other : P (Range (pos 0) (pos 0))) where
   every-domain : (ds : List Domain) → Each WellDomain ds → (v : ℕ) → P (domain-of ds v)
@@ -64,10 +59,9 @@ module _ (P : Domain → Type 0) (to : (d : Domain) → WellDomain d → P d) (o
   every-domain (d ∷ ds) h zero = to d (h .0)
   every-domain (d ∷ ds) h (suc v) = every-domain ds (h .1) v
 
-pub well-bounded : (ds : List Domain) → Each WellDomain ds → Bounded ds
+well-bounded : (ds : List Domain) → Each WellDomain ds → Bounded ds
 well-bounded ds h = record {
   weights = every-domain (λ d. domain-weight d ≡ max 1 (max (natAbs (lower-bound d)) (natAbs (upper-bound d)))) weight-ends refl ds h;
-  ordered = every-domain (λ d. leZ (lower-bound d) (upper-bound d) ≡ true) domain-ordered refl ds h;
 }
 
 -- ---- expressions
@@ -76,8 +70,8 @@ module _ (nb ni : ℕ) where
   stmt-usable : (s : Stmt) → WellStmt nb ni s → Usable-stmt ni s
   unfolding Usable-stmt
   stmt-usable (Rule e) h = every-map None (λ v. v < nb) (λ v. v < ni) None Any (λ v. v < ni) (λ n k. k) (λ v k. tt) (λ v k. k) e (bool-vars nb ni 64 e h)
-  stmt-usable (Table es rows) h = (columns-vars ni 64 es (h .2), rows-wide (length es) rows (h .3))
-  stmt-usable (AllDifferent es) h = columns-vars ni 64 es (h .1)
+  stmt-usable (Table es rows) h = (columns-vars Any Any ni 64 es (h .2), rows-wide (length es) rows (h .3))
+  stmt-usable (AllDifferent es) h = columns-vars Any Any ni 64 es (h .1)
 
   stmts-usable : (ss : List Stmt) → Each (WellStmt nb ni) ss → Usable-stmts ni ss
   unfolding Usable-stmts

@@ -1,19 +1,20 @@
 -- What the walks over a set's words ask and give. Assumes nothing.
--- A walk that tests what it passes answers with the place behind, or with 0 where the test hits.
+-- A walk that tests what it passes answers with the place behind, and with the first of 9, 10 and 11 that hits, or 12.
 use mathlib.Core.Path.{_≡_}
-use mathlib.Core.Bool.{Bool, true, false, _||_, cond}
+use mathlib.Core.Bool.{Bool, false, _||_, cond}
 use mathlib.Core.List.{List, [], _∷_, map}
-use Prim.Native.Nat.{ℕ, _+_, _<_, max}
-use lib.IntN.{ℤ}
+use Prim.Native.Nat.{ℕ, _+_, _<_, _≤_, min, max}
+use lib.IntN.{ℤ, natAbs, _+ℤ_}
 use lib.ListN.{length, getD}
 use lib.Dec.{eqb, ltb}
 use Rattle.laws.specs.Lists.{any, flat}
 use Rattle.laws.specs.Slices.{Has}
-use Rattle.syntax.specs.Syntax.{Domain, lower-bound, upper-bound, domain-of, IntExpr, IConst, IVar, Linear, Terms, tnil, count-terms, encode-int, encode-terms, BoolExpr, Const, Var, NVar, And, Or, Not, Xor, Iff, Imp, Cmp, Members, mnil, more, encode-bool, Stmt, Rule, Table, AllDifferent, encode-stmt}
+use Rattle.syntax.specs.Words.{max-weight}
+use Rattle.syntax.specs.Syntax.{Domain, lower-bound, upper-bound, domain-of, IntExpr, IConst, IVar, Linear, If, Terms, tnil, count-terms, encode-int, encode-terms, BoolExpr, Const, Var, NVar, And, Or, Not, Xor, Iff, Imp, Cmp, Members, mnil, more, encode-bool, Stmt, Rule, Table, AllDifferent, encode-stmt}
 use Rattle.syntax.specs.Written.{EveryInt, EveryTerm, EveryColumn, EveryOf, EveryMemberOf, Any, None}
 use Rattle.syntax.specs.Lengths.{Wide}
 use Rattle.domains.specs.Declared.{bounds-words}
-use Rattle.limits.specs.Limits.{any-comparison, any-pair, any-part, heavy, heavy-comparison, many-comparison, many-column, wide-column}
+use Rattle.limits.specs.Limits.{any-comparison, any-pair, any-part, terms-weight, heavy, heavy-terms, heavy-comparison, many-comparison, many-column, interval, terms-interval, wide-column}
 use Rattle.limits.specs.Total.{Bounded, total, terms-total, joined, bounds-total}
 use Rattle.limits.specs.Count.{among, either, marked}
 use Rattle.limits.specs.Limits.{written}
@@ -44,8 +45,8 @@ pub record Ready-var (work : List ℤ) (v : ℕ) : Type 0 where
   pub bounds : Bounds work ds
   pub below : v < length ds
 
-abbrev pub Var-post : List ℤ → Bool → ℕ → ℕ → Type 0
-Var-post work weigh v r = (ds : List Domain) → Bounds work ds → v < length ds → r ≡ bounds-total weigh (lower-bound (domain-of ds v)) (upper-bound (domain-of ds v))
+abbrev pub Var-post : List ℤ → ℕ → ℕ → Type 0
+Var-post work v r = (ds : List Domain) → Bounds work ds → v < length ds → r ≡ bounds-total (lower-bound (domain-of ds v)) (upper-bound (domain-of ds v))
 
 pub record Ready-int (ws work : List ℤ) (at : ℕ) : Type 0 where
   pub ds : List Domain
@@ -59,14 +60,42 @@ pub record Ready-terms (ws work : List ℤ) (at n : ℕ) : Type 0 where
   pub them : Terms
   pub reads : Terms-at (length ds) ws at n them
 
-abbrev pub Int-post : List ℤ → List ℤ → Bool → ℕ → ℕ → ℕ → Type 0
-Int-post ws work weigh at next t =
-    (ds : List Domain) (e : IntExpr) → Bounds work ds → Int-at (length ds) ws at e → (next ≡ at + length (encode-int e)) × (t ≡ total weigh ds e)
+abbrev pub Int-post : List ℤ → List ℤ → ℕ → ℕ → ℕ → Type 0
+Int-post ws work at next t =
+    (ds : List Domain) (e : IntExpr) → Bounds work ds → Int-at (length ds) ws at e → (next ≡ at + length (encode-int e)) × (t ≡ total ds e)
 
 -- the terms' total joins what was totalled before
-abbrev pub Terms-post : List ℤ → List ℤ → Bool → ℕ → ℕ → ℕ → ℕ → ℕ → Type 0
-Terms-post ws work weigh at n acc next t =
-    (ds : List Domain) (ts : Terms) → Bounds work ds → Terms-at (length ds) ws at n ts → (next ≡ at + length (encode-terms ts)) × (t ≡ joined acc (terms-total weigh ds ts))
+abbrev pub Terms-post : List ℤ → List ℤ → ℕ → ℕ → ℕ → ℕ → ℕ → Type 0
+Terms-post ws work at n acc next t =
+    (ds : List Domain) (ts : Terms) → Bounds work ds → Terms-at (length ds) ws at n ts → (next ≡ at + length (encode-terms ts)) × (t ≡ joined acc (terms-total ds ts))
+
+-- ---- lowest and highest value, of what 9 lets through
+
+pub record Ready-range (ws work : List ℤ) (at : ℕ) : Type 0 where
+  pub ds : List Domain
+  pub bounds : Bounds work ds
+  pub it : IntExpr
+  pub reads : Int-at (length ds) ws at it
+  pub light : heavy ds it ≡ false
+
+abbrev pub Range-post : List ℤ → List ℤ → ℕ → ℕ → ℤ → ℤ → Type 0
+Range-post ws work at next low high =
+    (ds : List Domain) (e : IntExpr) → Bounds work ds → Int-at (length ds) ws at e → (next ≡ at + length (encode-int e)) × (low ≡ interval ds e .0) × (high ≡ interval ds e .1)
+
+-- terms that still fit beside the lowest and highest value so far
+pub record Ready-ranges (ws work : List ℤ) (at n : ℕ) (low high : ℤ) : Type 0 where
+  pub ds : List Domain
+  pub bounds : Bounds work ds
+  pub them : Terms
+  pub reads : Terms-at (length ds) ws at n them
+  pub light : heavy-terms ds them ≡ false
+  pub low-small : natAbs low + terms-weight ds them ≤ max-weight
+  pub high-small : natAbs high + terms-weight ds them ≤ max-weight
+
+abbrev pub Ranges-post : List ℤ → List ℤ → ℕ → ℕ → ℤ → ℤ → ℕ → ℤ → ℤ → Type 0
+Ranges-post ws work at n low high next low' high' =
+    (ds : List Domain) (ts : Terms) → Bounds work ds → Terms-at (length ds) ws at n ts
+    → (next ≡ at + length (encode-terms ts)) × (low' ≡ low +ℤ terms-interval ds ts .0) × (high' ≡ high +ℤ terms-interval ds ts .1)
 
 -- ---- variables written
 
@@ -80,11 +109,13 @@ pub record Behind (ws : List ℤ) (at : ℕ) : Type 0 where
 abbrev pub own-var : ℕ → IntExpr → ℕ
 own-var none (IConst c) = none
 own-var none (IVar u) = u
+own-var none (If i c t f) = absurd i
 own-var none (Linear ts) = none
 
 abbrev pub inner : IntExpr → Terms
 inner (IConst c) = tnil
 inner (IVar u) = tnil
+inner (If i c t f) = absurd i
 inner (Linear ts) = ts
 
 abbrev pub Head-post : List ℤ → ℕ → ℕ → ℕ → ℕ → Type 0
@@ -107,6 +138,10 @@ Marked-post ws a b n r = (x y : IntExpr) → Has ws a (encode-int x) → Has ws 
 
 -- ---- the tests of refusal m: 9, 10, else 11
 
+-- the first of them that hits, or 12
+unfoldable pub first-of : (ℕ → Bool) → ℕ
+first-of hits = cond (hits 9) 9 (cond (hits 10) 10 (cond (hits 11) 11 12))
+
 unfoldable pub test-comparison : ℕ → List Domain → IntExpr → IntExpr → Bool
 test-comparison m ds a b = cond (eqb m 9) (heavy-comparison ds a b) (cond (eqb m 10) (many-comparison a b) false)
 
@@ -116,6 +151,9 @@ test-one m ds e = cond (eqb m 9) (heavy ds e) false
 
 unfoldable pub test-column : ℕ → List Domain → IntExpr → Bool
 test-column m ds e = cond (eqb m 9) (heavy ds e) (cond (eqb m 10) (many-column e) (wide-column ds e))
+
+abbrev pub Many-one-post : List ℤ → ℕ → ℕ → ℕ → Bool → Type 0
+Many-one-post ws at words ni r = (x : IntExpr) → Int-at ni ws at x → words ≡ length (encode-int x) → r ≡ many-column x
 
 abbrev pub Many-post : List ℤ → ℕ → ℕ → ℕ → ℕ → Bool → Type 0
 Many-post ws a b words ni r = (x y : IntExpr) → Int-at ni ws a x → Int-at ni ws b y → words ≡ length (encode-int x) + length (encode-int y) → r ≡ many-comparison x y
@@ -131,9 +169,9 @@ pub record Ready-pair (ws work : List ℤ) (at ni : ℕ) : Type 0 where
   pub behind : 0 < at
 
 abbrev pub Pair-post : List ℤ → List ℤ → ℕ → ℕ → ℕ → ℕ → Type 0
-Pair-post ws work at ni m r =
+Pair-post ws work at ni next k =
     (ds : List Domain) (a b : IntExpr) → Bounds work ds → ni ≡ length ds → Int-at ni ws at a → Int-at ni ws (at + length (encode-int a)) b
-    → r ≡ cond (test-comparison m ds a b) 0 (at + length (encode-int a) + length (encode-int b))
+    → (next ≡ at + length (encode-int a) + length (encode-int b)) × (k ≡ first-of (λ m. test-comparison m ds a b))
 
 pub record Ready-column (ws work : List ℤ) (at ni : ℕ) : Type 0 where
   pub ds : List Domain
@@ -144,7 +182,8 @@ pub record Ready-column (ws work : List ℤ) (at ni : ℕ) : Type 0 where
   pub behind : 0 < at
 
 abbrev pub Column-post : List ℤ → List ℤ → ℕ → ℕ → ℕ → ℕ → Type 0
-Column-post ws work at ni m r = (ds : List Domain) (e : IntExpr) → Bounds work ds → ni ≡ length ds → Int-at ni ws at e → r ≡ cond (test-column m ds e) 0 (at + length (encode-int e))
+Column-post ws work at ni next k =
+    (ds : List Domain) (e : IntExpr) → Bounds work ds → ni ≡ length ds → Int-at ni ws at e → (next ≡ at + length (encode-int e)) × (k ≡ first-of (λ m. test-column m ds e))
 
 pub record Columns-at (ni : ℕ) (ws : List ℤ) (at n : ℕ) (es : List IntExpr) : Type 0 where
   pub words : Has ws at (flat (map encode-int es))
@@ -159,10 +198,11 @@ pub record Ready-columns (ws work : List ℤ) (at n ni : ℕ) : Type 0 where
   pub reads : Columns-at ni ws at n them
   pub behind : 0 < at
 
-abbrev pub Columns-post : List ℤ → List ℤ → ℕ → ℕ → ℕ → ℕ → ℕ → Type 0
-Columns-post ws work at n ni m r =
+-- k₀ was hit before
+abbrev pub Columns-post : List ℤ → List ℤ → ℕ → ℕ → ℕ → ℕ → ℕ → ℕ → Type 0
+Columns-post ws work at n ni k₀ next k =
     (ds : List Domain) (es : List IntExpr) → Bounds work ds → ni ≡ length ds → Columns-at ni ws at n es
-    → r ≡ cond (any (test-column m ds) es) 0 (at + length (flat (map encode-int es)))
+    → (next ≡ at + length (flat (map encode-int es))) × (k ≡ min k₀ (first-of (λ m. any (test-column m ds) es)))
 
 -- ---- expressions that differ
 
@@ -175,11 +215,11 @@ pub record Ready-totals (ws work : List ℤ) (at n : ℕ) : Type 0 where
 -- the total of some expression is over the limit with the largest one before it
 unfoldable pub over : List Domain → ℕ → List IntExpr → Bool
 over ds top [] = false
-over ds top (e ∷ es) = ltb 1073741823 (top + total true ds e) || over ds (max top (total true ds e)) es
+over ds top (e ∷ es) = ltb 1073741823 (top + total ds e) || over ds (max top (total ds e)) es
 
-abbrev pub Over-post : List ℤ → List ℤ → ℕ → ℕ → ℕ → ℕ → Type 0
-Over-post ws work at n top r =
-    (ds : List Domain) (es : List IntExpr) → Bounds work ds → Columns-at (length ds) ws at n es → r ≡ cond (over ds top es) 0 (at + length (flat (map encode-int es)))
+abbrev pub Over-post : List ℤ → List ℤ → ℕ → ℕ → ℕ → Bool → ℕ → Bool → Type 0
+Over-post ws work at n top hit next r =
+    (ds : List Domain) (es : List IntExpr) → Bounds work ds → Columns-at (length ds) ws at n es → (next ≡ at + length (flat (map encode-int es))) × (r ≡ (hit || over ds top es))
 
 -- one of two or more expressions, of 64 words at least, writes too many variables with one of them
 unfoldable pub crowds : List IntExpr → IntExpr → Bool
@@ -197,19 +237,15 @@ Among-post ws work a words at n ni r =
     (ds : List Domain) (e : IntExpr) (es : List IntExpr) → Bounds work ds → ni ≡ length ds → Int-at ni ws a e → words ≡ length (encode-int e) → Columns-at ni ws at n es
     → r ≡ crowds es e
 
--- of the expressions all, those from next on are left; a test that is not 10 hits none
-unfoldable pub crowded : ℕ → List IntExpr → List IntExpr → Bool
-crowded m all es = cond (eqb m 10) (any (crowds all) es) false
-
-abbrev pub Crowded-post : List ℤ → List ℤ → ℕ → ℕ → ℕ → ℕ → ℕ → ℕ → ℕ → Type 0
-Crowded-post ws work at n ni m next rest r =
-    (ds : List Domain) (all es : List IntExpr) → Bounds work ds → ni ≡ length ds → Columns-at ni ws at n all → Columns-at ni ws next rest es
-    → r ≡ cond (crowded m all es) 0 (next + length (flat (map encode-int es)))
+-- of the expressions all, those from next on are left
+abbrev pub Crowded-post : List ℤ → List ℤ → ℕ → ℕ → ℕ → ℕ → ℕ → Bool → Type 0
+Crowded-post ws work at n ni next rest r =
+    (ds : List Domain) (all es : List IntExpr) → Bounds work ds → ni ≡ length ds → Columns-at ni ws at n all → Columns-at ni ws next rest es → r ≡ any (crowds all) es
 
 abbrev pub Different-post : List ℤ → List ℤ → ℕ → ℕ → ℕ → ℕ → ℕ → Type 0
-Different-post ws work at n ni m r =
+Different-post ws work at n ni next k =
     (ds : List Domain) (es : List IntExpr) → Bounds work ds → ni ≡ length ds → Columns-at ni ws at n es
-    → r ≡ cond (any (test-one m ds) es || any-pair (test-comparison m ds) es) 0 (at + length (flat (map encode-int es)))
+    → (next ≡ at + length (flat (map encode-int es))) × (k ≡ first-of (λ m. any (test-one m ds) es || any-pair (test-comparison m ds) es))
 
 -- ---- Boolean expressions that reading makes, with declared variables
 
@@ -246,7 +282,7 @@ parts (Cmp o a b) = []
 abbrev pub head-length : BoolExpr → ℕ
 head-length (Const b) = 2
 head-length (Var v) = 2
-head-length (NVar n) = 0
+head-length (NVar n) = 1
 head-length (And ms) = 2
 head-length (Or ms) = 2
 head-length (Not e) = 1
@@ -292,14 +328,14 @@ pub record Ready-bools (ws work : List ℤ) (at n ni : ℕ) : Type 0 where
 
 -- one step: over the head, or over a whole comparison
 abbrev pub Step-post : List ℤ → List ℤ → ℕ → ℕ → ℕ → ℕ → ℕ → Type 0
-Step-post ws work at ni m next n =
+Step-post ws work at ni next n k =
     (ds : List Domain) (e : BoolExpr) → Bounds work ds → ni ≡ length ds → Bool-at ni ws at e
-    → (next ≡ cond (own-test (test-comparison m ds) e) 0 (at + head-length e)) × (n ≡ length (parts e))
+    → (next ≡ at + head-length e) × (n ≡ length (parts e)) × (k ≡ first-of (λ m. own-test (test-comparison m ds) e))
 
-abbrev pub Bools-post : List ℤ → List ℤ → ℕ → ℕ → ℕ → ℕ → ℕ → Type 0
-Bools-post ws work at n ni m r =
+abbrev pub Bools-post : List ℤ → List ℤ → ℕ → ℕ → ℕ → ℕ → ℕ → ℕ → Type 0
+Bools-post ws work at n ni k₀ next k =
     (ds : List Domain) (es : List BoolExpr) → Bounds work ds → ni ≡ length ds → Bools-at ni ws at n es
-    → r ≡ cond (any (any-comparison (test-comparison m ds) (test-column m ds)) es) 0 (at + length (flat (map encode-bool es)))
+    → (next ≡ at + length (flat (map encode-bool es))) × (k ≡ min k₀ (first-of (λ m. any (any-comparison (test-comparison m ds) (test-column m ds)) es)))
 
 -- ---- statements
 
@@ -339,10 +375,11 @@ abbrev pub test-stmt : ℕ → List Domain → Stmt → Bool
 test-stmt m ds s = any-part (test-comparison m ds) (test-column m ds) (test-one m ds) s
 
 abbrev pub Stmt-post : List ℤ → List ℤ → ℕ → ℕ → ℕ → ℕ → Type 0
-Stmt-post ws work at ni m r = (ds : List Domain) (s : Stmt) → Bounds work ds → ni ≡ length ds → Stmt-at ni ws at s → r ≡ cond (test-stmt m ds s) 0 (at + length (encode-stmt s))
+Stmt-post ws work at ni next k =
+    (ds : List Domain) (s : Stmt) → Bounds work ds → ni ≡ length ds → Stmt-at ni ws at s → (next ≡ at + length (encode-stmt s)) × (k ≡ first-of (λ m. test-stmt m ds s))
 
-abbrev pub Stmts-post : List ℤ → List ℤ → ℕ → ℕ → ℕ → ℕ → Bool → Type 0
-Stmts-post ws work at n ni m r = (ds : List Domain) (ss : List Stmt) → Bounds work ds → ni ≡ length ds → Stmts-at ni ws at n ss → r ≡ any (test-stmt m ds) ss
+abbrev pub Stmts-post : List ℤ → List ℤ → ℕ → ℕ → ℕ → ℕ → ℕ → Type 0
+Stmts-post ws work at n ni k₀ k = (ds : List Domain) (ss : List Stmt) → Bounds work ds → ni ≡ length ds → Stmts-at ni ws at n ss → k ≡ min k₀ (first-of (λ m. any (test-stmt m ds) ss))
 
 -- the refusal of a whole list of statements, or 0
 unfoldable pub check-stmts : List Domain → List Stmt → ℕ

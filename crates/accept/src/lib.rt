@@ -1,15 +1,15 @@
-// Refusals 1 to 11 over a set's words; `m` is the one of 9, 10 and 11 that is tested. `work` holds the table of bounds from 7936 on.
-// A walk that tests what it passes answers with the place behind, or with 0 where the test hits.
+// Refusals 1 to 11 over a set's words. `work` holds the table of bounds from 7936 on.
+// A walk that tests what it passes answers with the place behind, and with the first of 9, 10 and 11 that hits, or 12.
 use reader::Set;
 ghost use mathlib.Core.Path.{_≡_};
-ghost use mathlib.Core.Bool.{cond};
+ghost use mathlib.Core.Bool.{false, _||_};
 ghost use Prim.Native.Nat.{_<_, _≤_, min, max};
 ghost use lib.Dec.{eqb};
-ghost use lib.IntN.{natAbs, _-ℤ_};
+ghost use lib.IntN.{pos, natAbs, _-ℤ_};
 ghost use lib.ListN.{length};
 ghost use Rattle.limits.specs.Total.{cap, joined, product, constant-total, bounds-total};
 ghost use Rattle.accept.specs.Accepted.{Ready-set, Limits-post, accepted, table-after};
-ghost use Rattle.accept.specs.Walk.{Ready-var, Var-post, Ready-int, Ready-terms, Int-post, Terms-post, Behind, Head-post, Marks, Written-post, Marked-post, Many-post, Ready-pair, Pair-post, Ready-column, Column-post, Ready-columns, Columns-post, Ready-totals, Over-post, Ready-among, Among-post, Crowded-post, Different-post, Ready-bool, Ready-bools, Step-post, Bools-post, Ready-stmt, Stmt-post, Ready-stmts, Stmts-post, Check-post};
+ghost use Rattle.accept.specs.Walk.{Ready-var, Var-post, Ready-int, Ready-terms, Int-post, Terms-post, Ready-range, Range-post, Ready-ranges, Ranges-post, Behind, Head-post, Marks, Written-post, Marked-post, Many-one-post, Many-post, Ready-pair, Pair-post, Ready-column, Column-post, Ready-columns, Columns-post, Ready-totals, Over-post, Ready-among, Among-post, Crowded-post, Different-post, Ready-bool, Ready-bools, Step-post, Bools-post, Ready-stmt, Stmt-post, Ready-stmts, Stmts-post, Check-post};
 
 // ---- sizes
 
@@ -55,50 +55,50 @@ fn larger(a: usize, b: usize) -> usize
     a
 }
 
-// ---- totals: weights (`weigh`) or distances
-
-fn constant_total(w: i32, weigh: bool) -> usize
-    ensures { λ r. ⌜ r ≡ constant-total weigh w ⌝ }
+fn smaller(a: usize, b: usize) -> usize
+    ensures { λ r. ⌜ r ≡ min a b ⌝ }
 {
-    if weigh {
-        let n = size(w);
-        return capped(n);
+    if a < b {
+        return a;
     }
-    0
+    b
 }
 
-fn bounds_total(low: i32, high: i32, weigh: bool) -> usize
-    ensures { λ r. ⌜ r ≡ bounds-total weigh low high ⌝ }
+// ---- weights, stopped at 1073741824
+
+fn constant_total(w: i32) -> usize
+    ensures { λ r. ⌜ r ≡ constant-total w ⌝ }
 {
-    if weigh {
-        let a = size(low);
-        let b = size(high);
-        let c = larger(a, b);
-        let n = larger(1, c);
-        return capped(n);
-    }
-    let n = distance(low, high);
+    let n = size(w);
     capped(n)
 }
 
-fn variable_total(work: &[i32], v: usize, weigh: bool) -> usize
+fn bounds_total(low: i32, high: i32) -> usize
+    ensures { λ r. ⌜ r ≡ bounds-total low high ⌝ }
+{
+    let a = size(low);
+    let b = size(high);
+    let c = larger(a, b);
+    let n = larger(1, c);
+    capped(n)
+}
+
+fn variable_total(work: &[i32], v: usize) -> usize
     requires { ⌜ Ready-var (now work) v ⌝ }
-    ensures { λ r. ⌜ Var-post (now (work .entry)) weigh v r ⌝ }
+    ensures { λ r. ⌜ Var-post (now (work .entry)) v r ⌝ }
 {
     let low = work[7936 + 2 * v];
     let high = work[7936 + (2 * v + 1)];
-    bounds_total(low, high, weigh)
+    bounds_total(low, high)
 }
 
 // A coefficient times a total, joined to what was totalled before.
-fn add_term(k: i32, t: usize, weigh: bool, acc: usize) -> usize
+fn add_term(k: i32, t: usize, acc: usize) -> usize
     requires { ⌜ (t ≤ cap) × (acc ≤ cap) ⌝ }
-    ensures { λ r. ⌜ r ≡ joined acc (product weigh (natAbs k) t) ⌝ }
+    ensures { λ r. ⌜ r ≡ joined acc (product (natAbs k) t) ⌝ }
 {
-    if weigh {
-        if t == 1073741824 {
-            return 1073741824;
-        }
+    if t == 1073741824 {
+        return 1073741824;
     }
     let n = size(k);
     capped(acc + n * t)
@@ -110,31 +110,31 @@ pub struct Total {
 }
 
 // As many terms as `n` says.
-fn terms_total(set: &[i32], work: &[i32], at: usize, n: usize, weigh: bool) -> Total
+fn terms_total(set: &[i32], work: &[i32], at: usize, n: usize) -> Total
     requires { ⌜ Ready-terms (now set) (now work) at n ⌝ }
-    ensures { λ r. ⌜ Terms-post (now (set .entry)) (now (work .entry)) weigh at n 0 (r .next) (r .total) ⌝ }
+    ensures { λ r. ⌜ Terms-post (now (set .entry)) (now (work .entry)) at n 0 (r .next) (r .total) ⌝ }
 {
     let mut next = at;
     let mut total = 0;
     let mut left = n;
     while left != 0 {
-        let t = int_total(set, work, next + 1, weigh);
+        let t = int_total(set, work, next + 1);
         let k = set[next];
-        total = add_term(k, t.total, weigh, total);
+        total = add_term(k, t.total, total);
         next = t.next;
         left = left - 1;
     }
     Total { next, total }
 }
 
-fn int_total(set: &[i32], work: &[i32], at: usize, weigh: bool) -> Total
+fn int_total(set: &[i32], work: &[i32], at: usize) -> Total
     requires { ⌜ Ready-int (now set) (now work) at ⌝ }
-    ensures { λ r. ⌜ Int-post (now (set .entry)) (now (work .entry)) weigh at (r .next) (r .total) ⌝ }
+    ensures { λ r. ⌜ Int-post (now (set .entry)) (now (work .entry)) at (r .next) (r .total) ⌝ }
 {
     let code = domains::number(set, at);
     if code == 20 {
         let c = set[at + 1];
-        let total = constant_total(c, weigh);
+        let total = constant_total(c);
         return Total {
             next: at + 2,
             total,
@@ -142,13 +142,68 @@ fn int_total(set: &[i32], work: &[i32], at: usize, weigh: bool) -> Total
     }
     let v = domains::number(set, at + 1);
     if code == 21 {
-        let total = variable_total(work, v, weigh);
+        let total = variable_total(work, v);
         return Total {
             next: at + 2,
             total,
         };
     }
-    terms_total(set, work, at + 2, v, weigh)
+    terms_total(set, work, at + 2, v)
+}
+
+// ---- lowest and highest value, of what 9 lets through
+
+pub struct Range {
+    pub next: usize,
+    pub low: i32,
+    pub high: i32,
+}
+
+fn terms_range(set: &[i32], work: &[i32], at: usize, n: usize) -> Range
+    requires { ⌜ Ready-ranges (now set) (now work) at n (pos 0) (pos 0) ⌝ }
+    ensures { λ r. ⌜ Ranges-post (now (set .entry)) (now (work .entry)) at n (pos 0) (pos 0) (r .next) (r .low) (r .high) ⌝ }
+{
+    let mut next = at;
+    let mut low = 0;
+    let mut high = 0;
+    let mut rest = n;
+    while rest != 0 {
+        let r = int_range(set, work, next + 1);
+        let k = set[next];
+        let a = domains::times_low(k, r.low, r.high);
+        let b = domains::times_low(k, r.high, r.low);
+        low = low + a;
+        high = high + b;
+        next = r.next;
+        rest = rest - 1;
+    }
+    Range { next, low, high }
+}
+
+fn int_range(set: &[i32], work: &[i32], at: usize) -> Range
+    requires { ⌜ Ready-range (now set) (now work) at ⌝ }
+    ensures { λ r. ⌜ Range-post (now (set .entry)) (now (work .entry)) at (r .next) (r .low) (r .high) ⌝ }
+{
+    let code = domains::number(set, at);
+    if code == 20 {
+        let c = set[at + 1];
+        return Range {
+            next: at + 2,
+            low: c,
+            high: c,
+        };
+    }
+    let v = domains::number(set, at + 1);
+    if code == 21 {
+        let low = work[7936 + 2 * v];
+        let high = work[7936 + (2 * v + 1)];
+        return Range {
+            next: at + 2,
+            low,
+            high,
+        };
+    }
+    terms_range(set, work, at + 2, v)
 }
 
 // ---- variables written
@@ -225,15 +280,11 @@ fn different(set: &[i32], a: usize, b: usize, n: usize) -> usize
     x + y
 }
 
-// ---- the test of refusal m, on a comparison and on a column
+// ---- the tests of a comparison and of a column
 
-fn unless(hit: bool, next: usize) -> usize
-    ensures { λ r. ⌜ r ≡ cond hit 0 next ⌝ }
-{
-    if hit {
-        return 0;
-    }
-    next
+pub struct Tested {
+    pub next: usize,
+    pub refusal: usize,
 }
 
 // Whether two integer expressions of so many words write over 64 variables; below 128 words they cannot.
@@ -248,80 +299,111 @@ fn many_comparison(set: &[i32], a: usize, b: usize, words: usize, ni: usize) -> 
     n > 64
 }
 
-fn comparison(set: &[i32], work: &[i32], at: usize, ni: usize, m: usize) -> usize
+fn comparison(set: &[i32], work: &[i32], at: usize, ni: usize) -> Tested
     requires { ⌜ Ready-pair (now set) (now work) at ni × (ni ≤ 256) ⌝ }
-    ensures { λ r. ⌜ Pair-post (now (set .entry)) (now (work .entry)) at ni m r ⌝ }
+    ensures { λ r. ⌜ Pair-post (now (set .entry)) (now (work .entry)) at ni (r .next) (r .refusal) ⌝ }
 {
-    let weigh = m == 9;
-    let a = int_total(set, work, at, weigh);
-    let b = int_total(set, work, a.next, weigh);
-    if m == 9 {
-        return unless(a.total + b.total > 1073741823, b.next);
+    let a = int_total(set, work, at);
+    let b = int_total(set, work, a.next);
+    if a.total + b.total > 1073741823 {
+        return Tested {
+            next: b.next,
+            refusal: 9,
+        };
     }
-    if m == 10 {
-        let hit = many_comparison(set, at, a.next, b.next - at, ni);
-        return unless(hit, b.next);
+    if many_comparison(set, at, a.next, b.next - at, ni) {
+        return Tested {
+            next: b.next,
+            refusal: 10,
+        };
     }
-    b.next
+    Tested {
+        next: b.next,
+        refusal: 12,
+    }
 }
 
-fn column(set: &[i32], work: &[i32], at: usize, ni: usize, m: usize) -> usize
+// Whether a column of so many words writes over 63 variables; below 128 words it cannot.
+fn many_column(set: &[i32], at: usize, words: usize, ni: usize) -> bool
+    requires { ⌜ Behind (now set) at × (ni ≤ 256) ⌝ }
+    ensures { λ r. ⌜ Many-one-post (now (set .entry)) at words ni r ⌝ }
+{
+    if words < 128 {
+        return false;
+    }
+    let n = different(set, at, at, ni);
+    n > 63
+}
+
+fn column(set: &[i32], work: &[i32], at: usize, ni: usize) -> Tested
     requires { ⌜ Ready-column (now set) (now work) at ni × (ni ≤ 256) ⌝ }
-    ensures { λ r. ⌜ Column-post (now (set .entry)) (now (work .entry)) at ni m r ⌝ }
+    ensures { λ r. ⌜ Column-post (now (set .entry)) (now (work .entry)) at ni (r .next) (r .refusal) ⌝ }
 {
-    let weigh = m == 9;
-    let a = int_total(set, work, at, weigh);
-    if m == 9 {
-        return unless(a.total > 1073741823, a.next);
+    let a = int_total(set, work, at);
+    let next = a.next;
+    if a.total > 1073741823 {
+        return Tested { next, refusal: 9 };
     }
-    if m == 10 {
-        let words = a.next - at;
-        if words < 128 {
-            return a.next;
-        }
-        let n = different(set, at, at, ni);
-        return unless(n > 63, a.next);
+    if many_column(set, at, next - at, ni) {
+        return Tested { next, refusal: 10 };
     }
-    unless(a.total > 4095, a.next)
+    let r = int_range(set, work, at);
+    let d = distance(r.low, r.high);
+    if d > 4095 {
+        return Tested { next, refusal: 11 };
+    }
+    Tested { next, refusal: 12 }
 }
 
-fn columns(set: &[i32], work: &[i32], at: usize, n: usize, ni: usize, m: usize) -> usize
+fn columns(set: &[i32], work: &[i32], at: usize, n: usize, ni: usize) -> Tested
     requires { ⌜ Ready-columns (now set) (now work) at n ni × (ni ≤ 256) ⌝ }
-    ensures { λ r. ⌜ Columns-post (now (set .entry)) (now (work .entry)) at n ni m r ⌝ }
+    ensures { λ r. ⌜ Columns-post (now (set .entry)) (now (work .entry)) at n ni 12 (r .next) (r .refusal) ⌝ }
 {
     let mut next = at;
+    let mut refusal = 12;
     let mut rest = n;
     while rest != 0 {
-        let r = column(set, work, next, ni, m);
-        if r == 0 {
-            return 0;
-        }
-        next = r;
+        let t = column(set, work, next, ni);
+        refusal = smaller(refusal, t.refusal);
+        next = t.next;
         rest = rest - 1;
     }
-    next
+    Tested { next, refusal }
 }
 
 // ---- expressions that differ: each pair is tested as a comparison
 
+fn either(a: bool, b: bool) -> bool
+    ensures { λ r. ⌜ r ≡ (a || b) ⌝ }
+{
+    if a {
+        return true;
+    }
+    b
+}
+
+pub struct Weighed {
+    pub next: usize,
+    pub hit: bool,
+}
+
 // 9: the largest total so far with the next one; the first comes beside 0.
-fn heavy_pairs(set: &[i32], work: &[i32], at: usize, n: usize) -> usize
+fn heavy_pairs(set: &[i32], work: &[i32], at: usize, n: usize) -> Weighed
     requires { ⌜ Ready-totals (now set) (now work) at n ⌝ }
-    ensures { λ r. ⌜ Over-post (now (set .entry)) (now (work .entry)) at n 0 r ⌝ }
+    ensures { λ r. ⌜ Over-post (now (set .entry)) (now (work .entry)) at n 0 false (r .next) (r .hit) ⌝ }
 {
     let mut next = at;
     let mut top = 0;
+    let mut hit = false;
     let mut rest = n;
     while rest != 0 {
-        let t = int_total(set, work, next, true);
-        if top + t.total > 1073741823 {
-            return 0;
-        }
+        let t = int_total(set, work, next);
+        hit = either(hit, top + t.total > 1073741823);
         top = larger(top, t.total);
         next = t.next;
         rest = rest - 1;
     }
-    next
+    Weighed { next, hit }
 }
 
 // 10: whether the expression at `a`, of so many words, writes over 64 variables with one of the n. Of two with 128 words one has 64, and asks;
@@ -347,7 +429,7 @@ fn many_among(
     let mut next = at;
     let mut rest = n;
     while rest != 0 {
-        let t = int_total(set, work, next, false);
+        let t = int_total(set, work, next);
         let both = words + (t.next - next);
         if many_comparison(set, a, next, both, ni) {
             return true;
@@ -358,34 +440,37 @@ fn many_among(
     false
 }
 
-// 10, and 11, which nothing here hits.
-fn many_pairs(set: &[i32], work: &[i32], at: usize, n: usize, ni: usize, m: usize) -> usize
+// 10.
+fn many_pairs(set: &[i32], work: &[i32], at: usize, n: usize, ni: usize) -> bool
     requires { ⌜ Ready-columns (now set) (now work) at n ni × (ni ≤ 256) ⌝ }
-    ensures { λ r. ⌜ Crowded-post (now (set .entry)) (now (work .entry)) at n ni m at n r ⌝ }
+    ensures { λ r. ⌜ Crowded-post (now (set .entry)) (now (work .entry)) at n ni at n r ⌝ }
 {
     let mut next = at;
     let mut rest = n;
     while rest != 0 {
-        let t = int_total(set, work, next, false);
-        if m == 10 {
-            if many_among(set, work, next, t.next - next, at, n, ni) {
-                return 0;
-            }
+        let t = int_total(set, work, next);
+        if many_among(set, work, next, t.next - next, at, n, ni) {
+            return true;
         }
         next = t.next;
         rest = rest - 1;
     }
-    next
+    false
 }
 
-fn all_different(set: &[i32], work: &[i32], at: usize, n: usize, ni: usize, m: usize) -> usize
+fn all_different(set: &[i32], work: &[i32], at: usize, n: usize, ni: usize) -> Tested
     requires { ⌜ Ready-columns (now set) (now work) at n ni × (ni ≤ 256) ⌝ }
-    ensures { λ r. ⌜ Different-post (now (set .entry)) (now (work .entry)) at n ni m r ⌝ }
+    ensures { λ r. ⌜ Different-post (now (set .entry)) (now (work .entry)) at n ni (r .next) (r .refusal) ⌝ }
 {
-    if m == 9 {
-        return heavy_pairs(set, work, at, n);
+    let w = heavy_pairs(set, work, at, n);
+    let next = w.next;
+    if w.hit {
+        return Tested { next, refusal: 9 };
     }
-    many_pairs(set, work, at, n, ni, m)
+    if many_pairs(set, work, at, n, ni) {
+        return Tested { next, refusal: 10 };
+    }
+    Tested { next, refusal: 12 }
 }
 
 // ---- a rule: its expressions one after another, `rest` of them pending
@@ -393,17 +478,19 @@ fn all_different(set: &[i32], work: &[i32], at: usize, n: usize, ni: usize, m: u
 pub struct Step {
     pub next: usize,
     pub members: usize,
+    pub refusal: usize,
 }
 
-fn rule_step(set: &[i32], work: &[i32], at: usize, ni: usize, m: usize) -> Step
+fn rule_step(set: &[i32], work: &[i32], at: usize, ni: usize) -> Step
     requires { ⌜ Ready-bool (now set) (now work) at ni × (ni ≤ 256) ⌝ }
-    ensures { λ r. ⌜ Step-post (now (set .entry)) (now (work .entry)) at ni m (r .next) (r .members) ⌝ }
+    ensures { λ r. ⌜ Step-post (now (set .entry)) (now (work .entry)) at ni (r .next) (r .members) (r .refusal) ⌝ }
 {
     let code = domains::number(set, at);
     if code < 12 {
         return Step {
             next: at + 2,
             members: 0,
+            refusal: 12,
         };
     }
     if code < 14 {
@@ -411,80 +498,84 @@ fn rule_step(set: &[i32], work: &[i32], at: usize, ni: usize, m: usize) -> Step
         return Step {
             next: at + 2,
             members: n,
+            refusal: 12,
         };
     }
     if code == 14 {
         return Step {
             next: at + 1,
             members: 1,
+            refusal: 12,
         };
     }
     if code < 18 {
         return Step {
             next: at + 1,
             members: 2,
+            refusal: 12,
         };
     }
-    let next = comparison(set, work, at + 2, ni, m);
-    Step { next, members: 0 }
+    let t = comparison(set, work, at + 2, ni);
+    Step {
+        next: t.next,
+        members: 0,
+        refusal: t.refusal,
+    }
 }
 
-fn rules(set: &[i32], work: &[i32], at: usize, n: usize, ni: usize, m: usize) -> usize
+fn rules(set: &[i32], work: &[i32], at: usize, n: usize, ni: usize) -> Tested
     requires { ⌜ Ready-bools (now set) (now work) at n ni × (ni ≤ 256) ⌝ }
-    ensures { λ r. ⌜ Bools-post (now (set .entry)) (now (work .entry)) at n ni m r ⌝ }
+    ensures { λ r. ⌜ Bools-post (now (set .entry)) (now (work .entry)) at n ni 12 (r .next) (r .refusal) ⌝ }
 {
     let mut next = at;
+    let mut refusal = 12;
     let mut rest = n;
     while rest != 0 {
-        let s = rule_step(set, work, next, ni, m);
-        let r = s.next;
-        if r == 0 {
-            return 0;
-        }
-        next = r;
+        let s = rule_step(set, work, next, ni);
+        refusal = smaller(refusal, s.refusal);
+        next = s.next;
         rest = rest - 1 + s.members;
     }
-    next
+    Tested { next, refusal }
 }
 
 // ---- statements
 
-// The place behind the statement, or 0 where the test hits.
-pub fn statement(set: &[i32], work: &[i32], at: usize, ni: usize, m: usize) -> usize
+// The place behind the statement, and the refusal that it hits.
+pub fn statement(set: &[i32], work: &[i32], at: usize, ni: usize) -> Tested
     requires { ⌜ Ready-stmt (now set) (now work) at ni × (ni ≤ 256) ⌝ }
-    ensures { λ r. ⌜ Stmt-post (now (set .entry)) (now (work .entry)) at ni m r ⌝ }
+    ensures { λ r. ⌜ Stmt-post (now (set .entry)) (now (work .entry)) at ni (r .next) (r .refusal) ⌝ }
 {
     let code = domains::number(set, at);
     if code == 1 {
-        return rules(set, work, at + 1, 1, ni, m);
+        return rules(set, work, at + 1, 1, ni);
     }
     let n = domains::number(set, at + 1);
     if code == 3 {
-        return all_different(set, work, at + 2, n, ni, m);
+        return all_different(set, work, at + 2, n, ni);
     }
     let k = domains::number(set, at + 2);
-    let r = columns(set, work, at + 3, n, ni, m);
-    if r == 0 {
-        return 0;
+    let t = columns(set, work, at + 3, n, ni);
+    Tested {
+        next: t.next + n * k,
+        refusal: t.refusal,
     }
-    r + n * k
 }
 
-fn statements(set: &[i32], work: &[i32], at: usize, n: usize, ni: usize, m: usize) -> bool
+fn statements(set: &[i32], work: &[i32], at: usize, n: usize, ni: usize) -> usize
     requires { ⌜ Ready-stmts (now set) (now work) at n ni × (ni ≤ 256) ⌝ }
-    ensures { λ r. ⌜ Stmts-post (now (set .entry)) (now (work .entry)) at n ni m r ⌝ }
+    ensures { λ r. ⌜ Stmts-post (now (set .entry)) (now (work .entry)) at n ni 12 r ⌝ }
 {
     let mut next = at;
+    let mut refusal = 12;
     let mut rest = n;
     while rest != 0 {
-        let r = statement(set, work, next, ni, m);
-        if r == 0 {
-            return true;
-        }
-        next = r;
+        let t = statement(set, work, next, ni);
+        refusal = smaller(refusal, t.refusal);
+        next = t.next;
         rest = rest - 1;
     }
-    false
+    refusal
 }
 
 // The refusal of n statements from `at` on, or 0.
@@ -492,16 +583,11 @@ fn check(set: &[i32], work: &[i32], at: usize, n: usize, ni: usize) -> usize
     requires { ⌜ Ready-stmts (now set) (now work) at n ni × (ni ≤ 256) ⌝ }
     ensures { λ r. ⌜ Check-post (now (set .entry)) (now (work .entry)) at n ni r ⌝ }
 {
-    if statements(set, work, at, n, ni, 9) {
-        return 9;
+    let k = statements(set, work, at, n, ni);
+    if k == 12 {
+        return 0;
     }
-    if statements(set, work, at, n, ni, 10) {
-        return 10;
-    }
-    if statements(set, work, at, n, ni, 11) {
-        return 11;
-    }
-    0
+    k
 }
 
 // Refusals 9, 10 and 11 of a set that was read, or 0. The table of bounds stays in the work slice.

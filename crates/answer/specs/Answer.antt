@@ -11,26 +11,21 @@ use Rattle.fold.specs.Fold.{Fixed}
 use Rattle.sums.specs.LinearSum.{Term, term, linear-sum}
 use Rattle.clauses.specs.Clause.{BoolLit, lit, LinearLit, linear, Clause, clause}
 use Rattle.clauses.specs.Merge.{merge-stmts}
-use Rattle.clauses.specs.Log.{Log, next-bool, get-bool-var, get-int-var}
-use Rattle.clauses.specs.Disjunction.{Out}
-use Rattle.clauses.specs.Normalize.{Run}
+use Rattle.clauses.specs.Log.{Log, next-bool, get-bool-var, get-int-var, emitted-domains, clauses-of}
 use Rattle.clauses.specs.Split.{normalize-and-register-expr}
-use Rattle.tables.specs.Tables.{normalize-table, emitted-domains}
+use Rattle.tables.specs.Tables.{normalize-table}
 use Rattle.different.specs.Different.{different-rules, normalize-rules}
 
 -- ---- normalize
 
-unfoldable pub normalize-stmt : List Domain → Stmt → Run
-normalize-stmt ds (Rule e) s = normalize-and-register-expr e s
+unfoldable pub normalize-stmt : List Domain → Stmt → Log → Log
+normalize-stmt ds (Rule e) s = normalize-and-register-expr ds e s
 normalize-stmt ds (Table es rows) s = normalize-table ds es rows s
-normalize-stmt ds (AllDifferent es) s = normalize-rules (different-rules ds es) s
+normalize-stmt ds (AllDifferent es) s = normalize-rules ds (different-rules ds es) s
 
-unfoldable pub normalize-stmts : List Domain → List Stmt → Run
-normalize-stmts ds [] s = ([], s)
-normalize-stmts ds (t ∷ ts) s =
-    let a = normalize-stmt ds t s in
-    let b = normalize-stmts ds ts (a .1) in
-    (a .0 ++ b .0, b .1)
+unfoldable pub normalize-stmts : List Domain → List Stmt → Log → Log
+normalize-stmts ds [] s = s
+normalize-stmts ds (t ∷ ts) s = normalize-stmts ds ts (normalize-stmt ds t s)
 
 pub record Answer : Type 0 where
   -- of each declared Boolean: its value if fixed; its literal if any
@@ -42,14 +37,14 @@ pub record Answer : Type 0 where
   pub emitted-ints : List Domain
   pub clauses : List Clause
 
-unfoldable pub answer-of : Problem → Fixed → Out → Answer
-answer-of p f out = record {
+unfoldable pub answer-of : Problem → Fixed → Log → Answer
+answer-of p f s = record {
   fixed = map f (below (p .bools));
-  bool-map = map (λ v. get-bool-var v (out .1)) (below (p .bools));
-  int-map = map (λ v. get-int-var v (out .1)) (below (length (p .domains)));
-  emitted-bools = next-bool (out .1);
-  emitted-ints = emitted-domains (p .domains) (out .1);
-  clauses = out .0;
+  bool-map = map (λ v. get-bool-var v s) (below (p .bools));
+  int-map = map (λ v. get-int-var v s) (below (length (p .domains)));
+  emitted-bools = next-bool s;
+  emitted-ints = emitted-domains (p .domains) s;
+  clauses = clauses-of s;
 }
 
 -- the log from which clauses are made; merge: the caller's choice

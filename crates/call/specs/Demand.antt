@@ -10,11 +10,11 @@ use lib.Signed.{ltZ}
 use lib.Dec.{ltb}
 use lib.ListN.{length, length-map}
 use Rattle.laws.specs.Bools.{and-i}
-use Rattle.laws.specs.Lists.{all, below, length-from}
+use Rattle.laws.specs.Lists.{all, any, any-cong, below, length-from}
 use Rattle.syntax.specs.Words.{min-work-words, max-set-words, max-answer-words}
-use Rattle.syntax.specs.Syntax.{Domain, Range, Enumerative, domain-of, Stmt, Rule, Table, AllDifferent, Problem}
-use Rattle.syntax.specs.Satisfies.{Val, IVal, stmt-holds, in-domains, satisfies}
-use Rattle.syntax.specs.Written.{EveryStmt, EveryStmts, Within, every-column-map, every-stmts-map, in-domains-within}
+use Rattle.syntax.specs.Syntax.{Domain, Range, Enumerative, domain-of, IntExpr, Cell, Stmt, Rule, Table, AllDifferent, Problem}
+use Rattle.syntax.specs.Satisfies.{Val, IVal, row-holds, distinct, stmt-holds, in-domains, satisfies}
+use Rattle.syntax.specs.Written.{Any, EveryStmt, EveryStmts, Within, every-column-map, every-stmts-map, in-domains-within}
 use Rattle.words.specs.Parse.{Parsed, ok, refuse}
 use Rattle.words.specs.Exact.{Each}
 use Rattle.read.specs.Read.{read-set}
@@ -28,12 +28,13 @@ use Rattle.fold.specs.Ends.{optimize-rests}
 use Rattle.fold.specs.Meaning.{optimize-satisfies, optimize-inconsistent}
 use Rattle.sums.specs.Domain.{rising-from, ordered, domain-between}
 use Rattle.clauses.specs.Log.{Log}
-use Rattle.clauses.specs.Disjunction.{Out}
-use Rattle.clauses.specs.Valuation.{Fits, fits-agrees}
-use Rattle.clauses.specs.Grow.{Grows}
-use Rattle.clauses.specs.Means.{Means, means-none, means-append}
-use Rattle.clauses.specs.RuleMeaning.{read-rule-means}
-use Rattle.clauses.specs.Exist.{ints-of, bools-of, fitting-exists}
+use Rattle.clauses.specs.Valuation.{Fits, Added, fits-agrees}
+use Rattle.clauses.specs.Grow.{Extends, same, Lawful, lawful-over, clauses-added, added-of, added-on}
+use Rattle.clauses.specs.Merge.{merged-lawful, merged-no-clauses}
+use Rattle.clauses.specs.Bounds.{NoNumbers, values-same}
+use Rattle.clauses.specs.RuleMeaning.{Says, says-none, says-then, says-to, read-rule-means}
+use Rattle.clauses.specs.Exist.{values-of, fitting-exists}
+use Rattle.tables.specs.Agree.{row-permits, row-holds-permits}
 use Rattle.tables.specs.ColumnMeaning.{WithinDomain}
 use Rattle.tables.specs.TableMeaning.{table-means}
 use Rattle.different.specs.Meaning.{different-means}
@@ -41,7 +42,7 @@ use Rattle.answer.specs.Answer.{Answer, layout, answer-of, normalize-stmt, norm
 use Rattle.answer.specs.Passes.{Decoded, decode, between, passes-decoded, passes-with, Passes}
 use Rattle.answer.specs.ReadBack.{hull, view-of, answer-back}
 use Rattle.answer.specs.Declared.{stmts-declared}
-use Rattle.answer.specs.Start.{start-well, start-ints, start-declared, start-holds}
+use Rattle.answer.specs.Start.{start-well, start-declared, start-holds}
 use Rattle.answer.specs.Carried.{Carried, carried, carries}
 use Rattle.call.specs.Call.{Result, compiled, refused, measured, answered, checked, when-read, call-with}
 use Rattle.call.specs.Claim.{within, satisfied, Passed, NotRefused, Exact, Consequences}
@@ -52,22 +53,29 @@ use Rattle.call.specs.Consequences.{consequences}
 
 -- ---- the clauses of all statements mean the statements
 
-module _ (δ : Val) (ε : IVal) (ρ : Val) (ι : IVal) (ds : List Domain) where
+module _ (δ : Val) (ε : IVal) (ds : List Domain) where
   abbrev pub truth : Stmt → Bool
   truth = stmt-holds δ ε (λ n. false)
 
-  pub stmt-means : (t : Stmt) (s : Log) → Plain t → EveryStmt (λ v. Unit {0}) (WithinDomain ds ε) t → Means δ ε ρ ι s (normalize-stmt ds t s) (truth t)
-  unfolding normalize-stmt EveryStmt
-  stmt-means (Rule e) s h k = read-rule-means δ ε ρ ι e s (λ n. false) h
-  stmt-means (Table es rows) s h k = unfold stmt-holds in table-means δ ε ρ ι ds es rows s h k
-  stmt-means (AllDifferent es) s h k = unfold stmt-holds in different-means δ ε ρ ι ds es s (every-column-map (WithinDomain ds ε) (Within ds ε) (λ v h. h .1) es k)
+  -- a statement as it is read says the same whatever the emitted numbers' values
+  table-same : (ρ ρ' : Val) (es : List IntExpr) (rows : List (List Cell)) → NoNumbers es → any (row-holds δ ε ρ es) rows ≡ any (row-holds δ ε ρ' es) rows
+  table-same ρ ρ' es rows h =
+      any-cong (row-holds δ ε ρ es) (row-holds δ ε ρ' es) rows (λ cs. row-holds-permits δ ε ρ es cs ∙ ap (row-permits cs) (values-same ρ ρ' δ ε es h) ∙ sym (row-holds-permits δ ε ρ' es cs))
 
-  pub stmts-mean : (ts : List Stmt) (s : Log) → Each Plain ts → EveryStmts (λ v. Unit {0}) (WithinDomain ds ε) ts → Means δ ε ρ ι s (normalize-stmts ds ts s) (all truth ts)
+  pub stmt-means : (t : Stmt) (s : Log) → Plain t → EveryStmt Any (WithinDomain ds ε) t → Lawful δ ε s → Says δ ε s (normalize-stmt ds t s) (λ ρ ι. truth t)
+  unfolding normalize-stmt EveryStmt stmt-holds
+  stmt-means (Rule e) s h k l = read-rule-means δ ε ds e s (λ n. false) h l
+  stmt-means (Table es rows) s h k l = says-to δ ε s _ _ _ (λ ρ ι. table-same ρ (λ n. false) es rows (h .1)) (table-means δ ε ds es rows s (h .0) (h .1) k l)
+  stmt-means (AllDifferent es) s h k l =
+      says-to δ ε s _ _ _ (λ ρ ι. ap distinct (values-same ρ (λ n. false) δ ε es h))
+      (different-means δ ε ds es s h (every-column-map Any Any (WithinDomain ds ε) Any Any (Within ds ε) (λ n k. k) (λ v k. k) (λ v h. h .1) es k) l)
+
+  pub stmts-mean : (ts : List Stmt) (s : Log) → Each Plain ts → EveryStmts Any (WithinDomain ds ε) ts → Lawful δ ε s → Says δ ε s (normalize-stmts ds ts s) (λ ρ ι. all truth ts)
   unfolding normalize-stmts EveryStmts
-  stmts-mean [] s h k = means-none δ ε ρ ι s
-  stmts-mean (t ∷ ts) s h k =
-      let a : Out = normalize-stmt ds t s in
-      means-append δ ε ρ ι s a (normalize-stmts ds ts (a .1)) (truth t) (all truth ts) (stmt-means t s (h .0) (k .0)) (stmts-mean ts (a .1) (h .1) (k .1))
+  stmts-mean [] s h k l = says-none δ ε s
+  stmts-mean (t ∷ ts) s h k l =
+      let p = stmt-means t s (h .0) (k .0) l in
+      says-then δ ε s _ _ (λ ρ ι. truth t) (λ ρ ι. all truth ts) p (stmts-mean ts (normalize-stmt ds t s) (h .1) (k .1) (lawful-over l (p .grows)))
 
 -- ---- the domains of a set that was read
 
@@ -97,8 +105,8 @@ module _ (m : Bool) (p : Problem) (well : WellFormed p) (f : Fixed) (ss : List S
   abbrev pub s0 : Log
   s0 = start-log m ss
 
-  abbrev pub out : Out
-  out = normalize-stmts (p .domains) ss s0
+  abbrev pub end-log : Log
+  end-log = normalize-stmts (p .domains) ss s0
 
   declared : EveryStmts (λ v. v < b) (λ v. v < i) (p .stmts)
   declared = well-declared p well
@@ -109,36 +117,36 @@ module _ (m : Bool) (p : Problem) (well : WellFormed p) (f : Fixed) (ss : List S
   pub ss-declared : EveryStmts (λ v. v < b) (λ v. v < i) ss
   ss-declared = rw folded (fold-stmts-every (λ v. v < b) (λ v. v < i) (p .domains) f (p .stmts) declared)
 
-  ss-standing : EveryStmts (λ v. Unit {0}) (WithinDomain (p .domains) ε) ss
-  ss-standing = every-stmts-map (λ v. v < b) (λ v. v < i) (λ v. Unit {0}) (WithinDomain (p .domains) ε) (λ v h. tt) (λ v h. (domains-ordered (p .domains) (well .domains-well) v h, in-domains-within p ε inside v h)) ss ss-declared
+  ss-standing : EveryStmts Any (WithinDomain (p .domains) ε) ss
+  ss-standing = every-stmts-map (λ v. v < b) (λ v. v < i) Any (WithinDomain (p .domains) ε) (λ v h. tt) (λ v h. (domains-ordered (p .domains) (well .domains-well) v h, in-domains-within p ε inside v h)) ss ss-declared
 
   ss-plain : Each Plain ss
   ss-plain = rw folded (folded-plain (p .domains) f b i (p .stmts) (well .stmts-well))
 
-  pub means : (ρ : Val) (ι : IVal) → Means δ ε ρ ι s0 out (all (truth δ ε ρ ι (p .domains)) ss)
-  means ρ ι = stmts-mean δ ε ρ ι (p .domains) ss s0 ss-plain ss-standing
+  pub means : Says δ ε s0 end-log (λ ρ ι. all (truth δ ε (p .domains)) ss)
+  means = stmts-mean δ ε (p .domains) ss s0 ss-plain ss-standing (merged-lawful (start-well m ss) same)
 
-  pub grown : Grows ε s0 (out .1)
-  grown = means (λ n. false) ε .grows
+  pub grown : Extends δ ε s0 end-log
+  grown = means .grows
 
   pub inside-bounds : (v : ℕ) → v < i → between (hull (domain-of (p .domains) v)) (ε v) ≡ true
   inside-bounds v h = domain-between (domain-of (p .domains) v) (ε v) (domains-ordered (p .domains) (well .domains-well) v h) (in-domains-within p ε inside v h)
 
   -- ---- the answer's words, read back
 
-  decoded : decode b i (layout (answer-of p f out)) ≡ view-of (answer-of p f out)
+  decoded : decode b i (layout (answer-of p f end-log)) ≡ view-of (answer-of p f end-log)
   unfolding answer-of
   decoded =
-      let a : Answer = answer-of p f out in
+      let a : Answer = answer-of p f end-log in
       let e : length (a .fixed) ≡ b = length-map (below b) f ∙ length-from 0 b in
       let m : length (a .bool-map) ≡ b = length-map (below b) _ ∙ length-from 0 b in
       let n : length (a .int-map) ≡ i = length-map (below i) _ ∙ length-from 0 i in
       rw (e, n) at (answer-back a (m ∙ sym e))
 
   words : List ℤ
-  words = layout (answer-of p f out)
+  words = layout (answer-of p f end-log)
 
-  passes-is : (ρ : Val) (ι : IVal) → passes-with b i words δ ε ρ ι ≡ passes-decoded b i (view-of (answer-of p f out)) δ ε ρ ι
+  passes-is : (ρ : Val) (ι : IVal) → passes-with b i words δ ε ρ ι ≡ passes-decoded b i (view-of (answer-of p f end-log)) δ ε ρ ι
   unfolding passes-with words
   passes-is ρ ι = ap (λ (d : Decoded). passes-decoded b i d δ ε ρ ι) decoded
 
@@ -146,21 +154,21 @@ module _ (m : Bool) (p : Problem) (well : WellFormed p) (f : Fixed) (ss : List S
 
   passing-satisfies : Passes b i words δ ε → satisfies p δ ε ≡ true
   passing-satisfies h =
-      let c = carried p f out δ ε (h .bools) (h .ints) s0 (start-well m ss) grown (stmts-declared b i (p .domains) ss ss-declared s0 (start-declared b i m ss ss-declared)) (sym (passes-is (h .bools) (h .ints)) ∙ h .passing) in
+      let c = carried p f end-log δ ε (h .bools) (h .ints) s0 (start-well m ss) grown (stmts-declared b i (p .domains) ss ss-declared s0 (start-declared b i m ss ss-declared)) (sym (passes-is (h .bools) (h .ints)) ∙ h .passing) in
       optimize-satisfies p declared δ ε inside f ss end .1 (
         λ v x e. c .fixed v x (optimize-known p (λ v. v < i) declared f ss end v x e) e,
-        means (h .bools) (h .ints) .sound (c .agrees) (c .clauses),
+        means .sound (h .bools) (h .ints) (c .agrees) (added-of (h .bools) (h .ints) (means .grows) (c .added)),
       )
 
   satisfying-passes : satisfies p δ ε ≡ true → Passes b i words δ ε
   satisfying-passes h =
-      let s : Log = out .1 in
-      let ι : IVal = ints-of ε s in
-      let ρ : Val = bools-of δ ε ι s in
+      let ρ : Val = values-of δ ε end-log .0 in
+      let ι : IVal = values-of δ ε end-log .1 in
       let k = optimize-satisfies p declared δ ε inside f ss end .0 h in
-      let fits : Fits δ ε ρ ι s = fitting-exists δ ε (start-ints m ss) (start-holds δ ε m ss (k .1)) grown in
-      let c : Carried b f out δ ε ρ ι = record { fixed = λ v x j e. k .0 v x e; agrees = fits-agrees δ ε ρ ι s fits; clauses = means ρ ι .complete fits (k .1) } in
-      record { bools = ρ; ints = ι; passing = passes-is ρ ι ∙ carries p f out δ ε ρ ι s0 (start-well m ss) grown (stmts-declared b i (p .domains) ss ss-declared s0 (start-declared b i m ss ss-declared)) (means ρ ι .bounded) (means ρ ι .numbered) inside-bounds c }
+      let fits : Fits δ ε ρ ι end-log = fitting-exists δ ε (start-holds δ ε m ss (k .1)) grown in
+      let before : Added ρ ι s0 = clauses-added ρ ι s0 (rw (merged-no-clauses s0 (start-well m ss)) refl) in
+      let c : Carried b f end-log δ ε ρ ι = record { fixed = λ v x j e. k .0 v x e; agrees = fits-agrees δ ε ρ ι end-log fits; added = added-on ρ ι (means .grows) before (means .complete ρ ι fits (k .1)) } in
+      record { bools = ρ; ints = ι; passing = passes-is ρ ι ∙ carries p f end-log δ ε ρ ι s0 (start-well m ss) grown (stmts-declared b i (p .domains) ss ss-declared s0 (start-declared b i m ss ss-declared)) inside-bounds c }
 
 -- ---- the call
 

@@ -2,17 +2,17 @@
 -- What is bounded by n depends on the values of the numbers below n only.
 use mathlib.Core.Path.{_≡_, refl, ap}
 use mathlib.Core.Bool.{Bool, true, false, not, cond}
-use mathlib.Core.List.{List, [], _∷_, _++_}
+use mathlib.Core.List.{List, [], _∷_, _++_, map}
 use Prim.Native.Nat.{ℕ, suc, _≤_, _<_, max}
 use native.Mathlib.Omega.{arith}
 use lib.Dec.{eqb, ltb}
 use lib.IntN.{ℤ, pos, negsuc, _+ℤ_, _*ℤ_}
 use Rattle.laws.specs.Ints.{is-zero}
 use Rattle.laws.specs.Lists.{any, all, flat}
-use Rattle.syntax.specs.Syntax.{BoolExpr, Const, Var, NVar, And, Or, Not, Xor, Iff, Imp, Cmp, Members, mnil, more}
-use Rattle.syntax.specs.Satisfies.{Val, IVal, holds, holds-all, holds-any}
+use Rattle.syntax.specs.Syntax.{IntExpr, IConst, IVar, Linear, If, Terms, tnil, tmore, BoolExpr, Const, Var, NVar, And, Or, Not, Xor, Iff, Imp, Cmp, Members, mnil, more}
+use Rattle.syntax.specs.Satisfies.{Val, IVal, holds, holds-all, holds-any, int-value, terms-value}
 use Rattle.sums.specs.LinearSum.{Term, term, LinearSum, linear-sum, constant, place, insert-coef, add-coef, add-terms, add-sum, mul-terms, mul-sum, sub-sum, sum-terms-value, sum-value}
-use Rattle.clauses.specs.Clause.{BoolLit, lit, LinearLit, linear, Clause, clause, lit-true, clause-true}
+use Rattle.clauses.specs.Clause.{BoolLit, lit, LinearLit, linear, Clause, clause, lit-true, linear-true, clause-true}
 use Rattle.clauses.specs.Disjunction.{add-bool-each}
 
 -- ---- bounds
@@ -40,11 +40,21 @@ unfoldable mutual
   expr-bound (Xor a b) = max (expr-bound a) (expr-bound b)
   expr-bound (Iff a b) = max (expr-bound a) (expr-bound b)
   expr-bound (Imp a b) = max (expr-bound a) (expr-bound b)
-  expr-bound (Cmp o a b) = 0
+  expr-bound (Cmp o a b) = max (int-bound a) (int-bound b)
 
   pub members-bound : Members → ℕ
   members-bound mnil = 0
   members-bound (more e ms) = max (expr-bound e) (members-bound ms)
+
+  pub int-bound : IntExpr → ℕ
+  int-bound (IConst c) = 0
+  int-bound (IVar v) = 0
+  int-bound (Linear ts) = terms-numbers ts
+  int-bound (If i c t f) = max (expr-bound c) (max (int-bound t) (int-bound f))
+
+  pub terms-numbers : Terms → ℕ
+  terms-numbers tnil = 0
+  terms-numbers (tmore k e ts) = max (int-bound e) (terms-numbers ts)
 
 abbrev pub exprs-bound : List BoolExpr → ℕ
 exprs-bound [] = 0
@@ -58,6 +68,11 @@ terms-bound (term v a ∷ ts) = max (suc v) (terms-bound ts)
 abbrev pub sum-bound : LinearSum → ℕ
 sum-bound (linear-sum c ts) = terms-bound ts
 
+-- expressions as they are read name no emitted number
+abbrev pub NoNumbers : List IntExpr → Type 0
+NoNumbers [] = Unit {0}
+NoNumbers (e ∷ es) = (int-bound e ≤ 0) × NoNumbers es
+
 -- of the integers of comparisons, clauses, members' lists
 abbrev pub linears-bound : List LinearLit → ℕ
 linears-bound [] = 0
@@ -70,6 +85,22 @@ ints-bound (clause ls ks ∷ cs) = max (linears-bound ks) (ints-bound cs)
 abbrev pub int-lists-bound : List (List Clause) → ℕ
 int-lists-bound [] = 0
 int-lists-bound (cs ∷ css) = max (ints-bound cs) (int-lists-bound css)
+
+pub linears-bound-append : (a b : List LinearLit) → linears-bound (a ++ b) ≡ max (linears-bound a) (linears-bound b)
+linears-bound-append [] b = omega arith
+linears-bound-append (linear o l ∷ a) b = rw (linears-bound-append a b) (omega arith)
+
+pub ints-bound-append : (a b : List Clause) → ints-bound (a ++ b) ≡ max (ints-bound a) (ints-bound b)
+ints-bound-append [] b = omega arith
+ints-bound-append (clause ls ks ∷ a) b = rw (ints-bound-append a b) (omega arith)
+
+pub ints-bound-add : (l : BoolLit) (cs : List Clause) → ints-bound (add-bool-each l cs) ≡ ints-bound cs
+ints-bound-add l [] = refl
+ints-bound-add l (clause ls ks ∷ cs) = rw (ints-bound-add l cs) refl
+
+pub ints-bound-flat : (css : List (List Clause)) → ints-bound (flat css) ≡ int-lists-bound css
+ints-bound-flat [] = refl
+ints-bound-flat (cs ∷ css) = omega (arith, ints-bound-append cs (flat css), ints-bound-flat css)
 
 -- ---- of lists
 
@@ -88,22 +119,6 @@ clauses-bound-add n g (clause ls ks ∷ cs) = rw (lits-bound-append ls (lit n g 
 pub clauses-bound-flat : (css : List (List Clause)) → clauses-bound (flat css) ≡ lists-bound css
 clauses-bound-flat [] = refl
 clauses-bound-flat (cs ∷ css) = omega (arith, clauses-bound-append cs (flat css), clauses-bound-flat css)
-
-pub linears-bound-append : (a b : List LinearLit) → linears-bound (a ++ b) ≡ max (linears-bound a) (linears-bound b)
-linears-bound-append [] b = omega arith
-linears-bound-append (linear o l ∷ a) b = rw (linears-bound-append a b) (omega arith)
-
-pub ints-bound-append : (a b : List Clause) → ints-bound (a ++ b) ≡ max (ints-bound a) (ints-bound b)
-ints-bound-append [] b = omega arith
-ints-bound-append (clause ls ks ∷ a) b = rw (ints-bound-append a b) (omega arith)
-
-pub ints-bound-add : (l : BoolLit) (cs : List Clause) → ints-bound (add-bool-each l cs) ≡ ints-bound cs
-ints-bound-add l [] = refl
-ints-bound-add l (clause ls ks ∷ cs) = rw (ints-bound-add l cs) refl
-
-pub ints-bound-flat : (css : List (List Clause)) → ints-bound (flat css) ≡ int-lists-bound css
-ints-bound-flat [] = refl
-ints-bound-flat (cs ∷ css) = omega (arith, ints-bound-append cs (flat css), ints-bound-flat css)
 
 exprs-bound-append : (a b : List BoolExpr) → exprs-bound (a ++ b) ≡ max (exprs-bound a) (exprs-bound b)
 exprs-bound-append [] b = omega arith
@@ -154,23 +169,34 @@ mul-sum-bound k (linear-sum c ts) = go (is-zero k)
     go true = omega arith
     go false = omega (arith, mul-terms-bound k ts)
 
+-- ---- values that agree below a bound
+
 pub sub-sum-bound : (a b : LinearSum) → sum-bound (sub-sum a b) ≤ max (sum-bound a) (sum-bound b)
 unfolding sub-sum
 sub-sum-bound a b = omega (arith, add-sum-bound a (mul-sum (negsuc 0) b), mul-sum-bound (negsuc 0) b)
 
--- ---- values that agree below a bound
-
 abbrev pub Same : {A : Type 0} → ℕ → (ℕ → A) → (ℕ → A) → Type 0
 Same n ρ ρ' = (m : ℕ) → m < n → ρ m ≡ ρ' m
+
+pub sum-terms-same : (n : ℕ) (ι ι' : IVal) → Same n ι ι' → (ts : List Term) → terms-bound ts ≤ n → sum-terms-value ι ts ≡ sum-terms-value ι' ts
+sum-terms-same n ι ι' same [] h = refl
+sum-terms-same n ι ι' same (term v a ∷ ts) h = rw (same v (omega arith), sum-terms-same n ι ι' same ts (omega arith)) refl
+
+pub sum-same : (n : ℕ) (ι ι' : IVal) → Same n ι ι' → (l : LinearSum) → sum-bound l ≤ n → sum-value ι l ≡ sum-value ι' l
+sum-same n ι ι' same (linear-sum c ts) h = rw (sum-terms-same n ι ι' same ts h) refl
+
+linears-same : (n : ℕ) (ι ι' : IVal) → Same n ι ι' → (ks : List LinearLit) → linears-bound ks ≤ n → any (linear-true ι) ks ≡ any (linear-true ι') ks
+linears-same n ι ι' same [] h = refl
+linears-same n ι ι' same (linear o l ∷ ks) h = rw (sum-same n ι ι' same l (omega arith), linears-same n ι ι' same ks (omega arith)) refl
 
 module _ (n : ℕ) (ρ ρ' : Val) (same : Same n ρ ρ') where
   lits-same : (ls : List BoolLit) → lits-bound ls ≤ n → any (lit-true ρ) ls ≡ any (lit-true ρ') ls
   lits-same [] h = refl
   lits-same (lit m g ∷ ls) h = rw (same m (omega arith), lits-same ls (omega arith)) refl
 
-  pub clauses-same : (ι : IVal) (cs : List Clause) → clauses-bound cs ≤ n → all (clause-true ρ ι) cs ≡ all (clause-true ρ' ι) cs
-  clauses-same ι [] h = refl
-  clauses-same ι (clause ls ks ∷ cs) h = rw (lits-same ls (omega arith), clauses-same ι cs (omega arith)) refl
+  pub clauses-same : (i : ℕ) (ι ι' : IVal) → Same i ι ι' → (cs : List Clause) → clauses-bound cs ≤ n → ints-bound cs ≤ i → all (clause-true ρ ι) cs ≡ all (clause-true ρ' ι') cs
+  clauses-same i ι ι' e [] h k = refl
+  clauses-same i ι ι' e (clause ls ks ∷ cs) h k = rw (lits-same ls (omega arith), linears-same i ι ι' e ks (omega arith), clauses-same i ι ι' e cs (omega arith) (omega arith)) refl
 
   module _ (δ : Val) (ε : IVal) where
     mutual
@@ -186,7 +212,7 @@ module _ (n : ℕ) (ρ ρ' : Val) (same : Same n ρ ρ') where
       holds-same (Xor a b) h = rw (holds-same a (omega arith), holds-same b (omega arith)) refl
       holds-same (Iff a b) h = rw (holds-same a (omega arith), holds-same b (omega arith)) refl
       holds-same (Imp a b) h = rw (holds-same a (omega arith), holds-same b (omega arith)) refl
-      holds-same (Cmp o a b) h = refl
+      holds-same (Cmp o a b) h = rw (int-same a (omega arith), int-same b (omega arith)) refl
 
       holds-all-same : (ms : Members) → members-bound ms ≤ n → holds-all δ ε ρ ms ≡ holds-all δ ε ρ' ms
       holds-all-same mnil h = refl
@@ -196,9 +222,17 @@ module _ (n : ℕ) (ρ ρ' : Val) (same : Same n ρ ρ') where
       holds-any-same mnil h = refl
       holds-any-same (more e ms) h = rw (holds-same e (omega arith), holds-any-same ms (omega arith)) refl
 
-pub sum-terms-same : (n : ℕ) (ι ι' : IVal) → Same n ι ι' → (ts : List Term) → terms-bound ts ≤ n → sum-terms-value ι ts ≡ sum-terms-value ι' ts
-sum-terms-same n ι ι' same [] h = refl
-sum-terms-same n ι ι' same (term v a ∷ ts) h = rw (same v (omega arith), sum-terms-same n ι ι' same ts (omega arith)) refl
+      pub int-same : (e : IntExpr) → int-bound e ≤ n → int-value δ ε ρ e ≡ int-value δ ε ρ' e
+      int-same (IConst c) h = refl
+      int-same (IVar v) h = refl
+      int-same (Linear ts) h = terms-same ts h
+      int-same (If i c t f) h = rw (holds-same c (omega arith), int-same t (omega arith), int-same f (omega arith)) refl
 
-pub sum-same : (n : ℕ) (ι ι' : IVal) → Same n ι ι' → (l : LinearSum) → sum-bound l ≤ n → sum-value ι l ≡ sum-value ι' l
-sum-same n ι ι' same (linear-sum c ts) h = rw (sum-terms-same n ι ι' same ts h) refl
+      terms-same : (ts : Terms) → terms-numbers ts ≤ n → terms-value δ ε ρ ts ≡ terms-value δ ε ρ' ts
+      terms-same tnil h = refl
+      terms-same (tmore k e ts) h = rw (int-same e (omega arith), terms-same ts (omega arith)) refl
+
+-- expressions as they are read have their values whatever the emitted numbers'
+pub values-same : (ρ ρ' : Val) (δ : Val) (ε : IVal) (es : List IntExpr) → NoNumbers es → map (int-value δ ε ρ) es ≡ map (int-value δ ε ρ') es
+values-same ρ ρ' δ ε [] h = refl
+values-same ρ ρ' δ ε (e ∷ es) h = rw (int-same 0 ρ ρ' (λ m k. absurd (omega arith)) δ ε e (h .0), values-same ρ ρ' δ ε es (h .1)) refl

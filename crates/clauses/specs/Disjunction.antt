@@ -2,7 +2,7 @@
 use mathlib.Core.Bool.{true, false}
 use mathlib.Core.List.{List, [], _∷_, _++_, map}
 use Rattle.clauses.specs.Clause.{BoolLit, LinearLit, Clause, lit, clause}
-use Rattle.clauses.specs.Log.{Log, next-bool, aux}
+use Rattle.clauses.specs.Log.{Log, bool, next-bool, aux}
 
 -- l at the end of each clause
 abbrev pub add-bool : BoolLit → Clause → Clause
@@ -41,7 +41,7 @@ unfoldable pub each-longer : List (List Clause) → List BoolLit → List Linear
 each-longer [] ls ks s = (clause ls ks ∷ [], s)
 each-longer (cs ∷ css) ls ks s =
     let v = next-bool s in
-    let r = each-longer css (ls ++ (lit v false ∷ [])) ks (aux cs ∷ s) in
+    let r = each-longer css (ls ++ (lit v false ∷ [])) ks (bool (aux cs) ∷ s) in
     (add-bool-each (lit v true) cs ++ r .0, r .1)
 
 unfoldable pub finish-disjunction : List (List Clause) → List BoolLit → List LinearLit → Log → Out
@@ -49,7 +49,7 @@ unfoldable pub finish-disjunction : List (List Clause) → List BoolLit → List
 finish-disjunction (a ∷ []) [] [] s = (a, s)
 finish-disjunction (a ∷ []) (l ∷ []) [] s = (add-bool-each l a, s)
 -- two longer members and an empty pool
-finish-disjunction (a ∷ b ∷ []) [] [] s = (add-bool-each (lit (next-bool s) true) a ++ add-bool-each (lit (next-bool s) false) b, aux a ∷ s)
+finish-disjunction (a ∷ b ∷ []) [] [] s = (add-bool-each (lit (next-bool s) true) a ++ add-bool-each (lit (next-bool s) false) b, bool (aux a) ∷ s)
 -- else
 finish-disjunction [] ls ks s = each-longer [] ls ks s
 finish-disjunction (a ∷ []) (l ∷ m ∷ ls) [] s = each-longer (a ∷ []) (l ∷ m ∷ ls) [] s

@@ -8,12 +8,12 @@ use Rattle.laws.specs.Bools.{and-l, and-r, and-i, eq1, eq2, eq3, eq5, imp2, imp
 use Rattle.laws.specs.Lists.{any, any-append, all-append}
 use Rattle.syntax.specs.Satisfies.{Val, IVal}
 use Rattle.clauses.specs.Clause.{BoolLit, lit, LinearLit, Clause, clause, negate-if, lit-true, linear-true, clause-true}
-use Rattle.clauses.specs.Log.{aux, Log, next-bool, next-int}
+use Rattle.clauses.specs.Log.{aux, bool, Log, next-bool, next-int}
 use Rattle.clauses.specs.Disjunction.{add-bool, add-bool-each, Sorted, satisfied, pool, pooled, with-longer, sorted, Out, Outs, each-longer, finish-disjunction, finish-sorted, normalize-disjunction}
-use Rattle.clauses.specs.Bounds.{lits-bound, clauses-bound, lists-bound, linears-bound, ints-bound, int-lists-bound, lits-bound-append, clauses-bound-append, clauses-bound-add, linears-bound-append, ints-bound-append, ints-bound-add}
+use Rattle.clauses.specs.Bounds.{lits-bound, clauses-bound, lists-bound, lits-bound-append, clauses-bound-append, clauses-bound-add, linears-bound, ints-bound, int-lists-bound, linears-bound-append, ints-bound-append, ints-bound-add}
 use Rattle.clauses.specs.Valuation.{all-true, any-all-true}
 use Rattle.clauses.specs.Grow.{Grows, same, grow, grows-trans, grows-bool, grows-int, agrees-back, fits-back}
-use Rattle.clauses.specs.Means.{Means, MeansEach, means-none, means-false}
+use Rattle.clauses.specs.Means.{Truth, Means, MeansEach, means-none, means-false, means-to}
 
 -- ---- truth values
 
@@ -128,113 +128,102 @@ sorted-ints ([] ∷ css) = omega arith
 sorted-ints ((c ∷ []) ∷ css) = omega (arith, pooled-ints c (sorted css), sorted-ints css)
 sorted-ints ((c ∷ d ∷ cs) ∷ css) = omega (arith, longer-ints (c ∷ d ∷ cs) (sorted css), sorted-ints css)
 
-module _ (δ : Val) (ε : IVal) (ρ : Val) (ι : IVal) where
-  abbrev M : Log → Out → Bool → Type 0
-  M = Means δ ε ρ ι
+module _ (δ : Val) (ε : IVal) where
+  abbrev M : Log → Out → Truth → Type 0
+  M = Means δ ε
 
   -- ---- a new variable for each longer member
 
   each-step : (cs : List Clause) (css : List (List Clause)) (ls : List BoolLit) (ks : List LinearLit) (s : Log) (o : Out) → clauses-bound cs ≤ next-bool s → ints-bound cs ≤ next-int s
-      → M (aux cs ∷ s) o (pool-true ρ ι (ls ++ (lit (next-bool s) false ∷ [])) ks css)
-      → M s (add-bool-each (lit (next-bool s) true) cs ++ o .0, o .1) (pool-true ρ ι ls ks (cs ∷ css))
-  each-step cs css ls ks s o hb hi i =
+      → M (bool (aux cs) ∷ s) o (λ ρ ι. pool-true ρ ι (ls ++ (lit (next-bool s) false ∷ [])) ks css)
+      → M s (add-bool-each (lit (next-bool s) true) cs ++ o .0, o .1) (λ ρ ι. pool-true ρ ι ls ks (cs ∷ css))
+  each-step cs css ls ks s o hb hn i =
       let v : ℕ = next-bool s in
-      let A : Bool = all-true ρ ι cs in
-      let split = all-append (clause-true ρ ι) (add-bool-each (lit v true) cs) (o .0) in
       record {
-        grows = grows-trans (grow (aux cs) hb same) (i .grows);
+        grows = grows-trans (grow (bool (aux cs)) (hb, hn) same) (i .grows);
         bounded = rw (clauses-bound-append (add-bool-each (lit v true) cs) (o .0)) (omega (arith, clauses-bound-add v true cs, i .bounded, grows-bool (i .grows)));
-        numbered = rw (ints-bound-append (add-bool-each (lit v true) cs) (o .0)) (omega (arith, ints-bound-add (lit v true) cs, i .numbered, grows-int (i .grows)));
-        sound = λ r h.
+        numbered = omega (arith, ints-bound-append (add-bool-each (lit v true) cs) (o .0), ints-bound-add (lit v true) cs, i .numbered, grows-int (i .grows));
+        sound = λ ρ ι r h.
+            let A : Bool = all-true ρ ι cs in
+            let split = all-append (clause-true ρ ι) (add-bool-each (lit v true) cs) (o .0) in
             let k = rw (split, add-each-true ρ ι (lit v true) cs) at h in
             each-sound A (ρ v) (any (lit-true ρ) ls) (any (linear-true ι) ks) (any-all-true ρ ι css) (and-i (A || not (ρ v)) _
             (and-l (A || not (ρ v)) (all-true ρ ι (o .0)) k)
-            (rw (any-append (lit-true ρ) ls (lit v false ∷ [])) at (i .sound r (and-r (A || not (ρ v)) (all-true ρ ι (o .0)) k))));
-        complete = λ f h.
-            let e : ρ v ≡ A = fits-back δ ρ ι (i .grows) f .0 in
+            (rw (any-append (lit-true ρ) ls (lit v false ∷ [])) at (i .sound ρ ι r (and-r (A || not (ρ v)) (all-true ρ ι (o .0)) k))));
+        complete = λ ρ ι f h.
+            let A : Bool = all-true ρ ι cs in
+            let split = all-append (clause-true ρ ι) (add-bool-each (lit v true) cs) (o .0) in
+            let e : ρ v ≡ A = fits-back ρ ι (i .grows) f .0 in
             rw (split, add-each-true ρ ι (lit v true) cs, e)
             (and-i (A || not A) (all-true ρ ι (o .0)) (or-not A)
-            (i .complete f (rw (any-append (lit-true ρ) ls (lit v false ∷ []), e) (each-complete A (any (lit-true ρ) ls) (any (linear-true ι) ks) (any-all-true ρ ι css) h))));
+            (i .complete ρ ι f (rw (any-append (lit-true ρ) ls (lit v false ∷ []), e) (each-complete A (any (lit-true ρ) ls) (any (linear-true ι) ks) (any-all-true ρ ι css) h))));
       }
 
-  -- the pool and the longer members name numbers given
-  record Named (css : List (List Clause)) (ls : List BoolLit) (ks : List LinearLit) (s : Log) : Type 0 where
-    lists : lists-bound css ≤ next-bool s
-    lits : lits-bound ls ≤ next-bool s
-    int-lists : int-lists-bound css ≤ next-int s
-    linears : linears-bound ks ≤ next-int s
-
-  each-means : (css : List (List Clause)) (ls : List BoolLit) (ks : List LinearLit) (s : Log) → Named css ls ks s → M s (each-longer css ls ks s) (pool-true ρ ι ls ks css)
+  each-means : (css : List (List Clause)) (ls : List BoolLit) (ks : List LinearLit) (s : Log) → lists-bound css ≤ next-bool s → lits-bound ls ≤ next-bool s → int-lists-bound css ≤ next-int s → linears-bound ks ≤ next-int s → M s (each-longer css ls ks s) (λ ρ ι. pool-true ρ ι ls ks css)
   unfolding each-longer
-  each-means [] ls ks s h = record { grows = same; bounded = omega (arith, h .lits); numbered = omega (arith, h .linears); sound = λ r k. simp (or-false) (simp (and-true) at k); complete = λ f k. simp (and-true) (simp (or-false) at k) }
-  each-means (cs ∷ css) ls ks s h = each-step cs css ls ks s _ (omega (arith, h .lists)) (omega (arith, h .int-lists))
-      (each-means css (ls ++ (lit (next-bool s) false ∷ [])) ks (aux cs ∷ s) (record {
-        lists = omega (arith, h .lists);
-        lits = rw (lits-bound-append ls (lit (next-bool s) false ∷ [])) (omega (arith, h .lits));
-        int-lists = omega (arith, h .int-lists);
-        linears = h .linears;
-      }))
+  each-means [] ls ks s hc hl hi hk = record { grows = same; bounded = omega arith; numbered = omega arith; sound = λ ρ ι r h. simp (or-false) (simp (and-true) at h); complete = λ ρ ι f h. simp (and-true) (simp (or-false) at h) }
+  each-means (cs ∷ css) ls ks s hc hl hi hk = each-step cs css ls ks s _ (omega arith) (omega arith)
+      (each-means css (ls ++ (lit (next-bool s) false ∷ [])) ks (bool (aux cs) ∷ s) (omega arith) (rw (lits-bound-append ls (lit (next-bool s) false ∷ [])) (omega arith)) (omega arith) hk)
 
   -- ---- the two short ways
 
   -- two longer members and an empty pool
   two-means : (a b : List Clause) (s : Log) → lists-bound (a ∷ b ∷ []) ≤ next-bool s → int-lists-bound (a ∷ b ∷ []) ≤ next-int s
-      → M s (add-bool-each (lit (next-bool s) true) a ++ add-bool-each (lit (next-bool s) false) b, aux a ∷ s) (any-all-true ρ ι (a ∷ b ∷ []))
+      → M s (add-bool-each (lit (next-bool s) true) a ++ add-bool-each (lit (next-bool s) false) b, bool (aux a) ∷ s) (λ ρ ι. any-all-true ρ ι (a ∷ b ∷ []))
   two-means a b s hc hi =
       let v : ℕ = next-bool s in
-      let split = all-append (clause-true ρ ι) (add-bool-each (lit v true) a) (add-bool-each (lit v false) b) in
       record {
-        grows = grow {t = s} (aux a) (omega arith) same;
+        grows = grow {t = s} (bool (aux a)) (omega arith, omega arith) same;
         bounded = rw (clauses-bound-append (add-bool-each (lit v true) a) (add-bool-each (lit v false) b)) (omega (arith, clauses-bound-add v true a, clauses-bound-add v false b));
-        numbered = rw (ints-bound-append (add-bool-each (lit v true) a) (add-bool-each (lit v false) b)) (omega (arith, ints-bound-add (lit v true) a, ints-bound-add (lit v false) b));
-        sound = λ r h.
-            let k = rw (split, add-each-true ρ ι (lit v true) a, add-each-true ρ ι (lit v false) b) at h in
+        numbered = omega (arith, ints-bound-append (add-bool-each (lit v true) a) (add-bool-each (lit v false) b), ints-bound-add (lit v true) a, ints-bound-add (lit v false) b);
+        sound = λ ρ ι r h.
+            let k = rw (all-append (clause-true ρ ι) (add-bool-each (lit v true) a) (add-bool-each (lit v false) b), add-each-true ρ ι (lit v true) a, add-each-true ρ ι (lit v false) b) at h in
             two-sound (all-true ρ ι a) (all-true ρ ι b) (ρ v) k;
-        complete = λ f h. rw (split, add-each-true ρ ι (lit v true) a, add-each-true ρ ι (lit v false) b, f .0) (two-complete (all-true ρ ι a) (all-true ρ ι b) h);
+        complete = λ ρ ι f h. rw (all-append (clause-true ρ ι) (add-bool-each (lit v true) a) (add-bool-each (lit v false) b), add-each-true ρ ι (lit v true) a, add-each-true ρ ι (lit v false) b, f .0) (two-complete (all-true ρ ι a) (all-true ρ ι b) h);
       }
 
   -- one longer member, and one literal that goes into its clauses
-  one-means : (a : List Clause) (l : BoolLit) (s : Log) → Named (a ∷ []) (l ∷ []) [] s → M s (add-bool-each l a, s) (pool-true ρ ι (l ∷ []) [] (a ∷ []))
-  one-means a (lit n g) s k = record {
+  one-means : (a : List Clause) (l : BoolLit) (s : Log) → lists-bound (a ∷ []) ≤ next-bool s → lits-bound (l ∷ []) ≤ next-bool s → int-lists-bound (a ∷ []) ≤ next-int s → M s (add-bool-each l a, s) (λ ρ ι. pool-true ρ ι (l ∷ []) [] (a ∷ []))
+  one-means a (lit n g) s hc hl hi = record {
     grows = same;
-    bounded = omega (arith, clauses-bound-add n g a, k .lists, k .lits);
-    numbered = omega (arith, ints-bound-add (lit n g) a, k .int-lists);
-    sound = λ r h. rw (one-eq (negate-if g (ρ n)) (all-true ρ ι a)) (rw (add-each-true ρ ι (lit n g) a) at h);
-    complete = λ f h. rw (add-each-true ρ ι (lit n g) a) (rw (one-eq (negate-if g (ρ n)) (all-true ρ ι a)) at h);
+    bounded = omega (arith, clauses-bound-add n g a);
+    numbered = omega (arith, ints-bound-add (lit n g) a);
+    sound = λ ρ ι r h. rw (one-eq (negate-if g (ρ n)) (all-true ρ ι a)) (rw (add-each-true ρ ι (lit n g) a) at h);
+    complete = λ ρ ι f h. rw (add-each-true ρ ι (lit n g) a) (rw (one-eq (negate-if g (ρ n)) (all-true ρ ι a)) at h);
   }
 
-  finish-means : (css : List (List Clause)) (ls : List BoolLit) (ks : List LinearLit) (s : Log) → Named css ls ks s → M s (finish-disjunction css ls ks s) (pool-true ρ ι ls ks css)
+  finish-means : (css : List (List Clause)) (ls : List BoolLit) (ks : List LinearLit) (s : Log) → lists-bound css ≤ next-bool s → lits-bound ls ≤ next-bool s → int-lists-bound css ≤ next-int s → linears-bound ks ≤ next-int s → M s (finish-disjunction css ls ks s) (λ ρ ι. pool-true ρ ι ls ks css)
   unfolding finish-disjunction
-  finish-means [] ls ks s h = each-means [] ls ks s h
-  finish-means (a ∷ []) [] [] s h = record { grows = same; bounded = omega (arith, h .lists); numbered = omega (arith, h .int-lists); sound = λ r k. simp or-false k; complete = λ f k. simp or-false at k }
-  finish-means (a ∷ []) (l ∷ []) [] s h = one-means a l s h
-  finish-means (a ∷ []) (l ∷ m ∷ ls) [] s h = each-means (a ∷ []) (l ∷ m ∷ ls) [] s h
-  finish-means (a ∷ []) ls (k ∷ ks) s h = each-means (a ∷ []) ls (k ∷ ks) s h
-  finish-means (a ∷ b ∷ []) [] [] s h = two-means a b s (h .lists) (h .int-lists)
-  finish-means (a ∷ b ∷ []) [] (k ∷ ks) s h = each-means (a ∷ b ∷ []) [] (k ∷ ks) s h
-  finish-means (a ∷ b ∷ []) (l ∷ ls) ks s h = each-means (a ∷ b ∷ []) (l ∷ ls) ks s h
-  finish-means (a ∷ b ∷ c ∷ css) ls ks s h = each-means (a ∷ b ∷ c ∷ css) ls ks s h
+  finish-means [] ls ks s hc hl hi hk = each-means [] ls ks s hc hl hi hk
+  finish-means (a ∷ []) [] [] s hc hl hi hk = record { grows = same; bounded = omega arith; numbered = omega arith; sound = λ ρ ι r h. simp or-false h; complete = λ ρ ι f h. simp or-false at h }
+  finish-means (a ∷ []) (l ∷ []) [] s hc hl hi hk = one-means a l s hc hl hi
+  finish-means (a ∷ []) (l ∷ m ∷ ls) [] s hc hl hi hk = each-means (a ∷ []) (l ∷ m ∷ ls) [] s hc hl hi hk
+  finish-means (a ∷ []) ls (k ∷ ks) s hc hl hi hk = each-means (a ∷ []) ls (k ∷ ks) s hc hl hi hk
+  finish-means (a ∷ b ∷ []) [] [] s hc hl hi hk = two-means a b s hc hi
+  finish-means (a ∷ b ∷ []) [] (k ∷ ks) s hc hl hi hk = each-means (a ∷ b ∷ []) [] (k ∷ ks) s hc hl hi hk
+  finish-means (a ∷ b ∷ []) (l ∷ ls) ks s hc hl hi hk = each-means (a ∷ b ∷ []) (l ∷ ls) ks s hc hl hi hk
+  finish-means (a ∷ b ∷ c ∷ css) ls ks s hc hl hi hk = each-means (a ∷ b ∷ c ∷ css) ls ks s hc hl hi hk
 
-  finish-sorted-means : (x : Sorted) (s : Log) → sorted-bound-of x ≤ next-bool s → sorted-ints-of x ≤ next-int s → M s (finish-sorted x s) (sorted-true-of ρ ι x)
+  finish-sorted-means : (x : Sorted) (s : Log) → sorted-bound-of x ≤ next-bool s → sorted-ints-of x ≤ next-int s → M s (finish-sorted x s) (λ ρ ι. sorted-true-of ρ ι x)
   unfolding sorted-true-of sorted-bound-of sorted-ints-of finish-sorted
-  finish-sorted-means satisfied s h k = means-none δ ε ρ ι s
-  finish-sorted-means (pool ls ks longer) s h k = finish-means longer ls ks s (record { lists = omega arith; lits = omega arith; int-lists = omega arith; linears = omega arith })
+  finish-sorted-means satisfied s h i = means-none δ ε s
+  finish-sorted-means (pool ls ks longer) s h i = finish-means longer ls ks s (omega arith) (omega arith) (omega arith) (omega arith)
 
   -- the members' lists are given: some member's clauses are all true
-  pub disjunction-means : (css : List (List Clause)) (s : Log) → lists-bound css ≤ next-bool s → int-lists-bound css ≤ next-int s → Means δ ε ρ ι s (normalize-disjunction css s) (any-all-true ρ ι css)
+  pub disjunction-means : (css : List (List Clause)) (s : Log) → lists-bound css ≤ next-bool s → int-lists-bound css ≤ next-int s → Means δ ε s (normalize-disjunction css s) (λ ρ ι. any-all-true ρ ι css)
   unfolding normalize-disjunction
-  disjunction-means [] s h i = means-false δ ε ρ ι s
-  disjunction-means (cs ∷ []) s h i = record { grows = same; bounded = omega arith; numbered = omega arith; sound = λ r k. rw or-false k; complete = λ f k. rw or-false at k }
-  disjunction-means (cs ∷ ds ∷ css) s h i = rw (sorted-true ρ ι (cs ∷ ds ∷ css)) at (finish-sorted-means (sorted (cs ∷ ds ∷ css)) s (omega (arith, sorted-bound (cs ∷ ds ∷ css))) (omega (arith, sorted-ints (cs ∷ ds ∷ css))))
+  disjunction-means [] s h i = means-false δ ε s
+  disjunction-means (cs ∷ []) s h i = record { grows = same; bounded = omega arith; numbered = omega arith; sound = λ ρ ι r k. rw or-false k; complete = λ ρ ι f k. rw or-false at k }
+  disjunction-means (cs ∷ ds ∷ css) s h i = means-to δ ε s _ _ _ (λ ρ ι. sorted-true ρ ι (cs ∷ ds ∷ css)) (finish-sorted-means (sorted (cs ∷ ds ∷ css)) s (omega (arith, sorted-bound (cs ∷ ds ∷ css))) (omega (arith, sorted-ints (cs ∷ ds ∷ css))))
 
   -- the members were met from the log s on, and the log grew to t since
-  pub each-disjunction-means : (s t : Log) (o : Outs) (x y : Bool) → MeansEach δ ε ρ ι s o x y → Grows ε (o .1) t → Means δ ε ρ ι t (normalize-disjunction (o .0) t) y
+  pub each-disjunction-means : (s t : Log) (o : Outs) (x y : Truth) → MeansEach δ ε s o x y → Grows δ ε (o .1) t → Means δ ε t (normalize-disjunction (o .0) t) y
   each-disjunction-means s t o x y p g =
       let d = disjunction-means (o .0) t (omega (arith, p .bounded, grows-bool g)) (omega (arith, p .numbered, grows-int g)) in
       record {
         grows = d .grows;
         bounded = d .bounded;
         numbered = d .numbered;
-        sound = λ r h. p .sound-any (agrees-back (grows-trans g (d .grows)) r) (d .sound r h);
-        complete = λ f h. d .complete f (p .complete-any (fits-back δ ρ ι (grows-trans g (d .grows)) f) h);
+        sound = λ ρ ι r h. p .sound-any ρ ι (agrees-back ρ ι (grows-trans g (d .grows)) r) (d .sound ρ ι r h);
+        complete = λ ρ ι f h. d .complete ρ ι f (p .complete-any ρ ι (fits-back ρ ι (grows-trans g (d .grows)) f) h);
       }

@@ -12,5 +12,9 @@ pub mod DisjunctionMeaning
 pub mod NormalizeMeaning
 pub mod SplitMeaning
 pub mod RuleMeaning
+pub mod Emitted
+pub mod Since
+pub mod Once
+pub mod Ranges
 pub mod Exist
 pub mod Merge

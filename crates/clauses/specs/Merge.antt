@@ -8,11 +8,12 @@ use lib.Dec.{eqb}
 use borrow.Author.Tests.{eqb-true, eq-eqb}
 use Rattle.laws.specs.Bools.{and-l, and-r, beq-eq, never}
 use Rattle.laws.specs.Lists.{all}
-use Rattle.syntax.specs.Syntax.{BoolExpr, Const, Var, NVar, And, Or, Not, Xor, Iff, Imp, Cmp, Stmt, Rule, Table, AllDifferent}
+use Rattle.syntax.specs.Syntax.{IntExpr, BoolExpr, Const, Var, NVar, And, Or, Not, Xor, Iff, Imp, Cmp, Stmt, Rule, Table, AllDifferent}
 use Rattle.syntax.specs.Satisfies.{Val, IVal, holds, stmt-holds}
 use Rattle.clauses.specs.Clause.{negate-if, BoolLit, lit, lit-true}
-use Rattle.clauses.specs.Log.{declared, merged, aux, side, declared-int, column, Log, next-bool, next-int, negate-lit, get-bool-var}
-use Rattle.clauses.specs.Valuation.{AgreesBools, AgreesInts}
+use Rattle.clauses.specs.Log.{declared, aux, side, bool, merged, int, added, defined, known, Log, next-bool, next-int, negate-lit, get-bool-var, get-if, clauses-of}
+use Rattle.clauses.specs.Valuation.{Agrees, negated-true}
+use Rattle.clauses.specs.Grow.{Extends, Lawful}
 use Rattle.clauses.specs.Exist.{TiesHold}
 
 -- ---- the pass
@@ -34,7 +35,7 @@ abbrev pub tie-found : Option BoolLit → Option BoolLit → ℕ → ℕ → Boo
 tie-found (some l) (some m) x y g s = s
 tie-found (some l) none x y g s = merged y x g ∷ s
 tie-found none (some m) x y g s = merged x y g ∷ s
-tie-found none none x y g s = merged y x g ∷ declared x ∷ s
+tie-found none none x y g s = merged y x g ∷ bool (declared x) ∷ s
 
 -- a variable and itself: passed over
 unfoldable pub tie : Option ℕ → Option ℕ → Bool → Log → Log
@@ -135,41 +136,36 @@ pub record Known (w : ℕ) (s : Log) : Type 0 where
 
 abbrev pub WellMerged : Log → Type 0
 WellMerged [] = Unit {0}
-WellMerged (declared v ∷ s) = (get-bool-var v s ≡ none) × WellMerged s
+WellMerged (bool (declared v) ∷ s) = (get-bool-var v s ≡ none) × WellMerged s
 WellMerged (merged v w g ∷ s) = (get-bool-var v s ≡ none) × (Known w s × WellMerged s)
-WellMerged (aux cs ∷ s) = ⊥
-WellMerged (side e ∷ s) = ⊥
-WellMerged (declared-int v ∷ s) = ⊥
-WellMerged (column l d ∷ s) = ⊥
+WellMerged (bool (aux cs) ∷ s) = ⊥
+WellMerged (bool (side e) ∷ s) = ⊥
+WellMerged (int m ∷ s) = ⊥
+WellMerged (added cs ∷ s) = ⊥
+WellMerged (defined cs ∷ s) = ⊥
+WellMerged (known e n ∷ s) = ⊥
 
 -- a lookup that is not of the newest
 past : {X : Type 0} (k : X) (n : X) (v w : ℕ) (o p : Option X) → (v ≡ w → o ≡ p) → p ≡ none → o ≡ some n → (q : Option X) (b : Bool) → eqb v w ≡ b → cond b q o ≡ some n
 past k n v w o p f l h q false e = h
 past k n v w o p f l h q true e = let z : o ≡ p = f (eqb-true v w e) in cc
 
-lit-signs : (ρ : Val) (g : Bool) (l : BoolLit) → lit-true ρ (negate-lit g l) ≡ negate-if g (lit-true ρ l)
-lit-signs ρ true (lit n true) = sym (not-not (ρ n))
-  where
-    not-not : (b : Bool) → not (not b) ≡ b
-    not-not true = refl
-    not-not false = refl
-lit-signs ρ true (lit n false) = refl
-lit-signs ρ false (lit n h) = refl
-
-pub merged-agree : (δ ρ : Val) (s : Log) → WellMerged s → ((v : ℕ) (l : BoolLit) → get-bool-var v s ≡ some l → lit-true ρ l ≡ δ v) → AgreesBools δ ρ s
+pub merged-agree : (δ : Val) (ε : IVal) (ρ : Val) (ι : IVal) (s : Log) → WellMerged s → ((v : ℕ) (l : BoolLit) → get-bool-var v s ≡ some l → lit-true ρ l ≡ δ v) → Agrees δ ε ρ ι s
 unfolding get-bool-var
-merged-agree δ ρ [] w f = tt
-merged-agree δ ρ (declared v ∷ s) w f = (f v (lit (next-bool s) false) (rw (eq-eqb v v refl) refl), merged-agree δ ρ s (w .1) (λ u l h. f u l (past l l u v (get-bool-var u s) (get-bool-var v s) (λ q. rw q refl) (w .0) h _ (eqb u v) refl)))
-merged-agree δ ρ (merged v u g ∷ s) w f =
+merged-agree δ ε ρ ι [] w f = tt
+merged-agree δ ε ρ ι (bool (declared v) ∷ s) w f = (f v (lit (next-bool s) false) (rw (eq-eqb v v refl) refl), merged-agree δ ε ρ ι s (w .1) (λ u l h. f u l (past l l u v (get-bool-var u s) (get-bool-var v s) (λ q. rw q refl) (w .0) h _ (eqb u v) refl)))
+merged-agree δ ε ρ ι (merged v u g ∷ s) w f =
     let l : BoolLit = w .1 .0 .literal in
     let has : get-bool-var u s ≡ some l = w .1 .0 .has in
     let there : lit-true ρ (negate-lit g l) ≡ δ v = f v (negate-lit g l) (rw (eq-eqb v v refl, has) refl) in
     let other : lit-true ρ l ≡ δ u = f u l (past l l u v (get-bool-var u s) (get-bool-var v s) (λ q. rw q refl) (w .0) has _ (eqb u v) refl) in
-    (sym there ∙ lit-signs ρ g l ∙ ap (negate-if g) other, merged-agree δ ρ s (w .1 .1) (λ x m h. f x m (past m m x v (get-bool-var x s) (get-bool-var v s) (λ q. rw q refl) (w .0) h _ (eqb x v) refl)))
-merged-agree δ ρ (aux cs ∷ s) w f = absurd w
-merged-agree δ ρ (side e ∷ s) w f = absurd w
-merged-agree δ ρ (declared-int v ∷ s) w f = absurd w
-merged-agree δ ρ (column l d ∷ s) w f = absurd w
+    (sym there ∙ negated-true ρ g l ∙ ap (negate-if g) other, merged-agree δ ε ρ ι s (w .1 .1) (λ x m h. f x m (past m m x v (get-bool-var x s) (get-bool-var v s) (λ q. rw q refl) (w .0) h _ (eqb x v) refl)))
+merged-agree δ ε ρ ι (bool (aux cs) ∷ s) w f = absurd w
+merged-agree δ ε ρ ι (bool (side e) ∷ s) w f = absurd w
+merged-agree δ ε ρ ι (int m ∷ s) w f = absurd w
+merged-agree δ ε ρ ι (added cs ∷ s) w f = absurd w
+merged-agree δ ε ρ ι (defined cs ∷ s) w f = absurd w
+merged-agree δ ε ρ ι (known e n ∷ s) w f = absurd w
 
 -- ---- the pass gives such a log
 
@@ -223,18 +219,39 @@ merge-well (AllDifferent es ∷ ss) s w = merge-well ss s w
 
 pub merged-no-ints : (s : Log) → WellMerged s → next-int s ≡ 0
 merged-no-ints [] w = refl
-merged-no-ints (declared v ∷ s) w = merged-no-ints s (w .1)
+merged-no-ints (bool (declared v) ∷ s) w = merged-no-ints s (w .1)
 merged-no-ints (merged v u g ∷ s) w = merged-no-ints s (w .1 .1)
-merged-no-ints (aux cs ∷ s) w = absurd w
-merged-no-ints (side e ∷ s) w = absurd w
-merged-no-ints (declared-int v ∷ s) w = absurd w
-merged-no-ints (column l d ∷ s) w = absurd w
+merged-no-ints (bool (aux cs) ∷ s) w = absurd w
+merged-no-ints (bool (side e) ∷ s) w = absurd w
+merged-no-ints (int m ∷ s) w = absurd w
+merged-no-ints (added cs ∷ s) w = absurd w
+merged-no-ints (defined cs ∷ s) w = absurd w
+merged-no-ints (known e n ∷ s) w = absurd w
 
-pub merged-ints : (ε ι : IVal) (s : Log) → WellMerged s → AgreesInts ε ι s
-merged-ints ε ι [] w = tt
-merged-ints ε ι (declared v ∷ s) w = merged-ints ε ι s (w .1)
-merged-ints ε ι (merged v u g ∷ s) w = merged-ints ε ι s (w .1 .1)
-merged-ints ε ι (aux cs ∷ s) w = absurd w
-merged-ints ε ι (side e ∷ s) w = absurd w
-merged-ints ε ι (declared-int v ∷ s) w = absurd w
-merged-ints ε ι (column l d ∷ s) w = absurd w
+pub merged-no-clauses : (s : Log) → WellMerged s → clauses-of s ≡ []
+unfolding clauses-of
+merged-no-clauses [] w = refl
+merged-no-clauses (bool (declared v) ∷ s) w = merged-no-clauses s (w .1)
+merged-no-clauses (bool (aux cs) ∷ s) w = absurd w
+merged-no-clauses (bool (side e) ∷ s) w = absurd w
+merged-no-clauses (merged v u g ∷ s) w = merged-no-clauses s (w .1 .1)
+merged-no-clauses (int m ∷ s) w = absurd w
+merged-no-clauses (added cs ∷ s) w = absurd w
+merged-no-clauses (defined cs ∷ s) w = absurd w
+merged-no-clauses (known e n ∷ s) w = absurd w
+
+pub merged-no-ifs : (s : Log) → WellMerged s → (e : IntExpr) → get-if e s ≡ none
+unfolding get-if
+merged-no-ifs [] w x = refl
+merged-no-ifs (bool (declared v) ∷ s) w x = merged-no-ifs s (w .1) x
+merged-no-ifs (bool (aux cs) ∷ s) w x = absurd w
+merged-no-ifs (bool (side e) ∷ s) w x = absurd w
+merged-no-ifs (merged v u g ∷ s) w x = merged-no-ifs s (w .1 .1) x
+merged-no-ifs (int m ∷ s) w x = absurd w
+merged-no-ifs (added cs ∷ s) w x = absurd w
+merged-no-ifs (defined cs ∷ s) w x = absurd w
+merged-no-ifs (known e n ∷ s) w x = absurd w
+
+-- whatever grows from it is lawful
+pub merged-lawful : {δ : Val} {ε : IVal} {s0 s : Log} → WellMerged s0 → Extends δ ε s0 s → Lawful δ ε s
+merged-lawful {s0 = s0} w g = record { start = s0; fresh = merged-no-ifs s0 w; grows = g }

@@ -15,7 +15,7 @@ use Rattle.laws.specs.Ints.{natAbs-add, sfits-natAbs, natAbs-negℤ}
 use Rattle.laws.specs.Slices.{Has, has-fits, has-back, has-word, has-rest, has-nth}
 use Rattle.syntax.specs.Words.{max-value, max-set-words}
 use Rattle.syntax.specs.Lengths.{int-long, int-fits}
-use Rattle.syntax.specs.Syntax.{Domain, Range, Enumerative, lower-bound, upper-bound, num-candidates, domain-of, encode-domain, IntExpr, IConst, IVar, Linear, encode-int}
+use Rattle.syntax.specs.Syntax.{Domain, Range, Enumerative, lower-bound, upper-bound, num-candidates, domain-of, encode-domain, IntExpr, IConst, IVar, Linear, If, encode-int}
 use Rattle.words.specs.Exact.{Each}
 use Rattle.read.specs.WellFormed.{WellDomain}
 use Rattle.domains.specs.Declared.{Domain-at, Sized-at, Domain-below, Domain-post}
@@ -27,7 +27,7 @@ use Rattle.walk.specs.Item.{nat, int-entry}
 use Rattle.walk.specs.Decode.{word, read-part}
 use Rattle.walk.specs.Legal.{LegalInt}
 use Rattle.walk.specs.NumberingSteps.{part-short}
-use Rattle.rows.specs.Columns.{domain-in}
+use Rattle.sorting.specs.Columns.{domain-in}
 use Rattle.rows.specs.Described.{range-described, list-described}
 use Rattle.statements.specs.Columns.{column-number}
 use Rattle.columns.specs.Describing.{Ranged, Known, At, Declared, SomeDeclared, Describes, Told, SomeTold}
@@ -35,7 +35,7 @@ use Rattle.columns.proofs.Equations.{code-is}
 
 -- ---- a range
 
-pub candidates-small : (lo hi : ℤ) → natAbs lo ≤ max-value → natAbs hi ≤ max-value → natAbs (num-candidates (Range lo hi)) ≤ 2147483647
+candidates-small : (lo hi : ℤ) → natAbs lo ≤ max-value → natAbs hi ≤ max-value → natAbs (num-candidates (Range lo hi)) ≤ 2147483647
 candidates-small lo hi l h = omega (arith, natAbs-add (hi -ℤ lo) (pos 1), natAbs-add hi (negℤ lo), natAbs-negℤ lo)
 
 module _ (set : List ℤ) (lo hi : ℤ) (l : natAbs lo ≤ max-value) (h : natAbs hi ≤ max-value) (o : leZ lo hi ≡ true) where
@@ -55,7 +55,7 @@ module _ (set : List ℤ) (lo hi : ℤ) (l : natAbs lo ≤ max-value) (h : natAb
       kind (Range low high) = 0
       kind (Enumerative xs) = 1
 
-  pub range-describes : Describes set (Range lo hi) many lo
+  range-describes : Describes set (Range lo hi) many lo
   range-describes =
       let n = not-negative many described in
       let no : leZ (pos 0) many ≡ false → ⊥ = λ z. never (sym z ∙ n .0) in
@@ -73,7 +73,7 @@ module _ (set : List ℤ) (lo hi : ℤ) (l : natAbs lo ≤ max-value) (h : natAb
 
 -- ---- a list
 
-pub list-describes : (set : List ℤ) (at : ℕ) (xs : List ℤ) → WellDomain (Enumerative xs) → Has set at xs → Describes set (Enumerative xs) (negℤ (pos (length xs))) (pos at)
+list-describes : (set : List ℤ) (at : ℕ) (xs : List ℤ) → WellDomain (Enumerative xs) → Has set at xs → Describes set (Enumerative xs) (negℤ (pos (length xs))) (pos at)
 list-describes set at [] w h = absurd (omega (arith, w .0))
 list-describes set at (x ∷ xs) w h =
     let e : domain-in set (negsuc (length xs)) (pos at) ≡ Enumerative (x ∷ xs) = list-described set at x xs h in
@@ -158,6 +158,7 @@ module _ (w : List ℤ) (p : ℕ) where
   unfolding encode-int LegalInt word nat
   variable-inv (IConst c) a k go = absurd (omega (arith, code-is w p (IConst c) (a .words), k))
   variable-inv (IVar v) a k go = go v refl (a .legal .1) (rw (has-word (read-part w) (p + 1) (pos v) [] (pos 0) (has-rest (read-part w) p (pos 21) (pos v ∷ []) (a .words))) refl)
+  variable-inv (If i c t f) a k go = absurd i
   variable-inv (Linear ts) a k go = absurd (omega (arith, code-is w p (Linear ts) (a .words), k))
 
   module _ {m : ℕ} (code : m ≡ word (read-part w) p) where
@@ -191,12 +192,14 @@ module _ (w : List ℤ) (p : ℕ) where
       unfolding column-number encode-int
       other-number s (IConst c) a = s
       other-number s (IVar v) a = absurd (k (code ∙ code-is w p (IVar v) (a .words)))
+      other-number s (If i c t f) a = absurd i
       other-number s (Linear ts) a = s
 
       pub told-range : {set out : List ℤ} {n triples : ℕ} (ds : List Domain) (dom : ℕ → Domain) (e : IntExpr) → Told set w p n out triples ds dom e → Ranged dom out triples n
       unfolding encode-int
       told-range ds dom (IConst c) t = t .known
       told-range ds dom (IVar v) t = absurd (k (code ∙ code-is w p (IVar v) (t .stands .words)))
+      told-range ds dom (If j c x y) t = absurd j
       told-range ds dom (Linear ts) t = t .known
 
 -- the three words of an emitted integer

@@ -13,7 +13,7 @@ use Rattle.laws.specs.Slices.{Has}
 use Rattle.laws.specs.Writes.{cap, Wrote, wrote-length, wrote-then, wrote-to, Open}
 use Rattle.syntax.specs.Words.{max-column-vars}
 use Rattle.syntax.specs.Lengths.{int-tag, int-tag-word, int-long, int-fits}
-use Rattle.syntax.specs.Syntax.{Domain, op-at, IntExpr, IConst, IVar, Linear, encode-int}
+use Rattle.syntax.specs.Syntax.{Domain, op-at, IntExpr, IConst, IVar, Linear, If, encode-int}
 use Rattle.limits.specs.Limits.{heavy, written, many-column}
 use Rattle.sums.specs.LinearSum.{LinearSum, singleton, mul-sum, sub-sum}
 use Rattle.sums.specs.Linear.{linear-of, linear-of-same}
@@ -96,12 +96,14 @@ module _ (w : List ℤ) (p : ℕ) where
   unfolding column-clause encode-int
   variable (IConst c) h k = absurd (omega (arith, code-is (IConst c) h))
   variable (IVar v) h k = (refl, refl)
+  variable (If i c t f) h k = absurd i
   variable (Linear ts) h k = absurd (omega (arith, code-is (Linear ts) h))
 
   other : (e : IntExpr) → Has (read-part w) p (encode-int e) → (word (read-part w) p ≡ 21 → ⊥) → column-clause w p e ≡ equality w e (nat (getD w (column-map + p) (pos 0)) - 1) ∷ []
   unfolding column-clause
   other (IConst c) h k = unfold column-number in refl
   other (IVar v) h k = absurd (k (code-is (IVar v) h))
+  other (If i c t f) h k = absurd i
   other (Linear ts) h k = unfold column-number in refl
 
   pub variable-behind : {out : List ℤ} {o k n : ℕ} → Behind out o k → n ≡ word (read-part w) p → n ≡ 21 → EquatedOne w p (p + 2) out o k out o k

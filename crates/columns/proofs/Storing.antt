@@ -9,7 +9,7 @@ use lib.ListN.{length, getD, take, drop, length-append}
 use lib.ListN.{set as store}
 use lib.Seq.{sets, sets-eq, length-sets, take-at, drop-at, take-take, getD-take, length-take-le}
 use Rattle.laws.specs.Writes.{sets-append}
-use Rattle.syntax.specs.Syntax.{Domain, IntExpr, IConst, IVar, Linear, encode-int}
+use Rattle.syntax.specs.Syntax.{Domain, IntExpr, IConst, IVar, Linear, If, encode-int}
 use Rattle.words.specs.Exact.{Each}
 use Rattle.walk.specs.Item.{nat, int-entry}
 use Rattle.walk.specs.Decode.{int-end, read-part}
@@ -65,36 +65,37 @@ module _ (w us : List ℤ) (room : column-words + length us ≤ length w) where
   front : length (take column-words w) ≡ column-words
   front = length-take-le column-words w (omega arith)
 
-  pub kept-below : take column-words after ≡ take column-words w
+  kept-below : take column-words after ≡ take column-words w
   kept-below = ap (take column-words) parts ∙ take-at (take column-words w) (us ++ drop (column-words + length us) w) column-words front
 
-  pub new-words : drop column-words after ≡ us ++ drop (column-words + length us) w
+  new-words : drop column-words after ≡ us ++ drop (column-words + length us) w
   new-words = ap (drop column-words) parts ∙ drop-at (take column-words w) (us ++ drop (column-words + length us) w) column-words front
 
-  pub kept-above : drop (column-words + length us) after ≡ drop (column-words + length us) w
+  kept-above : drop (column-words + length us) after ≡ drop (column-words + length us) w
   kept-above =
       let e : length (take column-words w ++ us) ≡ column-words + length us = length-append (take column-words w) us ∙ ap (λ (n : ℕ). n + length us) front in
       ap (drop (column-words + length us)) (sets-eq us w column-words room) ∙ drop-at (take column-words w ++ us) (drop (column-words + length us) w) (column-words + length us) e
 
 module _ (w v : List ℤ) (same : take column-words v ≡ take column-words w) where
-  pub same-part : read-part v ≡ read-part w
+  same-part : read-part v ≡ read-part w
   unfolding read-part
   same-part = sym (take-take 4608 column-words v (omega arith)) ∙ ap (take 4608) same ∙ take-take 4608 column-words w (omega arith)
 
   same-word : (i : ℕ) → i < column-words → getD v i (pos 0) ≡ getD w i (pos 0)
   same-word i h = sym (getD-take column-words v i (pos 0) h) ∙ ap (λ (l : List ℤ). getD l i (pos 0)) same ∙ getD-take column-words w i (pos 0) h
 
-  pub same-at : {p : ℕ} {e : IntExpr} → At w p e → At v p e
+  same-at : {p : ℕ} {e : IntExpr} → At w p e → At v p e
   same-at a = record { words = rw same-part (a .words); legal = a .legal }
 
-  pub same-number : (p : ℕ) (e : IntExpr) → At w p e → column-number v p e ≡ column-number w p e
+  same-number : (p : ℕ) (e : IntExpr) → At w p e → column-number v p e ≡ column-number w p e
   unfolding column-number int-entry LegalInt
   same-number p (IConst c) a = ap (λ (z : ℤ). nat z - 1) (same-word (column-map + p) (omega (arith, place-inside w p a)))
   same-number p (IVar v) a = ap (λ (z : ℤ). nat z - 1) (same-word (5120 + v) (omega (arith, a .legal .1)))
+  same-number p (If i c t f) a = absurd i
   same-number p (Linear ts) a = ap (λ (z : ℤ). nat z - 1) (same-word (column-map + p) (omega (arith, place-inside w p a)))
 
   -- what is known of a column is known of it in the other slice too
-  pub same-told : {set out : List ℤ} {p triples : ℕ} {ds : List Domain} {dom : ℕ → Domain} {e : IntExpr} → At w p e → Declared set ds → Known ds dom out triples (column-number w p e) e
+  same-told : {set out : List ℤ} {p triples : ℕ} {ds : List Domain} {dom : ℕ → Domain} {e : IntExpr} → At w p e → Declared set ds → Known ds dom out triples (column-number w p e) e
       → Told set v p (column-number v p e) out triples ds dom e
   same-told {set} {out} {p} {triples} {ds} {dom} {e} a d k = record {
     stands = same-at a;

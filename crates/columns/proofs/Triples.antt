@@ -9,7 +9,7 @@ use borrow.Author.Tests.{le-leb}
 use Rattle.laws.specs.Lists.{flat}
 use Rattle.syntax.specs.Syntax.{Domain}
 use Rattle.words.specs.Exact.{Each}
-use Rattle.rows.specs.Columns.{word, domain-in, vars-of, domains-of, Placed, Column, Columns}
+use Rattle.sorting.specs.Columns.{word, domain-in, vars-of, domains-of, Placed, Column, Columns}
 
 pub record Triple : Type 0 where
   pub number : ℕ

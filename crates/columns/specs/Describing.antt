@@ -10,13 +10,13 @@ use lib.Seq.{sets}
 use Rattle.laws.specs.Lists.{flat}
 use Rattle.laws.specs.Slices.{Has}
 use Rattle.syntax.specs.Words.{max-value, max-set-words}
-use Rattle.syntax.specs.Syntax.{Domain, Range, domain-of, encode-domain, IntExpr, IConst, IVar, Linear, encode-int}
+use Rattle.syntax.specs.Syntax.{Domain, Range, domain-of, encode-domain, IntExpr, IConst, IVar, Linear, If, encode-int}
 use Rattle.words.specs.Exact.{Each}
 use Rattle.read.specs.WellFormed.{WellDomain}
 use Rattle.answer.specs.Answer.{domain-words}
 use Rattle.walk.specs.Legal.{LegalInt}
 use Rattle.walk.specs.Decode.{read-part}
-use Rattle.rows.specs.Columns.{domain-in, vars-of, domains-of, Placed, Columns}
+use Rattle.sorting.specs.Columns.{domain-in, vars-of, domains-of, Placed, Columns}
 use Rattle.statements.specs.Columns.{column-number, column-numbers}
 use Rattle.columns.specs.Standing.{Standing}
 
@@ -40,6 +40,7 @@ module _ (ds : List Domain) (dom : ℕ → Domain) (out : List ℤ) (triples : �
   abbrev pub Known : ℕ → IntExpr → Type 0
   Known n (IConst c) = Ranged dom out triples n
   Known n (IVar v) = (v < length ds) × (dom n ≡ domain-of ds v)
+  Known n (If i c t f) = absurd i
   Known n (Linear ts) = Ranged dom out triples n
 
   -- the columns from p on

@@ -147,7 +147,7 @@ module _ (part : List ℕ) (o : Option ℕ) (signed : read-number part ≡ negat
     unfolding number-of negative
     minus-zero z = rw (signed, ← negative-limited o, natural-read (limited o) n h, z) refl
 
-  pub minus-value : (m : ℕ) → natural.Value (suc m) ≡ natural-of (limited o) → number.Value (negsuc m) ≡ number-of (read-number part)
+  minus-value : (m : ℕ) → natural.Value (suc m) ≡ natural-of (limited o) → number.Value (negsuc m) ≡ number-of (read-number part)
   unfolding number-of negative
   minus-value m h = rw (signed, ← negative-limited o, natural-read (limited o) (suc m) h, le-leb m 2147483647 (omega (arith, limited-most o (suc m) h))) refl
 
@@ -170,7 +170,7 @@ minus-one : (m : ℕ) → negsuc 0 -ℤ pos m ≡ negsuc m
 minus-one zero = refl
 minus-one (suc m) = ap negsuc (omega arith)
 
-pub less-one : (n : ℕ) → (n ≡ 0 → ⊥) → n ≤ 2147483648 → negsuc 0 -ℤ toZ w32 (n - 1) ≡ negsuc (n - 1)
+less-one : (n : ℕ) → (n ≡ 0 → ⊥) → n ≤ 2147483648 → negsuc 0 -ℤ toZ w32 (n - 1) ≡ negsuc (n - 1)
 less-one n z l = rw (toZ-pos w32 {n = n - 1} (omega arith)) (minus-one (n - 1))
 
 pub less-one-fits : (n : ℕ) → (n ≡ 0 → ⊥) → n ≤ 2147483648 → SFits w32 (negsuc 0 -ℤ toZ w32 (n - 1))

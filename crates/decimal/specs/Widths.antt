@@ -41,7 +41,7 @@ natural-large n h =
     let e : print-steps (suc (n / 10)) (n / 10) ≡ print-steps n (n / 10) = steps-enough (suc (n / 10)) n (n / 10) (omega arith) (omega arith) in
     rw (le-leb 10 n h) (ap (λ l. l ++ (digit (n % 10) ∷ [])) e)
 
-abbrev pub tens : ℕ → ℕ
+abbrev tens : ℕ → ℕ
 tens zero = 1
 tens (suc d) = 10 * tens d
 

@@ -7,8 +7,8 @@ use lib.ListN.{length}
 use Rattle.laws.specs.Ints.{eqZ}
 use Rattle.laws.specs.Same.{same-words}
 use Rattle.laws.specs.Lists.{all}
-use Rattle.syntax.specs.Syntax.{Domain, enumerate, num-candidates, domain-of, Eq, Ne, IntExpr, IConst, IVar, Linear, BoolExpr, Or, Cmp, Members, mnil, more}
-use Rattle.clauses.specs.Normalize.{Run}
+use Rattle.syntax.specs.Syntax.{Domain, enumerate, num-candidates, domain-of, Eq, Ne, IntExpr, IConst, IVar, Linear, If, BoolExpr, Or, Cmp, Members, mnil, more}
+use Rattle.clauses.specs.Log.{Log}
 use Rattle.clauses.specs.Split.{normalize-and-register-expr}
 
 -- ---- its pairs, in the Rust's order: the first with each later one, then the second, and so on
@@ -32,6 +32,7 @@ module _ (ds : List Domain) where
   is-like n d (IConst c) = false
   is-like n d (IVar v) = eqZ (num-candidates (domain-of ds v)) (pos n) && same-words (enumerate (domain-of ds v)) (enumerate d)
   is-like n d (Linear ts) = false
+  is-like n d (If i c t f) = false
 
   -- the values of the first, if all n of them are variables like it
   unfoldable pub values-of-first : ℕ → List IntExpr → List ℤ
@@ -39,6 +40,7 @@ module _ (ds : List Domain) where
   values-of-first n (IConst c ∷ es) = []
   values-of-first n (IVar v ∷ es) = cond (all (is-like n (domain-of ds v)) (IVar v ∷ es)) (enumerate (domain-of ds v)) []
   values-of-first n (Linear ts ∷ es) = []
+  values-of-first n (If i c t f ∷ es) = []
 
   -- all are variables with equal domains of exactly that count: its values. (One variable alone with one value is folded to a constant.)
   unfoldable pub values-used-up : List IntExpr → List ℤ
@@ -51,9 +53,6 @@ module _ (ds : List Domain) where
 
 -- ---- rules one after another
 
-unfoldable pub normalize-rules : List BoolExpr → Run
-normalize-rules [] s = ([], s)
-normalize-rules (e ∷ es) s =
-    let a = normalize-and-register-expr e s in
-    let b = normalize-rules es (a .1) in
-    (a .0 ++ b .0, b .1)
+unfoldable pub normalize-rules : List Domain → List BoolExpr → Log → Log
+normalize-rules ds [] s = s
+normalize-rules ds (e ∷ es) s = normalize-rules ds es (normalize-and-register-expr ds e s)

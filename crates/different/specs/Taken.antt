@@ -7,16 +7,14 @@ use native.Mathlib.Omega.{arith}
 use lib.IntN.{ℤ}
 use lib.ListN.{length, length-map}
 use borrow.Author.Tests.{not-true}
-use Rattle.laws.specs.Bools.{and-l, and-r, and-i, never, or-l, or-r, or-no-l, or-no-r, both-ways, eq2}
+use Rattle.laws.specs.Bools.{and-l, and-r, and-i, never, or-l, or-r, or-no-l, or-no-r, eq2}
 use Rattle.laws.specs.Ints.{eqZ}
-use Rattle.laws.specs.Order.{eqZ-is, eqZ-refl}
-use Rattle.laws.specs.Lists.{any, all, all-append}
-use Rattle.syntax.specs.Syntax.{Ne, IntExpr, BoolExpr, Cmp, more}
+use Rattle.laws.specs.Order.{eqZ-is, eqZ-refl, eqZ-sym}
+use Rattle.laws.specs.Lists.{all, all-append}
+use Rattle.syntax.specs.Syntax.{Ne, IntExpr, BoolExpr, Cmp}
 use Rattle.syntax.specs.Satisfies.{Val, IVal, int-value, holds, holds-any, distinct}
+use Rattle.tables.specs.Domains.{has}
 use Rattle.different.specs.Different.{pair-rules, each-equals, value-rule}
-
-abbrev has : ℤ → List ℤ → Bool
-has x xs = any (eqZ x) xs
 
 -- ds without the first x
 abbrev less : ℤ → List ℤ → List ℤ
@@ -38,9 +36,6 @@ less-has d x (y ∷ ys) n = go (eqZ x y) refl (less-has d x ys n)
     go : (t : Bool) → eqZ x y ≡ t → has d (less x ys) ≡ has d ys → has d (cond t ys (y ∷ less x ys)) ≡ has d (y ∷ ys)
     go true e r = let q : eqZ d y ≡ false = rw (← eqZ-is x y e) n in rw q refl
     go false e r = ap (λ (b : Bool). eqZ d y || b) r
-
-eqZ-sym : (x y : ℤ) → eqZ x y ≡ eqZ y x
-eqZ-sym x y = both-ways _ _ (λ h. rw (eqZ-is x y h) (eqZ-refl y)) (λ h. rw (eqZ-is y x h) (eqZ-refl x))
 
 -- what differs from x and stands in ds stands in what is left of ds
 rest-has : (x : ℤ) (ds xs : List ℤ) → has x xs ≡ false → all (λ y. has y ds) xs ≡ true → all (λ y. has y (less x ds)) xs ≡ true
@@ -70,12 +65,12 @@ module _ (δ : Val) (ε : IVal) (ρ : Val) where
   truth = holds δ ε ρ
 
   abbrev values : List IntExpr → List ℤ
-  values es = map (int-value ε) es
+  values es = map (int-value δ ε ρ) es
 
-  one-pairs : (e : IntExpr) (es : List IntExpr) → all truth (map (Cmp Ne e) es) ≡ not (has (int-value ε e) (values es))
+  one-pairs : (e : IntExpr) (es : List IntExpr) → all truth (map (Cmp Ne e) es) ≡ not (has (int-value δ ε ρ e) (values es))
   unfolding holds
   one-pairs e [] = refl
-  one-pairs e (f ∷ fs) = ap (λ (b : Bool). not (eqZ (int-value ε e) (int-value ε f)) && b) (one-pairs e fs) ∙ both (eqZ (int-value ε e) (int-value ε f)) (has (int-value ε e) (values fs))
+  one-pairs e (f ∷ fs) = ap (λ (b : Bool). not (eqZ (int-value δ ε ρ e) (int-value δ ε ρ f)) && b) (one-pairs e fs) ∙ both (eqZ (int-value δ ε ρ e) (int-value δ ε ρ f)) (has (int-value δ ε ρ e) (values fs))
     where
       both : (a b : Bool) → not a && not b ≡ not (a || b)
       both = eq2 _ _ refl
@@ -89,7 +84,7 @@ module _ (δ : Val) (ε : IVal) (ρ : Val) where
   value-holds : (x : ℤ) (es : List IntExpr) → holds-any δ ε ρ (each-equals x es) ≡ has x (values es)
   unfolding holds int-value
   value-holds x [] = refl
-  value-holds x (e ∷ es) = rw (value-holds x es, eqZ-sym (int-value ε e) x) refl
+  value-holds x (e ∷ es) = rw (value-holds x es, eqZ-sym (int-value δ ε ρ e) x) refl
 
   -- and then no rule of a value excludes them, if their values are among no more than they are
   pub values-hold : (es : List IntExpr) (ds : List ℤ) → distinct (values es) ≡ true → all (λ x. has x ds) (values es) ≡ true → length ds ≤ length es → all truth (map (value-rule es) ds) ≡ true
@@ -97,7 +92,7 @@ module _ (δ : Val) (ε : IVal) (ρ : Val) where
   values-hold es ds u h l = each ds (λ d k. k)
     where
       long : length ds ≤ length (values es)
-      long = omega (arith, length-map es (int-value ε))
+      long = omega (arith, length-map es (int-value δ ε ρ))
 
       one : (d : ℤ) → has d ds ≡ true → truth (value-rule es d) ≡ true
       one d k = value-holds d es ∙ taken (values es) ds u h long d k

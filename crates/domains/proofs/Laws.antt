@@ -1,15 +1,18 @@
 -- What the functions over the set's domains ask and give at each step, over variables. Assumes nothing.
 use Prim.Native.Nat.{ℕ, zero, suc, _+_, _-_, _*_, _≤_, _<_}
 use mathlib.Core.Path.{_≡_, refl, sym, ap, _∙_}
-use mathlib.Core.Bool.{true}
+use mathlib.Core.Bool.{true, false}
 use mathlib.Core.Option.{none, some}
 use mathlib.Core.List.{List, [], _∷_, map}
 use native.Mathlib.Omega.{arith}
-use lib.IntN.{ℤ, pos, negsuc, natAbs, sucℤ, _+ℤ_, _-ℤ_, +ℤ-one}
+use lib.IntN.{ℤ, pos, negsuc, natAbs, sucℤ, _+ℤ_, _-ℤ_, _*ℤ_, +ℤ-one}
+use lib.Signed.{ltZ}
 use lib.ListN.{length, getD, set, length-append, length-set}
+use borrow.Author.Tests.{ltb-true}
 use mir.Syntax.{w32}
 use mir.Val.{SFits}
-use Rattle.laws.specs.Ints.{eqZ, sfits-natAbs, pos-eq}
+use Rattle.laws.specs.Bools.{never}
+use Rattle.laws.specs.Ints.{eqZ, times-low, sfits-natAbs, pos-eq}
 use Rattle.laws.specs.Order.{is-eqZ, not-eqZ}
 use Rattle.laws.specs.Lists.{flat}
 use Rattle.laws.specs.Slices.{Has, has-fits, has-front, has-back, has-word, has-rest, has-nth}
@@ -250,3 +253,13 @@ module _ (ws : List ℤ) (d n : ℕ) (z : n ≡ 0 → ⊥) where
 pub bounds-none : (ws : List ℤ) (d n : ℕ) (out : List ℤ) (o : ℕ) → n ≡ 0 → Bounds-post ws d n out o out d
 bounds-none ws d n out o z [] h s = record { behind = omega arith; stored = refl }
 bounds-none ws d n out o z (x ∷ ds) h s = absurd (omega arith)
+
+-- ---- `times_low`
+
+pub low-negative : (k a b : ℤ) → ltZ k (pos 0) ≡ true → k *ℤ b ≡ times-low k a b
+low-negative (pos n) a b h = absurd (let l = ltb-true n 0 h in omega arith)
+low-negative (negsuc n) a b h = refl
+
+pub low-plain : (k a b : ℤ) → ltZ k (pos 0) ≡ false → k *ℤ a ≡ times-low k a b
+low-plain (pos n) a b h = refl
+low-plain (negsuc n) a b h = never (sym h)

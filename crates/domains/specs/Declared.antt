@@ -73,12 +73,12 @@ pub bounds-length : (ds : List Domain) → length (bounds-words ds) ≡ 2 * leng
 bounds-length [] = refl
 bounds-length (d ∷ ds) = omega (arith, bounds-length ds)
 
-pub bounds-low : (ds : List Domain) (v : ℕ) → v < length ds → getD (bounds-words ds) (2 * v) (pos 0) ≡ lower-bound (domain-of ds v)
+bounds-low : (ds : List Domain) (v : ℕ) → v < length ds → getD (bounds-words ds) (2 * v) (pos 0) ≡ lower-bound (domain-of ds v)
 bounds-low [] v l = absurd (omega arith)
 bounds-low (d ∷ ds) zero l = refl
 bounds-low (d ∷ ds) (suc v) l = let m : 2 * suc v ≡ suc (suc (2 * v)) = omega arith in rw m (bounds-low ds v (omega arith))
 
-pub bounds-high : (ds : List Domain) (v : ℕ) → v < length ds → getD (bounds-words ds) (2 * v + 1) (pos 0) ≡ upper-bound (domain-of ds v)
+bounds-high : (ds : List Domain) (v : ℕ) → v < length ds → getD (bounds-words ds) (2 * v + 1) (pos 0) ≡ upper-bound (domain-of ds v)
 bounds-high [] v l = absurd (omega arith)
 bounds-high (d ∷ ds) zero l = refl
 bounds-high (d ∷ ds) (suc v) l = let m : 2 * suc v + 1 ≡ suc (suc (2 * v + 1)) = omega arith in rw m (bounds-high ds v (omega arith))

@@ -1,9 +1,10 @@
 // The declared domains in a set's words: where each stands, its lowest and highest value, its one value, how many values it has; and a table of all bounds.
 // `d` is the place of the set's first domain.
 ghost use mathlib.Core.Path.{_≡_};
-ghost use Prim.Native.Nat.{_+_, _<_};
-ghost use lib.IntN.{pos};
+ghost use Prim.Native.Nat.{_+_, _*_, _<_, _^_};
+ghost use lib.IntN.{pos, natAbs};
 ghost use lib.ListN.{length, getD};
+ghost use Rattle.laws.specs.Ints.{times-low};
 ghost use Rattle.laws.specs.Slices.{Has};
 ghost use Rattle.syntax.specs.Syntax.{Domain, encode-domain, lower-bound, upper-bound, num-candidates};
 ghost use Rattle.domains.specs.Declared.{Plain, Domain-at, Sized-at, Domain-below, Domain-post, One-value, Bounds-room, Bounds-post};
@@ -129,4 +130,15 @@ pub fn write_bounds(words: &[i32], d: usize, n: usize, work: &mut [i32], o: usiz
         rest = rest - 1;
     }
     at
+}
+
+// A coefficient times an interval: its lowest value. With the bounds exchanged, its highest.
+pub fn times_low(k: i32, low: i32, high: i32) -> i32
+    requires { ⌜ (natAbs k * natAbs low < 2 ^ 31) × (natAbs k * natAbs high < 2 ^ 31) ⌝ }
+    ensures { λ r. ⌜ r ≡ times-low k low high ⌝ }
+{
+    if k < 0 {
+        return k * high;
+    }
+    k * low
 }

@@ -22,9 +22,11 @@ use Rattle.fold.specs.Fold.{Op, op-xor, op-iff, op-imp, expr-of}
 use Rattle.fold.specs.Table.{op-num, bit}
 use Rattle.fold.specs.Forms.{list-of, list-words, binary-words, op-word, declared-list, declared-binary, bool-long}
 use Rattle.folding.proofs.BoolLaws.{not-inv, binary-inv, second, code-low}
-use Rattle.limits.specs.Limits.{heavy, heavy-comparison, any-comparison, any-comparison-members}
-use Rattle.evaluate.specs.Contracts.{Int-at, Ready-int, Int-post, Bool-stands, Some-bool, Some-members, Skip-post, Bool-at, Members-at, Ready-bool, Ready-members, held, decided, side-value, Bool-post, Members-post}
-use Rattle.evaluate.proofs.SkipLaws.{leaf-inv, code-is, second-is, the-list, sides, first-inv}
+use Rattle.limits.specs.Limits.{heavy, heavy-comparison}
+use Rattle.passes.specs.Skip.{Bool-at as Bool-stands, Some-bool, Some-members, Skip-members-post}
+use Rattle.passes.proofs.SkipLaws.{leaf-inv, bool-code-is, second-is, the-list, sides, first-inv}
+use Rattle.evaluate.specs.Inside.{heavy-inside, heavy-bool, heavy-members}
+use Rattle.evaluate.specs.Contracts.{Int-at, Ready-int, Int-post, Bool-at, Members-at, Ready-bool, Ready-members, held, decided, side-value, Bool-post, Members-post}
 
 -- ---- tests of words
 
@@ -92,7 +94,7 @@ module _ (ws values : List ℤ) (nb at : ℕ) where
       the-leaf : {X : Type 0} (ni : ℕ) (e : BoolExpr) → Bool-stands nb ni ws at e → ((b : Bool) → w ≡ 10 → e ≡ Const b → v ≡ bit b → X) → ((w ≡ 10 → ⊥) → e ≡ Var v → v < nb → X) → X
       unfolding second EveryOf
       the-leaf {X} ni e r f g =
-          let t = code-is ws at w hw nb ni e r in
+          let t = bool-code-is ws at w hw nb ni e r in
           let s : v ≡ second e = pos-eq _ _ _ hv (second-is ws at w hw nb ni e r (λ k. absurd (omega arith))) in
           leaf-inv e (code-low nb ni e (r .vars)) (omega arith)
           (λ b q. let z : 10 ≡ w = rw q at t in f b (sym z) q (s ∙ ap second q))
@@ -117,23 +119,25 @@ module _ (ws values : List ℤ) (nb at : ℕ) where
 
     module _ (h18 : w ≡ 18) where
       the-sides : {X : Type 0} (ds : List Domain) (e : BoolExpr) → Bool-at nb ds ws at e
-          → ((o : CmpOp) (a b : IntExpr) → e ≡ Cmp o a b → Int-at ds ws (at + 2) a → Int-at ds ws (at + 2 + length (encode-int a)) b → X) → X
-      unfolding EveryOf any-comparison heavy-comparison
+          → ((o : CmpOp) (a b : IntExpr) → e ≡ Cmp o a b → Int-at nb ds ws (at + 2) a → Int-at nb ds ws (at + 2 + length (encode-int a)) b → X) → X
+      unfolding heavy-bool heavy-comparison
       the-sides ds e r go =
           sides ws at w hw h18 nb (length ds) e (r .stands) λ o a b q h g.
-          let v = rw q at (r .stands .vars) in
-          let l = rw q at (r .light) in
-          go o a b q (record { words = h; vars = v .0; light = or-no-l (heavy ds a) _ l }) (record { words = g; vars = v .1; light = or-no-l (heavy ds b) _ (or-no-r (heavy ds a) _ l) })
+          let y = rw q at (r .light) in
+          let l = or-no-l (heavy-comparison ds a b) _ y in
+          let i = or-no-r (heavy-comparison ds a b) _ y in
+          go o a b q (record { stands = h; light = or-no-l (heavy ds a) _ l; inside = or-no-l (heavy-inside ds a) _ i })
+          (record { stands = g; light = or-no-l (heavy ds b) _ (or-no-r (heavy ds a) _ l); inside = or-no-r (heavy-inside ds a) _ i })
 
       pub left-ready : Ready-bool ws values nb at → Ready-int ws values nb (at + 2)
       left-ready r = the-sides (r .ds) (r .it) (r .reads) λ o a b q h g. record { ds = r .ds; roster = r .roster; it = a; reads = h }
 
       module _ (m : ℕ) (x : ℤ) (p : Int-post ws values nb (at + 2) m x) where
-        pub right-ready : Ready-bool ws values nb at → Ready-int ws values nb m
+        pub right-ready : Ready-bool ws values nb at → Ready-int ws values nb m × (at < m)
         right-ready r =
             the-sides (r .ds) (r .it) (r .reads) λ o a b q h g.
             let e : m ≡ at + 2 + length (encode-int a) = p (r .ds) a (r .roster) h .0 in
-            record { ds = r .ds; roster = r .roster; it = b; reads = rw e g }
+            (record { ds = r .ds; roster = r .roster; it = b; reads = rw e g }, omega arith)
 
         pub comparison-held : (op next : ℕ) (y : ℤ) (t : Bool) → getD ws (at + 1) (pos 0) ≡ pos op → Int-post ws values nb m next y → t ≡ compare (op-at op) x y → Bool-post ws values nb at next t
         unfolding encode-bool holds second
@@ -168,9 +172,9 @@ module _ (ws values : List ℤ) (nb at : ℕ) where
               let g = rw (list-words s ms) at h in
               rw k (has-rest ws (at + 1) _ _ (has-rest ws at _ _ g))
 
-          light-list : (s : Bool) (ms : Members) → any-comparison (heavy-comparison ds) (heavy ds) (list-of s ms) ≡ false → any-comparison-members (heavy-comparison ds) (heavy ds) ms ≡ false
-          light-list true ms h = unfold any-comparison in h
-          light-list false ms h = unfold any-comparison in h
+          light-list : (s : Bool) (ms : Members) → heavy-bool ds (list-of s ms) ≡ false → heavy-members ds ms ≡ false
+          light-list true ms h = unfold heavy-bool in h
+          light-list false ms h = unfold heavy-bool in h
 
       pub list-ready : Ready-bool ws values nb at → Ready-members ws values nb (at + 2) n
       list-ready r = the-members (r .ds) (r .it) (r .reads) λ s ms q t g. record { ds = r .ds; roster = r .roster; them = ms; reads = g }
@@ -192,9 +196,9 @@ module _ (ws values : List ℤ) (nb at : ℕ) where
 
     module _ (h14 : w ≡ 14) where
       the-member : {X : Type 0} (ds : List Domain) (e : BoolExpr) → Bool-at nb ds ws at e → ((x : BoolExpr) → e ≡ Not x → Bool-at nb ds ws (at + 1) x → X) → X
-      unfolding encode-bool EveryOf any-comparison
+      unfolding encode-bool EveryOf heavy-bool
       the-member ds e r go =
-          not-inv e (code-is ws at w hw nb (length ds) e (r .stands) ∙ h14) λ x q.
+          not-inv e (bool-code-is ws at w hw nb (length ds) e (r .stands) ∙ h14) λ x q.
           let g = subst (λ x. Bool-at nb ds ws at x) q (r) in
           go x q (record { stands = record { words = has-rest ws at _ _ (g .stands .words); vars = g .stands .vars }; light = g .light })
 
@@ -215,21 +219,21 @@ module _ (ws values : List ℤ) (nb at : ℕ) where
       the-two : {X : Type 0} (ds : List Domain) (e : BoolExpr) → Bool-at nb ds ws at e
           → ((o : Op) (a b : BoolExpr) → e ≡ expr-of o a b → w ≡ 15 + op-num o → Bool-at nb ds ws (at + 1) a → Bool-at nb ds ws (at + 1 + length (encode-bool a)) b → X) → X
       the-two ds e r go =
-          let t = code-is ws at w hw nb (length ds) e (r .stands) in
+          let t = bool-code-is ws at w hw nb (length ds) e (r .stands) in
           binary-inv e (omega arith) (λ z. n18 (sym t ∙ z)) λ o a b q to.
           let g = subst (λ x. Bool-at nb ds ws at x) q (r) in
           let h = has-rest ws at _ _ (rw (binary-words o a b) at (g .stands .words)) in
           let d = declared-binary nb (length ds) o a b (g .stands .vars) in
           let l = light-two o a b (g .light) in
           go o a b q (omega arith)
-          (record { stands = record { words = has-front ws (at + 1) (encode-bool a) (encode-bool b) h; vars = d .0 }; light = or-no-l (any-comparison (heavy-comparison ds) (heavy ds) a) _ l })
-          (record { stands = record { words = has-back ws (at + 1) (encode-bool a) (encode-bool b) h; vars = d .1 }; light = or-no-r (any-comparison (heavy-comparison ds) (heavy ds) a) _ l })
+          (record { stands = record { words = has-front ws (at + 1) (encode-bool a) (encode-bool b) h; vars = d .0 }; light = or-no-l (heavy-bool ds a) _ l })
+          (record { stands = record { words = has-back ws (at + 1) (encode-bool a) (encode-bool b) h; vars = d .1 }; light = or-no-r (heavy-bool ds a) _ l })
         where
-          light-two : (o : Op) (a b : BoolExpr) → any-comparison (heavy-comparison ds) (heavy ds) (expr-of o a b) ≡ false
-              → any-comparison (heavy-comparison ds) (heavy ds) a || any-comparison (heavy-comparison ds) (heavy ds) b ≡ false
-          light-two op-xor a b h = unfold any-comparison in h
-          light-two op-iff a b h = unfold any-comparison in h
-          light-two op-imp a b h = unfold any-comparison in h
+          light-two : (o : Op) (a b : BoolExpr) → heavy-bool ds (expr-of o a b) ≡ false
+              → heavy-bool ds a || heavy-bool ds b ≡ false
+          light-two op-xor a b h = unfold heavy-bool in h
+          light-two op-iff a b h = unfold heavy-bool in h
+          light-two op-imp a b h = unfold heavy-bool in h
 
       pub first-ready : Ready-bool ws values nb at → Ready-bool ws values nb (at + 1)
       first-ready r = the-two (r .ds) (r .it) (r .reads) λ o a b q t g k. record { ds = r .ds; roster = r .roster; it = a; reads = g }
@@ -269,11 +273,11 @@ members-none ws values nb at n stop z ds (more e ms) b r = absurd (let s : n ≡
 module _ (ws values : List ℤ) (nb at n : ℕ) (z : n ≡ 0 → ⊥) where
   the-first : {X : Type 0} (ds : List Domain) (ms : Members) → Members-at nb ds ws at n ms
       → ((e : BoolExpr) (us : Members) → ms ≡ more e us → Bool-at nb ds ws at e → Members-at nb ds ws (at + length (encode-bool e)) (n - 1) us → X) → X
-  unfolding any-comparison
+  unfolding heavy-bool
   the-first ds ms r go =
       first-inv ws at n z nb (length ds) ms (r .stand) λ e us q h g.
       let l = rw q at (r .light) in
-      go e us q (record { stands = h; light = or-no-l (any-comparison (heavy-comparison ds) (heavy ds) e) _ l }) (record { stand = g; light = or-no-r (any-comparison (heavy-comparison ds) (heavy ds) e) _ l })
+      go e us q (record { stands = h; light = or-no-l (heavy-bool ds e) _ l }) (record { stand = g; light = or-no-r (heavy-bool ds e) _ l })
 
   pub member-ready : Ready-members ws values nb at n → Ready-bool ws values nb at
   member-ready r = the-first (r .ds) (r .them) (r .reads) λ e us q h g. record { ds = r .ds; roster = r .roster; it = e; reads = h }
@@ -289,7 +293,7 @@ module _ (ws values : List ℤ) (nb at n : ℕ) (z : n ≡ 0 → ⊥) where
     behind-some r = let y = behind-ready r .0 in record { bools = nb; ints = length (y .ds); them = y .them; stand = y .reads .stand }
 
     -- the deciding member, and what lies behind it passed over
-    pub stop-held : (stop : Bool) (next : ℕ) → x ≡ stop → Skip-post ws m (n - 1) next → Members-post ws values nb at n stop next stop
+    pub stop-held : (stop : Bool) (next : ℕ) → x ≡ stop → Skip-members-post ws m (n - 1) next → Members-post ws values nb at n stop next stop
     unfolding encode-bool holds
     stop-held stop next hs s ds ms b r =
         the-first ds ms r λ e us q h g.

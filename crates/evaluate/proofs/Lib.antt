@@ -1,5 +1,4 @@
 pub mod IntLaws
-pub mod SkipLaws
 pub mod BoolLaws
 pub mod TableLaws
 pub mod ValueLaws

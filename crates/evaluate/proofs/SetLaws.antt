@@ -1,49 +1,30 @@
 -- What the check says of a whole set, over variables. Assumes nothing.
-use Prim.Native.Nat.{ℕ, zero, suc, _+_, _≤_, max}
+use Prim.Native.Nat.{ℕ, zero, suc, _+_, _≤_}
 use mathlib.Core.Path.{_≡_, refl, sym, ap, _∙_, subst}
-use mathlib.Core.Bool.{Bool, true, false, _&&_, cond}
+use mathlib.Core.Bool.{Bool, true, false, _&&_}
 use mathlib.Core.List.{List, [], _∷_}
 use native.Mathlib.Omega.{arith}
-use lib.IntN.{ℤ, pos, negsuc, natAbs}
-use lib.Signed.{leZ}
+use lib.IntN.{ℤ, pos, natAbs}
 use lib.ListN.{length, getD}
-use borrow.Author.Tests.{ltb-false, eq-eqb, ne-eqb, leb-true}
-use Rattle.laws.specs.Bools.{and-l, and-r, never, or-pick}
-use Rattle.laws.specs.Ints.{eqZ}
-use Rattle.laws.specs.Lists.{any, all, from, below}
-use Rattle.laws.specs.Order.{eqZ-is}
+use borrow.Author.Tests.{ltb-false, eq-eqb, ne-eqb}
+use Rattle.laws.specs.Lists.{all, from, below}
 use Rattle.syntax.specs.Words.{min-work-words, max-set-words}
-use Rattle.syntax.specs.Syntax.{Domain, Range, Enumerative, domain-of, in-domain, Problem}
+use Rattle.syntax.specs.Syntax.{Domain, domain-of, in-domain, Problem}
 use Rattle.syntax.specs.Satisfies.{in-domains}
 use Rattle.syntax.specs.Written.{in-domains-within}
 use Rattle.words.specs.Exact.{Each}
 use Rattle.read.specs.WellFormed.{WellStmt}
-use Rattle.limits.specs.Limits.{largest, domain-weight, check, heavy-stmt}
+use Rattle.limits.specs.Limits.{domain-weight}
+use Rattle.limits.specs.Light.{value-light, unrefused-light}
 use Rattle.limits.specs.Admitted.{admitted, limited}
 use Rattle.reader.specs.declared.Declared.{Declared}
 use Rattle.reader.specs.declared.Set.the-variants as set
 use Rattle.accept.specs.Accepted.{accepted}
 use Rattle.accept.specs.Taken.{Taken, accepted-ok, accepted-refused, taken-set, declared-is, taken-domains, taken-stmts}
-use Rattle.evaluate.specs.Roster.{int-of, is-bit, right-count, all-inside, truth, first-broken, stops-same, judged, rostered, when-admitted, check-roster}
+use Rattle.verdict.specs.Roster.{int-of, is-bit, right-count, all-inside, truth, first-broken, stops-same, judged, rostered, when-admitted, check-roster}
 use Rattle.evaluate.specs.Contracts.{Roster, each-inside, Ready-domains, Inside-post, Stmts-at, Ready-stmts, checked-of, Broken-post}
 use Rattle.evaluate.specs.declared.Checked.{Checked}
 use Rattle.evaluate.specs.declared.Checked.the-variants.{Refused}
-
--- ---- a value of a domain is no larger than its weight
-
-between : (low x high : ℤ) → leZ low x ≡ true → leZ x high ≡ true → natAbs x ≤ max (natAbs low) (natAbs high)
-between low (pos b) (pos c) h k = omega (arith, leb-true b c k)
-between low (pos b) (negsuc c) h k = never k
-between (pos a) (negsuc b) high h k = never h
-between (negsuc a) (negsuc b) high h k = omega (arith, leb-true b a h)
-
-listed-small : (x : ℤ) (xs : List ℤ) → any (eqZ x) xs ≡ true → natAbs x ≤ largest xs
-listed-small x [] h = never h
-listed-small x (y ∷ ys) h = or-pick (eqZ x y) (any (eqZ x) ys) h (λ e. omega (arith, ap natAbs (eqZ-is x y e))) (λ e. omega (arith, listed-small x ys e))
-
-value-light : (x : ℤ) (d : Domain) → in-domain x d ≡ true → natAbs x ≤ domain-weight d
-value-light x (Range low high) h = omega (arith, between low x high (and-l (leZ low x) (leZ x high) h) (and-r (leZ low x) (leZ x high) h))
-value-light x (Enumerative xs) h = omega (arith, listed-small x xs h)
 
 -- ---- the domains one after another
 
@@ -62,16 +43,6 @@ each-is values p (d ∷ ds) =
     let a = all-later (λ v. in-domain (getD values (p + v) (pos 0)) (domain-of (d ∷ ds) v)) 0 (length ds) in
     let b = same-tests (λ v. in-domain (getD values (p + 1 + v) (pos 0)) (domain-of ds v)) (λ v. in-domain (getD values (p + suc v) (pos 0)) (domain-of ds v)) (below (length ds)) (λ v. ap (λ i. in-domain (getD values i (pos 0)) (domain-of ds v)) (omega arith)) in
     rw z (ap (λ c. in-domain (getD values p (pos 0)) d && c) (each-is values (p + 1) ds ∙ b ∙ sym a))
-
--- ---- no part weighs too much
-
-light-of : (p : Problem) → check p ≡ 0 → any (heavy-stmt (p .domains)) (p .stmts) ≡ false
-unfolding check
-light-of p h = go _ (any (heavy-stmt (p .domains)) (p .stmts)) h
-  where
-    go : (m : ℕ) (t : Bool) → cond t 9 m ≡ 0 → t ≡ false
-    go m true e = absurd (let z : _≡_ {A = ℕ} 9 0 = e in omega arith)
-    go m false e = refl
 
 -- ---- `judge`
 
@@ -155,7 +126,7 @@ module _ (ws values : List ℤ) (n : ℕ) where
             }
 
             stand : Stmts-at (d .bools) (p .domains) ws (d .at) (d .stmts) (p .stmts)
-            stand = record { words = taken-stmts n ws d t .words; well = subst (λ b. Each (WellStmt b (length (p .domains))) (p .stmts)) (sym bools-are) (taken-set n ws d t .well .stmts-well); light = light-of p (t .unrefused); size = stmts-are }
+            stand = record { words = taken-stmts n ws d t .words; well = subst (λ b. Each (WellStmt b (length (p .domains))) (p .stmts)) (sym bools-are) (taken-set n ws d t .well .stmts-well); light = unrefused-light p (t .unrefused); size = stmts-are }
 
             pub stmts-start : (work : List ℤ) → length work ≡ n → Ready-stmts ws values (d .bools) (d .at) (d .stmts) work
             stmts-start work e = record {

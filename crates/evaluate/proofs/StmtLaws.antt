@@ -2,7 +2,7 @@
 use Prim.Native.Nat.{ℕ, suc, _+_, _-_, _*_, _≤_, _<_}
 use mathlib.Core.Path.{_≡_, refl, sym, ap, _∙_}
 use mathlib.Core.Bool.{Bool, true, false, _&&_}
-use mathlib.Core.List.{List, [], _∷_, _++_, map}
+use mathlib.Core.List.{List, [], _∷_, map}
 use native.Mathlib.Omega.{arith}
 use native.Mathlib.Numerals.{add-one}
 use lib.IntN.{ℤ, pos}
@@ -10,26 +10,22 @@ use lib.ListN.{length, getD, length-append, length-map}
 use Rattle.laws.specs.Bools.{or-no-l, or-no-r}
 use Rattle.laws.specs.Ints.{pos-eq}
 use Rattle.laws.specs.Lists.{any, any-cong, flat}
-use Rattle.laws.specs.Slices.{Has, has-fits, has-front, has-back, has-word, has-rest, has-sets}
-use Rattle.syntax.specs.Syntax.{Domain, IntExpr, encode-int, BoolExpr, encode-bool, Cell, encode-cell, Stmt, Rule, Table, AllDifferent, encode-stmt}
-use Rattle.syntax.specs.Satisfies.{int-value, permits, row-holds, stmt-holds}
-use Rattle.syntax.specs.Lengths.{int-long, rows-length}
+use Rattle.laws.specs.Slices.{Has, has-fits, has-front, has-back, has-rest, has-sets}
+use Rattle.syntax.specs.Syntax.{Domain, IntExpr, encode-int, BoolExpr, encode-bool, Cell, Stmt, Rule, Table, AllDifferent, encode-stmt}
+use Rattle.syntax.specs.Satisfies.{permits, row-holds, stmt-holds}
+use Rattle.syntax.specs.Written.{None}
+use Rattle.syntax.specs.Lengths.{int-long, stmt-some, TableWords, table-words, DifferentWords, different-words}
 use Rattle.syntax.specs.Codes.{stmt-code, stmt-code-word}
 use Rattle.read.specs.Vars.{columns-vars, bool-vars, rows-wide}
 use Rattle.domains.specs.Declared.{Plain}
 use Rattle.limits.specs.Limits.{heavy, any-part, heavy-stmt}
-use Rattle.evaluate.specs.Roster.{int-of, truth, first-broken}
-use Rattle.evaluate.specs.Contracts.{Bool-at, Ready-bool, Bool-post, Columns-at, Ready-columns, Columns-post, Rows-at, Ready-rows, row-permits, Rows-post, Words-at, Differ-post, Stmt-at, Stmts-at, Ready-stmt, Ready-stmts, Stmt-post, checked-of, Broken-post}
+use Rattle.verdict.specs.Roster.{bool-of, int-of, truth, first-broken}
+use Rattle.evaluate.specs.Inside.{bool-inside, columns-inside}
+use Rattle.evaluate.specs.Contracts.{Bool-at, Ready-bool, Bool-post, valued, Columns-at, Ready-columns, Columns-post, Rows-at, Ready-rows, row-permits, Rows-post, Words-at, Differ-post, Stmt-at, Stmts-at, Ready-stmt, Ready-stmts, Stmt-post, checked-of, Broken-post, Values-at, Roster}
 use Rattle.evaluate.specs.declared.Checked.{Checked}
 use Rattle.evaluate.specs.declared.Checked.the-variants.{Yes, Broken}
 
 -- ---- a statement, by its first word
-
-stmt-some : (s : Stmt) → 0 < length (encode-stmt s)
-unfolding encode-stmt
-stmt-some (Rule e) = omega arith
-stmt-some (Table es rows) = omega arith
-stmt-some (AllDifferent es) = omega arith
 
 -- at most as many columns as words
 columns-long : (es : List IntExpr) → length es ≤ length (flat (map encode-int es))
@@ -37,10 +33,10 @@ columns-long [] = omega arith
 columns-long (e ∷ es) = omega (arith, int-long e, columns-long es, length-append (encode-int e) (flat (map encode-int es)))
 
 -- a row holds exactly if its cells permit the columns' values
-row-is : (nb : ℕ) (values : List ℤ) (es : List IntExpr) (cs : List Cell) → row-permits (map (int-value (int-of nb values)) es) cs ≡ row-holds (int-of nb values) es cs
+row-is : (nb : ℕ) (values : List ℤ) (es : List IntExpr) (cs : List Cell) → row-permits (map (valued nb values) es) cs ≡ row-holds (bool-of values) (int-of nb values) (λ n. false) es cs
 row-is nb values [] cs = refl
 row-is nb values (e ∷ es) [] = refl
-row-is nb values (e ∷ es) (c ∷ cs) = ap (λ b. permits c (int-value (int-of nb values) e) && b) (row-is nb values es cs)
+row-is nb values (e ∷ es) (c ∷ cs) = ap (λ b. permits c (valued nb values e) && b) (row-is nb values es cs)
 
 module _ (ws values : List ℤ) (nb at : ℕ) (work : List ℤ) where
   pub stmt-inside : Ready-stmt ws values nb at work → at < length ws
@@ -58,7 +54,7 @@ module _ (ws values : List ℤ) (nb at : ℕ) (work : List ℤ) where
     module _ (z : w ≡ 1) where
       the-rule : {X : Type 0} (ds : List Domain) (s : Stmt) → Stmt-at nb ds ws at s → ((e : BoolExpr) → s ≡ Rule e → Bool-at nb ds ws (at + 1) e → X) → X
       unfolding encode-stmt any-part
-      the-rule ds (Rule e) r go = go e refl (record { stands = record { words = has-rest ws at _ _ (r .words); vars = bool-vars nb (length ds) 64 e (r .well) }; light = r .light })
+      the-rule ds (Rule e) r go = go e refl (record { stands = record { words = has-rest ws at _ _ (r .words); vars = bool-vars nb (length ds) 64 e (r .well) }; light = rw (bool-inside ds e) at (r .light) })
       the-rule ds (Table es rows) r go = absurd (let t : 2 ≡ w = code-is (Table es rows) (r .words) in omega arith)
       the-rule ds (AllDifferent es) r go = absurd (let t : 3 ≡ w = code-is (AllDifferent es) (r .words) in omega arith)
 
@@ -73,72 +69,65 @@ module _ (ws values : List ℤ) (nb at : ℕ) (work : List ℤ) where
           let l : next ≡ at + 1 + length (encode-bool e) = y .0 in
           rw q (omega arith, y .1)
 
+  -- ---- columns: their values, stored
+
+  stored : {q n p : ℕ} {work' : List ℤ} {ds : List Domain} (es : List IntExpr) → Columns-post ws values nb q n work 0 work' p → Roster nb ds values → Columns-at nb ds ws q n es → length (flat (map encode-int es)) ≤ length work
+      → (p ≡ q + length (flat (map encode-int es))) × Values-at work' 0 n (map (valued nb values) es)
+  stored {n = n} {ds = ds} es cp b c l =
+      let y = cp ds es b c in
+      let xs = map (valued nb values) es in
+      let g : length xs ≡ length es = length-map es (valued nb values) in
+      let s : n ≡ length es = c .size in
+      (y .0, record { words = rw (y .1) (has-sets work 0 xs (omega (arith, l, g, columns-long es))); size = s ∙ sym g })
+
   -- ---- a table
 
   module _ (c2 : getD ws at (pos 0) ≡ pos 2) where
     the-table : {X : Type 0} (ds : List Domain) (s : Stmt) → Stmt-at nb ds ws at s
-        → ((es : List IntExpr) (rows : List (List Cell)) → s ≡ Table es rows → getD ws (at + 1) (pos 0) ≡ pos (length es) → getD ws (at + 2) (pos 0) ≡ pos (length rows)
-        → Columns-at ds ws (at + 3) (length es) es → Rows-at ws (at + 3 + length (flat (map encode-int es))) (length es) (length rows) rows
-        → at + (3 + (length (flat (map encode-int es)) + length es * length rows)) ≤ length ws → length (encode-stmt (Table es rows)) ≡ 3 + (length (flat (map encode-int es)) + length es * length rows) → X) → X
-    unfolding encode-stmt any-part
+        → ((es : List IntExpr) (rows : List (List Cell)) → s ≡ Table es rows → TableWords ws at es rows → Columns-at nb ds ws (at + 3) (length es) es → Rows-at ws (at + 3 + length (flat (map encode-int es))) (length es) (length rows) rows → X) → X
+    unfolding any-part
     the-table ds (Rule e) r go = absurd (let t : 1 ≡ 2 = code-is 2 c2 (Rule e) (r .words) in omega arith)
     the-table ds (AllDifferent es) r go = absurd (let t : 3 ≡ 2 = code-is 2 c2 (AllDifferent es) (r .words) in omega arith)
     the-table ds (Table es rows) r go =
-        let cs = flat (map encode-int es) in
-        let rs = flat (map (map encode-cell) rows) in
-        let h1 = has-rest ws at _ _ (r .words) in
-        let h2 = has-rest ws (at + 1) _ _ h1 in
-        let m2 : at + 2 ≡ at + 1 + 1 = omega arith in
-        let m3 : at + 3 ≡ at + 1 + 1 + 1 = omega arith in
-        let h3 : Has ws (at + 3) (cs ++ rs) = rw m3 (has-rest ws (at + 1 + 1) _ _ h2) in
-        let l : length (encode-stmt (Table es rows)) ≡ 3 + (length cs + length es * length rows) = omega (arith, length-append cs rs, rows-length (length es) rows (rows-wide (length es) rows (r .well .3))) in
-        go es rows refl (has-word ws (at + 1) _ _ (pos 0) h1) (ap (λ i. getD ws i (pos 0)) m2 ∙ has-word ws (at + 1 + 1) _ _ (pos 0) h2)
-        (record { words = has-front ws (at + 3) cs rs h3; vars = columns-vars (length ds) 64 es (r .well .2); light = r .light; size = refl })
-        (record { words = has-back ws (at + 3) cs rs h3; well = r .well .3; size = refl }) (omega (arith, has-fits ws at (encode-stmt (Table es rows)) (r .words) (omega arith), l)) l
+        let t = table-words ws at es rows (rows-wide (length es) rows (r .well .3)) (r .words) in
+        go es rows refl t (record { words = t .columns; vars = columns-vars None (λ v. v < nb) (length ds) 64 es (r .well .2); light = rw (columns-inside ds es) at (r .light); size = refl }) (record { words = t .cells; well = r .well .3; size = refl })
 
     pub table-inside : Ready-stmt ws values nb at work → at + 3 ≤ length ws
-    table-inside r = the-table (r .ds) (r .it) (r .reads) λ es rows q a b c d l k. omega (arith, l)
+    table-inside r = the-table (r .ds) (r .it) (r .reads) λ es rows q t c d. omega (arith, t .inside)
 
     pub table-columns : Ready-stmt ws values nb at work → Plain ws (at + 1)
-    table-columns r = the-table (r .ds) (r .it) (r .reads) λ es rows q a b c d l k. record { inside = omega (arith, l); value = length es; is = a }
+    table-columns r = the-table (r .ds) (r .it) (r .reads) λ es rows q t c d. record { inside = omega (arith, t .inside); value = length es; is = t .columns-word }
 
     pub table-rows : Ready-stmt ws values nb at work → Plain ws (at + 2)
-    table-rows r = the-table (r .ds) (r .it) (r .reads) λ es rows q a b c d l k. record { inside = omega (arith, l); value = length rows; is = b }
+    table-rows r = the-table (r .ds) (r .it) (r .reads) λ es rows q t c d. record { inside = omega (arith, t .inside); value = length rows; is = t .rows-word }
 
     module _ (n : ℕ) (hn : getD ws (at + 1) (pos 0) ≡ pos n) (k : ℕ) (hk : getD ws (at + 2) (pos 0) ≡ pos k) where
       pub columns-start : Ready-stmt ws values nb at work → Ready-columns ws values nb (at + 3) n work 0
       columns-start r =
-          the-table (r .ds) (r .it) (r .reads) λ es rows q a b c d l m.
-          let s : n ≡ length es = pos-eq _ _ _ hn a in
-          record { ds = r .ds; roster = r .roster; them = es; reads = rw s c; room = omega (arith, l, s, r .room, columns-long es) }
+          the-table (r .ds) (r .it) (r .reads) λ es rows q t c d.
+          let s : n ≡ length es = pos-eq _ _ _ hn (t .columns-word) in
+          record { ds = r .ds; roster = r .roster; them = es; reads = rw s c; room = omega (arith, t .inside, s, r .room, columns-long es) }
 
       module _ (work' : List ℤ) (p : ℕ) (cp : Columns-post ws values nb (at + 3) n work 0 work' p) where
-        -- the columns' values, stored
         pub rows-start : Ready-stmt ws values nb at work → Ready-rows ws p n k work' × (p + n * k ≤ length ws)
         rows-start r =
-            the-table (r .ds) (r .it) (r .reads) λ es rows q a b c d l m.
-            let s : n ≡ length es = pos-eq _ _ _ hn a in
-            let t : k ≡ length rows = pos-eq _ _ _ hk b in
-            let y = cp (r .ds) es (r .roster) (rw s c) in
-            let e : p ≡ at + 3 + length (flat (map encode-int es)) = y .0 in
-            let xs = map (int-value (int-of nb values)) es in
-            let g : length xs ≡ length es = length-map es (int-value (int-of nb values)) in
-            let o : 0 + length xs ≤ length work = omega (arith, l, g, r .room, columns-long es) in
-            (record { them = rows; rows = rw (e, s, t) d; values = xs; stored = record { words = rw (y .1) (has-sets work 0 xs o); size = s ∙ sym g }; inside = omega (arith, l, e) }, rw (s, t) (omega (arith, l, e)))
+            the-table (r .ds) (r .it) (r .reads) λ es rows q t c d.
+            let s : n ≡ length es = pos-eq _ _ _ hn (t .columns-word) in
+            let u : k ≡ length rows = pos-eq _ _ _ hk (t .rows-word) in
+            let y = stored es cp (r .roster) (rw s c) (omega (arith, t .inside, r .room)) in
+            let e = y .0 in
+            (record { them = rows; rows = rw (e, s, u) d; values = map (valued nb values) es; stored = y .1; inside = omega (arith, t .inside, e) }, rw (s, u) (omega (arith, t .inside, e)))
 
         pub table-held : length ws ≤ length work → (h : Bool) → Rows-post ws p n k work' h → Stmt-post ws values nb at (p + n * k) h
         unfolding stmt-holds
         table-held room h rp ds st bb r =
-            the-table ds st r λ es rows q a b c d l m.
-            let s : n ≡ length es = pos-eq _ _ _ hn a in
-            let t : k ≡ length rows = pos-eq _ _ _ hk b in
-            let y = cp ds es bb (rw s c) in
-            let e : p ≡ at + 3 + length (flat (map encode-int es)) = y .0 in
-            let xs = map (int-value (int-of nb values)) es in
-            let g : length xs ≡ length es = length-map es (int-value (int-of nb values)) in
-            let o : 0 + length xs ≤ length work = omega (arith, l, g, room, columns-long es) in
-            let v = rp rows xs (rw (e, s, t) d) (record { words = rw (y .1) (has-sets work 0 xs o); size = s ∙ sym g }) in
-            rw q (rw (s, t) (omega (arith, e, m)), v ∙ any-cong (row-permits xs) (row-holds (int-of nb values) es) rows (row-is nb values es))
+            the-table ds st r λ es rows q t c d.
+            let s : n ≡ length es = pos-eq _ _ _ hn (t .columns-word) in
+            let u : k ≡ length rows = pos-eq _ _ _ hk (t .rows-word) in
+            let y = stored es cp bb (rw s c) (omega (arith, t .inside, room)) in
+            let e = y .0 in
+            let xs = map (valued nb values) es in
+            rw q (rw (s, u) (omega (arith, e, t .long)), rp rows xs (rw (e, s, u) d) (y .1) ∙ any-cong (row-permits xs) (row-holds (bool-of values) (int-of nb values) (λ n. false) es) rows (row-is nb values es))
 
   -- ---- an AllDifferent
 
@@ -152,53 +141,43 @@ module _ (ws values : List ℤ) (nb at : ℕ) (work : List ℤ) where
       go (AllDifferent es) h = stmt-code-word ws at (AllDifferent es) h
 
   module _ (c3 : getD ws at (pos 0) ≡ pos 3) where
-    the-different : {X : Type 0} (ds : List Domain) (s : Stmt) → Stmt-at nb ds ws at s
-        → ((es : List IntExpr) → s ≡ AllDifferent es → getD ws (at + 1) (pos 0) ≡ pos (length es) → Columns-at ds ws (at + 2) (length es) es → at + (2 + length (flat (map encode-int es))) ≤ length ws → X) → X
-    unfolding encode-stmt any-part
+    the-different : {X : Type 0} (ds : List Domain) (s : Stmt) → Stmt-at nb ds ws at s → ((es : List IntExpr) → s ≡ AllDifferent es → DifferentWords ws at es → Columns-at nb ds ws (at + 2) (length es) es → X) → X
+    unfolding any-part
     the-different ds (Rule e) r go = absurd (let t : 1 ≡ 3 = code-is 3 c3 (Rule e) (r .words) in omega arith)
     the-different ds (Table es rows) r go = absurd (let t : 2 ≡ 3 = code-is 3 c3 (Table es rows) (r .words) in omega arith)
     the-different ds (AllDifferent es) r go =
-        let h1 = has-rest ws at _ _ (r .words) in
-        let m2 : at + 2 ≡ at + 1 + 1 = omega arith in
-        go es refl (has-word ws (at + 1) _ _ (pos 0) h1)
-        (record { words = rw m2 (has-rest ws (at + 1) _ _ h1); vars = columns-vars (length ds) 64 es (r .well .1); light = or-no-l (any (heavy ds) es) _ (r .light); size = refl })
-        (omega (arith, has-fits ws at (encode-stmt (AllDifferent es)) (r .words) (omega arith)))
+        let t = different-words ws at es (r .words) in
+        go es refl t (record { words = t .columns; vars = columns-vars None (λ v. v < nb) (length ds) 64 es (r .well .1); light = rw (columns-inside ds es) at (or-no-l (any (heavy ds) es) _ (r .light)); size = refl })
 
     pub different-inside : Ready-stmt ws values nb at work → at + 2 ≤ length ws
-    different-inside r = the-different (r .ds) (r .it) (r .reads) λ es q a c l. omega (arith, l)
+    different-inside r = the-different (r .ds) (r .it) (r .reads) λ es q t c. omega (arith, t .inside)
 
     pub different-count : Ready-stmt ws values nb at work → Plain ws (at + 1)
-    different-count r = the-different (r .ds) (r .it) (r .reads) λ es q a c l. record { inside = omega (arith, l); value = length es; is = a }
+    different-count r = the-different (r .ds) (r .it) (r .reads) λ es q t c. record { inside = omega (arith, t .inside); value = length es; is = t .count-word }
 
     module _ (n : ℕ) (hn : getD ws (at + 1) (pos 0) ≡ pos n) where
       pub different-columns : Ready-stmt ws values nb at work → Ready-columns ws values nb (at + 2) n work 0
       different-columns r =
-          the-different (r .ds) (r .it) (r .reads) λ es q a c l.
-          let s : n ≡ length es = pos-eq _ _ _ hn a in
-          record { ds = r .ds; roster = r .roster; them = es; reads = rw s c; room = omega (arith, l, s, r .room, columns-long es) }
+          the-different (r .ds) (r .it) (r .reads) λ es q t c.
+          let s : n ≡ length es = pos-eq _ _ _ hn (t .count-word) in
+          record { ds = r .ds; roster = r .roster; them = es; reads = rw s c; room = omega (arith, t .inside, s, r .room, columns-long es) }
 
       module _ (work' : List ℤ) (p : ℕ) (cp : Columns-post ws values nb (at + 2) n work 0 work' p) where
         pub different-values : Ready-stmt ws values nb at work → Words-at work' 0 n
         different-values r =
-            the-different (r .ds) (r .it) (r .reads) λ es q a c l.
-            let s : n ≡ length es = pos-eq _ _ _ hn a in
-            let y = cp (r .ds) es (r .roster) (rw s c) in
-            let xs = map (int-value (int-of nb values)) es in
-            let g : length xs ≡ length es = length-map es (int-value (int-of nb values)) in
-            let o : 0 + length xs ≤ length work = omega (arith, l, g, r .room, columns-long es) in
-            record { them = xs; words = rw (y .1) (has-sets work 0 xs o); size = s ∙ sym g }
+            the-different (r .ds) (r .it) (r .reads) λ es q t c.
+            let s : n ≡ length es = pos-eq _ _ _ hn (t .count-word) in
+            let y = stored es cp (r .roster) (rw s c) (omega (arith, t .inside, r .room)) .1 in
+            record { them = map (valued nb values) es; words = y .words; size = y .size }
 
         pub different-held : length ws ≤ length work → (h : Bool) → Differ-post work' 0 n h → Stmt-post ws values nb at p h
         unfolding encode-stmt stmt-holds
         different-held room h dp ds st bb r =
-            the-different ds st r λ es q a c l.
-            let s : n ≡ length es = pos-eq _ _ _ hn a in
-            let y = cp ds es bb (rw s c) in
+            the-different ds st r λ es q t c.
+            let s : n ≡ length es = pos-eq _ _ _ hn (t .count-word) in
+            let y = stored es cp bb (rw s c) (omega (arith, t .inside, room)) in
             let e : p ≡ at + 2 + length (flat (map encode-int es)) = y .0 in
-            let xs = map (int-value (int-of nb values)) es in
-            let g : length xs ≡ length es = length-map es (int-value (int-of nb values)) in
-            let o : 0 + length xs ≤ length work = omega (arith, l, g, room, columns-long es) in
-            rw q (omega (arith, e), dp xs (rw (y .1) (has-sets work 0 xs o)) (s ∙ sym g))
+            rw q (omega (arith, e), dp (map (valued nb values) es) (y .1 .words) (y .1 .size))
 
 -- ---- `first_broken`
 

@@ -1,7 +1,7 @@
 -- What the columns' values and the rows ask and give at each step, over variables. Assumes nothing.
 use Prim.Native.Nat.{ℕ, suc, _+_, _-_, _≤_, _<_}
 use mathlib.Core.Path.{_≡_, refl, sym, ap, _∙_}
-use mathlib.Core.Bool.{Bool, true, false}
+use mathlib.Core.Bool.{Bool, true, false, _||_}
 use mathlib.Core.List.{List, [], _∷_, map}
 use native.Mathlib.Omega.{arith}
 use native.Mathlib.Numerals.{add-one}
@@ -14,9 +14,10 @@ use Rattle.laws.specs.Slices.{has-fits, has-front, has-back, has-word, has-rest
 use Rattle.syntax.specs.Words.{star-word}
 use Rattle.syntax.specs.Syntax.{Domain, IntExpr, encode-int, Cell, star, value, encode-cell}
 use Rattle.syntax.specs.Satisfies.{permits}
-use Rattle.syntax.specs.Written.{EveryColumn}
+use Rattle.syntax.specs.Written.{EveryColumnOf}
 use Rattle.read.specs.WellFormed.{WellCell}
 use Rattle.limits.specs.Limits.{heavy}
+use Rattle.evaluate.specs.Inside.{heavy-inside}
 use Rattle.evaluate.specs.Contracts.{Int-at, Ready-int, Int-post, Columns-at, Ready-columns, Columns-post, Values-at, Row-at, Rows-at, Ready-row, Ready-rows, word-permits, row-permits, Row-post, Rows-post}
 
 -- ---- `column_values`
@@ -26,14 +27,15 @@ columns-none ws values nb at n work o z ds [] b r = (omega arith, refl)
 columns-none ws values nb at n work o z ds (e ∷ es) b r = absurd (let s : n ≡ suc (length es) = r .size in omega arith)
 
 module _ (ws values : List ℤ) (nb at n : ℕ) (work : List ℤ) (o : ℕ) (z : n ≡ 0 → ⊥) where
-  the-column : {X : Type 0} (ds : List Domain) (es : List IntExpr) → Columns-at ds ws at n es
-      → ((e : IntExpr) (us : List IntExpr) → es ≡ e ∷ us → Int-at ds ws at e → Columns-at ds ws (at + length (encode-int e)) (n - 1) us → X) → X
-  unfolding EveryColumn
+  the-column : {X : Type 0} (ds : List Domain) (es : List IntExpr) → Columns-at nb ds ws at n es
+      → ((e : IntExpr) (us : List IntExpr) → es ≡ e ∷ us → Int-at nb ds ws at e → Columns-at nb ds ws (at + length (encode-int e)) (n - 1) us → X) → X
+  unfolding EveryColumnOf
   the-column ds [] r go = absurd (z (r .size))
   the-column ds (e ∷ us) r go =
       let s : n ≡ suc (length us) = r .size in
-      go e us refl (record { words = has-front ws at (encode-int e) _ (r .words); vars = r .vars .0; light = or-no-l (heavy ds e) _ (r .light) })
-      (record { words = has-back ws at (encode-int e) _ (r .words); vars = r .vars .1; light = or-no-r (heavy ds e) _ (r .light); size = omega arith })
+      let l = or-no-l (heavy ds e || heavy-inside ds e) _ (r .light) in
+      go e us refl (record { stands = record { words = has-front ws at (encode-int e) _ (r .words); vars = r .vars .0 }; light = or-no-l (heavy ds e) _ l; inside = or-no-r (heavy ds e) _ l })
+      (record { words = has-back ws at (encode-int e) _ (r .words); vars = r .vars .1; light = or-no-r (heavy ds e || heavy-inside ds e) _ (r .light); size = omega arith })
 
   pub column-ready : Ready-columns ws values nb at n work o → Ready-int ws values nb at
   column-ready r = the-column (r .ds) (r .them) (r .reads) λ e us q h g. record { ds = r .ds; roster = r .roster; it = e; reads = h }

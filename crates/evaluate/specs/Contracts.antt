@@ -11,15 +11,16 @@ use Rattle.laws.specs.Ints.{eqZ}
 use Rattle.laws.specs.Lists.{any, flat}
 use Rattle.laws.specs.Slices.{Has, zeros}
 use Rattle.syntax.specs.Words.{max-weight, star-word}
-use Rattle.syntax.specs.Syntax.{Domain, domain-of, in-domain, encode-domain, IntExpr, Terms, count-terms, encode-int, encode-terms, BoolExpr, Members, count-members, encode-bool, encode-members, Const, Var, NVar, And, Or, Not, Xor, Iff, Imp, Cmp, mnil, more, Cell, encode-cell, Stmt, encode-stmt}
+use Rattle.syntax.specs.Syntax.{Domain, domain-of, in-domain, encode-domain, IntExpr, Terms, encode-int, encode-terms, BoolExpr, Members, encode-bool, encode-members, Cell, encode-cell, Stmt, encode-stmt}
 use Rattle.syntax.specs.Satisfies.{int-value, terms-value, permits, holds, holds-all, holds-any, distinct}
-use Rattle.syntax.specs.Written.{EveryInt, EveryTerm, EveryColumn}
 use Rattle.words.specs.Exact.{Each}
 use Rattle.read.specs.WellFormed.{WellCell, WellRow, WellStmt}
-use Rattle.limits.specs.Limits.{domain-weight, terms-weight, heavy, heavy-terms, heavy-comparison, any-comparison, any-comparison-members, heavy-stmt}
+use Rattle.limits.specs.Limits.{domain-weight, terms-weight, heavy, heavy-terms, heavy-stmt}
 use Rattle.domains.specs.Declared.{Domains}
-use Rattle.fold.specs.Forms.{Declared, Declared-members}
-use Rattle.evaluate.specs.Roster.{bool-of, int-of, Verdict, satisfied, broken, refused, truth, first-broken, check-roster}
+use Rattle.passes.specs.Skip.{Int-at as Int-stands, Terms-at as Terms-stand, Bool-at as Bool-stands, Members-at as Members-stand}
+use Rattle.passes.specs.Statements.{Declared-columns}
+use Rattle.verdict.specs.Roster.{bool-of, int-of, Verdict, satisfied, broken, refused, truth, first-broken, check-roster}
+use Rattle.evaluate.specs.Inside.{heavy-inside, heavy-inside-terms, heavy-bool, heavy-members}
 use Rattle.evaluate.specs.declared.Checked.{Checked}
 use Rattle.evaluate.specs.declared.Checked.the-variants.{Yes, Broken, Refused}
 
@@ -30,102 +31,53 @@ pub record Roster (nb : ℕ) (ds : List Domain) (values : List ℤ) : Type 0 whe
 
 -- ---- integer expressions, none of whose parts weighs too much
 
-pub record Int-at (ds : List Domain) (ws : List ℤ) (at : ℕ) (e : IntExpr) : Type 0 where
-  pub words : Has ws at (encode-int e)
-  pub vars : EveryInt (λ v. v < length ds) e
+pub record Int-at (nb : ℕ) (ds : List Domain) (ws : List ℤ) (at : ℕ) (e : IntExpr) : Type 0 where
+  pub stands : Int-stands nb (length ds) ws at e
   pub light : heavy ds e ≡ false
+  pub inside : heavy-inside ds e ≡ false
 
 -- terms that are added to what was added up before
-pub record Terms-at (ds : List Domain) (ws : List ℤ) (at n : ℕ) (acc : ℤ) (ts : Terms) : Type 0 where
-  pub words : Has ws at (encode-terms ts)
-  pub vars : EveryTerm (λ v. v < length ds) ts
+pub record Terms-at (nb : ℕ) (ds : List Domain) (ws : List ℤ) (at n : ℕ) (acc : ℤ) (ts : Terms) : Type 0 where
+  pub stand : Terms-stand nb (length ds) ws at n ts
   pub light : heavy-terms ds ts ≡ false
+  pub inside : heavy-inside-terms ds ts ≡ false
   pub room : natAbs acc + terms-weight ds ts ≤ max-weight
-  pub size : n ≡ count-terms ts
 
 pub record Ready-int (ws values : List ℤ) (nb at : ℕ) : Type 0 where
   pub ds : List Domain
   pub roster : Roster nb ds values
   pub it : IntExpr
-  pub reads : Int-at ds ws at it
+  pub reads : Int-at nb ds ws at it
 
 pub record Ready-terms (ws values : List ℤ) (nb at n : ℕ) (acc : ℤ) : Type 0 where
   pub ds : List Domain
   pub roster : Roster nb ds values
   pub them : Terms
-  pub reads : Terms-at ds ws at n acc them
+  pub reads : Terms-at nb ds ws at n acc them
+
+-- the value of an expression, of terms together
+abbrev pub valued : ℕ → List ℤ → IntExpr → ℤ
+valued nb values = int-value (bool-of values) (int-of nb values) (λ n. false)
+
+abbrev pub added : ℕ → List ℤ → Terms → ℤ
+added nb values = terms-value (bool-of values) (int-of nb values) (λ n. false)
 
 abbrev pub Int-post : List ℤ → List ℤ → ℕ → ℕ → ℕ → ℤ → Type 0
-Int-post ws values nb at next x = (ds : List Domain) (e : IntExpr) → Roster nb ds values → Int-at ds ws at e → (next ≡ at + length (encode-int e)) × (x ≡ int-value (int-of nb values) e)
+Int-post ws values nb at next x = (ds : List Domain) (e : IntExpr) → Roster nb ds values → Int-at nb ds ws at e → (next ≡ at + length (encode-int e)) × (x ≡ valued nb values e)
 
 abbrev pub Terms-post : List ℤ → List ℤ → ℕ → ℕ → ℕ → ℤ → ℕ → ℤ → Type 0
 Terms-post ws values nb at n acc next x =
-    (ds : List Domain) (ts : Terms) → Roster nb ds values → Terms-at ds ws at n acc ts → (next ≡ at + length (encode-terms ts)) × (x ≡ acc +ℤ terms-value (int-of nb values) ts)
+    (ds : List Domain) (ts : Terms) → Roster nb ds values → Terms-at nb ds ws at n acc ts → (next ≡ at + length (encode-terms ts)) × (x ≡ acc +ℤ added nb values ts)
 
--- ---- Boolean expressions: their words, and that reading made them
-
-pub record Bool-stands (nb ni : ℕ) (ws : List ℤ) (at : ℕ) (e : BoolExpr) : Type 0 where
-  pub words : Has ws at (encode-bool e)
-  pub vars : Declared nb ni e
-
-pub record Members-stand (nb ni : ℕ) (ws : List ℤ) (at n : ℕ) (ms : Members) : Type 0 where
-  pub words : Has ws at (encode-members ms)
-  pub vars : Declared-members nb ni ms
-  pub size : n ≡ count-members ms
-
-pub record Some-bool (ws : List ℤ) (at : ℕ) : Type 0 where
-  pub bools : ℕ
-  pub ints : ℕ
-  pub it : BoolExpr
-  pub stands : Bool-stands bools ints ws at it
-
-pub record Some-members (ws : List ℤ) (at n : ℕ) : Type 0 where
-  pub bools : ℕ
-  pub ints : ℕ
-  pub them : Members
-  pub stand : Members-stand bools ints ws at n them
-
--- ---- passing over: an expression's own words, a comparison's sides among them, then the expressions in it
-
-abbrev pub own-length : BoolExpr → ℕ
-own-length (Const b) = 2
-own-length (Var v) = 2
-own-length (NVar n) = 0
-own-length (And ms) = 2
-own-length (Or ms) = 2
-own-length (Not e) = 1
-own-length (Xor a b) = 1
-own-length (Iff a b) = 1
-own-length (Imp a b) = 1
-own-length (Cmp o a b) = 2 + (length (encode-int a) + length (encode-int b))
-
-abbrev pub inner : BoolExpr → Members
-inner (Const b) = mnil
-inner (Var v) = mnil
-inner (NVar n) = mnil
-inner (And ms) = ms
-inner (Or ms) = ms
-inner (Not e) = more e mnil
-inner (Xor a b) = more a (more b mnil)
-inner (Iff a b) = more a (more b mnil)
-inner (Imp a b) = more a (more b mnil)
-inner (Cmp o a b) = mnil
-
-abbrev pub Step-post : List ℤ → ℕ → ℕ → ℕ → Type 0
-Step-post ws at next n = (nb ni : ℕ) (e : BoolExpr) → Bool-stands nb ni ws at e → (next ≡ at + own-length e) × (n ≡ count-members (inner e))
-
-abbrev pub Skip-post : List ℤ → ℕ → ℕ → ℕ → Type 0
-Skip-post ws at n r = (nb ni : ℕ) (ms : Members) → Members-stand nb ni ws at n ms → r ≡ at + length (encode-members ms)
-
--- ---- holding
+-- ---- Boolean expressions
 
 pub record Bool-at (nb : ℕ) (ds : List Domain) (ws : List ℤ) (at : ℕ) (e : BoolExpr) : Type 0 where
   pub stands : Bool-stands nb (length ds) ws at e
-  pub light : any-comparison (heavy-comparison ds) (heavy ds) e ≡ false
+  pub light : heavy-bool ds e ≡ false
 
 pub record Members-at (nb : ℕ) (ds : List Domain) (ws : List ℤ) (at n : ℕ) (ms : Members) : Type 0 where
   pub stand : Members-stand nb (length ds) ws at n ms
-  pub light : any-comparison-members (heavy-comparison ds) (heavy ds) ms ≡ false
+  pub light : heavy-members ds ms ≡ false
 
 pub record Ready-bool (ws values : List ℤ) (nb at : ℕ) : Type 0 where
   pub ds : List Domain
@@ -160,23 +112,23 @@ Members-post ws values nb at n stop next h =
 
 -- ---- tables and AllDifferent: the columns' values are worked out once
 
-pub record Columns-at (ds : List Domain) (ws : List ℤ) (at n : ℕ) (es : List IntExpr) : Type 0 where
+pub record Columns-at (nb : ℕ) (ds : List Domain) (ws : List ℤ) (at n : ℕ) (es : List IntExpr) : Type 0 where
   pub words : Has ws at (flat (map encode-int es))
-  pub vars : EveryColumn (λ v. v < length ds) es
-  pub light : any (heavy ds) es ≡ false
+  pub vars : Declared-columns nb (length ds) es
+  pub light : any (λ e. heavy ds e || heavy-inside ds e) es ≡ false
   pub size : n ≡ length es
 
 pub record Ready-columns (ws values : List ℤ) (nb at n : ℕ) (work : List ℤ) (o : ℕ) : Type 0 where
   pub ds : List Domain
   pub roster : Roster nb ds values
   pub them : List IntExpr
-  pub reads : Columns-at ds ws at n them
+  pub reads : Columns-at nb ds ws at n them
   pub room : o + n ≤ length work
 
 -- stored from o on
 abbrev pub Columns-post : List ℤ → List ℤ → ℕ → ℕ → ℕ → List ℤ → ℕ → List ℤ → ℕ → Type 0
 Columns-post ws values nb at n work o work' next =
-    (ds : List Domain) (es : List IntExpr) → Roster nb ds values → Columns-at ds ws at n es → (next ≡ at + length (flat (map encode-int es))) × (work' ≡ sets work o (map (int-value (int-of nb values)) es))
+    (ds : List Domain) (es : List IntExpr) → Roster nb ds values → Columns-at nb ds ws at n es → (next ≡ at + length (flat (map encode-int es))) × (work' ≡ sets work o (map (valued nb values) es))
 
 pub record Values-at (work : List ℤ) (i n : ℕ) (xs : List ℤ) : Type 0 where
   pub words : Has work i xs

@@ -1,4 +1,2 @@
-pub mod Roster
-pub mod Cases
-pub mod Small
+pub mod Inside
 pub mod Contracts

@@ -8,8 +8,8 @@ ghost use Rattle.laws.specs.Lists.{all, below};
 ghost use Rattle.syntax.specs.Syntax.{op-at};
 ghost use Rattle.syntax.specs.Satisfies.{compare};
 ghost use Rattle.domains.specs.Declared.{Domain-at};
-ghost use Rattle.evaluate.specs.Roster.{is-bit, check-roster};
-ghost use Rattle.evaluate.specs.Contracts.{Ready-int, Ready-terms, Int-post, Terms-post, Some-bool, Some-members, Step-post, Skip-post, Ready-bool, Ready-members, side-value, Bool-post, Members-post, Ready-columns, Columns-post, Ready-row, Ready-rows, word-permits, Row-post, Rows-post, Ready-stmt, Ready-stmts, Stmt-post, Broken-post, Words-at, Listed-post, Differ-post, Domain-post, Ready-domains, Inside-post, checked-of, Checks};
+ghost use Rattle.verdict.specs.Roster.{is-bit, check-roster};
+ghost use Rattle.evaluate.specs.Contracts.{Ready-int, Ready-terms, Int-post, Terms-post, Ready-bool, Ready-members, side-value, Bool-post, Members-post, Ready-columns, Columns-post, Ready-row, Ready-rows, word-permits, Row-post, Rows-post, Ready-stmt, Ready-stmts, Stmt-post, Broken-post, Words-at, Listed-post, Differ-post, Domain-post, Ready-domains, Inside-post, checked-of, Checks};
 
 pub enum Checked {
     Yes,
@@ -42,6 +42,22 @@ fn terms_value(set: &[i32], values: &[i32], nb: usize, at: usize, n: usize) -> V
     Valued { next, value }
 }
 
+// The condition decides which branch is evaluated; the other one is passed over.
+fn if_value(set: &[i32], values: &[i32], nb: usize, at: usize) -> Valued
+    requires { ⌜ Ready-int (now set) (now values) nb at × (getD (now set) at (pos 0) ≡ pos 23) ⌝ }
+    ensures { λ r. ⌜ Int-post (now (set .entry)) (now (values .entry)) nb at (r .next) (r .value) ⌝ }
+{
+    let c = bool_holds(set, values, nb, at + 1);
+    if !c.held {
+        let f = passes::skip_int(set, c.next);
+        return int_value(set, values, nb, f);
+    }
+    let t = int_value(set, values, nb, c.next);
+    let next = passes::skip_int(set, t.next);
+    let value = t.value;
+    Valued { next, value }
+}
+
 fn int_value(set: &[i32], values: &[i32], nb: usize, at: usize) -> Valued
     requires { ⌜ Ready-int (now set) (now values) nb at ⌝ }
     ensures { λ r. ⌜ Int-post (now (set .entry)) (now (values .entry)) nb at (r .next) (r .value) ⌝ }
@@ -54,6 +70,9 @@ fn int_value(set: &[i32], values: &[i32], nb: usize, at: usize) -> Valued
             value: c,
         };
     }
+    if code == 23 {
+        return if_value(set, values, nb, at);
+    }
     let v = domains::number(set, at + 1);
     if code == 21 {
         let x = values[nb + v];
@@ -63,64 +82,6 @@ fn int_value(set: &[i32], values: &[i32], nb: usize, at: usize) -> Valued
         };
     }
     terms_value(set, values, nb, at + 2, v)
-}
-
-// ---- passing over Boolean expressions
-
-pub struct Step {
-    pub next: usize,
-    pub members: usize,
-}
-
-// Over an expression's own words: how many expressions follow that stand in it.
-fn skip_step(set: &[i32], at: usize) -> Step
-    requires { ⌜ Some-bool (now set) at ⌝ }
-    ensures { λ r. ⌜ Step-post (now (set .entry)) at (r .next) (r .members) ⌝ }
-{
-    let code = domains::number(set, at);
-    if code < 12 {
-        return Step {
-            next: at + 2,
-            members: 0,
-        };
-    }
-    if code < 14 {
-        let n = domains::number(set, at + 1);
-        return Step {
-            next: at + 2,
-            members: n,
-        };
-    }
-    if code == 14 {
-        return Step {
-            next: at + 1,
-            members: 1,
-        };
-    }
-    if code < 18 {
-        return Step {
-            next: at + 1,
-            members: 2,
-        };
-    }
-    let right = passes::skip_int(set, at + 2);
-    let next = passes::skip_int(set, right);
-    Step { next, members: 0 }
-}
-
-// The end of as many expressions as `n` says; nothing is evaluated.
-fn skip_members(set: &[i32], at: usize, n: usize) -> usize
-    requires { ⌜ Some-members (now set) at n ⌝ }
-    ensures { λ r. ⌜ Skip-post (now (set .entry)) at n r ⌝ }
-{
-    let mut next = at;
-    let mut rest = n;
-    while rest != 0 {
-        let s = skip_step(set, next);
-        next = s.next;
-        rest = rest - 1 + s.members;
-    }
-    next
 }
 
 // ---- Boolean expressions
@@ -193,7 +154,7 @@ fn members_hold(set: &[i32], values: &[i32], nb: usize, at: usize, n: usize, sto
     while rest != 0 {
         let m = bool_holds(set, values, nb, next);
         if m.held == stop {
-            let end = skip_members(set, m.next, rest - 1);
+            let end = passes::skip_members(set, m.next, rest - 1);
             return Held {
                 next: end,
                 held: stop,

@@ -2,37 +2,42 @@
 use mathlib.Core.Path.{_≡_, refl}
 use mathlib.Core.List.{List, [], _∷_, map}
 use Prim.Native.Nat.{ℕ, zero, suc}
-use lib.IntN.{pos, negsuc}
+use lib.IntN.{ℤ, pos, negsuc}
 use Rattle.laws.specs.Same.{same-words}
 use Rattle.laws.specs.Lists.{counted, below}
-use Rattle.syntax.specs.Syntax.{Range, Enumerative, IntExpr, IConst, IVar, Linear, Terms, tnil, tmore, AllDifferent, Problem}
+use Rattle.syntax.specs.Syntax.{Domain, Range, Enumerative, IntExpr, IConst, IVar, Linear, Terms, tnil, tmore, Stmt, AllDifferent, Problem}
 use Rattle.limits.specs.Limits.{any-pair, any-part, weight, heavy, heavy-comparison, written, many-comparison, check}
 use Rattle.sums.specs.LinearSum.{insert-coef, add-coef, add-terms, add-sum, mul-terms, mul-sum, sub-sum}
-use Rattle.clauses.specs.Log.{get-bool-var, get-int-var, convert-bool-var, convert-int-var}
+use Rattle.clauses.specs.Log.{get-bool-var, get-int-var, convert-bool-var, convert-int-var, clauses-of}
 use Rattle.clauses.specs.Disjunction.{sorted, each-longer, finish-disjunction, finish-sorted, normalize-disjunction}
-use Rattle.clauses.specs.Normalize.{normalize-int-var, normalize-term, normalize-int-expr, no-run, run-then, normalize-conjunction, disjunction-of, cross, normalize-var, normalize-comparison, normalize-bool-expr}
-use Rattle.clauses.specs.Split.{unsplit, split-not, split-members, split-two, split-sides, split-more, tseitin-transformation-bool, normalize-each, normalize-and-register-expr}
+use Rattle.clauses.specs.Normalize.{normalize-int-var, normalize-term, normalize-int-expr, normalize-terms, register, no-run, run-then, normalize-conjunction, disjunction-of, cross, normalize-var, normalize-num, normalize-comparison, normalize-bool-expr, normalize-members}
+use Rattle.clauses.specs.Split.{unsplit, split-one, split-two, split-sides, tseitin-transformation-bool, tseitin-transformation-members, register-each, normalize-and-register-expr}
 use Rattle.different.specs.Different.{pair-rules, values-of-first, values-used-up, different-rules, normalize-rules}
 use Rattle.answer.specs.Answer.{clause-words, normalize-stmt}
 
-pub kinds-different : counted clause-words (normalize-stmt (Range (pos 0) (pos 2) ∷ Enumerative (pos 0 ∷ pos 1 ∷ pos 2 ∷ []) ∷ Range (pos 0) (pos 2) ∷ []) (AllDifferent (IVar 0 ∷ IVar 1 ∷ IVar 2 ∷ [])) [] .0) ≡ pos 6 ∷ pos 0 ∷ pos 1 ∷ pos 1 ∷ pos 0 ∷ pos 2 ∷ pos 0 ∷ pos 1 ∷ pos 1 ∷ negsuc 0 ∷ pos 0 ∷ pos 1 ∷ pos 1 ∷ pos 0 ∷ pos 2 ∷ pos 0 ∷ pos 1 ∷ pos 2 ∷ negsuc 0 ∷ pos 0 ∷ pos 1 ∷ pos 1 ∷ pos 0 ∷ pos 2 ∷ pos 1 ∷ pos 1 ∷ pos 2 ∷ negsuc 0 ∷ pos 0 ∷ pos 3 ∷ pos 0 ∷ pos 0 ∷ pos 1 ∷ pos 0 ∷ pos 1 ∷ pos 0 ∷ pos 0 ∷ pos 1 ∷ pos 1 ∷ pos 1 ∷ pos 0 ∷ pos 0 ∷ pos 1 ∷ pos 2 ∷ pos 1 ∷ pos 0 ∷ pos 3 ∷ pos 0 ∷ negsuc 0 ∷ pos 1 ∷ pos 0 ∷ pos 1 ∷ pos 0 ∷ negsuc 0 ∷ pos 1 ∷ pos 1 ∷ pos 1 ∷ pos 0 ∷ negsuc 0 ∷ pos 1 ∷ pos 2 ∷ pos 1 ∷ pos 0 ∷ pos 3 ∷ pos 0 ∷ negsuc 1 ∷ pos 1 ∷ pos 0 ∷ pos 1 ∷ pos 0 ∷ negsuc 1 ∷ pos 1 ∷ pos 1 ∷ pos 1 ∷ pos 0 ∷ negsuc 1 ∷ pos 1 ∷ pos 2 ∷ pos 1 ∷ []
-unfolding insert-coef add-coef add-terms add-sum mul-terms mul-sum sub-sum get-bool-var get-int-var convert-bool-var convert-int-var sorted each-longer finish-disjunction finish-sorted normalize-disjunction normalize-int-var normalize-term normalize-int-expr no-run run-then normalize-conjunction disjunction-of cross normalize-var normalize-comparison normalize-bool-expr unsplit split-not split-members split-two split-sides split-more tseitin-transformation-bool normalize-each normalize-and-register-expr normalize-stmt normalize-rules pair-rules same-words values-of-first values-used-up different-rules
+-- the clauses of one statement, in words
+unfoldable pub clause-list : List Domain → Stmt → List ℤ
+unfolding insert-coef add-coef add-terms add-sum mul-terms mul-sum sub-sum get-bool-var get-int-var convert-bool-var convert-int-var clauses-of sorted each-longer finish-disjunction finish-sorted normalize-disjunction normalize-int-var normalize-term normalize-int-expr normalize-terms register no-run run-then normalize-conjunction disjunction-of cross normalize-var normalize-num normalize-comparison normalize-bool-expr normalize-members unsplit split-one split-two split-sides tseitin-transformation-bool tseitin-transformation-members register-each normalize-and-register-expr normalize-stmt normalize-rules pair-rules same-words values-of-first values-used-up different-rules
+clause-list ds t = counted clause-words (clauses-of (normalize-stmt ds t []))
+
+pub kinds-different : clause-list (Range (pos 0) (pos 2) ∷ Enumerative (pos 0 ∷ pos 1 ∷ pos 2 ∷ []) ∷ Range (pos 0) (pos 2) ∷ []) (AllDifferent (IVar 0 ∷ IVar 1 ∷ IVar 2 ∷ [])) ≡ pos 6 ∷ pos 0 ∷ pos 1 ∷ pos 1 ∷ pos 0 ∷ pos 2 ∷ pos 0 ∷ pos 1 ∷ pos 1 ∷ negsuc 0 ∷ pos 0 ∷ pos 1 ∷ pos 1 ∷ pos 0 ∷ pos 2 ∷ pos 0 ∷ pos 1 ∷ pos 2 ∷ negsuc 0 ∷ pos 0 ∷ pos 1 ∷ pos 1 ∷ pos 0 ∷ pos 2 ∷ pos 1 ∷ pos 1 ∷ pos 2 ∷ negsuc 0 ∷ pos 0 ∷ pos 3 ∷ pos 0 ∷ pos 0 ∷ pos 1 ∷ pos 0 ∷ pos 1 ∷ pos 0 ∷ pos 0 ∷ pos 1 ∷ pos 1 ∷ pos 1 ∷ pos 0 ∷ pos 0 ∷ pos 1 ∷ pos 2 ∷ pos 1 ∷ pos 0 ∷ pos 3 ∷ pos 0 ∷ negsuc 0 ∷ pos 1 ∷ pos 0 ∷ pos 1 ∷ pos 0 ∷ negsuc 0 ∷ pos 1 ∷ pos 1 ∷ pos 1 ∷ pos 0 ∷ negsuc 0 ∷ pos 1 ∷ pos 2 ∷ pos 1 ∷ pos 0 ∷ pos 3 ∷ pos 0 ∷ negsuc 1 ∷ pos 1 ∷ pos 0 ∷ pos 1 ∷ pos 0 ∷ negsuc 1 ∷ pos 1 ∷ pos 1 ∷ pos 1 ∷ pos 0 ∷ negsuc 1 ∷ pos 1 ∷ pos 2 ∷ pos 1 ∷ []
+unfolding clause-list
 kinds-different = refl
 
-pub twice-different : counted clause-words (normalize-stmt (Range (pos 0) (pos 3) ∷ Range (pos 0) (pos 3) ∷ []) (AllDifferent (IVar 0 ∷ IVar 0 ∷ IVar 1 ∷ IVar 1 ∷ [])) [] .0) ≡ pos 10 ∷ pos 0 ∷ pos 1 ∷ pos 1 ∷ pos 0 ∷ pos 0 ∷ pos 0 ∷ pos 1 ∷ pos 1 ∷ pos 0 ∷ pos 2 ∷ pos 0 ∷ pos 1 ∷ pos 1 ∷ negsuc 0 ∷ pos 0 ∷ pos 1 ∷ pos 1 ∷ pos 0 ∷ pos 2 ∷ pos 0 ∷ pos 1 ∷ pos 1 ∷ negsuc 0 ∷ pos 0 ∷ pos 1 ∷ pos 1 ∷ pos 0 ∷ pos 2 ∷ pos 0 ∷ pos 1 ∷ pos 1 ∷ negsuc 0 ∷ pos 0 ∷ pos 1 ∷ pos 1 ∷ pos 0 ∷ pos 2 ∷ pos 0 ∷ pos 1 ∷ pos 1 ∷ negsuc 0 ∷ pos 0 ∷ pos 1 ∷ pos 1 ∷ pos 0 ∷ pos 0 ∷ pos 0 ∷ pos 4 ∷ pos 0 ∷ pos 0 ∷ pos 1 ∷ pos 0 ∷ pos 1 ∷ pos 0 ∷ pos 0 ∷ pos 1 ∷ pos 0 ∷ pos 1 ∷ pos 0 ∷ pos 0 ∷ pos 1 ∷ pos 1 ∷ pos 1 ∷ pos 0 ∷ pos 0 ∷ pos 1 ∷ pos 1 ∷ pos 1 ∷ pos 0 ∷ pos 4 ∷ pos 0 ∷ negsuc 0 ∷ pos 1 ∷ pos 0 ∷ pos 1 ∷ pos 0 ∷ negsuc 0 ∷ pos 1 ∷ pos 0 ∷ pos 1 ∷ pos 0 ∷ negsuc 0 ∷ pos 1 ∷ pos 1 ∷ pos 1 ∷ pos 0 ∷ negsuc 0 ∷ pos 1 ∷ pos 1 ∷ pos 1 ∷ pos 0 ∷ pos 4 ∷ pos 0 ∷ negsuc 1 ∷ pos 1 ∷ pos 0 ∷ pos 1 ∷ pos 0 ∷ negsuc 1 ∷ pos 1 ∷ pos 0 ∷ pos 1 ∷ pos 0 ∷ negsuc 1 ∷ pos 1 ∷ pos 1 ∷ pos 1 ∷ pos 0 ∷ negsuc 1 ∷ pos 1 ∷ pos 1 ∷ pos 1 ∷ pos 0 ∷ pos 4 ∷ pos 0 ∷ negsuc 2 ∷ pos 1 ∷ pos 0 ∷ pos 1 ∷ pos 0 ∷ negsuc 2 ∷ pos 1 ∷ pos 0 ∷ pos 1 ∷ pos 0 ∷ negsuc 2 ∷ pos 1 ∷ pos 1 ∷ pos 1 ∷ pos 0 ∷ negsuc 2 ∷ pos 1 ∷ pos 1 ∷ pos 1 ∷ []
-unfolding insert-coef add-coef add-terms add-sum mul-terms mul-sum sub-sum get-bool-var get-int-var convert-bool-var convert-int-var sorted each-longer finish-disjunction finish-sorted normalize-disjunction normalize-int-var normalize-term normalize-int-expr no-run run-then normalize-conjunction disjunction-of cross normalize-var normalize-comparison normalize-bool-expr unsplit split-not split-members split-two split-sides split-more tseitin-transformation-bool normalize-each normalize-and-register-expr normalize-stmt normalize-rules pair-rules same-words values-of-first values-used-up different-rules
+pub twice-different : clause-list (Range (pos 0) (pos 3) ∷ Range (pos 0) (pos 3) ∷ []) (AllDifferent (IVar 0 ∷ IVar 0 ∷ IVar 1 ∷ IVar 1 ∷ [])) ≡ pos 10 ∷ pos 0 ∷ pos 1 ∷ pos 1 ∷ pos 0 ∷ pos 0 ∷ pos 0 ∷ pos 1 ∷ pos 1 ∷ pos 0 ∷ pos 2 ∷ pos 0 ∷ pos 1 ∷ pos 1 ∷ negsuc 0 ∷ pos 0 ∷ pos 1 ∷ pos 1 ∷ pos 0 ∷ pos 2 ∷ pos 0 ∷ pos 1 ∷ pos 1 ∷ negsuc 0 ∷ pos 0 ∷ pos 1 ∷ pos 1 ∷ pos 0 ∷ pos 2 ∷ pos 0 ∷ pos 1 ∷ pos 1 ∷ negsuc 0 ∷ pos 0 ∷ pos 1 ∷ pos 1 ∷ pos 0 ∷ pos 2 ∷ pos 0 ∷ pos 1 ∷ pos 1 ∷ negsuc 0 ∷ pos 0 ∷ pos 1 ∷ pos 1 ∷ pos 0 ∷ pos 0 ∷ pos 0 ∷ pos 4 ∷ pos 0 ∷ pos 0 ∷ pos 1 ∷ pos 0 ∷ pos 1 ∷ pos 0 ∷ pos 0 ∷ pos 1 ∷ pos 0 ∷ pos 1 ∷ pos 0 ∷ pos 0 ∷ pos 1 ∷ pos 1 ∷ pos 1 ∷ pos 0 ∷ pos 0 ∷ pos 1 ∷ pos 1 ∷ pos 1 ∷ pos 0 ∷ pos 4 ∷ pos 0 ∷ negsuc 0 ∷ pos 1 ∷ pos 0 ∷ pos 1 ∷ pos 0 ∷ negsuc 0 ∷ pos 1 ∷ pos 0 ∷ pos 1 ∷ pos 0 ∷ negsuc 0 ∷ pos 1 ∷ pos 1 ∷ pos 1 ∷ pos 0 ∷ negsuc 0 ∷ pos 1 ∷ pos 1 ∷ pos 1 ∷ pos 0 ∷ pos 4 ∷ pos 0 ∷ negsuc 1 ∷ pos 1 ∷ pos 0 ∷ pos 1 ∷ pos 0 ∷ negsuc 1 ∷ pos 1 ∷ pos 0 ∷ pos 1 ∷ pos 0 ∷ negsuc 1 ∷ pos 1 ∷ pos 1 ∷ pos 1 ∷ pos 0 ∷ negsuc 1 ∷ pos 1 ∷ pos 1 ∷ pos 1 ∷ pos 0 ∷ pos 4 ∷ pos 0 ∷ negsuc 2 ∷ pos 1 ∷ pos 0 ∷ pos 1 ∷ pos 0 ∷ negsuc 2 ∷ pos 1 ∷ pos 0 ∷ pos 1 ∷ pos 0 ∷ negsuc 2 ∷ pos 1 ∷ pos 1 ∷ pos 1 ∷ pos 0 ∷ negsuc 2 ∷ pos 1 ∷ pos 1 ∷ pos 1 ∷ []
+unfolding clause-list
 twice-different = refl
 
-pub sums-different : counted clause-words (normalize-stmt (Range (pos 0) (pos 1) ∷ Range (pos 0) (pos 1) ∷ []) (AllDifferent (Linear (tmore (pos 2) (IVar 0) (tmore (pos 1) (IConst (pos 1)) tnil)) ∷ Linear (tmore (pos 1) (IVar 1) (tmore (negsuc 2) (IConst (pos 1)) tnil)) ∷ IConst (pos 4) ∷ [])) [] .0) ≡ pos 3 ∷ pos 0 ∷ pos 1 ∷ pos 1 ∷ pos 4 ∷ pos 2 ∷ pos 0 ∷ pos 2 ∷ pos 1 ∷ negsuc 0 ∷ pos 0 ∷ pos 1 ∷ pos 1 ∷ negsuc 2 ∷ pos 1 ∷ pos 0 ∷ pos 2 ∷ pos 0 ∷ pos 1 ∷ pos 1 ∷ negsuc 6 ∷ pos 1 ∷ pos 1 ∷ pos 1 ∷ []
-unfolding insert-coef add-coef add-terms add-sum mul-terms mul-sum sub-sum get-bool-var get-int-var convert-bool-var convert-int-var sorted each-longer finish-disjunction finish-sorted normalize-disjunction normalize-int-var normalize-term normalize-int-expr no-run run-then normalize-conjunction disjunction-of cross normalize-var normalize-comparison normalize-bool-expr unsplit split-not split-members split-two split-sides split-more tseitin-transformation-bool normalize-each normalize-and-register-expr normalize-stmt normalize-rules pair-rules same-words values-of-first values-used-up different-rules
+pub sums-different : clause-list (Range (pos 0) (pos 1) ∷ Range (pos 0) (pos 1) ∷ []) (AllDifferent (Linear (tmore (pos 2) (IVar 0) (tmore (pos 1) (IConst (pos 1)) tnil)) ∷ Linear (tmore (pos 1) (IVar 1) (tmore (negsuc 2) (IConst (pos 1)) tnil)) ∷ IConst (pos 4) ∷ [])) ≡ pos 3 ∷ pos 0 ∷ pos 1 ∷ pos 1 ∷ pos 4 ∷ pos 2 ∷ pos 0 ∷ pos 2 ∷ pos 1 ∷ negsuc 0 ∷ pos 0 ∷ pos 1 ∷ pos 1 ∷ negsuc 2 ∷ pos 1 ∷ pos 0 ∷ pos 2 ∷ pos 0 ∷ pos 1 ∷ pos 1 ∷ negsuc 6 ∷ pos 1 ∷ pos 1 ∷ pos 1 ∷ []
+unfolding clause-list
 sums-different = refl
 
-pub fewer-different : counted clause-words (normalize-stmt (Range (pos 0) (pos 2) ∷ Range (pos 0) (pos 2) ∷ []) (AllDifferent (IVar 0 ∷ IVar 1 ∷ [])) [] .0) ≡ pos 1 ∷ pos 0 ∷ pos 1 ∷ pos 1 ∷ pos 0 ∷ pos 2 ∷ pos 0 ∷ pos 1 ∷ pos 1 ∷ negsuc 0 ∷ []
-unfolding insert-coef add-coef add-terms add-sum mul-terms mul-sum sub-sum get-bool-var get-int-var convert-bool-var convert-int-var sorted each-longer finish-disjunction finish-sorted normalize-disjunction normalize-int-var normalize-term normalize-int-expr no-run run-then normalize-conjunction disjunction-of cross normalize-var normalize-comparison normalize-bool-expr unsplit split-not split-members split-two split-sides split-more tseitin-transformation-bool normalize-each normalize-and-register-expr normalize-stmt normalize-rules pair-rules same-words values-of-first values-used-up different-rules
+pub fewer-different : clause-list (Range (pos 0) (pos 2) ∷ Range (pos 0) (pos 2) ∷ []) (AllDifferent (IVar 0 ∷ IVar 1 ∷ [])) ≡ pos 1 ∷ pos 0 ∷ pos 1 ∷ pos 1 ∷ pos 0 ∷ pos 2 ∷ pos 0 ∷ pos 1 ∷ pos 1 ∷ negsuc 0 ∷ []
+unfolding clause-list
 fewer-different = refl
 
-pub one-different : counted clause-words (normalize-stmt (Range (pos 0) (pos 1000000000) ∷ []) (AllDifferent (IVar 0 ∷ [])) [] .0) ≡ pos 0 ∷ []
-unfolding insert-coef add-coef add-terms add-sum mul-terms mul-sum sub-sum get-bool-var get-int-var convert-bool-var convert-int-var sorted each-longer finish-disjunction finish-sorted normalize-disjunction normalize-int-var normalize-term normalize-int-expr no-run run-then normalize-conjunction disjunction-of cross normalize-var normalize-comparison normalize-bool-expr unsplit split-not split-members split-two split-sides split-more tseitin-transformation-bool normalize-each normalize-and-register-expr normalize-stmt normalize-rules pair-rules same-words values-of-first values-used-up different-rules
+pub one-different : clause-list (Range (pos 0) (pos 1000000000) ∷ []) (AllDifferent (IVar 0 ∷ [])) ≡ pos 0 ∷ []
+unfolding clause-list
 one-different = refl
 
 -- ---- refusals 9, 10 and 11

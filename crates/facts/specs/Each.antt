@@ -1,35 +1,44 @@
 -- Each statement by itself: the clauses that were made for it, one list a statement, are the answer's in order; and an assignment satisfies a
 -- statement exactly when some values of the emitted numbers, agreeing with the whole log, make the statement's own clauses true.
-use mathlib.Core.Path.{_≡_, refl, ap}
+use mathlib.Core.Path.{_≡_, refl, sym, ap, _∙_}
 use mathlib.Core.Logic.{_↔_}
 use mathlib.Core.Bool.{true, false}
-use mathlib.Core.List.{List, [], _∷_, _++_}
+use mathlib.Core.List.{List, [], _∷_, _++_, append-assoc, append-nil}
 use Rattle.laws.specs.Lists.{all, flat}
 use Rattle.syntax.specs.Syntax.{Domain, Stmt}
 use Rattle.syntax.specs.Satisfies.{Val, IVal, stmt-holds}
-use Rattle.syntax.specs.Written.{EveryStmts}
+use Rattle.syntax.specs.Written.{Any, EveryStmts}
 use Rattle.words.specs.Exact.{Each}
 use Rattle.clauses.specs.Clause.{Clause, clause-true}
-use Rattle.clauses.specs.Log.{Log, next-int}
-use Rattle.clauses.specs.Disjunction.{Out}
+use Rattle.clauses.specs.Log.{Log, clauses-of}
 use Rattle.clauses.specs.Valuation.{Agrees, Fits, fits-agrees}
-use Rattle.clauses.specs.Grow.{Grows, agrees-back, fits-back}
-use Rattle.clauses.specs.Means.{Means}
-use Rattle.clauses.specs.Exist.{TiesHold, ints-of, bools-of, fitting-exists}
+use Rattle.clauses.specs.Grow.{Extends, same, Lawful, lawful-over, agrees-back, fits-back}
+use Rattle.clauses.specs.Since.{clauses-since, top-adds, since-added, added-since}
+use Rattle.clauses.specs.Merge.{WellMerged, merged-lawful}
+use Rattle.clauses.specs.Exist.{TiesHold, values-of, fitting-exists}
 use Rattle.tables.specs.ColumnMeaning.{WithinDomain}
 use Rattle.answer.specs.Answer.{normalize-stmt, normalize-stmts}
 use Rattle.call.specs.WellRead.{Plain}
-use Rattle.call.specs.Demand.{truth, stmt-means, stmts-mean}
+use Rattle.call.specs.Demand.{stmt-means, stmts-mean}
+use Rattle.facts.specs.Proper.{proper-top, stmt-proper}
 
--- the clauses made for each statement, from the log s on
+-- the clauses made for each statement, from the log s on: its own, and those of its Ifs that are met first in it
 unfoldable pub clauses-each : List Domain → List Stmt → Log → List (List Clause)
 clauses-each ds [] s = []
-clauses-each ds (t ∷ ts) s = let a = normalize-stmt ds t s in a .0 ∷ clauses-each ds ts (a .1)
+clauses-each ds (t ∷ ts) s = let a = normalize-stmt ds t s in clauses-since s a ∷ clauses-each ds ts a
 
-pub each-flat : (ds : List Domain) (ts : List Stmt) (s : Log) → flat (clauses-each ds ts s) ≡ normalize-stmts ds ts s .0
+each-after : (ds : List Domain) (ts : List Stmt) (s : Log) → clauses-of (normalize-stmts ds ts s) ≡ clauses-of s ++ flat (clauses-each ds ts s)
 unfolding clauses-each normalize-stmts
-each-flat ds [] s = refl
-each-flat ds (t ∷ ts) s = let a = normalize-stmt ds t s in ap (λ (l : List Clause). a .0 ++ l) (each-flat ds ts (a .1))
+each-after ds [] s = sym (append-nil (clauses-of s))
+each-after ds (t ∷ ts) s =
+    let a : Log = normalize-stmt ds t s in
+    each-after ds ts a
+    ∙ ap (λ (l : List Clause). l ++ flat (clauses-each ds ts a)) (top-adds (proper-top (stmt-proper ds t s)))
+    ∙ append-assoc (clauses-of s) (clauses-since s a) (flat (clauses-each ds ts a))
+
+-- the log s from which clauses are made has none
+pub each-flat : (ds : List Domain) (ts : List Stmt) (s : Log) → clauses-of s ≡ [] → flat (clauses-each ds ts s) ≡ clauses-of (normalize-stmts ds ts s)
+each-flat ds ts s z = sym (each-after ds ts s ∙ ap (λ (l : List Clause). l ++ flat (clauses-each ds ts s)) z)
 
 -- some values of the emitted numbers agree with the log and make these clauses true
 pub record Allowed (δ : Val) (ε : IVal) (s : Log) (cs : List Clause) : Type 0 where
@@ -46,23 +55,25 @@ EachExact δ ε s (t ∷ ts) (cs ∷ css) = ((stmt-holds δ ε (λ n. false) t �
 
 module _ (δ : Val) (ε : IVal) (ds : List Domain) where
   -- from a statement on; whole: the log behind the last one, and values that fit it
-  from-here : (ts : List Stmt) (s whole : Log) (ρ : Val) (ι : IVal) → Each Plain ts → EveryStmts (λ v. Unit {0}) (WithinDomain ds ε) ts → whole ≡ normalize-stmts ds ts s .1 → Fits δ ε ρ ι whole → EachExact δ ε whole ts (clauses-each ds ts s)
+  from-here : (ts : List Stmt) (s whole : Log) (ρ : Val) (ι : IVal) → Each Plain ts → EveryStmts Any (WithinDomain ds ε) ts → Lawful δ ε s → whole ≡ normalize-stmts ds ts s → Fits δ ε ρ ι whole → EachExact δ ε whole ts (clauses-each ds ts s)
   unfolding clauses-each normalize-stmts EveryStmts
-  from-here [] s whole ρ ι p k e f = tt
-  from-here (t ∷ ts) s whole ρ ι p k e f =
-      let a : Out = normalize-stmt ds t s in
-      let here : (ρ : Val) (ι : IVal) → Means δ ε ρ ι s a (truth δ ε ρ ι ds t) = λ ρ ι. stmt-means δ ε ρ ι ds t s (p .0) (k .0) in
-      let later : Grows ε (a .1) whole = rw e (stmts-mean δ ε ρ ι ds ts (a .1) (p .1) (k .1) .grows) in (
+  from-here [] s whole ρ ι p k l e f = tt
+  from-here (t ∷ ts) s whole ρ ι p k l e f =
+      let a : Log = normalize-stmt ds t s in
+      let here = stmt-means δ ε ds t s (p .0) (k .0) l in
+      let lawful = lawful-over l (here .grows) in
+      let later : Extends δ ε a whole = rw e (stmts-mean δ ε ds ts a (p .1) (k .1) lawful .grows) in
+      let fa : Fits δ ε ρ ι a = fits-back ρ ι later f in (
         (
-          λ h. record { bools = ρ; ints = ι; agrees = fits-agrees δ ε ρ ι whole f; clauses = here ρ ι .complete (fits-back δ ρ ι later f) h },
-          λ w. here (w .bools) (w .ints) .sound (agrees-back later (w .agrees)) (w .clauses),
+          λ h. record { bools = ρ; ints = ι; agrees = fits-agrees δ ε ρ ι whole f; clauses = added-since ρ ι (here .grows) (fits-agrees δ ε ρ ι a fa) (here .complete ρ ι fa h) },
+          λ w. here .sound (w .bools) (w .ints) (agrees-back (w .bools) (w .ints) later (w .agrees)) (since-added (w .bools) (w .ints) (here .grows) (w .clauses)),
         ),
-        from-here ts (a .1) whole ρ ι (p .1) (k .1) e f,
+        from-here ts a whole ρ ι (p .1) (k .1) lawful e f,
       )
 
   -- s: the log from which clauses are made; the assignment keeps its ties
-  pub each-exact : (ts : List Stmt) (s : Log) → Each Plain ts → EveryStmts (λ v. Unit {0}) (WithinDomain ds ε) ts → next-int s ≡ 0 → TiesHold δ s → EachExact δ ε (normalize-stmts ds ts s .1) ts (clauses-each ds ts s)
-  each-exact ts s p k z t =
-      let whole : Log = normalize-stmts ds ts s .1 in
-      let ι : IVal = ints-of ε whole in
-      from-here ts s whole (bools-of δ ε ι whole) ι p k refl (fitting-exists δ ε z t (stmts-mean δ ε (λ n. false) ε ds ts s p k .grows))
+  pub each-exact : (ts : List Stmt) (s : Log) → Each Plain ts → EveryStmts Any (WithinDomain ds ε) ts → WellMerged s → TiesHold δ s → EachExact δ ε (normalize-stmts ds ts s) ts (clauses-each ds ts s)
+  each-exact ts s p k w t =
+      let lawful = merged-lawful w same in
+      let whole : Log = normalize-stmts ds ts s in
+      from-here ts s whole (values-of δ ε whole .0) (values-of δ ε whole .1) p k lawful refl (fitting-exists δ ε t (stmts-mean δ ε ds ts s p k lawful .grows))

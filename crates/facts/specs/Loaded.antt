@@ -27,23 +27,23 @@ use Rattle.fold.specs.Optimize.{Outcome, inconsistent, settled, optimize}
 use Rattle.sums.specs.LinearSum.{Term, term, linear-sum}
 use Rattle.sums.specs.Rising.{Rises}
 use Rattle.sums.specs.Domain.{ordered}
-use Rattle.clauses.specs.Clause.{BoolLit, lit, LinearLit, linear, Clause, clause}
-use Rattle.clauses.specs.Log.{Log, next-bool, get-bool-var, get-int-var}
-use Rattle.clauses.specs.Disjunction.{Out}
+use Rattle.clauses.specs.Clause.{BoolLit, lit, LinearLit, linear, Clause, clause, lit-true}
+use Rattle.clauses.specs.Log.{declared, aux, side, bool, merged, int, added, defined, known, Log, next-bool, number-of, get-bool-var, get-int-var, emitted-domains, clauses-of}
 use Rattle.clauses.specs.Bounds.{lits-bound, clauses-bound, terms-bound, linears-bound, ints-bound}
-use Rattle.clauses.specs.Grow.{number-of, get-bool-below, get-int-below}
-use Rattle.clauses.specs.Exist.{ints-of, bools-of, integers-exist}
-use Rattle.tables.specs.Tables.{emitted-domains}
-use Rattle.tables.specs.Emitted.{length-emitted}
+use Rattle.clauses.specs.Valuation.{Agrees, fits-agrees}
+use Rattle.clauses.specs.Grow.{Extends, get-bool-below, get-int-below, clauses-named, clauses-numbered}
+use Rattle.clauses.specs.Emitted.{length-emitted}
+use Rattle.clauses.specs.Exist.{TiesHold, values-of, fitting-exists}
+use Rattle.clauses.specs.Merge.{WellMerged, merged-agree, merged-no-clauses}
 use Rattle.answer.specs.Answer.{answer-of, bool-word, start-log, normalize, normalize-stmts, layout, fixed-word, map-word, domain-words, lit-words, term-words, linear-words, clause-words}
 use Rattle.answer.specs.Declared.{stmts-declared}
-use Rattle.answer.specs.Start.{start-ints, start-declared}
+use Rattle.answer.specs.Start.{start-well, start-declared}
 use Rattle.answer.specs.Carried.{agrees-bounded}
 use Rattle.call.specs.Call.{Result, compiled, refused, measured, answered, checked, when-read, call-with}
 use Rattle.call.specs.declared.Choices.{Choices}
 use Rattle.call.specs.Claim.{of-set}
-use Rattle.call.specs.Demand.{domains-ordered, ss-declared, means, grown, inside-bounds}
-use Rattle.facts.specs.Proper.{ProperLinears, ProperClauses, stmts-proper}
+use Rattle.call.specs.Demand.{domains-ordered, ss-declared, grown, inside-bounds}
+use Rattle.facts.specs.Proper.{ProperLinears, ProperClauses, proper-clauses, stmts-proper}
 use Rattle.facts.specs.Loads.{take-word, take-times, take-counted, from-to, take-record, take-literal, take-terms, take-comparison, take-clause, loads-with, loads}
 
 -- ---- words, one for each number of a list
@@ -150,6 +150,23 @@ lowest-in (Range low high) h = and-i (leZ low low) (leZ low high) (leZ-refl low)
 lowest-in (Enumerative []) h = never h
 lowest-in (Enumerative (x ∷ xs)) h = or-l (eqZ x x) (any (eqZ x) xs) (eqZ-refl x)
 
+-- values that keep the ties of a merged log: every number false
+abbrev literal-value : Option BoolLit → Bool
+literal-value none = false
+literal-value (some l) = lit-true (λ n. false) l
+
+module _ (δ : Val) (ε : IVal) (ρ : Val) (ι : IVal) where
+  ties-kept : (s : Log) → WellMerged s → Agrees δ ε ρ ι s → TiesHold δ s
+  ties-kept [] w a = tt
+  ties-kept (bool (declared v) ∷ s) w a = ties-kept s (w .1) (a .1)
+  ties-kept (bool (aux cs) ∷ s) w a = absurd w
+  ties-kept (bool (side e) ∷ s) w a = absurd w
+  ties-kept (merged v u g ∷ s) w a = (a .0, ties-kept s (w .1 .1) (a .1))
+  ties-kept (int m ∷ s) w a = absurd w
+  ties-kept (added cs ∷ s) w a = absurd w
+  ties-kept (defined cs ∷ s) w a = absurd w
+  ties-kept (known e v ∷ s) w a = absurd w
+
 module _ (m : Bool) (p : Problem) (well : WellFormed p) (f : Fixed) (ss : List Stmt) (end : optimize p ≡ settled f ss) where
   abbrev b : ℕ
   b = p .bools
@@ -157,14 +174,14 @@ module _ (m : Bool) (p : Problem) (well : WellFormed p) (f : Fixed) (ss : List S
   abbrev i : ℕ
   i = length (p .domains)
 
-  abbrev out : Out
-  out = normalize-stmts (p .domains) ss (start-log m ss)
+  abbrev s0 : Log
+  s0 = start-log m ss
 
   abbrev s : Log
-  s = out .1
+  s = normalize-stmts (p .domains) ss s0
 
   abbrev δ : Val
-  δ v = false
+  δ v = literal-value (get-bool-var v s0)
 
   abbrev ε : IVal
   ε v = lower-bound (domain-of (p .domains) v)
@@ -173,19 +190,25 @@ module _ (m : Bool) (p : Problem) (well : WellFormed p) (f : Fixed) (ss : List S
   unfolding in-domains
   inside = below-all _ i (λ v k. lowest-in (domain-of (p .domains) v) (domains-ordered (p .domains) (well .domains-well) v k))
 
-  abbrev ι : IVal
-  ι = ints-of ε s
+  grows : Extends δ ε s0 s
+  grows = grown m p well f ss end δ ε inside
 
   abbrev ρ : Val
-  ρ = bools-of δ ε ι s
+  ρ = values-of δ ε s .0
+
+  abbrev ι : IVal
+  ι = values-of δ ε s .1
+
+  ties : TiesHold δ s0
+  ties = ties-kept δ ε (λ n. false) ε s0 (start-well m ss) (merged-agree δ ε (λ n. false) ε s0 (start-well m ss) (λ v l h. rw h refl))
 
   -- every emitted integer has a value within its record
   records-sound : all sound-bounds (emitted-domains (p .domains) s) ≡ true
   records-sound = all-at (emitted-domains (p .domains) s) (λ j k.
       let d : Domain = domain-of (emitted-domains (p .domains) s) j in
       let known = ss-declared m p well f ss end δ ε inside in
-      let fits = integers-exist ε (start-ints m ss) (grown m p well f ss end δ ε inside) in
-      let x = agrees-bounded (p .domains) b i ε ι (inside-bounds m p well f ss end δ ε inside) s (stmts-declared b i (p .domains) ss known (start-log m ss) (start-declared b i m ss known)) fits j (omega (arith, length-emitted (p .domains) s)) in
+      let agrees = fits-agrees δ ε ρ ι s (fitting-exists δ ε ties grows) in
+      let x = agrees-bounded (p .domains) b i δ ε ρ ι (inside-bounds m p well f ss end δ ε inside) s (stmts-declared b i (p .domains) ss known s0 (start-declared b i m ss known)) agrees j (omega (arith, length-emitted (p .domains) s)) in
       leZ-trans (lower-bound d) (ι j) (upper-bound d) (and-l (leZ (lower-bound d) (ι j)) _ x) (and-r (leZ (lower-bound d) (ι j)) _ x))
 
   abbrev fixed-part : List ℤ
@@ -201,7 +224,7 @@ module _ (m : Bool) (p : Problem) (well : WellFormed p) (f : Fixed) (ss : List S
   domains = emitted-domains (p .domains) s
 
   abbrev clause-part : List ℤ
-  clause-part = counted clause-words (out .0)
+  clause-part = counted clause-words (clauses-of s)
 
   abbrev rest : List ℤ
   rest = pos (next-bool s) ∷ (counted domain-words domains ++ clause-part)
@@ -222,17 +245,18 @@ module _ (m : Bool) (p : Problem) (well : WellFormed p) (f : Fixed) (ss : List S
   tests-pass : loads-with b i (next-bool s) (length domains) (fixed-part ++ (bool-part ++ (int-part ++ rest))) ≡ true
   unfolding loads-with take-word take-counted
   tests-pass =
-      let k = means m p well f ss end δ ε inside ρ ι in
+      let none = merged-no-clauses s0 (start-well m ss) in
       let t1 = below-take (from-to 0 2) fixed-word f (λ v. fixed-fine (f v)) b (bool-part ++ (int-part ++ rest)) in
       let t2 = below-take (λ w. leb (natAbs w) (next-bool s)) bool-word (λ v. get-bool-var v s) (λ v. map-literal-fine (next-bool s) (get-bool-var v s) (get-bool-below s v)) b (int-part ++ rest) in
       let t3 = below-take (from-to 0 (length domains)) map-word (λ v. get-int-var v s) (λ v. map-fine (length domains) (get-int-var v s) (λ n e. omega (arith, get-int-below s v n e, length-emitted (p .domains) s))) i rest in
       let t4 : leb 0 (next-bool s) ≡ true = le-leb 0 (next-bool s) zero-le in
       let t5 = records-take domains clause-part records-sound in
-      let t6 : take-times (take-clause (next-bool s) (length domains)) (length (out .0)) (flat (map clause-words (out .0))) ≡ some [] =
-      rw (append-nil (flat (map clause-words (out .0)))) at (clauses-take (next-bool s) (length domains) (out .0) [] (k .bounded) (stmts-proper (p .domains) ss (start-log m ss)) (omega (arith, k .numbered, length-emitted (p .domains) s))) in
+      let proper : ProperClauses (clauses-of s) = proper-clauses (stmts-proper (p .domains) ss s0) (rw none tt) in
+      let t6 : take-times (take-clause (next-bool s) (length domains)) (length (clauses-of s)) (flat (map clause-words (clauses-of s))) ≡ some [] =
+      rw (append-nil (flat (map clause-words (clauses-of s)))) at (clauses-take (next-bool s) (length domains) (clauses-of s) [] (clauses-named grows none) proper (omega (arith, clauses-numbered grows none, length-emitted (p .domains) s))) in
       rw (t1, t2, t3, t4, t5, t6) refl
 
-  pub layout-loads : loads b i (layout (normalize m p f ss)) ≡ true
+  layout-loads : loads b i (layout (normalize m p f ss)) ≡ true
   unfolding loads layout normalize answer-of
   layout-loads =
       let bools : getD (fixed-part ++ (bool-part ++ (int-part ++ rest))) (b + (b + i)) (pos 0) ≡ pos (next-bool s) = word-at 0 (b + (b + i)) (omega arith) in

@@ -1,27 +1,27 @@
 -- Within refusal 9 no sum that the Rust computes leaves i32, for every set that is accepted: the sums of comparisons and columns on the
 -- way to them (normalize_int_expr), an AllDifferent's pairs and values among them, each column's difference with its new variable (equivalent_int_var), the products and the bounds of
 -- a column's domain after each term (get_domain_linear_sum). For any emitted numbers of the declared variables.
-use mathlib.Core.Path.{_≡_, refl, sym, ap, _∙_}
-use mathlib.Core.Bool.{Bool, true, false, _||_, cond}
+use mathlib.Core.Path.{_≡_, refl, sym, _∙_}
+use mathlib.Core.Bool.{Bool, true, false, cond}
 use mathlib.Core.List.{List, [], _∷_, map}
-use Prim.Native.Nat.{ℕ, _+_, _≤_, _<_, max}
+use Prim.Native.Nat.{ℕ, _+_, _≤_, _<_}
 use native.Mathlib.Nat.{mul-le-mul-left}
 use native.Mathlib.Omega.{arith}
 use lib.IntN.{ℤ, pos, negsuc, natAbs, _+ℤ_, _*ℤ_}
-use lib.Signed.{leZ}
 use lib.ListN.{length, take}
-use borrow.Author.Tests.{leb-true, ltb-false, le-ltb}
+use borrow.Author.Tests.{ltb-false, le-ltb}
 use Rattle.laws.specs.Bools.{and-l, and-r, never, or-l, or-r, or-no-l, or-no-r}
 use Rattle.laws.specs.Ints.{eqZ, natAbs-add, natAbs-mul}
-use Rattle.laws.specs.Order.{eqZ-is, eqZ-refl}
+use Rattle.laws.specs.Order.{eqZ-refl}
 use Rattle.laws.specs.Same.{same-is}
 use Rattle.laws.specs.Lists.{any, all}
 use Rattle.syntax.specs.Words.{max-weight}
-use Rattle.syntax.specs.Syntax.{Domain, Range, Enumerative, lower-bound, upper-bound, num-candidates, enumerate, domain-of, IntExpr, IConst, IVar, Linear, BoolExpr, Const, Var, NVar, And, Or, Not, Xor, Iff, Imp, Cmp, Members, mnil, more, Stmt, Rule, Table, AllDifferent, Problem}
-use Rattle.syntax.specs.Written.{EveryInt, EveryColumn, EveryStmt, EveryStmts}
+use Rattle.syntax.specs.Syntax.{Domain, Range, Enumerative, lower-bound, upper-bound, num-candidates, enumerate, domain-of, IntExpr, IConst, IVar, Linear, If, BoolExpr, Const, Var, NVar, And, Or, Not, Xor, Iff, Imp, Cmp, Members, mnil, more, Stmt, Rule, Table, AllDifferent, Problem}
+use Rattle.syntax.specs.Written.{Any, EveryIntOf, EveryInt, EveryColumnOf, EveryColumn, EveryStmt, EveryStmts, columns-of}
 use Rattle.words.specs.Exact.{Each}
 use Rattle.read.specs.Exact.{set-sound}
-use Rattle.limits.specs.Limits.{any-comparison, any-comparison-members, any-pair, any-part, largest, domain-weight, weight, heavy, heavy-comparison, written, heavy-stmt, check}
+use Rattle.limits.specs.Limits.{any-comparison, any-comparison-members, any-pair, any-part, domain-weight, weight, heavy, heavy-comparison, written, heavy-stmt}
+use Rattle.limits.specs.Light.{value-light, unrefused-light}
 use Rattle.fold.specs.Fold.{Fixed, constant-folding-stmt as fold-stmt}
 use Rattle.fold.specs.Optimize.{settled, optimize}
 use Rattle.fold.specs.Kept.{fold-stmts-every}
@@ -178,23 +178,9 @@ module _ (ds : List Domain) (number : ℕ → ℕ) where
 -- ---- an AllDifferent's values: within the pairs' weights
 
 -- a value weighs no more than its domain
-largest-has : (x : ℤ) (xs : List ℤ) → has x xs ≡ true → natAbs x ≤ largest xs
-largest-has x [] h = never h
-largest-has x (y ∷ ys) h = go (eqZ x y) refl h (largest-has x ys)
-  where
-    go : (t : Bool) → eqZ x y ≡ t → t || has x ys ≡ true → (has x ys ≡ true → natAbs x ≤ largest ys) → natAbs x ≤ max (natAbs y) (largest ys)
-    go true e k r = let z : x ≡ y = eqZ-is x y e in omega (arith, ap natAbs z)
-    go false e k r = omega (arith, r k)
-
-between : (low x high : ℤ) → leZ low x ≡ true → leZ x high ≡ true → natAbs x ≤ max (natAbs low) (natAbs high)
-between low (pos b) (pos c) h k = omega (arith, leb-true b c k)
-between low (pos b) (negsuc c) h k = never k
-between (pos a) (negsuc b) high h k = never h
-between (negsuc a) (negsuc b) high h k = omega (arith, leb-true b a h)
-
 value-weight : (x : ℤ) (d : Domain) → ordered d ≡ true → has x (enumerate d) ≡ true → natAbs x ≤ domain-weight d
-value-weight x (Range low high) o h = let i = sym (has-range x low high o) ∙ h in omega (arith, between low x high (and-l (leZ low x) (leZ x high) i) (and-r (leZ low x) (leZ x high) i))
-value-weight x (Enumerative xs) o h = omega (arith, largest-has x xs h)
+value-weight x (Range low high) o h = value-light x (Range low high) (sym (has-range x low high o) ∙ h)
+value-weight x (Enumerative xs) o h = value-light x (Enumerative xs) h
 
 module _ (ds : List Domain) (well : (v : ℕ) → v < length ds → ordered (domain-of ds v) ≡ true) where
   -- beside a value as in a pair
@@ -211,12 +197,13 @@ module _ (ds : List Domain) (well : (v : ℕ) → v < length ds → ordered (dom
 
   -- a variable like d has no value above its weight
   like-weight : (n : ℕ) (d : Domain) (x : ℤ) (e : IntExpr) → EveryInt (λ v. v < length ds) e → has x (enumerate d) ≡ true → is-like ds n d e ≡ true → natAbs x ≤ weight ds e
-  unfolding weight EveryInt
+  unfolding weight EveryIntOf
   like-weight n d x (IConst c) b h l = never l
   like-weight n d x (IVar v) b h l =
       let z = same-is (enumerate (domain-of ds v)) (enumerate d) (and-r (eqZ (num-candidates (domain-of ds v)) (pos n)) _ l) in
       value-weight x (domain-of ds v) (well v b) (rw z h)
   like-weight n d x (Linear ts) b h l = never l
+  like-weight n d x (If i c t f) b h l = never l
 
   module _ (P : IntExpr → IntExpr → Type 0) (f : (a b : IntExpr) → heavy-comparison ds a b ≡ false → P a b) (n : ℕ) (d : Domain) where
     row-values : (x : ℤ) → has x (enumerate d) ≡ true → (e : IntExpr) (es : List IntExpr) → natAbs x ≤ weight ds e → any (heavy-comparison ds e) es ≡ false → Each (λ g. P g (IConst x)) es
@@ -226,7 +213,7 @@ module _ (ds : List Domain) (well : (v : ℕ) → v < length ds → ordered (dom
 
     values-each : (e g : IntExpr) (es : List IntExpr) → EveryColumn (λ v. v < length ds) (e ∷ g ∷ es) → any-pair (heavy-comparison ds) (e ∷ g ∷ es) ≡ false → all (is-like ds n d) (e ∷ g ∷ es) ≡ true
         → (xs : List ℤ) → ((x : ℤ) → has x xs ≡ true → has x (enumerate d) ≡ true) → EveryValue P (e ∷ g ∷ es) xs
-    unfolding any-pair EveryColumn
+    unfolding any-pair EveryColumnOf
     values-each e g es b k l [] i = tt
     values-each e g es b k l (x ∷ xs) i =
         let h : has x (enumerate d) ≡ true = i x (or-l (eqZ x x) _ (eqZ-refl x)) in
@@ -235,7 +222,7 @@ module _ (ds : List Domain) (well : (v : ℕ) → v < length ds → ordered (dom
         let c : natAbs x ≤ weight ds g = like-weight n d x g (b .1 .0) h (and-l (is-like ds n d g) _ (and-r (is-like ds n d e) _ l)) in
         ((f e (IConst x) (beside-light e g x (or-no-l (heavy-comparison ds e g) _ r) .1 c), row-values x h e (g ∷ es) a r), values-each e g es b k l xs (λ y m. i y (or-r (eqZ y x) _ m)))
 
-  pub used-values : (P : IntExpr → IntExpr → Type 0) → ((a b : IntExpr) → heavy-comparison ds a b ≡ false → P a b) → (es : List IntExpr) → EveryColumn (λ v. v < length ds) es → any-pair (heavy-comparison ds) es ≡ false → EveryValue P es (values-used-up ds es)
+  used-values : (P : IntExpr → IntExpr → Type 0) → ((a b : IntExpr) → heavy-comparison ds a b ≡ false → P a b) → (es : List IntExpr) → EveryColumn (λ v. v < length ds) es → any-pair (heavy-comparison ds) es ≡ false → EveryValue P es (values-used-up ds es)
   unfolding values-used-up values-of-first
   used-values P f [] b k = tt
   used-values P f (e ∷ []) b k = tt
@@ -252,6 +239,7 @@ module _ (ds : List Domain) (well : (v : ℕ) → v < length ds → ordered (dom
       go false l = tt
       go true l = values-each P f n d (IVar v) g es b k l (enumerate d) (λ x h. h)
   used-values P f (Linear ts ∷ g ∷ es) b k = tt
+  used-values P f (If i c x y ∷ g ∷ es) b k = tt
 
 -- ---- what refusal 9 leaves has the property
 
@@ -300,20 +288,12 @@ module _ (ds : List Domain) (well : (v : ℕ) → v < length ds → ordered (dom
   part-in nb (Table es rows) d h = columns-every (ComparisonIn number) (ColumnIn ds number) (heavy-comparison ds) (heavy ds) (comparison-in ds number) (column-in ds number) es h
   part-in nb (AllDifferent es) d h =
       let k = or-no-r (any (heavy ds) es) _ h in
-      (pairs-every (ComparisonIn number) (ColumnIn ds number) (heavy-comparison ds) (heavy ds) (comparison-in ds number) (column-in ds number) es k, used-values ds well (ComparisonIn number) (comparison-in ds number) es d k)
+      (pairs-every (ComparisonIn number) (ColumnIn ds number) (heavy-comparison ds) (heavy ds) (comparison-in ds number) (column-in ds number) es k, used-values ds well (ComparisonIn number) (comparison-in ds number) es (columns-of Any (λ v. v < nb) (λ v. v < length ds) es d) k)
 
   folded-in : (f : Fixed) (nb : ℕ) (ts : List Stmt) → EveryStmts (λ v. v < nb) (λ v. v < length ds) (map (fold-stmt ds f) ts) → any (heavy-stmt ds) ts ≡ false → Each In (map (fold-stmt ds f) ts)
   unfolding EveryStmts
   folded-in f nb [] d h = tt
   folded-in f nb (t ∷ ts) d h = (part-in nb (fold-stmt ds f t) (d .0) (fold-stmt-light ds f t (or-no-l (heavy-stmt ds t) _ h)), folded-in f nb ts (d .1) (or-no-r (heavy-stmt ds t) _ h))
-
-unrefused-light : (p : Problem) → check p ≡ 0 → any (heavy-stmt (p .domains)) (p .stmts) ≡ false
-unfolding check
-unrefused-light p h = go (any (heavy-stmt (p .domains)) (p .stmts)) _ h
-  where
-    go : (t : Bool) (k : ℕ) → cond t 9 k ≡ 0 → t ≡ false
-    go true k h = absurd (omega arith)
-    go false k h = refl
 
 -- the statements ss that the passes leave of an accepted set
 pub sums-in-i32 : (set : List ℤ) (p : Problem) → Accepted set p → (f : Fixed) (ss : List Stmt) → optimize p ≡ settled f ss → (number : ℕ → ℕ)

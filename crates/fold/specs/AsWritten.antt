@@ -8,13 +8,13 @@ use Rattle.syntax.specs.Syntax.{Domain, CmpOp, IntExpr, Linear, Terms, tmore, A
 use Rattle.fold.specs.Fold.{Fixed, constant-folding-int as fold-int, constant-folding-terms as fold-terms, constant-folding-bool as fold}
 use Rattle.fold.specs.Optimize.{updated, constant-prop-bool as prop}
 
-pub comparison-stays : (ds : List Domain) (f : Fixed) (o : CmpOp) (a b : IntExpr) → fold ds f (Cmp o a b) ≡ Cmp o (fold-int ds a) (fold-int ds b)
+pub comparison-stays : (ds : List Domain) (f : Fixed) (o : CmpOp) (a b : IntExpr) → fold ds f (Cmp o a b) ≡ Cmp o (fold-int ds f a) (fold-int ds f b)
 unfolding fold
 comparison-stays ds f o a b = refl
 
-pub sum-stays : (ds : List Domain) (k l : ℤ) (d e : IntExpr) (ts : Terms) → fold-int ds (Linear (tmore k d (tmore l e ts))) ≡ Linear (fold-terms ds (tmore k d (tmore l e ts)))
+pub sum-stays : (ds : List Domain) (f : Fixed) (k l : ℤ) (d e : IntExpr) (ts : Terms) → fold-int ds f (Linear (tmore k d (tmore l e ts))) ≡ Linear (fold-terms ds f (tmore k d (tmore l e ts)))
 unfolding fold-int
-sum-stays ds k l d e ts = refl
+sum-stays ds f k l d e ts = refl
 
 pub or-fixes-none : (ms : Members) (f : Fixed) → prop (Or ms) true f ≡ updated false f
 unfolding prop

@@ -103,7 +103,7 @@ still-steps = record {
   then = λ f g h c d p q e. q (or-no-r c d e) ∙ p (or-no-l c d e);
 }
 
-pub prop-still : (ss : List Stmt) (f g : Fixed) → prop-stmts ss f ≡ updated false g → g ≡ f
+prop-still : (ss : List Stmt) (f g : Fixed) → prop-stmts ss f ≡ updated false g → g ≡ f
 prop-still ss f g h =
     let a = prop-stmts-after (λ v. Unit {0}) (λ v. Unit {0}) (λ f c g. c ≡ false → g ≡ f) still-steps ss f (any-stmts ss) in
     (rw h at a) refl
@@ -218,7 +218,7 @@ module _ (B : ℕ) (Q : ℕ → Type 0) (ds : List Domain) where
   next-more n f folded (updated false g) again again' l a k = refl
   next-more n f folded (updated true g) again again' l a k = k g (omega arith)
 
-  pub passes-more : (m n : ℕ) (f : Fixed) (ss : List Stmt) → EveryStmts (λ v. v < B) Q ss → opens B f < n → n ≤ m → passes ds m f ss ≡ passes ds n f ss
+  passes-more : (m n : ℕ) (f : Fixed) (ss : List Stmt) → EveryStmts (λ v. v < B) Q ss → opens B f < n → n ≤ m → passes ds m f ss ≡ passes ds n f ss
   unfolding passes
   passes-more m zero f ss w l k = absurd (omega arith)
   passes-more zero (suc n) f ss w l k = absurd (omega arith)

@@ -5,7 +5,7 @@ use mathlib.Core.List.{List, map}
 use Prim.Native.Nat.{ℕ}
 use lib.IntN.{ℤ, pos}
 use Rattle.laws.specs.Ints.{eqZ}
-use Rattle.syntax.specs.Syntax.{Domain, as-constant, domain-of, IntExpr, IConst, IVar, Linear, Terms, tnil, tmore, BoolExpr, Const, Var, NVar, And, Or, Not, Xor, Iff, Imp, Cmp, Members, mnil, more, Stmt, Rule, Table, AllDifferent}
+use Rattle.syntax.specs.Syntax.{Domain, as-constant, domain-of, IfIsRead, IntExpr, IConst, IVar, Linear, If, Terms, tnil, tmore, BoolExpr, Const, Var, NVar, And, Or, Not, Xor, Iff, Imp, Cmp, Members, mnil, more, Stmt, Rule, Table, AllDifferent}
 
 -- the Boolean variables fixed so far
 abbrev pub Fixed : Type 0
@@ -139,21 +139,27 @@ fold-sum tnil = IConst (pos 0)
 fold-sum (tmore k e tnil) = cond (eqZ k (pos 1)) e (Linear (tmore k e tnil))
 fold-sum (tmore k e (tmore l f ts)) = Linear (tmore k e (tmore l f ts))
 
+-- a known condition picks its branch
+abbrev pub fold-if : Option Bool → IfIsRead → BoolExpr → IntExpr → IntExpr → IntExpr
+fold-if none i c t e = If i c t e
+fold-if (some true) i c t e = t
+fold-if (some false) i c t e = e
+
+-- ---- all of it
+
 module _ (ds : List Domain) where
-  unfoldable mutual
-    pub constant-folding-int : IntExpr → IntExpr
-    constant-folding-int (IConst c) = IConst c
-    constant-folding-int (IVar v) = fold-int-var (as-constant (domain-of ds v)) v
-    constant-folding-int (Linear ts) = fold-sum (constant-folding-terms ts)
-
-    pub constant-folding-terms : Terms → Terms
-    constant-folding-terms tnil = tnil
-    constant-folding-terms (tmore k e ts) = tmore k (constant-folding-int e) (constant-folding-terms ts)
-
-  -- ---- all of it
-
   module _ (f : Fixed) where
     unfoldable mutual
+      pub constant-folding-int : IntExpr → IntExpr
+      constant-folding-int (IConst c) = IConst c
+      constant-folding-int (IVar v) = fold-int-var (as-constant (domain-of ds v)) v
+      constant-folding-int (Linear ts) = fold-sum (constant-folding-terms ts)
+      constant-folding-int (If i c t e) = let d = constant-folding-bool c in fold-if (is-const d) i d (constant-folding-int t) (constant-folding-int e)
+
+      pub constant-folding-terms : Terms → Terms
+      constant-folding-terms tnil = tnil
+      constant-folding-terms (tmore k e ts) = tmore k (constant-folding-int e) (constant-folding-terms ts)
+
       pub constant-folding-bool : BoolExpr → BoolExpr
       constant-folding-bool (Const b) = Const b
       constant-folding-bool (Var v) = fold-var (f v) v

@@ -11,10 +11,10 @@ use Rattle.laws.specs.Bools.{and-l, and-r, ∀2, at2, beq-eq, never}
 use Rattle.laws.specs.Ints.{eqZ}
 use Rattle.laws.specs.Order.{eqZ-is, leZ-antisym}
 use Rattle.laws.specs.Lists.{any, all}
-use Rattle.syntax.specs.Syntax.{Domain, Range, Enumerative, as-constant, in-domain, domain-of, IntExpr, IConst, IVar, Linear, Terms, tnil, tmore, BoolExpr, Const, Var, NVar, And, Or, Not, Xor, Iff, Imp, Cmp, Members, mnil, more, Cell, Stmt, Rule, Table, AllDifferent}
+use Rattle.syntax.specs.Syntax.{Domain, Range, Enumerative, as-constant, in-domain, domain-of, IfIsRead, IntExpr, IConst, IVar, Linear, If, Terms, tnil, tmore, BoolExpr, Const, Var, NVar, And, Or, Not, Xor, Iff, Imp, Cmp, Members, mnil, more, Cell, Stmt, Rule, Table, AllDifferent}
 use Rattle.syntax.specs.Satisfies.{Val, IVal, int-value, terms-value, row-holds, holds, holds-all, holds-any, distinct, stmt-holds}
-use Rattle.syntax.specs.Written.{EveryInt, EveryTerm, EveryColumn, Every, EveryMember, EveryStmt, EveryStmts, Within, EveryOf}
-use Rattle.fold.specs.Fold.{Fixed, is-const, Op, op-xor, op-iff, op-imp, Action, be-false, be-true, left, not-left, right, not-right, keep, action, act, fold-binary, is-value, has-const, keep-member, kept, join-and, join-or, fold-and, fold-or, not-of, fold-not, fold-var, fold-int-var, fold-sum, constant-folding-int as fold-int, constant-folding-terms as fold-terms, constant-folding-bool as fold, constant-folding-members as fold-members, constant-folding-stmt as fold-stmt}
+use Rattle.syntax.specs.Written.{Every, EveryMember, EveryStmt, EveryStmts, Within, EveryOf, EveryIntOf, EveryColumnOf, Any, EveryTermOf}
+use Rattle.fold.specs.Fold.{Fixed, is-const, Op, op-xor, op-iff, op-imp, Action, be-false, be-true, left, not-left, right, not-right, keep, action, act, fold-binary, is-value, has-const, keep-member, kept, join-and, join-or, fold-and, fold-or, not-of, fold-not, fold-var, fold-int-var, fold-sum, fold-if, constant-folding-int as fold-int, constant-folding-terms as fold-terms, constant-folding-bool as fold, constant-folding-members as fold-members, constant-folding-stmt as fold-stmt}
 use Rattle.fold.specs.Refold.{const-or}
 
 -- ---- integers
@@ -36,48 +36,21 @@ as-constant-is (Enumerative (y ∷ [])) c x h k =
     eqZ-is x y (sym (or-false (eqZ x y)) ∙ k) ∙ b
 as-constant-is (Enumerative (y ∷ z ∷ xs)) c x h k = cc
 
-module _ (ds : List Domain) (ε : IVal) where
-  int-var-value : (v : ℕ) (k : Option ℤ) → as-constant (domain-of ds v) ≡ k → Within ds ε v → int-value ε (fold-int-var k v) ≡ ε v
+module _ (ds : List Domain) (δ : Val) (ε : IVal) (ρ : Val) where
+  int-var-value : (v : ℕ) (k : Option ℤ) → as-constant (domain-of ds v) ≡ k → Within ds ε v → int-value δ ε ρ (fold-int-var k v) ≡ ε v
   unfolding int-value
   int-var-value v none h w = refl
   int-var-value v (some c) h w = sym (as-constant-is (domain-of ds v) c (ε v) h w)
 
-  sum-value : (ts : Terms) → int-value ε (fold-sum ts) ≡ terms-value ε ts
+  sum-value : (ts : Terms) → int-value δ ε ρ (fold-sum ts) ≡ terms-value δ ε ρ ts
   unfolding int-value one
   sum-value tnil = refl
   sum-value (tmore k e tnil) = go (eqZ k (pos 1)) refl
     where
-      go : (t : Bool) → eqZ k (pos 1) ≡ t → int-value ε (cond t e (Linear (tmore k e tnil))) ≡ k *ℤ int-value ε e +ℤ pos 0
-      go true h = rw (eqZ-is k (pos 1) h) (sym (+ℤ-idr (pos 1 *ℤ int-value ε e) ∙ *ℤ-comm (pos 1) (int-value ε e) ∙ *ℤ-one (int-value ε e)))
+      go : (t : Bool) → eqZ k (pos 1) ≡ t → int-value δ ε ρ (cond t e (Linear (tmore k e tnil))) ≡ k *ℤ int-value δ ε ρ e +ℤ pos 0
+      go true h = rw (eqZ-is k (pos 1) h) (sym (+ℤ-idr (pos 1 *ℤ int-value δ ε ρ e) ∙ *ℤ-comm (pos 1) (int-value δ ε ρ e) ∙ *ℤ-one (int-value δ ε ρ e)))
       go false h = refl
   sum-value (tmore k e (tmore l g ts)) = refl
-
-  mutual
-    unfolding fold-int int-value EveryInt
-
-    pub fold-int-value : (e : IntExpr) → EveryInt (Within ds ε) e → int-value ε (fold-int ds e) ≡ int-value ε e
-    fold-int-value (IConst c) h = refl
-    fold-int-value (IVar v) h = int-var-value v (as-constant (domain-of ds v)) refl h
-    fold-int-value (Linear ts) h = sum-value (fold-terms ds ts) ∙ fold-terms-value ts h
-
-    pub fold-terms-value : (ts : Terms) → EveryTerm (Within ds ε) ts → terms-value ε (fold-terms ds ts) ≡ terms-value ε ts
-    fold-terms-value tnil h = refl
-    fold-terms-value (tmore k e ts) h = rw (fold-int-value e (h .0), fold-terms-value ts (h .1)) refl
-
-  fold-row : (es : List IntExpr) (cs : List Cell) → EveryColumn (Within ds ε) es → row-holds ε (map (fold-int ds) es) cs ≡ row-holds ε es cs
-  unfolding EveryColumn
-  fold-row [] cs h = refl
-  fold-row (e ∷ es) [] h = refl
-  fold-row (e ∷ es) (c ∷ cs) h = rw (fold-int-value e (h .0), fold-row es cs (h .1)) refl
-
-  fold-values : (es : List IntExpr) → EveryColumn (Within ds ε) es → map (int-value ε) (map (fold-int ds) es) ≡ map (int-value ε) es
-  unfolding EveryColumn
-  fold-values [] h = refl
-  fold-values (e ∷ es) h = rw (fold-int-value e (h .0), fold-values es (h .1)) refl
-
-  fold-rows : (es : List IntExpr) (rows : List (List Cell)) → EveryColumn (Within ds ε) es → any (row-holds ε (map (fold-int ds) es)) rows ≡ any (row-holds ε es) rows
-  fold-rows es [] h = refl
-  fold-rows es (r ∷ rows) h = rw (fold-row es r h, fold-rows es rows h) refl
 
 -- ---- Xor, Iff, Imp: the table
 
@@ -224,6 +197,12 @@ module _ (δ : Val) (ε : IVal) (ρ : Val) where
   not-holds none e h = refl
   not-holds (some b) e h = ap not h
 
+  if-value : (k : Option Bool) (i : IfIsRead) (c : BoolExpr) (t e : IntExpr) → seen k (holds δ ε ρ c) ≡ holds δ ε ρ c → int-value δ ε ρ (fold-if k i c t e) ≡ cond (holds δ ε ρ c) (int-value δ ε ρ t) (int-value δ ε ρ e)
+  unfolding int-value
+  if-value none i c t e h = refl
+  if-value (some true) i c t e h = rw (← h) refl
+  if-value (some false) i c t e h = rw (← h) refl
+
 -- ---- expressions and statements
 
 -- the assignment has the fixed values
@@ -240,6 +219,17 @@ module _ (ds : List Domain) (f : Fixed) (δ : Val) (ε : IVal) (ρ : Val) (agree
     mutual
       unfolding fold holds fold-not EveryOf
 
+      pub fold-int-value : (e : IntExpr) → EveryIntOf Any P (Within ds ε) e → int-value δ ε ρ (fold-int ds f e) ≡ int-value δ ε ρ e
+      fold-int-value (IConst c) w = refl
+      fold-int-value (IVar v) w = int-var-value ds δ ε ρ v (as-constant (domain-of ds v)) refl w
+      fold-int-value (Linear ts) w = sum-value ds δ ε ρ (fold-terms ds f ts) ∙ fold-terms-value ts w
+      fold-int-value (If i c t e) w =
+          if-value δ ε ρ (is-const (fold ds f c)) i (fold ds f c) (fold-int ds f t) (fold-int ds f e) (known δ ε ρ (fold ds f c)) ∙ rw (fold-holds c (w .0), fold-int-value t (w .1 .0), fold-int-value e (w .1 .1)) refl
+
+      fold-terms-value : (ts : Terms) → EveryTermOf Any P (Within ds ε) ts → terms-value δ ε ρ (fold-terms ds f ts) ≡ terms-value δ ε ρ ts
+      fold-terms-value tnil w = refl
+      fold-terms-value (tmore k e ts) w = rw (fold-int-value e (w .0), fold-terms-value ts (w .1)) refl
+
       pub fold-holds : (e : BoolExpr) → Every P (Within ds ε) e → holds δ ε ρ (fold ds f e) ≡ holds δ ε ρ e
       fold-holds (Const b) w = refl
       fold-holds (Var v) w = var-holds (f v) v refl
@@ -250,7 +240,7 @@ module _ (ds : List Domain) (f : Fixed) (δ : Val) (ε : IVal) (ρ : Val) (agree
       fold-holds (Xor a b) w = binary-holds δ ε ρ op-xor (fold ds f a) (fold ds f b) ∙ rw (fold-holds a (w .0), fold-holds b (w .1)) refl
       fold-holds (Iff a b) w = binary-holds δ ε ρ op-iff (fold ds f a) (fold ds f b) ∙ rw (fold-holds a (w .0), fold-holds b (w .1)) refl
       fold-holds (Imp a b) w = binary-holds δ ε ρ op-imp (fold ds f a) (fold ds f b) ∙ rw (fold-holds a (w .0), fold-holds b (w .1)) refl
-      fold-holds (Cmp o a b) w = rw (fold-int-value ds ε a (w .0), fold-int-value ds ε b (w .1)) refl
+      fold-holds (Cmp o a b) w = rw (fold-int-value a (w .0), fold-int-value b (w .1)) refl
 
       pub fold-members-all : (ms : Members) → EveryMember P (Within ds ε) ms → holds-all δ ε ρ (fold-members ds f ms) ≡ holds-all δ ε ρ ms
       fold-members-all mnil w = refl
@@ -260,11 +250,26 @@ module _ (ds : List Domain) (f : Fixed) (δ : Val) (ε : IVal) (ρ : Val) (agree
       fold-members-any mnil w = refl
       fold-members-any (more e ms) w = rw (fold-holds e (w .0), fold-members-any ms (w .1)) refl
 
+    fold-row : (es : List IntExpr) (cs : List Cell) → EveryColumnOf Any P (Within ds ε) es → row-holds δ ε ρ (map (fold-int ds f) es) cs ≡ row-holds δ ε ρ es cs
+    unfolding EveryColumnOf
+    fold-row [] cs h = refl
+    fold-row (e ∷ es) [] h = refl
+    fold-row (e ∷ es) (c ∷ cs) h = rw (fold-int-value e (h .0), fold-row es cs (h .1)) refl
+
+    fold-values : (es : List IntExpr) → EveryColumnOf Any P (Within ds ε) es → map (int-value δ ε ρ) (map (fold-int ds f) es) ≡ map (int-value δ ε ρ) es
+    unfolding EveryColumnOf
+    fold-values [] h = refl
+    fold-values (e ∷ es) h = rw (fold-int-value e (h .0), fold-values es (h .1)) refl
+
+    fold-rows : (es : List IntExpr) (rows : List (List Cell)) → EveryColumnOf Any P (Within ds ε) es → any (row-holds δ ε ρ (map (fold-int ds f) es)) rows ≡ any (row-holds δ ε ρ es) rows
+    fold-rows es [] h = refl
+    fold-rows es (r ∷ rows) h = rw (fold-row es r h, fold-rows es rows h) refl
+
     pub fold-stmt-holds : (s : Stmt) → EveryStmt P (Within ds ε) s → stmt-holds δ ε ρ (fold-stmt ds f s) ≡ stmt-holds δ ε ρ s
     unfolding fold-stmt stmt-holds EveryStmt
     fold-stmt-holds (Rule e) w = fold-holds e w
-    fold-stmt-holds (Table es rows) w = fold-rows ds ε es rows w
-    fold-stmt-holds (AllDifferent es) w = ap distinct (fold-values ds ε es w)
+    fold-stmt-holds (Table es rows) w = fold-rows es rows w
+    fold-stmt-holds (AllDifferent es) w = ap distinct (fold-values es w)
 
     pub fold-stmts-hold : (ss : List Stmt) → EveryStmts P (Within ds ε) ss → all (stmt-holds δ ε ρ) (map (fold-stmt ds f) ss) ≡ all (stmt-holds δ ε ρ) ss
     unfolding EveryStmts

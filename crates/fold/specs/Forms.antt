@@ -8,7 +8,7 @@ use native.Mathlib.Omega.{arith}
 use lib.IntN.{pos}
 use lib.ListN.{length, length-append}
 use Rattle.syntax.specs.Syntax.{Domain, CmpOp, Eq, Ne, Le, Lt, Ge, Gt, encode-op, IntExpr, Terms, BoolExpr, Const, Var, NVar, And, Or, Not, Xor, Iff, Imp, Cmp, Members, mnil, more, count-members, encode-bool, encode-members, encode-bit}
-use Rattle.syntax.specs.Written.{EveryInt, EveryTerm, EveryOf, EveryMemberOf, None}
+use Rattle.syntax.specs.Written.{EveryIntOf, EveryTermOf, EveryOf, EveryMemberOf, None}
 use Rattle.fold.specs.Fold.{Fixed, Op, op-xor, op-iff, op-imp, expr-of, fold-binary, has-const, kept, join-and, join-or, fold-and, fold-or, constant-folding-bool, constant-folding-members}
 use Rattle.fold.specs.Table.{op-num, bit}
 
@@ -82,11 +82,11 @@ op-word-is Gt = refl
 
 -- ---- declared
 
-abbrev pub Declared-int : ℕ → IntExpr → Type 0
-Declared-int ni e = EveryInt (λ v. v < ni) e
+abbrev pub Declared-int : ℕ → ℕ → IntExpr → Type 0
+Declared-int nb ni e = EveryIntOf None (λ v. v < nb) (λ v. v < ni) e
 
-abbrev pub Declared-terms : ℕ → Terms → Type 0
-Declared-terms ni ts = EveryTerm (λ v. v < ni) ts
+abbrev pub Declared-terms : ℕ → ℕ → Terms → Type 0
+Declared-terms nb ni ts = EveryTermOf None (λ v. v < nb) (λ v. v < ni) ts
 
 abbrev pub Declared : ℕ → ℕ → BoolExpr → Type 0
 Declared nb ni e = EveryOf None (λ v. v < nb) (λ v. v < ni) e

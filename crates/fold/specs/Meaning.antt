@@ -38,7 +38,7 @@ module _ (δ : Val) (ε : IVal) (ρ : Val) where
   next-tells f ss folded (updated true g) again h q t = tells-back f g ss folded (again g) (λ a x. let r = prop-stmts-have δ ε ρ folded f a (q a ∙ x) in rw h at r) (prop-extends folded f g true h) q (t g)
 
   module _ (ds : List Domain) (P : ℕ → Type 0) where
-    pub passes-tell : (n : ℕ) (f : Fixed) (ss : List Stmt) → EveryStmts P (Within ds ε) ss → Tells f ss (passes ds n f ss)
+    passes-tell : (n : ℕ) (f : Fixed) (ss : List Stmt) → EveryStmts P (Within ds ε) ss → Tells f ss (passes ds n f ss)
     unfolding passes
     passes-tell zero f ss w = ((λ x. x), (λ x. x))
     passes-tell (suc n) f ss w =
@@ -56,7 +56,7 @@ module _ (p : Problem) (declared : AllDeclared p) (δ : Val) (ε : IVal) (inside
   free v b q = cc
 
   -- for any values of emitted numbers, which a set does not write
-  pub optimize-means : (f : Fixed) (ss : List Stmt) → optimize p ≡ settled f ss → (ρ : Val) → (all (stmt-holds δ ε ρ) (p .stmts) ≡ true) ↔ (Agrees δ f × (all (stmt-holds δ ε ρ) ss ≡ true))
+  optimize-means : (f : Fixed) (ss : List Stmt) → optimize p ≡ settled f ss → (ρ : Val) → (all (stmt-holds δ ε ρ) (p .stmts) ≡ true) ↔ (Agrees δ f × (all (stmt-holds δ ε ρ) ss ≡ true))
   optimize-means f ss h ρ =
       let t : (Agrees δ (λ v. none) × (all (stmt-holds δ ε ρ) (p .stmts) ≡ true)) ↔ (Agrees δ f × (all (stmt-holds δ ε ρ) ss ≡ true)) = rw h at (tells ρ) in
       ((λ x. t .0 (free, x)), (λ y. t .1 y .1))

@@ -7,8 +7,8 @@ use Prim.Native.Nat.{ℕ}
 use lib.IntN.{ℤ, pos}
 use Rattle.laws.specs.Bools.{or-r, or-no-l, or-no-r}
 use Rattle.laws.specs.Ints.{eqZ}
-use Rattle.syntax.specs.Syntax.{Domain, as-constant, domain-of, IntExpr, IConst, IVar, Linear, Terms, tnil, tmore, BoolExpr, Const, Var, NVar, And, Or, Not, Xor, Iff, Imp, Cmp, Members, mnil, more, Stmt, Rule, Table, AllDifferent}
-use Rattle.fold.specs.Fold.{Fixed, is-const, Op, op-xor, op-iff, op-imp, Action, be-false, be-true, left, not-left, right, not-right, keep, action, expr-of, act, fold-binary, is-value, has-const, kept, join-and, join-or, fold-and, fold-or, fold-not, fold-var, fold-int-var, fold-sum, constant-folding-int as fold-int, constant-folding-terms as fold-terms, constant-folding-bool as fold, constant-folding-members as fold-members, constant-folding-stmt as fold-stmt}
+use Rattle.syntax.specs.Syntax.{Domain, as-constant, domain-of, IfIsRead, IntExpr, IConst, IVar, Linear, If, Terms, tnil, tmore, BoolExpr, Const, Var, NVar, And, Or, Not, Xor, Iff, Imp, Cmp, Members, mnil, more, Stmt, Rule, Table, AllDifferent}
+use Rattle.fold.specs.Fold.{Fixed, is-const, Op, op-xor, op-iff, op-imp, Action, be-false, be-true, left, not-left, right, not-right, keep, action, expr-of, act, fold-binary, is-value, has-const, kept, join-and, join-or, fold-and, fold-or, fold-not, fold-var, fold-int-var, fold-sum, fold-if, constant-folding-int as fold-int, constant-folding-terms as fold-terms, constant-folding-bool as fold, constant-folding-members as fold-members, constant-folding-stmt as fold-stmt}
 
 -- g has every fixed value of f
 abbrev pub Extends : Fixed → Fixed → Type 0
@@ -26,40 +26,6 @@ const-or (Xor a b) on-const on-other = on-other refl
 const-or (Iff a b) on-const on-other = on-other refl
 const-or (Imp a b) on-const on-other = on-other refl
 const-or (Cmp o a b) on-const on-other = on-other refl
-
--- ---- integers: folding again changes nothing
-
-module _ (ds : List Domain) where
-  int-var-again : (v : ℕ) (k : Option ℤ) → as-constant (domain-of ds v) ≡ k → fold-int ds (fold-int-var k v) ≡ fold-int-var (as-constant (domain-of ds v)) v
-  unfolding fold-int
-  int-var-again v none h = refl
-  int-var-again v (some c) h = rw h refl
-
-  sum-again : (ts : Terms) → fold-int ds (fold-sum ts) ≡ fold-sum (fold-terms ds ts)
-  unfolding fold-int
-  sum-again tnil = refl
-  sum-again (tmore k e tnil) = go (eqZ k (pos 1)) refl
-    where
-      go : (c : Bool) → eqZ k (pos 1) ≡ c → fold-int ds (cond (eqZ k (pos 1)) e (Linear (tmore k e tnil))) ≡ cond (eqZ k (pos 1)) (fold-int ds e) (Linear (tmore k (fold-int ds e) tnil))
-      go true h = rw h refl
-      go false h = rw h (rw h refl)
-  sum-again (tmore k e (tmore l g ts)) = refl
-
-  mutual
-    unfolding fold-int
-
-    pub refold-int : (e : IntExpr) → fold-int ds (fold-int ds e) ≡ fold-int ds e
-    refold-int (IConst c) = refl
-    refold-int (IVar v) = int-var-again v (as-constant (domain-of ds v)) refl
-    refold-int (Linear ts) = sum-again (fold-terms ds ts) ∙ ap fold-sum (refold-terms ts)
-
-    pub refold-terms : (ts : Terms) → fold-terms ds (fold-terms ds ts) ≡ fold-terms ds ts
-    refold-terms tnil = refl
-    refold-terms (tmore k e ts) = rw (refold-int e, refold-terms ts) refl
-
-  pub refold-columns : (es : List IntExpr) → map (fold-int ds) (map (fold-int ds) es) ≡ map (fold-int ds) es
-  refold-columns [] = refl
-  refold-columns (e ∷ es) = rw (refold-int e, refold-columns es) refl
 
 -- ---- Xor, Iff, Imp
 
@@ -140,7 +106,7 @@ redo-both op-imp false true = refl
 redo-both op-imp true false = refl
 redo-both op-imp true true = refl
 
--- ---- Boolean expressions, members, statements
+-- ---- expressions and statements
 
 or-both : (x y z : Bool) → (y ≡ true → z ≡ true) → x || y ≡ true → x || z ≡ true
 or-both true y z f h = refl
@@ -163,6 +129,29 @@ or-one e = const-or e (λ c q. rw q (go c)) (λ q. rw q refl)
     go false = refl
 
 module _ (ds : List Domain) (g : Fixed) where
+  int-var-again : (v : ℕ) (k : Option ℤ) → as-constant (domain-of ds v) ≡ k → fold-int ds g (fold-int-var k v) ≡ fold-int-var (as-constant (domain-of ds v)) v
+  unfolding fold-int
+  int-var-again v none h = refl
+  int-var-again v (some c) h = rw h refl
+
+  sum-again : (ts : Terms) → fold-int ds g (fold-sum ts) ≡ fold-sum (fold-terms ds g ts)
+  unfolding fold-int
+  sum-again tnil = refl
+  sum-again (tmore k e tnil) = go (eqZ k (pos 1)) refl
+    where
+      go : (c : Bool) → eqZ k (pos 1) ≡ c → fold-int ds g (cond (eqZ k (pos 1)) e (Linear (tmore k e tnil))) ≡ cond (eqZ k (pos 1)) (fold-int ds g e) (Linear (tmore k (fold-int ds g e) tnil))
+      go true h = rw h refl
+      go false h = rw h (rw h refl)
+  sum-again (tmore k e (tmore l e' ts)) = refl
+
+  if-again : (i : IfIsRead) (c : BoolExpr) (t e : IntExpr) → fold-int ds g (fold-if (is-const c) i c t e) ≡ fold-if (is-const (fold ds g c)) i (fold ds g c) (fold-int ds g t) (fold-int ds g e)
+  unfolding fold-int
+  if-again i c t e = const-or c (λ b q. rw q (known b)) (λ q. rw q refl)
+    where
+      known : (b : Bool) → fold-int ds g (fold-if (some b) i (Const b) t e) ≡ fold-if (some b) i (Const b) (fold-int ds g t) (fold-int ds g e)
+      known true = refl
+      known false = refl
+
   act-again : (k : Action) (o : Op) (a b : BoolExpr) → fold ds g (act k o a b) ≡ redo k o (fold ds g a) (fold ds g b)
   unfolding fold
   act-again be-false o a b = refl
@@ -254,6 +243,16 @@ module _ (ds : List Domain) (g : Fixed) where
     mutual
       unfolding fold
 
+      pub refold-int : (e : IntExpr) → fold-int ds g (fold-int ds f e) ≡ fold-int ds g e
+      refold-int (IConst c) = refl
+      refold-int (IVar v) = int-var-again v (as-constant (domain-of ds v)) refl
+      refold-int (Linear ts) = sum-again (fold-terms ds f ts) ∙ ap fold-sum (refold-terms ts)
+      refold-int (If i c t e) = if-again i (fold ds f c) (fold-int ds f t) (fold-int ds f e) ∙ rw (refold c, refold-int t, refold-int e) refl
+
+      refold-terms : (ts : Terms) → fold-terms ds g (fold-terms ds f ts) ≡ fold-terms ds g ts
+      refold-terms tnil = refl
+      refold-terms (tmore k e ts) = rw (refold-int e, refold-terms ts) refl
+
       pub refold : (e : BoolExpr) → fold ds g (fold ds f e) ≡ fold ds g e
       refold (Const b) = refl
       refold (Var v) = var-again v (f v) refl
@@ -264,17 +263,21 @@ module _ (ds : List Domain) (g : Fixed) where
       refold (Xor a b) = binary-again op-xor (fold ds f a) (fold ds f b) ∙ rw (refold a, refold b) refl
       refold (Iff a b) = binary-again op-iff (fold ds f a) (fold ds f b) ∙ rw (refold a, refold b) refl
       refold (Imp a b) = binary-again op-imp (fold ds f a) (fold ds f b) ∙ rw (refold a, refold b) refl
-      refold (Cmp o a b) = rw (refold-int ds a, refold-int ds b) refl
+      refold (Cmp o a b) = rw (refold-int a, refold-int b) refl
 
       pub refold-members : (ms : Members) → fold-members ds g (fold-members ds f ms) ≡ fold-members ds g ms
       refold-members mnil = refl
       refold-members (more e ms) = rw (refold e, refold-members ms) refl
 
+    pub refold-columns : (es : List IntExpr) → map (fold-int ds g) (map (fold-int ds f) es) ≡ map (fold-int ds g) es
+    refold-columns [] = refl
+    refold-columns (e ∷ es) = rw (refold-int e, refold-columns es) refl
+
     pub refold-stmt : (s : Stmt) → fold-stmt ds g (fold-stmt ds f s) ≡ fold-stmt ds g s
     unfolding fold-stmt
     refold-stmt (Rule e) = ap Rule (refold e)
-    refold-stmt (Table es rows) = ap (λ (l : List IntExpr). Table l rows) (refold-columns ds es)
-    refold-stmt (AllDifferent es) = ap AllDifferent (refold-columns ds es)
+    refold-stmt (Table es rows) = ap (λ (l : List IntExpr). Table l rows) (refold-columns es)
+    refold-stmt (AllDifferent es) = ap AllDifferent (refold-columns es)
 
     pub refold-stmts : (ss : List Stmt) → map (fold-stmt ds g) (map (fold-stmt ds f) ss) ≡ map (fold-stmt ds g) ss
     refold-stmts [] = refl

@@ -13,7 +13,7 @@ use Rattle.fold.specs.Optimize.{Status, unsatisfiable, updated, worst, a
 use Rattle.fold.specs.Refold.{const-or, refold-int, refold-columns}
 use Rattle.fold.specs.Ends.{Rests, optimize-rests}
 
-module _ (ds : List Domain) where
+module _ (ds : List Domain) (f : Fixed) where
   -- no constant anywhere, two members at least, integers folded
   unfoldable mutual
     pub Solid : BoolExpr → Type 0
@@ -26,7 +26,7 @@ module _ (ds : List Domain) where
     Solid (Xor a b) = Solid a × Solid b
     Solid (Iff a b) = Solid a × Solid b
     Solid (Imp a b) = Solid a × Solid b
-    Solid (Cmp o a b) = (fold-int ds a ≡ a) × (fold-int ds b ≡ b)
+    Solid (Cmp o a b) = (fold-int ds f a ≡ a) × (fold-int ds f b ≡ b)
 
     pub SolidMembers : Members → Type 0
     SolidMembers mnil = Unit {0}
@@ -142,25 +142,24 @@ module _ (ds : List Domain) where
   var-folded none v = tt
   var-folded (some b) v = tt
 
-  module _ (f : Fixed) where
-    mutual
-      unfolding fold Solid FoldedMembers
+  mutual
+    unfolding fold Solid FoldedMembers
 
-      pub fold-folded : (e : BoolExpr) → Folded (fold ds f e)
-      fold-folded (Const b) = tt
-      fold-folded (Var v) = var-folded (f v) v
-      fold-folded (NVar n) = tt
-      fold-folded (And ms) = and-folded (fold-members ds f ms) (fold-members-folded ms)
-      fold-folded (Or ms) = or-folded (fold-members ds f ms) (fold-members-folded ms)
-      fold-folded (Not e) = not-folded (fold ds f e) (fold-folded e)
-      fold-folded (Xor a b) = binary-folded op-xor (fold ds f a) (fold ds f b) (fold-folded a) (fold-folded b)
-      fold-folded (Iff a b) = binary-folded op-iff (fold ds f a) (fold ds f b) (fold-folded a) (fold-folded b)
-      fold-folded (Imp a b) = binary-folded op-imp (fold ds f a) (fold ds f b) (fold-folded a) (fold-folded b)
-      fold-folded (Cmp o a b) = (refold-int ds a, refold-int ds b)
+    pub fold-folded : (e : BoolExpr) → Folded (fold ds f e)
+    fold-folded (Const b) = tt
+    fold-folded (Var v) = var-folded (f v) v
+    fold-folded (NVar n) = tt
+    fold-folded (And ms) = and-folded (fold-members ds f ms) (fold-members-folded ms)
+    fold-folded (Or ms) = or-folded (fold-members ds f ms) (fold-members-folded ms)
+    fold-folded (Not e) = not-folded (fold ds f e) (fold-folded e)
+    fold-folded (Xor a b) = binary-folded op-xor (fold ds f a) (fold ds f b) (fold-folded a) (fold-folded b)
+    fold-folded (Iff a b) = binary-folded op-iff (fold ds f a) (fold ds f b) (fold-folded a) (fold-folded b)
+    fold-folded (Imp a b) = binary-folded op-imp (fold ds f a) (fold ds f b) (fold-folded a) (fold-folded b)
+    fold-folded (Cmp o a b) = (refold-int ds f f (λ v b q. q) a, refold-int ds f f (λ v b q. q) b)
 
-      fold-members-folded : (ms : Members) → FoldedMembers (fold-members ds f ms)
-      fold-members-folded mnil = tt
-      fold-members-folded (more e ms) = (fold-folded e, fold-members-folded ms)
+    fold-members-folded : (ms : Members) → FoldedMembers (fold-members ds f ms)
+    fold-members-folded mnil = tt
+    fold-members-folded (more e ms) = (fold-folded e, fold-members-folded ms)
 
   -- ---- where the passes settle
 
@@ -172,8 +171,8 @@ module _ (ds : List Domain) where
   unfoldable pub SettledStmts : List Stmt → Type 0
   SettledStmts [] = Unit {0}
   SettledStmts (Rule e ∷ ss) = SettledRoot (is-const e) e × SettledStmts ss
-  SettledStmts (Table es rows ∷ ss) = (map (fold-int ds) es ≡ es) × SettledStmts ss
-  SettledStmts (AllDifferent es ∷ ss) = (map (fold-int ds) es ≡ es) × SettledStmts ss
+  SettledStmts (Table es rows ∷ ss) = (map (fold-int ds f) es ≡ es) × SettledStmts ss
+  SettledStmts (AllDifferent es ∷ ss) = (map (fold-int ds f) es ≡ es) × SettledStmts ss
 
   -- requiring met no contradiction
   abbrev Satisfiable : Status → Type 0
@@ -193,21 +192,21 @@ module _ (ds : List Domain) where
   root-true true f h = refl
   root-true false f h = absurd h
 
-  root-settled : (e : BoolExpr) (f : Fixed) → Folded e → Satisfiable (prop e true f) → SettledRoot (is-const e) e
-  root-settled e f h fine = const-or e (λ b q. let r = root-true b f (rw q at fine) in rw q r) (λ q. let s = solid e h q in rw q s)
+  root-settled : (e : BoolExpr) (g : Fixed) → Folded e → Satisfiable (prop e true g) → SettledRoot (is-const e) e
+  root-settled e g h fine = const-or e (λ b q. let r = root-true b g (rw q at fine) in rw q r) (λ q. let s = solid e h q in rw q s)
 
-  settled-stmts : (ss : List Stmt) (f g : Fixed) → Satisfiable (prop-stmts (map (fold-stmt ds f) ss) g) → SettledStmts (map (fold-stmt ds f) ss)
+  settled-stmts : (ss : List Stmt) (g : Fixed) → Satisfiable (prop-stmts (map (fold-stmt ds f) ss) g) → SettledStmts (map (fold-stmt ds f) ss)
   unfolding prop-stmts fold-stmt SettledStmts
-  settled-stmts [] f g fine = tt
-  settled-stmts (Rule e ∷ ss) f g fine = then-fine (prop (fold ds f e) true g) (prop-stmts (map (fold-stmt ds f) ss)) fine (λ g' a b. (root-settled (fold ds f e) g (fold-folded f e) a, settled-stmts ss f g' b))
-  settled-stmts (Table es rows ∷ ss) f g fine = (refold-columns ds es, settled-stmts ss f g fine)
-  settled-stmts (AllDifferent es ∷ ss) f g fine = (refold-columns ds es, settled-stmts ss f g fine)
+  settled-stmts [] g fine = tt
+  settled-stmts (Rule e ∷ ss) g fine = then-fine (prop (fold ds f e) true g) (prop-stmts (map (fold-stmt ds f) ss)) fine (λ g' a b. (root-settled (fold ds f e) g (fold-folded e) a, settled-stmts ss g' b))
+  settled-stmts (Table es rows ∷ ss) g fine = (refold-columns ds f f (λ v b q. q) es, settled-stmts ss g fine)
+  settled-stmts (AllDifferent es ∷ ss) g fine = (refold-columns ds f f (λ v b q. q) es, settled-stmts ss g fine)
 
-  pub settled-shape : (ss : List Stmt) (f : Fixed) (folded : List Stmt) → Rests ds ss f folded → SettledStmts folded
-  settled-shape ss f folded r =
+  pub settled-shape : (ss folded : List Stmt) → Rests ds ss f folded → SettledStmts folded
+  settled-shape ss folded r =
       let h : prop-stmts (map (fold-stmt ds f) ss) f ≡ updated false f = rw (r .origin) at (r .still) in
-      rw (r .origin) (settled-stmts ss f f (rw h tt))
+      rw (r .origin) (settled-stmts ss f (rw h tt))
 
 module _ (p : Problem) (declared : AllDeclared p) (f : Fixed) (ss : List Stmt) (end : optimize p ≡ settled f ss) where
-  pub optimize-shape : SettledStmts (p .domains) ss
-  optimize-shape = settled-shape (p .domains) (p .stmts) f ss (optimize-rests p declared f ss end)
+  pub optimize-shape : SettledStmts (p .domains) f ss
+  optimize-shape = settled-shape (p .domains) f (p .stmts) ss (optimize-rests p declared f ss end)

@@ -14,9 +14,9 @@ use Rattle.laws.specs.Ints.{eqZ}
 use Rattle.laws.specs.Order.{eqZ-is}
 use Rattle.laws.specs.Lists.{any, any-append, different}
 use Rattle.syntax.specs.Words.{max-weight, max-comparison-vars, max-column-vars}
-use Rattle.syntax.specs.Syntax.{Domain, Range, Enumerative, as-constant, domain-of, IntExpr, IConst, IVar, Linear, Terms, tnil, tmore, BoolExpr, Const, Var, NVar, And, Or, Not, Xor, Iff, Imp, Cmp, Members, mnil, more, Stmt, Rule, Table, AllDifferent}
+use Rattle.syntax.specs.Syntax.{Domain, Range, Enumerative, as-constant, domain-of, IfIsRead, IntExpr, IConst, IVar, Linear, If, Terms, tnil, tmore, BoolExpr, Const, Var, NVar, And, Or, Not, Xor, Iff, Imp, Cmp, Members, mnil, more, Stmt, Rule, Table, AllDifferent}
 use Rattle.limits.specs.Limits.{any-comparison, any-comparison-members, any-pair, any-part, domain-weight, weight, terms-weight, heavy, heavy-terms, heavy-comparison, written, written-terms, many-comparison, many-column, heavy-stmt, many-stmt}
-use Rattle.fold.specs.Fold.{Fixed, is-const, has-const, keep-member, kept, join-and, join-or, fold-and, fold-or, not-of, fold-not, fold-var, fold-binary, act, action, Op, op-xor, op-iff, op-imp, Action, be-false, be-true, left, not-left, right, not-right, keep, fold-int-var, fold-sum, constant-folding-int, constant-folding-terms, constant-folding-bool, constant-folding-members, constant-folding-stmt}
+use Rattle.fold.specs.Fold.{Fixed, is-const, has-const, keep-member, kept, join-and, join-or, fold-and, fold-or, not-of, fold-not, fold-var, fold-binary, act, action, Op, op-xor, op-iff, op-imp, Action, be-false, be-true, left, not-left, right, not-right, keep, fold-int-var, fold-sum, fold-if, constant-folding-int, constant-folding-terms, constant-folding-bool, constant-folding-members, constant-folding-stmt}
 use Rattle.sums.specs.Rising.{Among, among-left, among-right, different-part}
 use Rattle.sums.specs.Bounds.{heavy-weight}
 
@@ -39,7 +39,7 @@ among-either {X = X} v us ws m f g = go (any (eqb v) us) refl (sym (any-append (
     go true q h = f q
     go false q h = g h
 
-module _ (ds : List Domain) where
+module _ (ds : List Domain) (f : Fixed) where
   sum-weight : (ts : Terms) → weight ds (fold-sum ts) ≤ terms-weight ds ts
   unfolding weight
   sum-weight tnil = zero-le
@@ -48,22 +48,29 @@ module _ (ds : List Domain) where
       go : (t : Bool) → eqZ k (pos 1) ≡ t → weight ds (cond t e (Linear (tmore k e tnil))) ≤ natAbs k * weight ds e + 0
       go true q = rw (eqZ-is k (pos 1) q) (omega arith)
       go false q = omega arith
-  sum-weight (tmore k e (tmore l f ts)) = omega arith
+  sum-weight (tmore k e (tmore l e' ts)) = omega arith
 
   var-weight : (v : ℕ) (o : Option ℤ) → as-constant (domain-of ds v) ≡ o → weight ds (fold-int-var o v) ≤ domain-weight (domain-of ds v)
   unfolding weight
   var-weight v none e = omega arith
   var-weight v (some c) e = constant-weight (domain-of ds v) c e
 
+  if-weight : (k : Option Bool) (i : IfIsRead) (c d : BoolExpr) (t e t' e' : IntExpr) → weight ds t' ≤ weight ds t → weight ds e' ≤ weight ds e → weight ds (fold-if k i d t' e') ≤ weight ds (If i c t e)
+  unfolding weight
+  if-weight none i c d t e t' e' h g = omega arith
+  if-weight (some true) i c d t e t' e' h g = omega arith
+  if-weight (some false) i c d t e t' e' h g = omega arith
+
   mutual
     unfolding constant-folding-int weight
 
-    pub fold-weight : (e : IntExpr) → weight ds (constant-folding-int ds e) ≤ weight ds e
+    pub fold-weight : (e : IntExpr) → weight ds (constant-folding-int ds f e) ≤ weight ds e
     fold-weight (IConst c) = omega arith
     fold-weight (IVar v) = var-weight v (as-constant (domain-of ds v)) refl
-    fold-weight (Linear ts) = omega (arith, sum-weight (constant-folding-terms ds ts), fold-terms-weight ts)
+    fold-weight (Linear ts) = omega (arith, sum-weight (constant-folding-terms ds f ts), fold-terms-weight ts)
+    fold-weight (If i c t e) = if-weight (is-const (constant-folding-bool ds f c)) i c (constant-folding-bool ds f c) t e (constant-folding-int ds f t) (constant-folding-int ds f e) (fold-weight t) (fold-weight e)
 
-    fold-terms-weight : (ts : Terms) → terms-weight ds (constant-folding-terms ds ts) ≤ terms-weight ds ts
+    fold-terms-weight : (ts : Terms) → terms-weight ds (constant-folding-terms ds f ts) ≤ terms-weight ds ts
     fold-terms-weight tnil = omega arith
     fold-terms-weight (tmore k e ts) = omega (arith, mul-le-mul-left (natAbs k) (fold-weight e), fold-terms-weight ts)
 
@@ -78,32 +85,44 @@ module _ (ds : List Domain) where
       go : (t : Bool) → heavy ds (cond t e (Linear (tmore k e tnil))) ≡ false
       go true = or-no-l (heavy ds e) false h
       go false = rw (le-ltb max-weight (terms-weight ds (tmore k e tnil)) l) h
-  sum-light (tmore k e (tmore m f ts)) l h = rw (le-ltb max-weight (terms-weight ds (tmore k e (tmore m f ts))) l) h
+  sum-light (tmore k e (tmore m e' ts)) l h = rw (le-ltb max-weight (terms-weight ds (tmore k e (tmore m e' ts))) l) h
 
   var-light : (v : ℕ) (o : Option ℤ) → as-constant (domain-of ds v) ≡ o → heavy ds (IVar v) ≡ false → heavy ds (fold-int-var o v) ≡ false
   unfolding heavy weight
   var-light v none e h = h
   var-light v (some c) e h = within (natAbs c) (domain-weight (domain-of ds v)) (constant-weight (domain-of ds v) c e) h
 
+  if-light : (k : Option Bool) (i : IfIsRead) (d : BoolExpr) (t e : IntExpr) → weight ds (If i d t e) ≤ max-weight → heavy ds t ≡ false → heavy ds e ≡ false → heavy ds (fold-if k i d t e) ≡ false
+  unfolding heavy weight
+  if-light none i d t e l h g = rw (le-ltb max-weight (weight ds (If i d t e)) l, h, g) refl
+  if-light (some true) i d t e l h g = h
+  if-light (some false) i d t e l h g = g
+
   mutual
     unfolding constant-folding-int heavy weight
 
-    pub fold-light : (e : IntExpr) → heavy ds e ≡ false → heavy ds (constant-folding-int ds e) ≡ false
+    pub fold-light : (e : IntExpr) → heavy ds e ≡ false → heavy ds (constant-folding-int ds f e) ≡ false
     fold-light (IConst c) h = h
     fold-light (IVar v) h = var-light v (as-constant (domain-of ds v)) refl h
     fold-light (Linear ts) h =
-        sum-light (constant-folding-terms ds ts) (le-trans (fold-terms-weight ts) (heavy-weight ds (Linear ts) h)) (fold-terms-light ts (or-no-r (ltb max-weight (terms-weight ds ts)) (heavy-terms ds ts) h))
+        sum-light (constant-folding-terms ds f ts) (le-trans (fold-terms-weight ts) (heavy-weight ds (Linear ts) h)) (fold-terms-light ts (or-no-r (ltb max-weight (terms-weight ds ts)) (heavy-terms ds ts) h))
+    fold-light (If i c t e) h =
+        let C = constant-folding-bool ds f c in
+        let r = or-no-r (ltb max-weight (weight ds (If i c t e))) (heavy ds t || heavy ds e) h in
+        let T = constant-folding-int ds f t in
+        let E = constant-folding-int ds f e in
+        if-light (is-const C) i C T E (le-trans (if-weight none i c C t e T E (fold-weight t) (fold-weight e)) (heavy-weight ds (If i c t e) h)) (fold-light t (or-no-l (heavy ds t) (heavy ds e) r)) (fold-light e (or-no-r (heavy ds t) (heavy ds e) r))
 
-    fold-terms-light : (ts : Terms) → heavy-terms ds ts ≡ false → heavy-terms ds (constant-folding-terms ds ts) ≡ false
+    fold-terms-light : (ts : Terms) → heavy-terms ds ts ≡ false → heavy-terms ds (constant-folding-terms ds f ts) ≡ false
     fold-terms-light tnil h = refl
     fold-terms-light (tmore k e ts) h = rw (fold-light e (or-no-l (heavy ds e) (heavy-terms ds ts) h), fold-terms-light ts (or-no-r (heavy ds e) (heavy-terms ds ts) h)) refl
 
-  pub fold-comparison-light : (a b : IntExpr) → heavy-comparison ds a b ≡ false → heavy-comparison ds (constant-folding-int ds a) (constant-folding-int ds b) ≡ false
+  pub fold-comparison-light : (a b : IntExpr) → heavy-comparison ds a b ≡ false → heavy-comparison ds (constant-folding-int ds f a) (constant-folding-int ds f b) ≡ false
   unfolding heavy-comparison
   fold-comparison-light a b h =
       let r = or-no-r (heavy ds a) (heavy ds b || ltb max-weight (weight ds a + weight ds b)) h in
       rw (fold-light a (or-no-l (heavy ds a) (heavy ds b || ltb max-weight (weight ds a + weight ds b)) h), fold-light b (or-no-l (heavy ds b) (ltb max-weight (weight ds a + weight ds b)) r))
-      (within (weight ds (constant-folding-int ds a) + weight ds (constant-folding-int ds b)) (weight ds a + weight ds b) (omega (arith, fold-weight a, fold-weight b)) (or-no-r (heavy ds b) (ltb max-weight (weight ds a + weight ds b)) r))
+      (within (weight ds (constant-folding-int ds f a) + weight ds (constant-folding-int ds f b)) (weight ds a + weight ds b) (omega (arith, fold-weight a, fold-weight b)) (or-no-r (heavy ds b) (ltb max-weight (weight ds a + weight ds b)) r))
 
   -- ---- 10: variables written
 
@@ -115,37 +134,47 @@ module _ (ds : List Domain) where
       go : (t : Bool) → Among (written (cond t e (Linear (tmore k e tnil)))) v → Among (written e ++ []) v
       go true m = among-left v (written e) [] m
       go false m = m
-  sum-written (tmore k e (tmore l f ts)) v m = m
+  sum-written (tmore k e (tmore l e' ts)) v m = m
 
   var-written : (u : ℕ) (o : Option ℤ) (v : ℕ) → Among (written (fold-int-var o u)) v → Among (u ∷ []) v
   unfolding written
   var-written u none v m = m
   var-written u (some c) v m = never m
 
+  if-written : (k : Option Bool) (i : IfIsRead) (c : BoolExpr) (t e : IntExpr) (v : ℕ) → Among (written (fold-if k i c t e)) v → Among (written t ++ written e) v
+  unfolding written
+  if-written none i c t e v m = m
+  if-written (some true) i c t e v m = among-left v (written t) (written e) m
+  if-written (some false) i c t e v m = among-right v (written t) (written e) m
+
   mutual
     unfolding constant-folding-int written
 
-    pub fold-written : (e : IntExpr) (v : ℕ) → Among (written (constant-folding-int ds e)) v → Among (written e) v
+    pub fold-written : (e : IntExpr) (v : ℕ) → Among (written (constant-folding-int ds f e)) v → Among (written e) v
     fold-written (IConst c) v m = m
     fold-written (IVar u) v m = var-written u (as-constant (domain-of ds u)) v m
-    fold-written (Linear ts) v m = fold-terms-written ts v (sum-written (constant-folding-terms ds ts) v m)
+    fold-written (Linear ts) v m = fold-terms-written ts v (sum-written (constant-folding-terms ds f ts) v m)
+    fold-written (If i c t e) v m =
+        let T = constant-folding-int ds f t in
+        let E = constant-folding-int ds f e in
+        among-either v (written T) (written E) (if-written (is-const (constant-folding-bool ds f c)) i (constant-folding-bool ds f c) T E v m) (λ q. among-left v (written t) (written e) (fold-written t v q)) (λ q. among-right v (written t) (written e) (fold-written e v q))
 
-    fold-terms-written : (ts : Terms) (v : ℕ) → Among (written-terms (constant-folding-terms ds ts)) v → Among (written-terms ts) v
+    fold-terms-written : (ts : Terms) (v : ℕ) → Among (written-terms (constant-folding-terms ds f ts)) v → Among (written-terms ts) v
     fold-terms-written tnil v m = m
     fold-terms-written (tmore k e ts) v m =
-        among-either v (written (constant-folding-int ds e)) (written-terms (constant-folding-terms ds ts)) m (λ q. among-left v (written e) (written-terms ts) (fold-written e v q)) (λ q. among-right v (written e) (written-terms ts) (fold-terms-written ts v q))
+        among-either v (written (constant-folding-int ds f e)) (written-terms (constant-folding-terms ds f ts)) m (λ q. among-left v (written e) (written-terms ts) (fold-written e v q)) (λ q. among-right v (written e) (written-terms ts) (fold-terms-written ts v q))
 
-  pub fold-comparison-few : (a b : IntExpr) → many-comparison a b ≡ false → many-comparison (constant-folding-int ds a) (constant-folding-int ds b) ≡ false
+  pub fold-comparison-few : (a b : IntExpr) → many-comparison a b ≡ false → many-comparison (constant-folding-int ds f a) (constant-folding-int ds f b) ≡ false
   unfolding many-comparison
   fold-comparison-few a b h =
-      let x = written (constant-folding-int ds a) in
-      let y = written (constant-folding-int ds b) in
+      let x = written (constant-folding-int ds f a) in
+      let y = written (constant-folding-int ds f b) in
       let p = different-part (x ++ y) (written a ++ written b) (λ v m. among-either v x y m (λ q. among-left v (written a) (written b) (fold-written a v q)) (λ q. among-right v (written a) (written b) (fold-written b v q))) in
       le-ltb max-comparison-vars (different (x ++ y)) (le-trans p (ltb-false max-comparison-vars (different (written a ++ written b)) h))
 
-  pub fold-column-few : (e : IntExpr) → many-column e ≡ false → many-column (constant-folding-int ds e) ≡ false
+  pub fold-column-few : (e : IntExpr) → many-column e ≡ false → many-column (constant-folding-int ds f e) ≡ false
   unfolding many-column
-  fold-column-few e h = le-ltb max-column-vars (different (written (constant-folding-int ds e))) (le-trans (different-part (written (constant-folding-int ds e)) (written e) (fold-written e)) (ltb-false max-column-vars (different (written e)) h))
+  fold-column-few e h = le-ltb max-column-vars (different (written (constant-folding-int ds f e))) (le-trans (different-part (written (constant-folding-int ds f e)) (written e) (fold-written e)) (ltb-false max-column-vars (different (written e)) h))
 
 module _ (P : IntExpr → IntExpr → Bool) (C : IntExpr → Bool) where
   abbrev No : BoolExpr → Type 0
@@ -220,7 +249,7 @@ module _ (P : IntExpr → IntExpr → Bool) (C : IntExpr → Bool) where
   unfolding fold-binary
   fold-binary-no o a b h k = act-no (action o (is-const a) (is-const b)) o a b h k
 
-  module _ (ds : List Domain) (f : Fixed) (keeps : (a b : IntExpr) → P a b ≡ false → P (constant-folding-int ds a) (constant-folding-int ds b) ≡ false) where
+  module _ (ds : List Domain) (f : Fixed) (keeps : (a b : IntExpr) → P a b ≡ false → P (constant-folding-int ds f a) (constant-folding-int ds f b) ≡ false) where
     mutual
       unfolding constant-folding-bool any-comparison
 
@@ -240,21 +269,21 @@ module _ (P : IntExpr → IntExpr → Bool) (C : IntExpr → Bool) where
       fold-members-no mnil h = refl
       fold-members-no (more e ms) h = rw (fold-no e (or-no-l (any-comparison P C e) (any-comparison-members P C ms) h), fold-members-no ms (or-no-r (any-comparison P C e) (any-comparison-members P C ms) h)) refl
 
-    columns-no : (D : IntExpr → Bool) → ((e : IntExpr) → D e ≡ false → D (constant-folding-int ds e) ≡ false) → (es : List IntExpr) → any D es ≡ false → any D (map (constant-folding-int ds) es) ≡ false
+    columns-no : (D : IntExpr → Bool) → ((e : IntExpr) → D e ≡ false → D (constant-folding-int ds f e) ≡ false) → (es : List IntExpr) → any D es ≡ false → any D (map (constant-folding-int ds f) es) ≡ false
     columns-no D column [] h = refl
     columns-no D column (e ∷ es) h = rw (column e (or-no-l (D e) (any D es) h), columns-no D column es (or-no-r (D e) (any D es) h)) refl
 
-    row-no : (e : IntExpr) (es : List IntExpr) → any (P e) es ≡ false → any (P (constant-folding-int ds e)) (map (constant-folding-int ds) es) ≡ false
+    row-no : (e : IntExpr) (es : List IntExpr) → any (P e) es ≡ false → any (P (constant-folding-int ds f e)) (map (constant-folding-int ds f) es) ≡ false
     row-no e [] h = refl
     row-no e (g ∷ es) h = rw (keeps e g (or-no-l (P e g) (any (P e) es) h), row-no e es (or-no-r (P e g) (any (P e) es) h)) refl
 
-    pairs-no : (es : List IntExpr) → any-pair P es ≡ false → any-pair P (map (constant-folding-int ds) es) ≡ false
+    pairs-no : (es : List IntExpr) → any-pair P es ≡ false → any-pair P (map (constant-folding-int ds f) es) ≡ false
     unfolding any-pair
     pairs-no [] h = refl
     pairs-no (e ∷ es) h = rw (row-no e es (or-no-l (any (P e) es) (any-pair P es) h), pairs-no es (or-no-r (any (P e) es) (any-pair P es) h)) refl
 
     -- O: the test of an expression by itself
-    module _ (O : IntExpr → Bool) (column : (e : IntExpr) → C e ≡ false → C (constant-folding-int ds e) ≡ false) (one : (e : IntExpr) → O e ≡ false → O (constant-folding-int ds e) ≡ false) where
+    module _ (O : IntExpr → Bool) (column : (e : IntExpr) → C e ≡ false → C (constant-folding-int ds f e) ≡ false) (one : (e : IntExpr) → O e ≡ false → O (constant-folding-int ds f e) ≡ false) where
       pub fold-stmt-no : (s : Stmt) → any-part P C O s ≡ false → any-part P C O (constant-folding-stmt ds f s) ≡ false
       unfolding any-part constant-folding-stmt
       fold-stmt-no (Rule e) h = fold-no e h
@@ -263,7 +292,7 @@ module _ (P : IntExpr → IntExpr → Bool) (C : IntExpr → Bool) where
 
 -- refusals 9 and 10 of a statement, after folding under any fixed values
 pub fold-stmt-light : (ds : List Domain) (f : Fixed) (s : Stmt) → heavy-stmt ds s ≡ false → heavy-stmt ds (constant-folding-stmt ds f s) ≡ false
-fold-stmt-light ds f = fold-stmt-no (heavy-comparison ds) (heavy ds) ds f (fold-comparison-light ds) (heavy ds) (fold-light ds) (fold-light ds)
+fold-stmt-light ds f = fold-stmt-no (heavy-comparison ds) (heavy ds) ds f (fold-comparison-light ds f) (heavy ds) (fold-light ds f) (fold-light ds f)
 
 pub fold-stmt-few : (ds : List Domain) (f : Fixed) (s : Stmt) → many-stmt s ≡ false → many-stmt (constant-folding-stmt ds f s) ≡ false
-fold-stmt-few ds f = fold-stmt-no many-comparison many-column ds f (fold-comparison-few ds) (λ e. false) (fold-column-few ds) (λ e h. h)
+fold-stmt-few ds f = fold-stmt-no many-comparison many-column ds f (fold-comparison-few ds f) (λ e. false) (fold-column-few ds f) (λ e h. h)

@@ -20,7 +20,7 @@ use Rattle.fold.specs.Table.{op-num, action-num, bit, state-num, op-small, bit-
 use Rattle.fold.specs.Forms.{list-of, fold-list, list-folding, binary-folding, list-words, binary-words, bit-word, op-word, op-word-is, Declared, declared-list, declared-binary, bool-long, members-long}
 use Rattle.fold.specs.Kept.{fold-int-size, fold-size, fold-members-size, fold-every, kept-size, fold-list-size, not-size, binary-size}
 use Rattle.domains.specs.Declared.{Plain}
-use Rattle.folding.specs.Steps.{state-of, fixed-of, fixed-in, var-step, not-step, not-state, list-step, list-state, binary-step, binary-state, Reads-int, Ready-int, Int-post, Reads, Reads-members, Ready, Ready-members, Fold-post, Members-post, var-words, not-words, not-state-is, bit-state, fold-list-words, fold-list-state, act-words, fold-binary-state, hit-one, count-one, kept-fewer, members-count}
+use Rattle.folding.specs.Steps.{state-of, fixed-of, fixed-in, same-fixed, var-step, not-step, not-state, list-step, list-state, binary-step, binary-state, Reads-int, Ready-int, Int-post, Reads, Reads-members, Ready, Ready-members, Fold-post, Members-post, var-words, not-words, not-state-is, bit-state, fold-list-words, fold-list-state, act-words, fold-binary-state, hit-one, count-one, kept-fewer, members-count}
 
 -- ---- the form, from the first word
 
@@ -198,11 +198,6 @@ module _ (ws : List ℤ) (d at : ℕ) (out : List ℤ) (o : ℕ) (r : Ready ws d
   pub ready-first : Plain ws at
   ready-first = record { inside = omega (arith, ready-inside .0); value = bool-code (r .it); is = first-word max-bools _ ws at (r .it) (r .reads .vars) (r .reads .words) }
 
--- the fixed values are below what is written
-pub same-fixed : (out out' : List ℤ) → take max-bools out' ≡ take max-bools out → fixed-in out' ≡ fixed-in out
-unfolding fixed-in
-same-fixed out out' h = ap fixed-of h
-
 getD-any : (l : List ℤ) (v : ℕ) (x y : ℤ) → v < length l → getD l v x ≡ getD l v y
 getD-any [] v x y h = absurd (omega arith)
 getD-any (z ∷ l) zero x y h = refl
@@ -217,10 +212,10 @@ above-both : (n : ℕ) (out mid out' : List ℤ) (a b : ℕ) → drop a mid ≡ 
 above-both n out mid out' a b p q h k = drop-up b n out' mid q k ∙ drop-up a n mid out p h
 
 module _ (ws : List ℤ) (d at : ℕ) (out : List ℤ) (o w : ℕ) (hw : getD ws at (pos 0) ≡ pos w) where
-  pub code-is : (ni : ℕ) (e : BoolExpr) → Reads ni ws at e → bool-code e ≡ w
+  code-is : (ni : ℕ) (e : BoolExpr) → Reads ni ws at e → bool-code e ≡ w
   code-is ni e r = pos-eq _ _ _ (first-word max-bools ni ws at e (r .vars) (r .words)) hw
 
-  pub low-tag : Ready ws d at out o → 10 ≤ w
+  low-tag : Ready ws d at out o → 10 ≤ w
   low-tag r = omega (arith, code-low max-bools _ (r .it) (r .reads .vars), code-is _ (r .it) (r .reads))
 
   pub ready-second : Ready ws d at out o → (14 ≤ w → w ≡ 18) → Plain ws (at + 1)
@@ -287,10 +282,11 @@ module _ (ws : List ℤ) (d at : ℕ) (out : List ℤ) (o w : ℕ) (hw : getD ws
         cmp-inv (r .it) (code-is _ (r .it) (r .reads) ∙ h18) λ p a b q.
         let z : o + suc (suc (length (encode-int a ++ encode-int b))) ≤ length out = rw q at (r .room) in
         let me : m ≡ o + 2 = s .pushed .end in
-        record { ds = r .ds; domains = r .domains; it = a; reads = reads-sides _ ws at p a b (rw q at (r .reads)) .0; room = omega (arith, length-append (encode-int a) (encode-int b)) }
+        let lo : max-bools ≤ o = r .low in
+        record { ds = r .ds; domains = r .domains; it = a; reads = reads-sides _ ws at p a b (rw q at (r .reads)) .0; low = omega arith; room = omega (arith, length-append (encode-int a) (encode-int b)) }
 
     module _ (v : ℕ) (hv : getD ws (at + 1) (pos 0) ≡ pos v) (m : ℕ) (mid : List ℤ) (s : Stored out o (pos 18 ∷ pos v ∷ []) mid m) (mid' : List ℤ) (next end : ℕ) (p : Int-post ws d (at + 2) mid m mid' next end) where
-      pub right-side : Ready ws d at out o → length mid ≡ length out → length mid' ≡ length mid → Ready-int ws d next mid' end
+      pub right-side : Ready ws d at out o → length mid ≡ length out → length mid' ≡ length mid → Ready-int ws d next mid' end × (at + 1 < next)
       unfolding encode-bool
       right-side r l l' =
           cmp-inv (r .it) (code-is _ (r .it) (r .reads) ∙ h18) λ x a b q.
@@ -299,12 +295,13 @@ module _ (ws : List ℤ) (d at : ℕ) (out : List ℤ) (o w : ℕ) (hw : getD ws
           let rs = reads-sides _ ws at x a b (rw q at (r .reads)) in
           let y = p (r .ds) a (r .domains) (rs .0) in
           let nx : next ≡ at + 2 + length (encode-int a) = y .nexts in
-          let en : end ≡ m + length (encode-int (constant-folding-int (r .ds) a)) = y .pushed .end in
-          record { ds = r .ds; domains = r .domains; it = b; reads = rw nx (rs .1); room = omega (arith, length-append (encode-int a) (encode-int b), fold-int-size (r .ds) a) }
+          let en : end ≡ m + length (encode-int (constant-folding-int (r .ds) (fixed-in mid) a)) = y .pushed .end in
+          let lo : max-bools ≤ o = r .low in
+          (record { ds = r .ds; domains = r .domains; it = b; reads = rw nx (rs .1); low = omega arith; room = omega (arith, length-append (encode-int a) (encode-int b), fold-int-size (r .ds) (fixed-in mid) a) }, omega arith)
 
-      pub cmp-folds : (out' : List ℤ) (next' end' : ℕ) → Int-post ws d next mid' end out' next' end' → Fold-post ws d at out o out' next' end' 2
+      pub cmp-folds : (out' : List ℤ) (next' end' : ℕ) → Ready ws d at out o → length mid ≡ length out → length mid' ≡ length mid → Int-post ws d next mid' end out' next' end' → Fold-post ws d at out o out' next' end' 2
       unfolding encode-bool second constant-folding-bool
-      cmp-folds out' next' end' p' ds e hd r =
+      cmp-folds out' next' end' rd l l' p' ds e hd r =
           cmp-inv e (code-is _ e r ∙ h18) λ x a b q.
           let rs = reads-sides _ ws at x a b (rw q at r) in
           let ov : op-word x ≡ v = rw q at (second-is v hv _ e r (λ l. h18)) in
@@ -313,13 +310,22 @@ module _ (ws : List ℤ) (d at : ℕ) (out : List ℤ) (o w : ℕ) (hw : getD ws
           let y' = p' ds b hd (rw nx (rs .1)) in
           let nx' : next' ≡ next + length (encode-int b) = y' .nexts in
           let me : m ≡ o + 2 = s .pushed .end in
-          let en : end ≡ m + length (encode-int (constant-folding-int ds a)) = y .pushed .end in
+          let lo : max-bools ≤ o = rd .low in
+          let ro : o ≤ length out = omega (arith, rd .room) in
+          let f1 : fixed-in mid ≡ fixed-in out = same-fixed out mid (pushed-below out o _ mid m max-bools (s .pushed) lo ro) in
+          let A = constant-folding-int ds (fixed-in out) a in
+          let B = constant-folding-int ds (fixed-in out) b in
+          let pa : Pushed mid m (encode-int A) mid' end = rw f1 at (y .pushed) in
+          let en : end ≡ m + length (encode-int A) = pa .end in
+          let rm : m ≤ length mid = omega (arith, ready-inside ws d at out o rd .1) in
+          let f2 : fixed-in mid' ≡ fixed-in out = same-fixed mid mid' (pushed-below mid m (encode-int A) mid' end max-bools pa (omega arith) rm) ∙ f1 in
+          let pb : Pushed mid' end (encode-int B) out' end' = rw f2 at (y' .pushed) in
           let eo : encode-op x ≡ pos v = op-word-is x ∙ ap pos ov in
           rw q (record {
             nexts = omega (arith, length-append (encode-int a) (encode-int b));
             states = refl;
-            pushed = rw eo (pushed-then out o (pos 18 ∷ pos v ∷ []) mid m _ out' end' (s .pushed) (pushed-then mid m _ mid' end _ out' end' (y .pushed) (y' .pushed)));
-            above = drop-up (end + length (encode-int b)) (o + length (encode-bool (Cmp x a b))) out' mid' (y' .above) (omega (arith, length-append (encode-int a) (encode-int b), fold-int-size ds a))
+            pushed = rw eo (pushed-then out o (pos 18 ∷ pos v ∷ []) mid m _ out' end' (s .pushed) (pushed-then mid m (encode-int A) mid' end (encode-int B) out' end' pa pb));
+            above = drop-up (end + length (encode-int b)) (o + length (encode-bool (Cmp x a b))) out' mid' (y' .above) (omega (arith, length-append (encode-int a) (encode-int b), fold-int-size ds (fixed-in out) a))
                 ∙ drop-up (m + length (encode-int a)) (o + length (encode-bool (Cmp x a b))) mid' mid (y .above) (omega (arith, length-append (encode-int a) (encode-int b)))
                 ∙ drop-up m (o + length (encode-bool (Cmp x a b))) mid out (s .above) (omega arith);
           })
@@ -523,7 +529,7 @@ members-none ws d at n out o b h ds c mnil hb hd r = record { nexts = omega arit
 members-none ws d at n out o b h ds c (more e ms) hb hd r = absurd (let s : n ≡ suc (count-members ms) = r .size in omega arith)
 
 module _ (ws : List ℤ) (d at n : ℕ) (out : List ℤ) (o : ℕ) (z : n ≡ 0 → ⊥) where
-  pub more-inv : {X : Type 0} (ms : Members) → n ≡ count-members ms → ((e : BoolExpr) (ns : Members) → ms ≡ more e ns → X) → X
+  more-inv : {X : Type 0} (ms : Members) → n ≡ count-members ms → ((e : BoolExpr) (ns : Members) → ms ≡ more e ns → X) → X
   more-inv mnil h go = absurd (z h)
   more-inv (more e ns) h go = go e ns refl
 

@@ -36,6 +36,10 @@ fixed-of l = λ v. state-of (getD l v (pos 2))
 unfoldable pub fixed-in : List ℤ → Fixed
 fixed-in out = fixed-of (take max-bools out)
 
+pub same-fixed : (out out' : List ℤ) → take max-bools out' ≡ take max-bools out → fixed-in out' ≡ fixed-in out
+unfolding fixed-in
+same-fixed out out' h = ap fixed-of h
+
 -- ---- the words of each closing step
 
 unfoldable pub var-step : ℕ → ℕ → List ℤ
@@ -65,15 +69,15 @@ binary-step k op l r =
 unfoldable pub binary-state : ℕ → ℕ
 binary-state k = cond (ltb k 2) k 2
 
--- ---- integers: what stands in the words, and what is written for it
+-- ---- integers: what stands in the words above the fixed values, and what is written for it
 
 pub record Reads-int (ni : ℕ) (ws : List ℤ) (at : ℕ) (e : IntExpr) : Type 0 where
   pub words : Has ws at (encode-int e)
-  pub vars : Declared-int ni e
+  pub vars : Declared-int max-bools ni e
 
 pub record Reads-terms (ni : ℕ) (ws : List ℤ) (at n : ℕ) (ts : Terms) : Type 0 where
   pub words : Has ws at (encode-terms ts)
-  pub vars : Declared-terms ni ts
+  pub vars : Declared-terms max-bools ni ts
   pub size : n ≡ count-terms ts
 
 pub record Ready-int (ws : List ℤ) (d at : ℕ) (out : List ℤ) (o : ℕ) : Type 0 where
@@ -81,6 +85,7 @@ pub record Ready-int (ws : List ℤ) (d at : ℕ) (out : List ℤ) (o : ℕ) : T
   pub domains : Domains ws d ds
   pub it : IntExpr
   pub reads : Reads-int (length ds) ws at it
+  pub low : max-bools ≤ o
   pub room : o + length (encode-int it) ≤ length out
 
 pub record Ready-terms (ws : List ℤ) (d at n : ℕ) (out : List ℤ) (o : ℕ) : Type 0 where
@@ -88,17 +93,18 @@ pub record Ready-terms (ws : List ℤ) (d at n : ℕ) (out : List ℤ) (o : ℕ)
   pub domains : Domains ws d ds
   pub them : Terms
   pub reads : Reads-terms (length ds) ws at n them
+  pub low : max-bools ≤ o
   pub room : o + length (encode-terms them) ≤ length out
 
 -- what is written at o, and where reading and writing went on; nothing above the room is touched
 pub record Folds-int (ds : List Domain) (out : List ℤ) (at o : ℕ) (e : IntExpr) (out' : List ℤ) (next end : ℕ) : Type 0 where
   pub nexts : next ≡ at + length (encode-int e)
-  pub pushed : Pushed out o (encode-int (constant-folding-int ds e)) out' end
+  pub pushed : Pushed out o (encode-int (constant-folding-int ds (fixed-in out) e)) out' end
   pub above : drop (o + length (encode-int e)) out' ≡ drop (o + length (encode-int e)) out
 
 pub record Folds-terms (ds : List Domain) (out : List ℤ) (at o : ℕ) (ts : Terms) (out' : List ℤ) (next end : ℕ) : Type 0 where
   pub nexts : next ≡ at + length (encode-terms ts)
-  pub pushed : Pushed out o (encode-terms (constant-folding-terms ds ts)) out' end
+  pub pushed : Pushed out o (encode-terms (constant-folding-terms ds (fixed-in out) ts)) out' end
   pub above : drop (o + length (encode-terms ts)) out' ≡ drop (o + length (encode-terms ts)) out
 
 abbrev pub Int-post : List ℤ → ℕ → ℕ → List ℤ → ℕ → List ℤ → ℕ → ℕ → Type 0

@@ -301,20 +301,40 @@ pub fn constant_folding_int(words: &[i32], d: usize, at: usize, work: &mut [i32]
             end: o + 2,
         };
     }
-    let v = domains::number(words, at + 1);
     if w == 21 {
+        let v = domains::number(words, at + 1);
         let end = put_int_var(words, d, work, o, v);
         return Span { next: at + 2, end };
     }
-    if v == 0 {
+    if w == 23 {
+        return fold_if(words, d, at, work, o);
+    }
+    let n = domains::number(words, at + 1);
+    if n == 0 {
         let end = put_two(work, o, 20, 0);
         return Span { next: at + 2, end };
     }
-    if is_single(words, at + 2, v) {
+    if is_single(words, at + 2, n) {
         return constant_folding_int(words, d, at + 3, work, o);
     }
-    let m = put_two(work, o, 22, v);
-    constant_folding_terms(words, d, at + 2, v, work, m)
+    let m = put_two(work, o, 22, n);
+    constant_folding_terms(words, d, at + 2, n, work, m)
+}
+
+// An If. Where the condition is known, the branch that it picks is written over it; what the other one wrote lies behind the end, or below that branch.
+fn fold_if(words: &[i32], d: usize, at: usize, work: &mut [i32], o: usize) -> Span
+    requires { ⌜ Ready-int (now words) d at (now work) o ⌝ }
+    requires { ⌜ getD (now words) at (pos 0) ≡ pos 23 ⌝ }
+    ensures { λ r. ⌜ Int-post (now (words .entry)) d at (now (work .entry)) o (now (work .exit)) (r .next) (r .end) ⌝ }
+{
+    put(work, o, 23);
+    let c = constant_folding_bool(words, d, at + 1, work, o + 1);
+    let p = kept_end(c.state, o, c.end);
+    let t = constant_folding_int(words, d, c.next, work, p);
+    let q = at_state(c.state, 0, o, t.end);
+    let e = constant_folding_int(words, d, t.next, work, q);
+    let end = at_state(c.state, 1, t.end, e.end);
+    Span { next: e.next, end }
 }
 
 // ---- a member that is no constant is kept
@@ -336,6 +356,13 @@ fn hits(state: usize, b: usize, hit: bool) -> bool
     ensures { λ r. ⌜ r ≡ (eqb state b || hit) ⌝ }
 {
     if state == b { true } else { hit }
+}
+
+// One place in one state, another in the others.
+fn at_state(state: usize, s: usize, a: usize, b: usize) -> usize
+    ensures { λ r. ⌜ r ≡ cond (eqb state s) a b ⌝ }
+{
+    if state == s { a } else { b }
 }
 
 // ---- Boolean expressions

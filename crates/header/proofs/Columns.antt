@@ -32,7 +32,7 @@ use Rattle.output.proofs.Differences.{count-nat}
 
 -- ---- the parts of the work slice that are lent
 
-abbrev pub part : List ℤ → ℕ → List ℤ
+abbrev part : List ℤ → ℕ → List ℤ
 part w from = take (length w - from) (drop from w)
 
 part-is : (w : List ℤ) (from : ℕ) → part w from ≡ drop from w
@@ -84,7 +84,7 @@ module _ {w : List ℤ} {place : ℕ} {e : IntExpr} {ds : List Domain} {dom : �
     pub bounds-asked : Bounded 0 1 bounds s
     bounds-asked = column-bounded ds numbers bounds e same s (x .right e (c .has) .0) (x .words) (c .light)
 
-    pub bounds-given : (low high : ℤ) → Range low high ≡ get-domain-linear-sum (domain-at 0 1 bounds) (sum-of s) → Range low high ≡ domain
+    bounds-given : (low high : ℤ) → Range low high ≡ get-domain-linear-sum (domain-at 0 1 bounds) (sum-of s) → Range low high ≡ domain
     bounds-given low high h =
         h ∙ ap (get-domain-linear-sum (domain-at 0 1 bounds)) (stands-sum s (linear-of (number-at numbers) e) (x .right e (c .has) .0))
         ∙ column-domain ds numbers bounds e same dom known
@@ -97,17 +97,17 @@ module _ {w : List ℤ} {place : ℕ} {e : IntExpr} {ds : List Domain} {dom : �
   unfolding get-domain-linear-sum
   whole-bounds (linear-sum k ts) n h = rw (take-all (length ts) ts (omega arith)) at h
 
-  pub small : (natAbs (lower-bound domain) ≤ max-weight) × (natAbs (upper-bound domain) ≤ max-weight)
+  small : (natAbs (lower-bound domain) ≤ max-weight) × (natAbs (upper-bound domain) ≤ max-weight)
   small = let l = linear-of (int-number w) e in whole-bounds l max-weight (domain-bounds-fit dom ds (int-number w) e (c .known) (c .light) (length (terms-of l)))
 
 pub apart-size : (low high : ℤ) → natAbs (high -ℤ low) ≤ natAbs high + natAbs low
 apart-size low high = omega (arith, natAbs-add high (negℤ low), natAbs-negℤ low)
 
 module _ (low high : ℤ) (l : natAbs low ≤ max-weight) (h : natAbs high ≤ max-weight) where
-  pub apart-fits : SFits w32 (high -ℤ low)
+  apart-fits : SFits w32 (high -ℤ low)
   apart-fits = sfits-natAbs w32 (high -ℤ low) (omega (arith, apart-size low high))
 
-  pub size-fits : SFits w32 ((high -ℤ low) +ℤ pos 1)
+  size-fits : SFits w32 ((high -ℤ low) +ℤ pos 1)
   size-fits = sfits-natAbs w32 ((high -ℤ low) +ℤ pos 1) (omega (arith, natAbs-add (high -ℤ low) (pos 1), apart-size low high))
 
 -- of the column that stands there, whichever it is

@@ -14,7 +14,7 @@ use Rattle.laws.specs.Lists.{flat}
 use Rattle.laws.specs.Writes.{cap, Wrote, wrote-none, wrote-then, wrote-length, wrote-to, Open}
 use Rattle.syntax.specs.Syntax.{Domain, Range, lower-bound, upper-bound, num-candidates, domain-of, Stmt, Problem, encode}
 use Rattle.fold.specs.Fold.{Fixed}
-use Rattle.tables.specs.Emitted.{length-emitted}
+use Rattle.clauses.specs.Emitted.{length-emitted}
 use Rattle.answer.specs.Answer.{domain-words}
 use Rattle.walk.specs.declared.Counters.{Counters}
 use Rattle.output.proofs.Laws.{open-next}
@@ -29,10 +29,10 @@ module _ (w : List ℤ) (n : ℕ) (low high : ℤ) (room : free-from + 2 * n + 1
   abbrev pub stored : List ℤ
   stored = set (set w (free-from + 2 * n) low) (free-from + 2 * n + 1) high
 
-  pub stored-size : length stored ≡ length w
+  stored-size : length stored ≡ length w
   stored-size = length-set (set w (free-from + 2 * n) low) (free-from + 2 * n + 1) high ∙ length-set w (free-from + 2 * n) low
 
-  pub stored-below : take free-from stored ≡ take free-from w
+  stored-below : take free-from stored ≡ take free-from w
   stored-below = take-set-le free-from (set w (free-from + 2 * n) low) (free-from + 2 * n + 1) high (omega arith) ∙ take-set-le free-from w (free-from + 2 * n) low (omega arith)
 
   other : (k : ℕ) → (k ≡ free-from + 2 * n → ⊥) → (k ≡ free-from + 2 * n + 1 → ⊥) → getD stored k (pos 0) ≡ getD w k (pos 0)
@@ -44,7 +44,7 @@ module _ (w : List ℤ) (n : ℕ) (low high : ℤ) (room : free-from + 2 * n + 1
   high-stands : getD stored (free-from + 2 * n + 1) (pos 0) ≡ high
   high-stands = getD-set-same (set w (free-from + 2 * n) low) (free-from + 2 * n + 1) high (pos 0) (omega (arith, length-set w (free-from + 2 * n) low))
 
-  pub stored-pairs : (ds : List Domain) → low ≡ lower-bound (domain-of ds n) → high ≡ upper-bound (domain-of ds n) → Pairs ds w n → Pairs ds stored (n + 1)
+  stored-pairs : (ds : List Domain) → low ≡ lower-bound (domain-of ds n) → high ≡ upper-bound (domain-of ds n) → Pairs ds w n → Pairs ds stored (n + 1)
   stored-pairs ds l h x k b = go (ltb k n) refl
     where
       go : (t : Bool) → ltb k n ≡ t → (getD stored (free-from + 2 * k) (pos 0) ≡ lower-bound (domain-of ds k)) × (getD stored (free-from + 2 * k + 1) (pos 0) ≡ upper-bound (domain-of ds k))
@@ -55,7 +55,7 @@ module _ (w : List ℤ) (n : ℕ) (low high : ℤ) (room : free-from + 2 * n + 1
           let m : k ≡ n = omega (arith, ltb-false k n q) in
           rw m (low-stands ∙ l, high-stands ∙ h)
 
-pub three-words : {out a b e : List ℤ} {o p q r : ℕ} {low high size : ℤ} (d : Domain) → length out ≤ cap → IsDomain d low high size
+three-words : {out a b e : List ℤ} {o p q r : ℕ} {low high size : ℤ} (d : Domain) → length out ≤ cap → IsDomain d low high size
     → Wrote out o (low ∷ []) a p → Wrote a p (high ∷ []) b q → Wrote b q (size ∷ []) e r → Wrote out o (domain-words d) e r
 three-words {out} {a} {b} {e} {o} {p} {q} {r} {low} {high} {size} d l i x y z =
     let k : length a ≤ cap = omega (arith, wrote-length x) in

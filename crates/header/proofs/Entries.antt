@@ -59,7 +59,7 @@ declared-is set v at h a b c l u n ds s m =
 
 -- ---- the place of a record
 
-pub place-is : (n : ℕ) → pos 0 -ℤ (negsuc n +ℤ pos 1) ≡ pos n
+place-is : (n : ℕ) → pos 0 -ℤ (negsuc n +ℤ pos 1) ≡ pos n
 place-is n = ap (λ (z : ℤ). pos 0 -ℤ z) (+ℤ-one (negsuc n)) ∙ +ℤ-idl (negℤ (sucℤ (negsuc n))) ∙ go n
   where
     go : (n : ℕ) → negℤ (sucℤ (negsuc n)) ≡ pos n

@@ -13,7 +13,7 @@ use Rattle.laws.specs.Writes.{cap, Wrote, wrote-then, wrote-length, wrote-to}
 use Rattle.syntax.specs.Syntax.{Stmt, Problem}
 use Rattle.fold.specs.Fold.{Fixed}
 use Rattle.clauses.specs.Log.{next-bool, get-bool-var, get-int-var}
-use Rattle.tables.specs.Emitted.{length-emitted}
+use Rattle.clauses.specs.Emitted.{length-emitted}
 use Rattle.answer.specs.Answer.{fixed-word, map-word, bool-word, domain-words}
 use Rattle.walk.specs.Item.{limit, nat, bool-map, int-map, bool-at, int-entry}
 use Rattle.walk.specs.declared.Counters.{Counters}
@@ -66,7 +66,7 @@ module _ (merge : Bool) (p : Problem) (f : Fixed) (ss : List Stmt) (w : List ℤ
       rw (n, k) refl
 
   -- the header's words by the work slice
-  pub header-is : maps-words w b i ++ (pos (c .bools) ∷ pos (c .ints) ∷ flat (map domain-words (emitted merge p ss))) ≡ head-words merge p f ss
+  header-is : maps-words w b i ++ (pos (c .bools) ∷ pos (c .ints) ∷ flat (map domain-words (emitted merge p ss))) ≡ head-words merge p f ss
   unfolding head-words
   header-is =
       let x : List ℤ = copied w 0 b in

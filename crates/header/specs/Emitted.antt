@@ -18,7 +18,7 @@ use Rattle.fold.specs.Fold.{Fixed}
 use Rattle.sums.specs.LinearSum.{get-domain-linear-sum}
 use Rattle.sums.specs.Linear.{linear-of}
 use Rattle.sums.specs.Rising.{Among}
-use Rattle.tables.specs.Tables.{emitted-domains}
+use Rattle.clauses.specs.Log.{emitted-domains}
 use Rattle.answer.specs.Answer.{domain-words}
 use Rattle.walk.specs.Item.{nat, bool-map, int-map, int-number}
 use Rattle.walk.specs.declared.Counters.{Counters}

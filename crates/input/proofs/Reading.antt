@@ -111,7 +111,7 @@ module _ (key line : List ℕ) (i : ℕ) (same : after key line ≡ after (drop 
   key-whole e = same ∙ rw (drop-of-length-le key (let l : length key ≤ i = omega arith in l), e) refl
 
 -- a key that stands is no longer than its line
-pub after-length : (key line r : List ℕ) → after key line ≡ some r → length key ≤ length line
+after-length : (key line r : List ℕ) → after key line ≡ some r → length key ≤ length line
 unfolding after
 after-length [] line r h = omega arith
 after-length (k ∷ key) [] r h = differ (cc)
@@ -121,7 +121,7 @@ after-length (k ∷ key) (b ∷ line) r h = go (eqb b k) h (λ q. after-length k
     go true q f = let l = f q in omega arith
     go false q f = differ (cc)
 
-pub after-empty : (key : List ℕ) → 0 < length key → after key [] ≡ none
+after-empty : (key : List ℕ) → 0 < length key → after key [] ≡ none
 unfolding after
 after-empty [] h = absurd (omega arith)
 after-empty (k ∷ key) h = refl
@@ -153,14 +153,14 @@ pub unstored : (out : List ℤ) (k : ℕ) (z : Number) → z ≡ number.Unread �
 unfolding fill filled number-read
 unstored out k z e = record { size = refl; words = rw e refl; few = tt }
 
-pub read-of : (o : Option ℤ) → number-read (number-of o) ≡ o
+read-of : (o : Option ℤ) → number-read (number-of o) ≡ o
 unfolding number-read number-of
 read-of none = refl
 read-of (some z) = refl
 
 -- ---- one after another
 
-pub fill-next : (out : List ℤ) (k : ℕ) (a b : Option (List ℤ)) (out' : List ℤ) (m : ℕ) → fill out k a ≡ some (out', m) → fill out k (join a b) ≡ fill out' m b
+fill-next : (out : List ℤ) (k : ℕ) (a b : Option (List ℤ)) (out' : List ℤ) (m : ℕ) → fill out k a ≡ some (out', m) → fill out k (join a b) ≡ fill out' m b
 unfolding fill
 fill-next out k none b out' m h = differ (cc)
 fill-next out k (some xs) none out' m h = refl
@@ -170,12 +170,12 @@ fill-next out k (some xs) (some ys) out' m h =
     let f : k + length xs ≡ m = ap (λ (q : List ℤ × ℕ). q .1) p in
     rw (← e, ← f, sets-append out k xs ys, length-append xs ys) (ap (λ n. some (sets (sets out k xs) (k + length xs) ys, n)) (omega arith))
 
-pub fill-stop : (out : List ℤ) (k : ℕ) (a b : Option (List ℤ)) → fill out k a ≡ none → fill out k (join a b) ≡ none
+fill-stop : (out : List ℤ) (k : ℕ) (a b : Option (List ℤ)) → fill out k a ≡ none → fill out k (join a b) ≡ none
 unfolding fill
 fill-stop out k none b h = refl
 fill-stop out k (some xs) b h = differ (cc)
 
-pub fill-ended : (out : List ℤ) (k : ℕ) (a : Option (List ℤ)) → fill out k (join a none) ≡ none
+fill-ended : (out : List ℤ) (k : ℕ) (a : Option (List ℤ)) → fill out k (join a none) ≡ none
 unfolding fill
 fill-ended out k none = refl
 fill-ended out k (some xs) = refl
@@ -186,16 +186,16 @@ module _ (part : List ℕ) (i e : ℕ) (f : Found comma part i e) (out : List �
   abbrev one : Option (List ℤ)
   one = single (read-number (take (e - i) (drop i part)))
 
-  pub numbers-more : (out' : List ℤ) (m : ℕ) → e < length part → fill out n one ≡ some (out', m)
+  numbers-more : (out' : List ℤ) (m : ℕ) → e < length part → fill out n one ≡ some (out', m)
       → fill out n (read-numbers (split comma (drop i part))) ≡ fill out' m (read-numbers (split comma (drop (e + 1) part)))
   unfolding read-numbers
   numbers-more out' m l h = rw (f .more l) (fill-next out n one (read-numbers (split comma (drop (e + 1) part))) out' m h)
 
-  pub numbers-last : (out' : List ℤ) (m : ℕ) → e ≡ length part → fill out n one ≡ some (out', m) → fill out n (read-numbers (split comma (drop i part))) ≡ some (out', m)
+  numbers-last : (out' : List ℤ) (m : ℕ) → e ≡ length part → fill out n one ≡ some (out', m) → fill out n (read-numbers (split comma (drop i part))) ≡ some (out', m)
   unfolding read-numbers fill
   numbers-last out' m l h = rw (f .last l) (fill-next out n one (some []) out' m h ∙ ap (λ j. some (out', j)) (omega arith))
 
-  pub numbers-stop : fill out n one ≡ none → fill out n (read-numbers (split comma (drop i part))) ≡ none
+  numbers-stop : fill out n one ≡ none → fill out n (read-numbers (split comma (drop i part))) ≡ none
   unfolding read-numbers
   numbers-stop h = go (ltb e (length part)) refl
     where
@@ -217,32 +217,32 @@ module _ (text : List ℕ) (at e : ℕ) (f : Found line-feed text at e) (key : L
   count-last l = record { inside = tt; size = refl; left = λ next z. rw (f .last l, z) (fill-ended out k (one-number (after key first))) }
 
   module _ (l : e < length text) where
-    pub count-other : after key first ≡ none → Stepped (count-line key) text out at k out step.Unread
+    count-other : after key first ≡ none → Stepped (count-line key) text out at k out step.Unread
     unfolding left-at left-step count-line fill
     count-other h = record { inside = tt; size = refl; left = λ next z. rw (f .more l, h) refl }
 
     module _ (r : List ℕ) (h : after key first ≡ some r) (out' : List ℤ) (same : length out' ≡ length out) where
-      pub count-stop : fill out k (single (read-number r)) ≡ none → Stepped (count-line key) text out at k out' step.Unread
+      count-stop : fill out k (single (read-number r)) ≡ none → Stepped (count-line key) text out at k out' step.Unread
       unfolding left-at left-step count-line
       count-stop q = record { inside = tt; size = same; left = λ next z. rw (f .more l, h) (fill-stop out k (single (read-number r)) (next others) q) }
 
-      pub count-next : (m : ℕ) → fill out k (single (read-number r)) ≡ some (out', m) → m ≤ e + 1 → Stepped (count-line key) text out at k out' (step.At (e + 1) m)
+      count-next : (m : ℕ) → fill out k (single (read-number r)) ≡ some (out', m) → m ≤ e + 1 → Stepped (count-line key) text out at k out' (step.At (e + 1) m)
       unfolding left-at left-step count-line
       count-next m q b = record { inside = (omega arith, b); size = same; left = λ next z. rw (f .more l, h) (fill-next out k (single (read-number r)) (next others) out' m q) }
 
-      pub line-stop : fill out k (read-numbers (split comma r)) ≡ none → Lined key text out at k out' line.Unread
+      line-stop : fill out k (read-numbers (split comma r)) ≡ none → Lined key text out at k out' line.Unread
       unfolding left-at left-line lines
       line-stop q = record { inside = tt; size = same; left = λ next z. rw (f .more l, h) (fill-stop out k (read-numbers (split comma r)) (lines key next others) q) }
 
-      pub line-next : (m : ℕ) → fill out k (read-numbers (split comma r)) ≡ some (out', m) → m ≤ e + 1 → Lined key text out at k out' (line.Read (e + 1) m)
+      line-next : (m : ℕ) → fill out k (read-numbers (split comma r)) ≡ some (out', m) → m ≤ e + 1 → Lined key text out at k out' (line.Read (e + 1) m)
       unfolding left-at left-line lines
       line-next m q b = record { inside = (let j = f .low in omega arith, (omega arith, b)); size = same; left = λ next z. rw (f .more l, h) (fill-next out k (read-numbers (split comma r)) (lines key next others) out' m q) }
 
-  pub line-last : (r : List ℕ) → e ≡ length text → after key first ≡ some r → Lined key text out at k out line.Unread
+  line-last : (r : List ℕ) → e ≡ length text → after key first ≡ some r → Lined key text out at k out line.Unread
   unfolding left-at left-line lines
   line-last r l h = record { inside = tt; size = refl; left = λ next z. rw (f .last l, h, z) (fill-ended out k (read-numbers (split comma r))) }
 
-  pub line-other : after key first ≡ none → Lined key text out at k out line.Other
+  line-other : after key first ≡ none → Lined key text out at k out line.Other
   unfolding left-at left-line lines
   line-other h = record { inside = tt; size = refl; left = λ next z. go next (ltb e (length text)) refl }
     where

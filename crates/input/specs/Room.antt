@@ -17,7 +17,7 @@ differ : {X : Type 0} → _≡_ {A = ℕ} 0 1 → X
 differ z = absurd (omega arith)
 
 -- the bytes of parts, with one behind each
-pub sized : List (List ℕ) → ℕ
+sized : List (List ℕ) → ℕ
 sized [] = 0
 sized (p ∷ ps) = length p + 1 + sized ps
 
@@ -104,7 +104,7 @@ unfolding read-lines
 lines-all-few =
     count-few bools-key (omega arith) _ (count-few ints-key (omega arith) _ (lines-few int-key (omega arith) _ (count-few statements-key (omega arith) _ (lines-few statement-key (omega arith) end end-few))))
 
-pub text-words : (t : List ℕ) (ws : List ℤ) → read-text t ≡ some ws → 2 * length ws ≤ length t + 1
+text-words : (t : List ℕ) (ws : List ℤ) → read-text t ≡ some ws → 2 * length ws ≤ length t + 1
 unfolding read-text
 text-words t ws h = go (ltb max-bytes (length t)) h
   where

@@ -46,7 +46,7 @@ both-length p q =
 
 -- ---- where an accepted set's parts stand
 
-pub record Shape (ws : List ℤ) (d : Declared) (p : Problem) : Type 0 where
+record Shape (ws : List ℤ) (d : Declared) (p : Problem) : Type 0 where
   pub place : d .at ≡ length (declaration-words p) + 1
   pub ints-are : d .ints ≡ length (p .domains)
   pub stmts-are : d .stmts ≡ length (p .stmts)
@@ -54,7 +54,7 @@ pub record Shape (ws : List ℤ) (d : Declared) (p : Problem) : Type 0 where
   pub low : take (length (declaration-words p)) ws ≡ declaration-words p
   pub short : length ws ≤ 4096
 
-pub shape : (n : ℕ) (ws : List ℤ) (d : Declared) (t : Taken n ws d) → Shape ws d (t .it)
+shape : (n : ℕ) (ws : List ℤ) (d : Declared) (t : Taken n ws d) → Shape ws d (t .it)
 unfolding declaration-words
 shape n ws d t =
     let e : ws ≡ declaration-words (t .it) ++ counted encode-stmt (t .it .stmts) = taken-set n ws d t .words ∙ encode-parts (t .it) in

@@ -1,20 +1,17 @@
 -- A joined statement found: in the first set, in the second, or nowhere; and its words as a part of that set. Assumes nothing.
 use mathlib.Core.Path.{_≡_, refl, sym, ap, _∙_, subst}
-use mathlib.Core.Bool.{false}
 use mathlib.Core.List.{List, [], _∷_, _++_}
 use Prim.Native.Nat.{ℕ, zero, suc, _+_, _-_, _*_, _≤_, _<_}
 use native.Mathlib.Omega.{arith}
 use lib.IntN.{ℤ}
 use lib.ListN.{length, take, drop, getD, List·getD-append, List·getD-eq-default}
 use lib.Seq.{getD-append-add}
-use Rattle.laws.specs.Lists.{any}
 use Rattle.laws.specs.Slices.{Has, has-fits}
 use Rattle.syntax.specs.Syntax.{Stmt, encode-stmt, Problem}
-use Rattle.limits.specs.Limits.{check}
-use Rattle.accept.specs.Walk.{Bounds, Stmts-at, test-stmt, check-stmts}
-use Rattle.accept.specs.Accepted.{Set-of, check-is, stmts-stand}
+use Rattle.accept.specs.Walk.{Bounds, Stmts-at}
+use Rattle.accept.specs.Accepted.{Set-of, stmts-stand}
 use Rattle.join.specs.Join.{declaration-words, agreement, Found, in-first, in-second, nowhere, placed, statements-place, statements-of, statement-at, words-of, address-of}
-use Rattle.join.specs.Joined.{stmt-long, no-limit, Admitted, Agrees, agreement-is}
+use Rattle.join.specs.Joined.{stmt-long, Admitted, Agrees, agreement-is}
 use Rattle.join.specs.Found.{Stands}
 use Rattle.join.specs.Steps.{Listed, Ready-nth, Part-post, Ready-find, Agree-post}
 use Rattle.join.specs.Contract.{place-of}
@@ -26,16 +23,12 @@ use Rattle.join.specs.declared.Agreed.the-variants as agreed-as
 
 -- ---- an admitted set's statements
 
-narrow-stmts : (p : Problem) → check p ≡ 0 → any (test-stmt 11 (p .domains)) (p .stmts) ≡ false
-unfolding check-stmts
-narrow-stmts p z = no-limit (any (test-stmt 9 (p .domains)) (p .stmts)) (any (test-stmt 10 (p .domains)) (p .stmts)) (any (test-stmt 11 (p .domains)) (p .stmts)) (check-is p ∙ z) .2
-
 stmts-at : (ws : List ℤ) (p : Problem) → Set-of ws p → Stmts-at (length (p .domains)) ws (statements-place p) (length (p .stmts)) (p .stmts)
 unfolding declaration-words
 stmts-at ws p s = subst (λ n. Stmts-at (length (p .domains)) ws n (length (p .stmts)) (p .stmts)) (omega arith) (stmts-stand ws p s)
 
 listed : (n : ℕ) (ws work : List ℤ) (p : Problem) → Admitted n ws p → Bounds work (p .domains) → Listed ws work (statements-place p) (length (p .domains)) (p .domains) (p .stmts)
-listed n ws work p a b = record { bounds = b; few = refl; reads = stmts-at ws p (record { words = a .words; well = a .well }); narrow = narrow-stmts p (a .unrefused) }
+listed n ws work p a b = record { bounds = b; few = refl; reads = stmts-at ws p (record { words = a .words; well = a .well }) }
 
 placed-length : (f : ℕ → Stmt → Found) (at : ℕ) (ss : List Stmt) → length (placed f at ss) ≡ length ss
 unfolding placed

@@ -16,7 +16,7 @@ use Rattle.join.specs.Join.{declaration-words, both, Agreement, agreed, 
 use Rattle.join.specs.Joined.{encode-parts, each-append, stmt-long, agreement-is}
 
 -- an encoded set's statements stand behind its declarations and their count
-pub stmts-stand : (ws : List ℤ) (p : Problem) → ws ≡ encode p → Has ws (statements-place p) (flat (map encode-stmt (p .stmts)))
+stmts-stand : (ws : List ℤ) (p : Problem) → ws ≡ encode p → Has ws (statements-place p) (flat (map encode-stmt (p .stmts)))
 stmts-stand ws p e =
     let us : List ℤ = declaration-words p ++ counted encode-stmt (p .stmts) in
     let h : Has ws 0 us = ap (take (length us)) (e ∙ encode-parts p) ∙ take-length us in

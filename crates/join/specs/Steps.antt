@@ -1,15 +1,13 @@
 -- What the functions below the entries ask and give. Assumes nothing.
 use mathlib.Core.Path.{_≡_}
-use mathlib.Core.Bool.{false}
 use mathlib.Core.List.{List}
 use Prim.Native.Nat.{ℕ, _+_, _≤_, _<_}
 use lib.IntN.{ℤ}
 use lib.ListN.{length, getD}
 use lib.Seq.{sets}
-use Rattle.laws.specs.Lists.{any}
 use Rattle.syntax.specs.Syntax.{Domain, Stmt, encode-stmt, Problem, encode}
 use Rattle.reader.specs.declared.Declared.{Declared}
-use Rattle.accept.specs.Walk.{Bounds, Stmt-at, Stmts-at, test-stmt}
+use Rattle.accept.specs.Walk.{Bounds, Stmt-at, Stmts-at}
 use Rattle.accept.specs.Taken.{Taken}
 use Rattle.join.specs.Join.{both, Agreement, agreed, refusal, compared, agreement, Found, nowhere, placed, statements-place}
 use Rattle.join.specs.declared.Pair.{Pair}
@@ -54,12 +52,11 @@ Write-post first second buffer buffer' = (n : ℕ) (p q : Problem) → agreement
 
 -- ---- one of a set's statements, from 0
 
--- statements that refusal 11 lets through
+-- statements that stand from `at` on
 pub record Listed (ws work : List ℤ) (at ni : ℕ) (ds : List Domain) (ss : List Stmt) : Type 0 where
   pub bounds : Bounds work ds
   pub few : ni ≡ length ds
   pub reads : Stmts-at ni ws at (length ss) ss
-  pub narrow : any (test-stmt 11 ds) ss ≡ false
 
 pub record Ready-nth (ws work : List ℤ) (at ni k : ℕ) : Type 0 where
   pub ds : List Domain
@@ -71,7 +68,6 @@ pub record Ready-nth (ws work : List ℤ) (at ni k : ℕ) : Type 0 where
 pub record Nth (ws : List ℤ) (at ni : ℕ) (ds : List Domain) (ss : List Stmt) (k r : ℕ) : Type 0 where
   pub it : Stmt
   pub reads : Stmt-at ni ws r it
-  pub narrow : test-stmt 11 ds it ≡ false
   pub found : (f : ℕ → Stmt → Found) → getD (placed f at ss) k nowhere ≡ f r it
 
 abbrev pub Nth-post : (ws work : List ℤ) (at ni k r : ℕ) → Type 0

@@ -154,7 +154,8 @@ fn nth(set: &[i32], work: &[i32], at: usize, ni: usize, k: usize) -> usize
     let mut next = at;
     let mut rest = k;
     while rest != 0 {
-        next = accept::statement(set, work, next, ni, 11);
+        let s = accept::statement(set, work, next, ni);
+        next = s.next;
         rest = rest - 1;
     }
     next
@@ -165,11 +166,11 @@ fn part_of(set: &[i32], work: &[i32], at: usize, ni: usize, k: usize, number: us
     ensures { λ r. ⌜ Part-post (now (set .entry)) (now (work .entry)) at ni k (r .from) (r .to) × (r .set ≡ number) ⌝ }
 {
     let from = nth(set, work, at, ni, k);
-    let to = accept::statement(set, work, from, ni, 11);
+    let s = accept::statement(set, work, from, ni);
     Place {
         set: number,
         from: from,
-        to: to,
+        to: s.next,
     }
 }
 

@@ -28,7 +28,7 @@ beq-eq false false h = refl
 abbrev pub ∀1 : (Bool → Bool) → Bool
 ∀1 f = f true && f false
 
-pub at1 : (f : Bool → Bool) → ∀1 f ≡ true → (a : Bool) → f a ≡ true
+at1 : (f : Bool → Bool) → ∀1 f ≡ true → (a : Bool) → f a ≡ true
 at1 f h true = and-l (f true) (f false) h
 at1 f h false = and-r (f true) (f false) h
 
@@ -41,19 +41,19 @@ at2 f h a = at1 (f a) (at1 (λ a. ∀1 (f a)) h a)
 abbrev pub ∀3 : (Bool → Bool → Bool → Bool) → Bool
 ∀3 f = ∀1 (λ a. ∀2 (f a))
 
-pub at3 : (f : Bool → Bool → Bool → Bool) → ∀3 f ≡ true → (a b c : Bool) → f a b c ≡ true
+at3 : (f : Bool → Bool → Bool → Bool) → ∀3 f ≡ true → (a b c : Bool) → f a b c ≡ true
 at3 f h a = at2 (f a) (at1 (λ a. ∀2 (f a)) h a)
 
 abbrev pub ∀4 : (Bool → Bool → Bool → Bool → Bool) → Bool
 ∀4 f = ∀1 (λ a. ∀3 (f a))
 
-pub at4 : (f : Bool → Bool → Bool → Bool → Bool) → ∀4 f ≡ true → (a b c d : Bool) → f a b c d ≡ true
+at4 : (f : Bool → Bool → Bool → Bool → Bool) → ∀4 f ≡ true → (a b c d : Bool) → f a b c d ≡ true
 at4 f h a = at3 (f a) (at1 (λ a. ∀3 (f a)) h a)
 
 abbrev pub ∀5 : (Bool → Bool → Bool → Bool → Bool → Bool) → Bool
 ∀5 f = ∀1 (λ a. ∀4 (f a))
 
-pub at5 : (f : Bool → Bool → Bool → Bool → Bool → Bool) → ∀5 f ≡ true → (a b c d e : Bool) → f a b c d e ≡ true
+at5 : (f : Bool → Bool → Bool → Bool → Bool → Bool) → ∀5 f ≡ true → (a b c d e : Bool) → f a b c d e ≡ true
 at5 f h a = at4 (f a) (at1 (λ a. ∀4 (f a)) h a)
 
 pub eq1 : (p q : Bool → Bool) → ∀1 (λ a. Bool·beq (p a) (q a)) ≡ true → (a : Bool) → p a ≡ q a

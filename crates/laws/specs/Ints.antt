@@ -1,12 +1,13 @@
 -- Integers: tests and products with an interval, and the laws of ℤ that the library lacks. Assumes nothing.
 use mathlib.Core.Path.{_≡_, refl, sym, ap, _∙_}
-use mathlib.Core.Bool.{Bool, true, false}
+use mathlib.Core.Bool.{Bool, true, false, cond}
 use Prim.Native.Nat.{ℕ, zero, suc, _+_, _*_, _<_, _≤_, _^_}
 use native.Mathlib.Omega.{arith}
+use native.Mathlib.Nat.{mul-le-mul-left}
 use lib.Dec.{ltb, eqb}
 use borrow.Author.Tests.{ltb-true, ltb-false, eqb-true, eq-eqb, ne-eqb}
 use lib.IntN.{ℤ, pos, negsuc, negℤ, natAbs, subℕ, _+ℤ_, _*ℤ_, *ℤ-comm, zero-*ℤ, sucℤ, predℤ, sucℤ-*ℤ, predℤ-*ℤ, +ℤ-assoc, +ℤ-comm, +ℤ-idl, sucℤ-+ℤ, predℤ-+ℤ, negℤ-negℤ}
-use lib.Signed.{mag}
+use lib.Signed.{mag, leZ}
 use mir.Syntax.{Width, w32}
 use mir.Val.{SFits, hbits, ofZ}
 
@@ -18,6 +19,13 @@ eqZ (negsuc a) (negsuc b) = eqb a b
 
 abbrev pub is-zero : ℤ → Bool
 is-zero z = eqZ z (pos 0)
+
+-- the lower and the higher of two
+abbrev pub lower : ℤ → ℤ → ℤ
+lower x y = cond (leZ x y) x y
+
+abbrev pub higher : ℤ → ℤ → ℤ
+higher x y = cond (leZ x y) y x
 
 -- a word as a count: 0 where it is negative
 abbrev pub count-of : ℤ → ℕ
@@ -71,6 +79,18 @@ natAbs-mul (pos a) (negsuc b) = natAbs-neg (a * suc b)
 natAbs-mul (negsuc a) (pos b) = natAbs-neg (suc a * b)
 natAbs-mul (negsuc a) (negsuc b) = refl
 
+pub times-low-size : (k a b : ℤ) (n : ℕ) → natAbs a ≤ n → natAbs b ≤ n → natAbs (times-low k a b) ≤ natAbs k * n
+times-low-size (pos k) a b n h g = rw (natAbs-mul (pos k) a) (mul-le-mul-left k h)
+times-low-size (negsuc k) a b n h g = rw (natAbs-mul (negsuc k) b) (mul-le-mul-left (suc k) g)
+
+-- with the bounds exchanged
+pub times-exchanged : (k a b : ℤ) → times-low k b a ≡ times-high k a b
+times-exchanged (pos k) a b = refl
+times-exchanged (negsuc k) a b = refl
+
+pub times-high-size : (k a b : ℤ) (n : ℕ) → natAbs a ≤ n → natAbs b ≤ n → natAbs (times-high k a b) ≤ natAbs k * n
+times-high-size k a b n h g = rw (← times-exchanged k a b) (times-low-size k b a n g h)
+
 pub mag-natAbs : (z : ℤ) → mag z ≤ natAbs z
 mag-natAbs (pos n) = omega arith
 mag-natAbs (negsuc n) = omega arith
@@ -107,7 +127,7 @@ module _ (P : ℤ → Type 0) (z : P (pos 0)) (up : (m : ℤ) → P m → P (suc
   steps (pos n) = ups n
   steps (negsuc n) = downs n
 
-pub +ℤ-swap-r : (a b c : ℤ) → (a +ℤ b) +ℤ c ≡ (a +ℤ c) +ℤ b
++ℤ-swap-r : (a b c : ℤ) → (a +ℤ b) +ℤ c ≡ (a +ℤ c) +ℤ b
 +ℤ-swap-r a b c = +ℤ-assoc a b c ∙ ap (λ (x : ℤ). a +ℤ x) (+ℤ-comm b c) ∙ sym (+ℤ-assoc a c b)
 
 pub +ℤ-swap : (a b c : ℤ) → a +ℤ (b +ℤ c) ≡ b +ℤ (a +ℤ c)

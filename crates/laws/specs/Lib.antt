@@ -6,4 +6,3 @@ pub mod Writes
 pub mod Order
 pub mod Same
 pub mod Signed
-pub mod Gaps

@@ -125,7 +125,7 @@ pub least : {X : Type 0} (i v : ℕ) (t : Bool) → ltb i v ≡ t → i ≤ v �
 least i v true q l f g = f (ltb-true i v q)
 least i v false q l f g = g (omega (arith, ltb-false i v q))
 
-pub all-from : (f : ℕ → Bool) (i n v : ℕ) → all f (from i n) ≡ true → i ≤ v → v < i + n → f v ≡ true
+all-from : (f : ℕ → Bool) (i n v : ℕ) → all f (from i n) ≡ true → i ≤ v → v < i + n → f v ≡ true
 all-from f i zero v h a b = absurd (omega arith)
 all-from f i (suc n) v h a b = go (eqb i v) refl (λ c. all-from f (suc i) n v (and-r (f i) (all f (from (suc i) n)) h) c (omega arith))
   where

@@ -187,7 +187,7 @@ leZ-lt (negsuc a) (negsuc b) h = le-leb b a (omega (arith, ltb-true b a h))
 pub leZ-add : (a b c d : ℤ) → leZ a b ≡ true → leZ c d ≡ true → leZ (a +ℤ c) (b +ℤ d) ≡ true
 leZ-add a b c d h k = leZ-trans (a +ℤ c) (b +ℤ c) (b +ℤ d) (leZ-shift a b c ∙ h) (rw (+ℤ-comm b c, +ℤ-comm b d) (leZ-shift c d b ∙ k))
 
-pub leZ-neg : (a b : ℤ) → leZ (negℤ b) (negℤ a) ≡ leZ a b
+leZ-neg : (a b : ℤ) → leZ (negℤ b) (negℤ a) ≡ leZ a b
 leZ-neg (pos zero) (pos zero) = refl
 leZ-neg (pos zero) (pos (suc b)) = sym (leb·zero (suc b))
 leZ-neg (pos (suc a)) (pos zero) = sym (leb·suc-zero a)
@@ -199,11 +199,11 @@ leZ-neg (negsuc a) (pos (suc b)) = refl
 leZ-neg (negsuc a) (negsuc b) = leb·suc-suc b a
 
 -- a product with a number keeps the order, with its negative turns it round
-pub leZ-mul : (k : ℕ) (a b : ℤ) → leZ a b ≡ true → leZ (pos k *ℤ a) (pos k *ℤ b) ≡ true
+leZ-mul : (k : ℕ) (a b : ℤ) → leZ a b ≡ true → leZ (pos k *ℤ a) (pos k *ℤ b) ≡ true
 leZ-mul zero a b h = rw (zero-*ℤ a, zero-*ℤ b) refl
 leZ-mul (suc k) a b h = rw (sucℤ-*ℤ (pos k) a, sucℤ-*ℤ (pos k) b) (leZ-add (pos k *ℤ a) (pos k *ℤ b) a b (leZ-mul k a b h) h)
 
-pub leZ-mul-neg : (k : ℕ) (a b : ℤ) → leZ a b ≡ true → leZ (negsuc k *ℤ b) (negsuc k *ℤ a) ≡ true
+leZ-mul-neg : (k : ℕ) (a b : ℤ) → leZ a b ≡ true → leZ (negsuc k *ℤ b) (negsuc k *ℤ a) ≡ true
 leZ-mul-neg k a b h = rw (neg-mul (pos (suc k)) a, neg-mul (pos (suc k)) b) (leZ-neg (pos (suc k) *ℤ a) (pos (suc k) *ℤ b) ∙ leZ-mul (suc k) a b h)
 
 -- a coefficient's least and greatest product hold every product

@@ -115,7 +115,7 @@ heads-add out o vs n h =
     ∙ append-assoc (take o out) vs _
 
 -- vs stored from o on, in front of what stands from there up to e
-pub heads : (out : List ℤ) (o : ℕ) (vs : List ℤ) (e : ℕ) → o + length vs ≤ e → e ≤ length out → Stored out o (vs ++ slice (o + length vs) e out) (sets out o vs) e
+heads : (out : List ℤ) (o : ℕ) (vs : List ℤ) (e : ℕ) → o + length vs ≤ e → e ≤ length out → Stored out o (vs ++ slice (o + length vs) e out) (sets out o vs) e
 heads out o vs e h k =
     let n : ℕ = e - (o + length vs) in
     let p : e ≡ o + length vs + n = omega arith in
@@ -137,7 +137,7 @@ pub stored-two : (out : List ℤ) (o : ℕ) (u v : ℤ) → o + 2 ≤ length out
 stored-two out o u v h = rw (slice-empty (o + 2) out) at (heads-two out o u v (o + 2) (omega arith) h)
 
 -- a store below a part
-pub slice-set : (out : List ℤ) (i : ℕ) (u : ℤ) (f e : ℕ) → i < f → slice f e (set out i u) ≡ slice f e out
+slice-set : (out : List ℤ) (i : ℕ) (u : ℤ) (f e : ℕ) → i < f → slice f e (set out i u) ≡ slice f e out
 slice-set out i u f e h = go (ltb i e) refl
   where
     go : (c : Bool) → ltb i e ≡ c → slice f e (set out i u) ≡ slice f e out

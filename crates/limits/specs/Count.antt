@@ -8,8 +8,8 @@ use lib.Dec.{eqb, ltb}
 use lib.ListN.{length, length-append}
 use borrow.Author.Tests.{eqb-true, eqb-false, ne-eqb, le-ltb}
 use Rattle.laws.specs.Lists.{any, any-append, different}
-use Rattle.syntax.specs.Syntax.{IntExpr, IConst, IVar, Linear, Terms, tnil, tmore, encode-int, encode-terms}
-use Rattle.syntax.specs.Written.{EveryInt, EveryTerm}
+use Rattle.syntax.specs.Syntax.{IntExpr, IConst, IVar, Linear, If, Terms, tnil, tmore, encode-int, encode-terms}
+use Rattle.syntax.specs.Written.{EveryInt, EveryTerm, EveryIntOf}
 use Rattle.limits.specs.Limits.{written, written-terms, many-comparison, many-column}
 
 -- how many numbers below n the test holds of
@@ -49,7 +49,7 @@ marked-one x f (suc n) l h = go (eqb n x) refl (marked-one x f n)
         pick false = refl
 
 -- every number of a list is below n
-abbrev pub Below : ℕ → List ℕ → Type 0
+abbrev Below : ℕ → List ℕ → Type 0
 Below n [] = Unit {0}
 Below n (x ∷ xs) = (x < n) × Below n xs
 
@@ -57,7 +57,7 @@ Below n (x ∷ xs) = (x < n) × Below n xs
 abbrev pub among : List ℕ → ℕ → Bool
 among xs v = any (eqb v) xs
 
-pub different-marked : (n : ℕ) (xs : List ℕ) → Below n xs → different xs ≡ marked (among xs) n
+different-marked : (n : ℕ) (xs : List ℕ) → Below n xs → different xs ≡ marked (among xs) n
 different-marked n [] h = sym (marked-none n)
 different-marked n (x ∷ xs) h = go (any (eqb x) xs) refl (different-marked n xs (h .1))
   where
@@ -82,11 +82,12 @@ either a b v = among (written a) v || among (written b) v
 
 module _ (n : ℕ) where
   mutual
-    unfolding EveryInt written
+    unfolding EveryIntOf written
 
     written-below : (e : IntExpr) → EveryInt (λ v. v < n) e → Below n (written e)
     written-below (IConst c) h = tt
     written-below (IVar v) h = (h, tt)
+    written-below (If i c t f) h = absurd i
     written-below (Linear ts) h = written-terms-below ts h
 
     written-terms-below : (ts : Terms) → EveryTerm (λ v. v < n) ts → Below n (written-terms ts)
@@ -123,6 +124,7 @@ mutual
   written-few : (e : IntExpr) → 2 * length (written e) ≤ length (encode-int e)
   written-few (IConst c) = omega arith
   written-few (IVar v) = omega arith
+  written-few (If i c t f) = absurd i
   written-few (Linear ts) = omega (arith, written-terms-few ts)
 
   written-terms-few : (ts : Terms) → 2 * length (written-terms ts) ≤ length (encode-terms ts)

@@ -3,3 +3,4 @@ pub mod Cases
 pub mod Total
 pub mod Count
 pub mod Admitted
+pub mod Light

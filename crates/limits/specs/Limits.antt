@@ -7,7 +7,7 @@ use lib.Dec.{ltb}
 use Rattle.laws.specs.Ints.{times-low, times-high}
 use Rattle.laws.specs.Lists.{any, different}
 use Rattle.syntax.specs.Words.{max-weight, max-comparison-vars, max-column-vars, max-span}
-use Rattle.syntax.specs.Syntax.{Domain, Range, Enumerative, lower-bound, upper-bound, domain-of, IntExpr, IConst, IVar, Linear, Terms, tnil, tmore, BoolExpr, Const, Var, NVar, And, Or, Not, Xor, Iff, Imp, Cmp, Members, mnil, more, Stmt, Rule, Table, AllDifferent, Problem}
+use Rattle.syntax.specs.Syntax.{Domain, Range, Enumerative, lower-bound, upper-bound, domain-of, IntExpr, IConst, IVar, Linear, If, Terms, tnil, tmore, BoolExpr, Const, Var, NVar, And, Or, Not, Xor, Iff, Imp, Cmp, Members, mnil, more, Stmt, Rule, Table, AllDifferent, Problem}
 
 -- a test of every comparison and every column
 module _ (onCmp : IntExpr → IntExpr → Bool) (onColumn : IntExpr → Bool) where
@@ -56,6 +56,7 @@ module _ (ds : List Domain) where
     weight (IConst c) = natAbs c
     weight (IVar v) = domain-weight (domain-of ds v)
     weight (Linear ts) = terms-weight ts
+    weight (If i c t f) = max 1 (max (weight t) (weight f))
 
     pub terms-weight : Terms → ℕ
     terms-weight tnil = 0
@@ -67,6 +68,7 @@ module _ (ds : List Domain) where
     heavy (IConst c) = ltb max-weight (weight (IConst c))
     heavy (IVar v) = ltb max-weight (weight (IVar v))
     heavy (Linear ts) = ltb max-weight (weight (Linear ts)) || heavy-terms ts
+    heavy (If i c t f) = ltb max-weight (weight (If i c t f)) || (heavy t || heavy f)
 
     pub heavy-terms : Terms → Bool
     heavy-terms tnil = false
@@ -82,6 +84,7 @@ unfoldable mutual
   written (IConst c) = []
   written (IVar v) = v ∷ []
   written (Linear ts) = written-terms ts
+  written (If i c t f) = written t ++ written f
 
   pub written-terms : Terms → List ℕ
   written-terms tnil = []
@@ -101,6 +104,7 @@ module _ (ds : List Domain) where
     pub interval : IntExpr → ℤ × ℤ
     interval (IConst c) = (c, c)
     interval (IVar v) = (lower-bound (domain-of ds v), upper-bound (domain-of ds v))
+    interval (If i c t f) = absurd i
     interval (Linear ts) = terms-interval ts
 
     pub terms-interval : Terms → ℤ × ℤ

@@ -1,30 +1,18 @@
 -- Laws of the bounds of a sum, for the proofs of the code. Assumes nothing.
-use mathlib.Core.Path.{_≡_, refl, sym, ap, _∙_}
-use mathlib.Core.Bool.{true, false}
+use mathlib.Core.Path.{_≡_, sym, ap, _∙_}
 use mathlib.Core.List.{List, _∷_}
 use Prim.Native.Nat.{ℕ, suc, _+_, _*_, _<_, _≤_, _^_}
 use native.Mathlib.Nat.{mul-le-mul-left, lt-of-le-of-lt}
 use native.Mathlib.Numerals.{add-one}
 use native.Mathlib.Omega.{arith}
-use lib.IntN.{ℤ, pos, negsuc, natAbs, _+ℤ_, _*ℤ_}
-use lib.Signed.{ltZ}
+use lib.IntN.{ℤ, natAbs, _+ℤ_}
 use lib.ListN.{length, drop, drop-of-length-le}
-use borrow.Author.Tests.{ltb-true}
-use Rattle.laws.specs.Bools.{never}
 use Rattle.laws.specs.Ints.{times-low, natAbs-add}
 use Rattle.syntax.specs.Syntax.{Domain, lower-bound, upper-bound}
 use Rattle.sums.specs.LinearSum.{Term, term, lowest}
 use Rattle.sums.specs.Rising.{Each}
 use Rattle.sums.specs.Norm.{norm}
 use Rattle.sums.specs.Bounds.{reach, low-size}
-
-pub low-negative : (k a b : ℤ) → ltZ k (pos 0) ≡ true → k *ℤ b ≡ times-low k a b
-low-negative (pos n) a b h = absurd (let l = ltb-true n 0 h in omega arith)
-low-negative (negsuc n) a b h = refl
-
-pub low-plain : (k a b : ℤ) → ltZ k (pos 0) ≡ false → k *ℤ a ≡ times-low k a b
-low-plain (pos n) a b h = refl
-low-plain (negsuc n) a b h = never (sym h)
 
 -- both products lie within the reach
 pub low-asks : (k : ℤ) (d : Domain) → natAbs k * reach d < 2 ^ 31 → (natAbs k * natAbs (lower-bound d) < 2 ^ 31) × (natAbs k * natAbs (upper-bound d) < 2 ^ 31)

@@ -3,9 +3,9 @@ use mathlib.Core.Path.{_≡_, refl}
 use mathlib.Core.List.{List, [], _∷_}
 use Prim.Native.Nat.{ℕ, _+_, _*_, _<_, _≤_, _^_}
 use native.Mathlib.Omega.{arith}
-use lib.IntN.{ℤ, pos, negsuc, _+ℤ_}
+use lib.IntN.{ℤ, pos, _+ℤ_}
 use lib.ListN.{getD}
-use Rattle.laws.specs.Ints.{times-low, times-high}
+use Rattle.laws.specs.Ints.{times-low, times-high, times-exchanged}
 use Rattle.syntax.specs.Syntax.{Domain, Range, lower-bound, upper-bound}
 use Rattle.sums.specs.LinearSum.{Term, term, LinearSum, linear-sum, lowest, highest, get-domain-linear-sum}
 use Rattle.sums.specs.Rising.{terms-of, Each}
@@ -49,10 +49,6 @@ module _ (f g : ℕ → Domain) where
   domain-same (linear-sum c ts) h = rw (lowest-same c ts h, highest-same c ts h) refl
 
 -- with the bounds exchanged, lowest is highest
-
-times-exchanged : (k a b : ℤ) → times-low k b a ≡ times-high k a b
-times-exchanged (pos k) a b = refl
-times-exchanged (negsuc k) a b = refl
 
 pub exchanged : (bounds : List ℤ) (c : ℤ) (ts : List Term) → lowest (domain-at 1 0 bounds) c ts ≡ highest (domain-at 0 1 bounds) c ts
 unfolding lowest highest

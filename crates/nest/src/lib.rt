@@ -132,17 +132,6 @@ fn word_at(words: &[i32], i: usize) -> i32
     words[i]
 }
 
-// A coefficient times an interval: its lowest value. With the bounds exchanged, its highest.
-fn times_low(k: i32, low: i32, high: i32) -> i32
-    requires { ⌜ (natAbs k * natAbs low < 2 ^ 31) × (natAbs k * natAbs high < 2 ^ 31) ⌝ }
-    ensures { λ r. ⌜ r ≡ times-low k low high ⌝ }
-{
-    if k < 0 {
-        return k * high;
-    }
-    k * low
-}
-
 // Of the emitted integer v, whose bounds stand at 2 v + a and 2 v + b.
 fn term_low(bounds: &[i32], v: usize, k: i32, a: usize, b: usize) -> i32
     requires { ⌜ Word v × (a ≤ 1) × (b ≤ 1) × (natAbs k * reach (domain-at a b (now bounds) v) < 2 ^ 31) ⌝ }
@@ -150,7 +139,7 @@ fn term_low(bounds: &[i32], v: usize, k: i32, a: usize, b: usize) -> i32
 {
     let low = word_at(bounds, 2 * v + a);
     let high = word_at(bounds, 2 * v + b);
-    times_low(k, low, high)
+    domains::times_low(k, low, high)
 }
 
 fn lowest(s: LinearSum, bounds: &[i32], a: usize, b: usize) -> i32

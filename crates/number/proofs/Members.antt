@@ -18,7 +18,7 @@ pub met-as : {f : State → State} {w w' : List ℤ} {c r d : Counters} → r �
 met-as {f} {w} {w'} {c} e = subst (λ (d : Counters). Met f w c w' d) (sym e)
 
 -- in words that are the same
-pub sized-in : {ws us : List ℤ} (l : ℕ) (t g : Bool) (at base : ℕ) (r : Surveyed) → ws ≡ us → Sized ws l t g at base r → Sized us l t g at base r
+sized-in : {ws us : List ℤ} (l : ℕ) (t g : Bool) (at base : ℕ) (r : Surveyed) → ws ≡ us → Sized ws l t g at base r → Sized us l t g at base r
 sized-in l t g at base r e = subst (λ (vs : List ℤ). Sized vs l t g at base r) e
 
 pub sized-all-in : {ws us : List ℤ} (l : ℕ) (t : Bool) (k : ℕ) (g h : Bool) (at base : ℕ) (r : Surveyed) → ws ≡ us → SizedAll ws l t k g h at base r → SizedAll us l t k g h at base r

@@ -30,7 +30,7 @@ SizedAll ws l t k g h at base r =
 abbrev pub renumber : Surveyed → ℕ → Surveyed
 renumber r m = surveyed (r .at) (r .base) m (r .longs) (r .lits) (r .cmps) (r .lines) (r .all)
 
-pub recount : {ws : List ℤ} {t : Tally} {at stop next total whole : ℕ} {r : Surveyed} (m : ℕ) → m ≤ limit → Counted ws t at stop next total whole r → Counted ws t at stop next m whole (renumber r m)
+recount : {ws : List ℤ} {t : Tally} {at stop next total whole : ℕ} {r : Surveyed} (m : ℕ) → m ≤ limit → Counted ws t at stop next total whole r → Counted ws t at stop next m whole (renumber r m)
 recount m h x = record {
   end = x .end;
   splits = x .splits;
@@ -53,7 +53,7 @@ var-low false n h = h
 mutual
   unfolding item items counts var-item num-item cmp-item conj-item disj-item cross-item tied-item
 
-  pub item-low : (a : Tree) (w : List ℤ) (n : ℕ) → n ≤ limit → item a .count w n ≤ limit
+  item-low : (a : Tree) (w : List ℤ) (n : ℕ) → n ≤ limit → item a .count w n ≤ limit
   item-low (var v g) w n h = var-low (eqb (bool-entry w v) (n + 1)) n h
   item-low (num v g) w n h = h
   item-low (cmp p o a b g) w n h = h
@@ -62,7 +62,7 @@ mutual
   item-low (cross ts us) w n h = omega arith
   item-low (tied v a b) w n h = item-low b w (item a .count w n) (item-low a w n h)
 
-  pub items-low : (ts : Trees) (w : List ℤ) (n : ℕ) → n ≤ limit → counts (items ts) w n ≤ limit
+  items-low : (ts : Trees) (w : List ℤ) (n : ℕ) → n ≤ limit → counts (items ts) w n ≤ limit
   items-low nil w n h = h
   items-low (cons a ts) w n h = items-low ts w (item a .count w n) (item-low a w n h)
 
@@ -70,7 +70,7 @@ mutual
 pub survey-of : (w : List ℤ) (l : ℕ) (t g : Bool) (at base n : ℕ) (r : Surveyed) → n ≤ limit → Sized (read-part w) l t g at base r → Surveys w l t g at base n (renumber r (item (decode (read-part w) l t g at base .tree) .count w n))
 survey-of w l t g at base n r h = recount _ (item-low (decode (read-part w) l t g at base .tree) w n h)
 
-pub surveys-of : (w : List ℤ) (l : ℕ) (t : Bool) (k : ℕ) (g h : Bool) (at base n : ℕ) (r : Surveyed) → n ≤ limit → SizedAll (read-part w) l t k g h at base r → SurveysAll w l t k g h at base n (renumber r (counts (items (many (decode (read-part w) l t) k g h at base .trees)) w n))
+surveys-of : (w : List ℤ) (l : ℕ) (t : Bool) (k : ℕ) (g h : Bool) (at base n : ℕ) (r : Surveyed) → n ≤ limit → SizedAll (read-part w) l t k g h at base r → SurveysAll w l t k g h at base n (renumber r (counts (items (many (decode (read-part w) l t) k g h at base .trees)) w n))
 surveys-of w l t k g h at base n r i = recount _ (items-low (many (decode (read-part w) l t) k g h at base .trees) w n i)
 
 closed-same : (s : Surveyed) (m : ℕ) → renumber (closed-disj (renumber s m)) (closed-disj s .n) ≡ closed-disj s

@@ -1,6 +1,6 @@
 // Numbers at first meeting and creation: the numbering walk over the folded words.
 ghost use mathlib.Core.Path.{_≡_};
-ghost use mathlib.Core.Bool.{true};
+ghost use mathlib.Core.Bool.{true, false};
 ghost use Prim.Native.Nat.{_+_, _≤_, _<_};
 ghost use lib.IntN.{pos, negsuc};
 ghost use lib.ListN.{length, set};
@@ -10,6 +10,7 @@ ghost use Rattle.walk.specs.NumberingSteps.{Met};
 ghost use Rattle.walk.specs.MeetTies.{Reaches, ReachesAll, meet-rule};
 ghost use Rattle.walk.specs.Meets.{meet-row-at, meet-pairs-at};
 ghost use Rattle.walk.specs.MeetColumns.{number-column, meet-column-at, meet-columns-at};
+ghost use Rattle.number.specs.Leaf.{LeafMet};
 ghost use Rattle.number.specs.Sized.{Sized, SizedAll};
 use survey::add_member;
 use survey::below;
@@ -91,6 +92,18 @@ fn ended(c: Counters, at: usize) -> NumberedInt
     }
 }
 
+// The variable or constant at a place, whose code is known.
+fn number_leaf(work: &mut [i32], at: usize, code: usize, c: Counters) -> Counters
+    requires { do ⌜ (4608 ≤ (← ⟦work.len()⟧)) × ((at ≤ 4608) × ((c .bools ≤ limit) × (c .ints ≤ limit))) ⌝ }
+    ensures { λ r. ⌜ LeafMet (now (work .entry)) at code c (now (work .exit)) r ⌝ }
+{
+    if code == 21 {
+        let x = word(work, at + 1);
+        return declare_int(work, below(x, 256), c);
+    }
+    c
+}
+
 // The integers of the expression at a place, in order.
 fn number_int(work: &mut [i32], at: usize, left: usize, c: Counters) -> NumberedInt
     requires { do ⌜ (4608 ≤ (← ⟦work.len()⟧)) × ((at ≤ 4608) × ((c .bools ≤ limit) × (c .ints ≤ limit))) ⌝ }
@@ -100,23 +113,28 @@ fn number_int(work: &mut [i32], at: usize, left: usize, c: Counters) -> Numbered
         return ended(c, at);
     }
     let code = word(work, at);
-    let x = word(work, at + 1);
     let next = within(at + 2);
-    if code == 21 {
-        return ended(declare_int(work, below(x, 256), c), next);
-    }
     if code != 22 {
-        return ended(c, next);
+        return ended(number_leaf(work, at, code, c), next);
     }
-    let mut rest = x;
+    let under = left - 1;
+    let mut rest = word(work, at + 1);
     let mut q = next;
     let mut d = c;
     while rest != 0 {
+        rest = rest - 1;
         let p = within(q + 1);
-        let y = number_int(work, p, left - 1, d);
+        let inner = word(work, p);
+        if under != 0 {
+            if inner != 22 {
+                d = number_leaf(work, p, inner, d);
+                q = within(p + 2);
+                continue;
+            }
+        }
+        let y = number_int(work, p, under, d);
         d = y.counters;
         q = y.at;
-        rest = rest - 1;
     }
     ended(d, q)
 }
@@ -394,10 +412,16 @@ fn number_ties(work: &mut [i32], at: usize, left: usize, t: bool, base: usize, c
     }
 }
 
+// What the numbering of a rule leaves: the counters, and its end.
+pub struct NumberedRule {
+    pub counters: Counters,
+    pub at: usize,
+}
+
 // The rule at a place: the splitting's numbers first, then its extras and itself. Where the splitting takes none, there are no extras.
-pub fn number_rule(work: &mut [i32], at: usize, c: Counters) -> Counters
+pub fn number_rule(work: &mut [i32], at: usize, c: Counters) -> NumberedRule
     requires { do ⌜ (4608 ≤ (← ⟦work.len()⟧)) × ((at ≤ 4608) × ((c .bools ≤ limit) × (c .ints ≤ limit))) ⌝ }
-    ensures { λ r. ⌜ Met (meet-rule (read-part (now (work .entry))) at) (now (work .entry)) c (now (work .exit)) r ⌝ }
+    ensures { λ r. ⌜ Met (meet-rule (read-part (now (work .entry))) at) (now (work .entry)) c (now (work .exit)) (r .counters) × (r .at ≡ decode (read-part (now (work .entry))) 64 false false at (c .bools) .end) ⌝ }
 {
     let n = c.bools;
     let s = skip(work, at, 64, false, n);
@@ -408,12 +432,14 @@ pub fn number_rule(work: &mut [i32], at: usize, c: Counters) -> Counters
     if s.base == n {
         if n < 1073741824 {
             let a = number(work, at, 64, false, n, false, d);
-            return a.counters;
+            let counters = a.counters;
+            return NumberedRule { counters, at: s.at };
         }
     }
     let e = number_ties(work, at, 64, false, n, d);
     let b = number(work, at, 64, false, n, false, e.counters);
-    b.counters
+    let counters = b.counters;
+    NumberedRule { counters, at: s.at }
 }
 
 // ---- the columns of a table

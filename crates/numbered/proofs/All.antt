@@ -7,21 +7,19 @@ use native.Mathlib.Omega.{arith}
 use lib.IntN.{ℤ, pos}
 use lib.ListN.{length, getD, length-append}
 use Rattle.laws.specs.Slices.{Has, has-fits, has-front, has-back}
-use Rattle.syntax.specs.Syntax.{Domain, BoolExpr, Stmt, Rule, Table, AllDifferent, encode-stmt, Problem}
+use Rattle.syntax.specs.Syntax.{Domain, Stmt, Rule, Table, AllDifferent, encode-stmt, Problem}
 use Rattle.words.specs.Exact.{Each}
 use Rattle.fold.specs.Fold.{Fixed}
-use Rattle.clauses.specs.Log.{Log, next-bool, next-int}
-use Rattle.clauses.specs.Normalize.{normalize-conjunction}
-use Rattle.clauses.specs.Split.{normalize-and-register-expr, tseitin-transformation-bool as split}
+use Rattle.clauses.specs.Log.{Log, next-int}
 use Rattle.answer.specs.Answer.{start-log, normalize-stmt, normalize-stmts}
-use Rattle.walk.specs.Tree.{Trees, splits, runs}
-use Rattle.walk.specs.Resolve.{rule-trees, rule-runs, split-sided}
+use Rattle.walk.specs.Tree.{splits}
+use Rattle.walk.specs.Rule.{rule-room}
 use Rattle.walk.specs.Item.{limit, State}
 use Rattle.walk.specs.Decode.{read-part}
 use Rattle.walk.specs.Grow.{Grows}
 use Rattle.walk.specs.NumberingSteps.{state-of, Met, part-short}
 use Rattle.walk.specs.Num.{max-emitted, Numbered}
-use Rattle.walk.specs.TwoWalks.{Low, low-back, runs-grow}
+use Rattle.walk.specs.TwoWalks.{Low, low-back}
 use Rattle.walk.specs.declared.Counters.{Counters}
 use Rattle.statements.specs.Columns.{ColumnRecord}
 use Rattle.statements.specs.Statements.{meet-stmt, meet-stmts, LegalStmts, AllInPlace, StmtWalks, stmt-walks, stmts-grow, StmtsWalks}
@@ -29,24 +27,9 @@ use Rattle.statements.specs.Settled.{settled-legal}
 use Rattle.statements.specs.Bounds.{start-low}
 use Rattle.statements.specs.Whole.{start, roomy, low, set-walks}
 use Rattle.statements.specs.Stages.{stmts-words, log-of, StmtFacts, settled-facts, settled-short, Started, NumberedSet, SomeStarted}
-use Rattle.numbered.specs.Stands.{Numerable, Stands, SomeStmt, StmtEnds, StmtMet}
+use Rattle.numbered.specs.Stands.{Numerable, Stands, SomeStmt, EndsFrom, StmtMet}
 use Rattle.numbered.specs.Numbered.{NumberedAll}
 use Rattle.numbered.proofs.Single.{some-word}
-
--- the splitting of a rule takes numbers of the log
-rule-room : (e : BoolExpr) (s : Log) → Low (normalize-and-register-expr e s .1) → next-bool s + splits e false ≤ limit
-unfolding normalize-conjunction
-rule-room e s l =
-    let ts : Trees = rule-trees e 0 (next-bool s) in
-    let z : Log = split e false s .log in
-    let k : Low (runs ts z .1) = rw (rule-runs e 0 s) at l in
-    omega (arith, runs-grow ts z .bools, k .bools, split-sided e false s .bools)
-
--- what stands with a number stands with 0
-stands-less : (w : List ℤ) (at n : ℕ) (t : Stmt) → Stands w at n t → Stands w at 0 t
-stands-less w at n (Rule e) h = record { words = h .words; numerable = (h .numerable .0, omega (arith, h .numerable .1)) }
-stands-less w at n (Table es rows) h = record { words = h .words; numerable = h .numerable }
-stands-less w at n (AllDifferent es) h = record { words = h .words; numerable = h .numerable }
 
 -- ---- before the statement at q: the statements left, the log so far
 
@@ -58,7 +41,7 @@ pub record Left (merge : Bool) (p : Problem) (ss : List Stmt) (w : List ℤ) (en
   pub facts : Each (StmtFacts (p .domains)) rest
   pub legal : LegalStmts (read-part w) (p .domains) rest
   pub numbered : Numbered (ColumnRecord (read-part w) (p .domains)) (state-of w' c) log
-  pub logs : normalize-stmts (p .domains) rest log .1 ≡ log-of merge p ss
+  pub logs : normalize-stmts (p .domains) rest log ≡ log-of merge p ss
   pub state : meet-stmts q rest (state-of w' c) ≡ meet-stmts 512 ss (start w n)
 
 pub record SomeLeft (merge : Bool) (p : Problem) (ss : List Stmt) (w : List ℤ) (end n : ℕ) (w' : List ℤ) (c : Counters) (q : ℕ) : Type 0 where
@@ -121,9 +104,9 @@ module _ (merge : Bool) (p : Problem) (f : Fixed) (ss : List Stmt) (w : List ℤ
   module _ (end : ℕ) (w' : List ℤ) (c : Counters) (q : ℕ) where
     module _ (t : Stmt) (ts : List Stmt) (x : Left merge p ss w end n w' c q (t ∷ ts)) where
       abbrev after : Log
-      after = normalize-stmt ds t (x .log) .1
+      after = normalize-stmt ds t (x .log)
 
-      logs-after : normalize-stmts ds ts after .1 ≡ log-of merge p ss
+      logs-after : normalize-stmts ds ts after ≡ log-of merge p ss
       unfolding normalize-stmts
       logs-after = x .logs
 
@@ -139,8 +122,8 @@ module _ (merge : Bool) (p : Problem) (f : Fixed) (ss : List Stmt) (w : List ℤ
       numerable : Numerable (c .bools) t
       numerable = go t (x .facts .0) low-after
         where
-          go : (t : Stmt) → StmtFacts ds t → Low (normalize-stmt ds t (x .log) .1) → Numerable (c .bools) t
-          go (Rule e) y l = (y .legal, subst (λ (n : ℕ). n + splits e false ≤ limit) (sym (x .numbered .bools)) (rule-room e (x .log) (unfold normalize-stmt in l)))
+          go : (t : Stmt) → StmtFacts ds t → Low (normalize-stmt ds t (x .log)) → Numerable (c .bools) t
+          go (Rule e) y l = (y .legal, subst (λ (n : ℕ). n + splits e false ≤ limit) (sym (x .numbered .bools)) (rule-room ds e (x .log) (unfold normalize-stmt in l)))
           go (Table es rows) y l = (y .legal, y .cells)
           go (AllDifferent es) y l = y .legal
 
@@ -170,11 +153,11 @@ module _ (merge : Bool) (p : Problem) (f : Fixed) (ss : List Stmt) (w : List ℤ
     some-stmt [] x part l = absurd (omega (arith, x .ends))
     some-stmt (t ∷ ts) x part l = record { stmt = t; stands = stmt-stands t ts x part }
 
-    next-left : (rest : List Stmt) → Left merge p ss w end n w' c q rest → read-part w' ≡ F → q < end → (w'' : List ℤ) (c' : Counters) (q' : ℕ) → StmtEnds w' q q' → StmtMet w' q c w'' c' → SomeLeft merge p ss w end n w'' c' q'
+    next-left : (rest : List Stmt) → Left merge p ss w end n w' c q rest → read-part w' ≡ F → q < end → (w'' : List ℤ) (c' : Counters) (q' : ℕ) → EndsFrom w' q (c .bools) q' → StmtMet w' q c w'' c' → SomeLeft merge p ss w end n w'' c' q'
     next-left [] x part l w'' c' q' e m = absurd (omega (arith, x .ends))
     next-left (t ∷ ts) x part l w'' c' q' e m =
         let d = stmt-stands t ts x part in
-        record { rest = ts; left = left-next t ts x w'' c' q' (e t (stands-less w' q (c .bools) t d)) (m .met t d) }
+        record { rest = ts; left = left-next t ts x w'' c' q' (e t d) (m .met t d) }
 
     -- no statement is left
     ready : (rest : List Stmt) → Left merge p ss w end n w' c q rest → read-part w' ≡ F → end ≤ q → NumberedSet merge p f ss w' c
@@ -202,13 +185,10 @@ module _ (w : List ℤ) (end n : ℕ) (s : SomeStarted w end n) (w' : List ℤ) 
   pub size-here : 4608 ≤ length w'
   size-here = omega (arith, x .size, s .started .numbered .size)
 
-  pub stmt-here-0 : q < end → SomeStmt w' q 0
-  stmt-here-0 l = let y = stmt-here l in record { stmt = y .stmt; stands = stands-less w' q (c .bools) (y .stmt) (y .stands) }
+  pub moved : (q' : ℕ) → q < end → EndsFrom w' q (c .bools) q' → q < q'
+  moved q' l e = let y = stmt-here l in omega (arith, e (y .stmt) (y .stands), some-word (y .stmt))
 
-  pub moved : (q' : ℕ) → q < end → StmtEnds w' q q' → q < q'
-  moved q' l e = let y = stmt-here-0 l in omega (arith, e (y .stmt) (y .stands), some-word (y .stmt))
-
-  pub all-again : (w'' : List ℤ) (c' : Counters) (q' : ℕ) → q < end → StmtEnds w' q q' → StmtMet w' q c w'' c' → Sofar w end n w'' c' q'
+  pub all-again : (w'' : List ℤ) (c' : Counters) (q' : ℕ) → q < end → EndsFrom w' q (c .bools) q' → StmtMet w' q c w'' c' → Sofar w end n w'' c' q'
   all-again w'' c' q' l e m =
       let t = stmt-here l in
       let y = m .met (t .stmt) (t .stands) in

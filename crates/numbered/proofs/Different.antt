@@ -1,13 +1,14 @@
 -- Laws for the code of an AllDifferent: its words where it stands, its numbering.
 use mathlib.Core.Path.{_≡_, ap, _∙_}
-use mathlib.Core.List.{List, [], _∷_, map}
+use mathlib.Core.List.{List, map}
 use Prim.Native.Nat.{ℕ, _+_, _≤_}
 use native.Mathlib.Omega.{arith}
-use lib.IntN.{ℤ, pos}
+use lib.IntN.{ℤ}
 use lib.ListN.{length}
 use Rattle.laws.specs.Lists.{flat}
-use Rattle.laws.specs.Slices.{Has, has-fits, has-word, has-rest, has-back}
+use Rattle.laws.specs.Slices.{Has}
 use Rattle.syntax.specs.Syntax.{IntExpr, encode-int, AllDifferent, encode-stmt}
+use Rattle.syntax.specs.Lengths.{different-words as parts}
 use Rattle.walk.specs.Item.{nat}
 use Rattle.walk.specs.Decode.{word, read-part}
 use Rattle.walk.specs.NumberingSteps.{state-of, Met, met-to, part-short}
@@ -26,14 +27,8 @@ module _ (w : List ℤ) (at b : ℕ) (es : List IntExpr) (h : Stands w at b (All
   pub different-words : DifferentWords (read-part w) at es
   unfolding encode-stmt word nat
   different-words =
-      let ws : List ℤ = read-part w in
-      let body : List ℤ = flat (map encode-int es) in
-      record {
-        count = ap nat (has-word ws (at + 1) (pos (length es)) body (pos 0) (has-rest ws at (pos 3) (pos (length es) ∷ body) (h .words)));
-        stands = has-back ws at (pos 3 ∷ pos (length es) ∷ []) body (h .words);
-        size = omega arith;
-        inside = omega (arith, has-fits ws at (encode-stmt (AllDifferent es)) (h .words) (omega arith), part-short w);
-      }
+      let d = parts (read-part w) at es (h .words) in
+      record { count = ap nat (d .count-word); stands = d .columns; size = omega arith; inside = omega (arith, d .inside, part-short w) }
 
 pub different-inside : (w : List ℤ) (at b : ℕ) → SomeDifferent w at b → at + 2 ≤ 4608
 different-inside w at b s = let x = different-words w at b (s .exprs) (s .stands) in omega (arith, x .inside, x .size)

@@ -12,18 +12,17 @@ use Rattle.syntax.specs.Codes.{stmt-code, stmt-code-word}
 use Rattle.walk.specs.Tree.{splits}
 use Rattle.walk.specs.Resolve.{rule-trees}
 use Rattle.walk.specs.Item.{limit, nat, State, walk-bools, mets, items}
-use Rattle.walk.specs.Decode.{word, read-part}
+use Rattle.walk.specs.Decode.{word, read-part, decode}
 use Rattle.walk.specs.DecodeExact.{rule-stands}
 use Rattle.walk.specs.NumberingSteps.{state-of, Met, met-none, met-to, part-short}
 use Rattle.walk.specs.MeetTies.{meet-rule, meet-rule-is}
 use Rattle.walk.specs.declared.Counters.{Counters}
-use Rattle.survey.specs.Skip.{Skips}
 use Rattle.statements.specs.NumberColumns.{columns-end, columns-stop}
 use Rattle.statements.specs.Table.{meet-table}
 use Rattle.statements.specs.Different.{meet-pairs}
 use Rattle.statements.specs.Statements.{meet-stmt}
 use Rattle.statements.specs.KnownTies.{KnownTie, known-stays}
-use Rattle.numbered.specs.Stands.{Stands, SomeStmt, SomeTable, SomeDifferent, StmtEnds, StmtMet, TableMet, DifferentMet}
+use Rattle.numbered.specs.Stands.{Stands, SomeStmt, SomeTable, SomeDifferent, EndsFrom, StmtEnds, StmtMet, TableMet, DifferentMet}
 use Rattle.numbered.proofs.Tables.{table-words, table-stop}
 use Rattle.numbered.proofs.Different.{different-words}
 
@@ -127,15 +126,27 @@ known-met w at c l i k = record { met = λ t h. met-to (go t h) (met-none w c l 
     go (Table es rows) h = not-here w at (c .bools) 1 (sym (k .rule)) (Table es rows) (λ q. omega (arith, q)) h
     go (AllDifferent es) h = not-here w at (c .bools) 1 (sym (k .rule)) (AllDifferent es) (λ q. omega (arith, q)) h
 
+-- what stands with a number stands with 0
+pub stands-less : (w : List ℤ) (at n : ℕ) (t : Stmt) → Stands w at n t → Stands w at 0 t
+stands-less w at n (Rule e) h = record { words = h .words; numerable = (h .numerable .0, omega (arith, h .numerable .1)) }
+stands-less w at n (Table es rows) h = record { words = h .words; numerable = h .numerable }
+stands-less w at n (AllDifferent es) h = record { words = h .words; numerable = h .numerable }
+
+pub some-less : (w : List ℤ) (at n : ℕ) → SomeStmt w at n → SomeStmt w at 0
+some-less w at n s = record { stmt = s .stmt; stands = stands-less w at n (s .stmt) (s .stands) }
+
+pub ends-less : (w : List ℤ) (at n r : ℕ) → StmtEnds w at r → EndsFrom w at n r
+ends-less w at n r e t h = e t (stands-less w at n t h)
+
 -- ---- the end
 
-pub rule-ends : (w : List ℤ) (at k q b : ℕ) → k ≡ word (read-part w) at → k ≡ 1 → Skips (read-part w) 64 false (at + 1) 0 q b → StmtEnds w at q
-rule-ends w at k q b hk z v (Rule e) h =
-    let r = rule-stands e (read-part w) 64 (at + 1) 0 (h .numerable .0) (rule-words w at 0 e h) (h .numerable .1) in
+pub rule-ends : (w : List ℤ) (at k n q : ℕ) → k ≡ word (read-part w) at → k ≡ 1 → q ≡ decode (read-part w) 64 false false (at + 1) n .end → EndsFrom w at n q
+rule-ends w at k n q hk z v (Rule e) h =
+    let r = rule-stands e (read-part w) 64 (at + 1) n (h .numerable .0) (rule-words w at n e h) (h .numerable .1) in
     let l : length (encode-stmt (Rule e)) ≡ suc (length (encode-bool e)) = unfold encode-stmt in refl in
-    omega (arith, v .end false, r .end, l)
-rule-ends w at k q b hk z v (Table es rows) h = not-here w at 0 k hk (Table es rows) (λ q. omega (arith, z, q)) h
-rule-ends w at k q b hk z v (AllDifferent es) h = not-here w at 0 k hk (AllDifferent es) (λ q. omega (arith, z, q)) h
+    omega (arith, v, r .end, l)
+rule-ends w at k n q hk z v (Table es rows) h = not-here w at n k hk (Table es rows) (λ q. omega (arith, z, q)) h
+rule-ends w at k n q hk z v (AllDifferent es) h = not-here w at n k hk (AllDifferent es) (λ q. omega (arith, z, q)) h
 
 pub different-ends : (w : List ℤ) (at k n p : ℕ) → k ≡ word (read-part w) at → k ≡ 3 → n ≡ word (read-part w) (at + 1) → p ≡ columns-end (read-part w) n (at + 2) → StmtEnds w at p
 different-ends w at k n p hk z hn hp (Rule e) h = not-here w at 0 k hk (Rule e) (λ q. omega (arith, z, q)) h

@@ -1,27 +1,30 @@
 -- Laws for the code of a table: where its columns end, its words where it stands, its numbering.
 use mathlib.Core.Path.{_≡_, refl, sym, ap, _∙_, subst}
-use mathlib.Core.List.{List, [], _∷_, _++_, map}
+use mathlib.Core.List.{List, map}
 use Prim.Native.Nat.{ℕ, zero, suc, _+_, _-_, _*_, _≤_}
+use native.Mathlib.Nat.{mul-comm}
 use native.Mathlib.Omega.{arith}
 use native.Mathlib.Numerals.{sub-one}
-use lib.IntN.{ℤ, pos}
-use lib.ListN.{length, getD, length-append}
+use lib.IntN.{ℤ}
+use lib.ListN.{length}
 use Rattle.laws.specs.Lists.{flat}
-use Rattle.laws.specs.Slices.{Has, has-fits, has-front, has-back, has-word, has-rest}
+use Rattle.laws.specs.Slices.{Has}
 use Rattle.syntax.specs.Syntax.{IntExpr, encode-int, Cell, Table, encode-stmt}
+use Rattle.syntax.specs.Lengths.{table-words as parts}
+use Rattle.syntax.specs.Codes.{stmt-code-word}
 use Rattle.words.specs.Exact.{Each}
 use Rattle.read.specs.WellFormed.{WellRow}
+use Rattle.read.specs.Vars.{rows-wide}
 use Rattle.walk.specs.Item.{bump, nat, walk-bools}
 use Rattle.walk.specs.Decode.{word, int-end, read-part}
 use Rattle.walk.specs.NumberingSteps.{state-of, Met, part-short}
 use Rattle.walk.specs.MeetColumns.{meet-columns-at}
 use Rattle.walk.specs.declared.Counters.{Counters}
-use Rattle.rows.specs.Stands.{cells-words, length-cells}
+use Rattle.rows.specs.Stands.{cells-words}
 use Rattle.walk.specs.DecodeExact.{has-part}
 use Rattle.statements.specs.NumberColumns.{columns-end, columns-are, columns-stop}
 use Rattle.statements.specs.Table.{table-fresh, meet-table}
 use Rattle.statements.specs.Columns.{meet-columns}
-use Rattle.call.specs.WellRead.{rows-wide}
 use Rattle.numbered.specs.Fresh.{RowsStand, Freshens}
 use Rattle.numbered.specs.Stands.{Stands, SomeTable}
 
@@ -51,22 +54,17 @@ pub record TableWords (ws : List ℤ) (at : ℕ) (es : List IntExpr) (rows : Lis
 -- b: the next Boolean's number; n columns and k rows, as they are read
 module _ (w : List ℤ) (at b : ℕ) (es : List IntExpr) (rows : List (List Cell)) (h : Stands w at b (Table es rows)) where
   pub table-words : TableWords (read-part w) at es rows
-  unfolding encode-stmt word nat
+  unfolding word nat
   table-words =
-      let ws : List ℤ = read-part w in
-      let body : List ℤ = flat (map encode-int es) ++ cells-words rows in
-      let x = has-rest ws at (pos 2) (pos (length es) ∷ pos (length rows) ∷ body) (h .words) in
-      let y = has-rest ws (at + 1) (pos (length es)) (pos (length rows) ∷ body) x in
-      let f = has-fits ws at (encode-stmt (Table es rows)) (h .words) (omega arith) in
-      let d : Has ws (at + 3) body = has-back ws at (pos 2 ∷ pos (length es) ∷ pos (length rows) ∷ []) body (h .words) in
+      let t = parts (read-part w) at es rows (rows-wide (length es) rows (h .numerable .1)) (h .words) in
       record {
-        code = ap nat (has-word ws at (pos 2) _ (pos 0) (h .words));
-        columns = ap nat (has-word ws (at + 1) (pos (length es)) _ (pos 0) x);
-        row-count = ap (λ (i : ℕ). nat (getD ws i (pos 0))) (omega arith) ∙ ap nat (has-word ws (at + 1 + 1) (pos (length rows)) body (pos 0) y);
-        stands = has-front ws (at + 3) (flat (map encode-int es)) (cells-words rows) d;
-        cells = has-back ws (at + 3) (flat (map encode-int es)) (cells-words rows) d;
-        size = omega (arith, length-append (flat (map encode-int es)) (cells-words rows), length-cells (length es) rows (rows-wide (length es) rows (h .numerable .1)));
-        inside = omega (arith, f, part-short w);
+        code = ap nat (stmt-code-word (read-part w) at (Table es rows) (h .words));
+        columns = ap nat (t .columns-word);
+        row-count = ap nat (t .rows-word);
+        stands = t .columns;
+        cells = t .cells;
+        size = omega (arith, t .long, mul-comm (length es) (length rows));
+        inside = omega (arith, t .inside, t .long, part-short w);
       }
 
   module _ (n k p : ℕ) (w' : List ℤ) (hn : n ≡ word (read-part w) (at + 1)) (hk : k ≡ word (read-part w) (at + 2)) (part : read-part w' ≡ read-part w) (hp : p ≡ columns-end (read-part w') n (at + 3)) where
@@ -86,7 +84,7 @@ module _ (w : List ℤ) (at b : ℕ) (es : List IntExpr) (rows : List (List Cell
     pub table-room : p + k * n ≤ 4608
     table-room = omega (arith, table-stop, table-words .inside)
 
-    pub table-rows : RowsStand w' p n k rows
+    table-rows : RowsStand w' p n k rows
     table-rows = record {
       stands = has-part w' p (cells-words rows) (subst (λ (ws : List ℤ). Has ws p (cells-words rows)) (sym part) (subst (λ (i : ℕ). Has (read-part w) i (cells-words rows)) (sym rows-place) (table-words .cells)));
       count = hk ∙ table-words .row-count;

@@ -6,21 +6,21 @@ use Prim.Native.Nat.{ℕ, zero, suc, _+_, _*_}
 use native.Mathlib.Omega.{arith}
 use lib.IntN.{ℤ, natAbs}
 use lib.Dec.{leb}
-use lib.ListN.{length, take, drop, length-map}
-use lib.Seq.{drop-drop}
+use lib.ListN.{length, drop}
 use borrow.Author.Tests.{le-leb}
 use Rattle.laws.specs.Bools.{and-i}
 use Rattle.laws.specs.Ints.{eqZ}
 use Rattle.laws.specs.Lists.{any, all, keep-if, select}
-use Rattle.laws.specs.Slices.{Has, has-front, has-back}
+use Rattle.laws.specs.Slices.{Has}
 use Rattle.syntax.specs.Words.{max-value, star-word}
 use Rattle.syntax.specs.Syntax.{Cell, star, value, encode-cell}
 use Rattle.words.specs.Exact.{Each}
 use Rattle.read.specs.WellFormed.{WellCell, WellRow}
+use Rattle.read.specs.Vars.{rows-wide as rows-of-width}
 use Rattle.tables.specs.Tables.{Row, is-star}
-use Rattle.rows.specs.Rows.{rows-of, row-at}
+use Rattle.sorting.specs.Rows.{rows-of, row-at}
 use Rattle.rows.specs.Stars.{values-in, is-free, is-single, is-longer, count-rows}
-use Rattle.rows.specs.Stands.{small, cells-words, length-cells, stars-stand, values-stand}
+use Rattle.rows.specs.Stands.{small, cells-words, length-cells, cells-stand, stars-stand, values-stand}
 use Rattle.walk.specs.Item.{mode-in, fresh-in}
 use Rattle.statements.specs.Table.{values, is-long, is-one, long-rows, single-rows, star-fresh, free-rows, starred, table-fresh}
 use Rattle.call.specs.WellRead.{rows-wide}
@@ -45,17 +45,6 @@ well-cells (value x ∷ cs) h = and-i (leb (natAbs x) max-value) (all small cs) 
 pub rows-small : (n : ℕ) (rows : List (List Cell)) → Each (WellRow n) rows → all (all small) rows ≡ true
 rows-small n [] h = refl
 rows-small n (cs ∷ rows) h = and-i (all small cs) (all (all small) rows) (well-cells cs (h .0 .1)) (rows-small n rows (h .1))
-
--- ---- the rows that stand
-
-pub cells-stand : (w : List ℤ) (at n : ℕ) (rows : List (List Cell)) → Has w at (cells-words rows) → Each (WellRow n) rows → rows-of n (length rows) (drop at w) ≡ map (map encode-cell) rows
-unfolding rows-of
-cells-stand w at n [] h k = refl
-cells-stand w at n (cs ∷ rows) h k =
-    let l : length (map encode-cell cs) ≡ n = length-map cs encode-cell ∙ k .0 .0 in
-    let a : take n (drop at w) ≡ map encode-cell cs = ap (λ (m : ℕ). take m (drop at w)) (sym l) ∙ has-front w at (map encode-cell cs) (cells-words rows) h in
-    let b : rows-of n (length rows) (drop (at + n) w) ≡ map (map encode-cell) rows = cells-stand w (at + n) n rows (ap (λ (m : ℕ). take (length (cells-words rows)) (drop (at + m) w)) (sym l) ∙ has-back w at (map encode-cell cs) (cells-words rows) h) (k .1) in
-    rw (a, drop-drop n at w, b) refl
 
 -- ---- their counts
 
@@ -89,7 +78,7 @@ module _ (n : ℕ) where
   long-step (suc zero) x = omega arith
   long-step (suc (suc m)) x = omega arith
 
-  pub longer-count : (rows : List (List Cell)) → Each (WellRow n) rows → count-rows is-longer (map (map encode-cell) rows) ≡ long-rows n rows
+  longer-count : (rows : List (List Cell)) → Each (WellRow n) rows → count-rows is-longer (map (map encode-cell) rows) ≡ long-rows n rows
   unfolding long-rows
   longer-count [] h = unfold count-rows in refl
   longer-count (cs ∷ rows) h = count-step is-longer (map encode-cell cs) (map (map encode-cell) rows) ∙ rw (row-values n cs (h .0), longer-count rows (h .1)) (long-step (values n cs) (long-rows n rows))
@@ -99,7 +88,7 @@ module _ (n : ℕ) where
   one-step (suc zero) x = omega arith
   one-step (suc (suc m)) x = omega arith
 
-  pub single-count : (rows : List (List Cell)) → Each (WellRow n) rows → count-rows is-single (map (map encode-cell) rows) ≡ single-rows n rows
+  single-count : (rows : List (List Cell)) → Each (WellRow n) rows → count-rows is-single (map (map encode-cell) rows) ≡ single-rows n rows
   unfolding single-rows
   single-count [] h = unfold count-rows in refl
   single-count (cs ∷ rows) h = count-step is-single (map encode-cell cs) (map (map encode-cell) rows) ∙ rw (row-values n cs (h .0), single-count rows (h .1)) (one-step (values n cs) (single-rows n rows))
@@ -126,8 +115,8 @@ module _ (w : List ℤ) (at n k : ℕ) (rows : List (List Cell)) (h : RowsStand 
       let l : k * n ≡ length (cells-words rows) = sym (length-cells n rows (rows-wide n rows (h .well)) ∙ ap (λ (m : ℕ). m * n) (sym (h .count))) in
       ap (λ (m : ℕ). any (λ x. eqZ x star-word) (row-at m at w)) l ∙ ap (any (λ x. eqZ x star-word)) (h .stands) ∙ stars-stand rows (rows-small n rows (h .well))
 
-  pub rows-are : rows-of n k (drop at w) ≡ map (map encode-cell) rows
-  rows-are = ap (λ (m : ℕ). rows-of n m (drop at w)) (h .count) ∙ cells-stand w at n rows (h .stands) (h .well)
+  rows-are : rows-of n k (drop at w) ≡ map (map encode-cell) rows
+  rows-are = ap (λ (m : ℕ). rows-of n m (drop at w)) (h .count) ∙ cells-stand w at n rows (h .stands) (rows-of-width n rows (h .well))
 
   pub counts-are : (f : ℕ → Bool) (m : ℕ) → m ≡ count-rows f (rows-of n k (drop at w)) → m ≡ count-rows f (map (map encode-cell) rows)
   counts-are f m e = e ∙ ap (count-rows f) rows-are

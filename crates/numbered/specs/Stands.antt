@@ -44,9 +44,12 @@ pub record SomeDifferent (w : List ℤ) (at n : ℕ) : Type 0 where
   pub exprs : List IntExpr
   pub stands : Stands w at n (AllDifferent exprs)
 
--- r: where whatever statement stands there ends
+-- r: where whatever statement stands there ends; n Booleans have numbers
+abbrev pub EndsFrom : List ℤ → ℕ → ℕ → ℕ → Type 0
+EndsFrom w at n r = (t : Stmt) → Stands w at n t → r ≡ at + length (encode-stmt t)
+
 abbrev pub StmtEnds : List ℤ → ℕ → ℕ → Type 0
-StmtEnds w at r = (t : Stmt) → Stands w at 0 t → r ≡ at + length (encode-stmt t)
+StmtEnds w at r = EndsFrom w at 0 r
 
 -- whatever statement stands there is numbered; the length stays
 pub record StmtMet (w : List ℤ) (at : ℕ) (c : Counters) (w' : List ℤ) (r : Counters) : Type 0 where

@@ -9,8 +9,9 @@ ghost use Rattle.statements.specs.NumberColumns.{columns-end};
 ghost use Rattle.statements.specs.KnownTies.{KnownSides, KnownTie};
 ghost use Rattle.statements.specs.Stages.{SomeStarted};
 ghost use Rattle.numbered.specs.Fresh.{Freshens};
-ghost use Rattle.numbered.specs.Stands.{SomeStmt, SomeTable, SomeDifferent, StmtEnds, StmtMet, TableMet, DifferentMet};
+ghost use Rattle.numbered.specs.Stands.{SomeStmt, SomeTable, SomeDifferent, EndsFrom, StmtEnds, StmtMet, TableMet, DifferentMet};
 ghost use Rattle.numbered.specs.Numbered.{NumberedAll};
+use number::NumberedRule;
 use walk::Counters;
 
 // Where so many columns from a place on end.
@@ -115,21 +116,28 @@ fn known_tie(work: &[i32], at: usize) -> bool
 }
 
 // The statement at a place.
-fn number_statement(work: &mut [i32], at: usize, c: Counters) -> Counters
+fn number_statement(work: &mut [i32], at: usize, c: Counters) -> NumberedRule
     requires { ⌜ SomeStmt (now work) at (c .bools) × ((4608 ≤ length (now work)) × ((c .bools ≤ limit) × (c .ints ≤ limit))) ⌝ }
-    ensures { λ r. ⌜ StmtMet (now (work .entry)) at c (now (work .exit)) r ⌝ }
+    ensures { λ r. ⌜ StmtMet (now (work .entry)) at c (now (work .exit)) (r .counters) × EndsFrom (now (work .entry)) at (c .bools) (r .at) ⌝ }
 {
     if known_tie(work, at) {
-        return c;
+        let end = statement_end(work, at);
+        return NumberedRule {
+            counters: c,
+            at: end,
+        };
     }
     let code = survey::word(work, at);
     if code == 1 {
         return number::number_rule(work, at + 1, c);
     }
+    let end = statement_end(work, at);
     if code == 3 {
-        return number_different(work, at, c);
+        let counters = number_different(work, at, c);
+        return NumberedRule { counters, at: end };
     }
-    number_table(work, at, c)
+    let counters = number_table(work, at, c);
+    NumberedRule { counters, at: end }
 }
 
 // Where the statement at a place ends.
@@ -161,9 +169,9 @@ pub fn number_statements(work: &mut [i32], end: usize, n: usize) -> Counters
     let mut q = 512;
     let mut c = Counters { bools: n, ints: 0 };
     while q < end {
-        let next = statement_end(work, q);
-        c = number_statement(work, q, c);
-        q = next;
+        let s = number_statement(work, q, c);
+        c = s.counters;
+        q = s.at;
     }
     c
 }

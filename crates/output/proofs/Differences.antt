@@ -13,7 +13,7 @@ use Rattle.laws.specs.Lists.{different}
 use Rattle.laws.specs.Slices.{Has, has-front, has-back}
 use Rattle.laws.specs.Ints.{count-of}
 use Rattle.syntax.specs.Words.{max-weight, max-comparison-vars}
-use Rattle.syntax.specs.Syntax.{Domain, IntExpr, IConst, IVar, Linear, Terms, tnil, tmore, encode-int}
+use Rattle.syntax.specs.Syntax.{Domain, IntExpr, IConst, IVar, Linear, If, Terms, tnil, tmore, encode-int}
 use Rattle.limits.specs.Limits.{weight, heavy, heavy-comparison, written, many-comparison}
 use Rattle.sums.specs.LinearSum.{LinearSum, constant, add-sum, mul-sum, sub-sum}
 use Rattle.sums.specs.Linear.{linear-of, linear-terms}
@@ -35,6 +35,7 @@ mutual
   linear-same : (f g : ℕ → ℕ) → ((v : ℕ) → f v ≡ g v) → (e : IntExpr) → linear-of f e ≡ linear-of g e
   linear-same f g h (IConst c) = refl
   linear-same f g h (IVar v) = rw (h v)
+  linear-same f g h (If j c x y) = absurd j
   linear-same f g h (Linear ts) = terms-same f g h ts (constant (pos 0))
 
   terms-same : (f g : ℕ → ℕ) → ((v : ℕ) → f v ≡ g v) → (ts : Terms) (sum : LinearSum) → linear-terms f ts sum ≡ linear-terms g ts sum

@@ -30,7 +30,7 @@ pub sets-append : (out : List ℕ) (o : ℕ) (us vs : List ℕ) → sets out o (
 sets-append out o [] vs = ap (λ n. sets out n vs) (omega arith)
 sets-append out o (u ∷ us) vs = sets-append (set out o u) (suc o) us vs ∙ ap (λ n. sets (sets (set out o u) (suc o) us) n vs) (omega arith)
 
-pub sets-out : (out : List ℕ) (o : ℕ) (vs : List ℕ) → length out ≤ o → sets out o vs ≡ out
+sets-out : (out : List ℕ) (o : ℕ) (vs : List ℕ) → length out ≤ o → sets out o vs ≡ out
 sets-out out o [] h = refl
 sets-out out o (v ∷ vs) h = sets-out (set out o v) (suc o) vs (omega (arith, length-set out o v)) ∙ set-out out o v h
 

@@ -25,7 +25,7 @@ use Rattle.page.specs.Placing.{put-put, part-fits, flat-front, flat-pair
 
 -- ---- words within i32
 
-pub fit-part : (ws : List ℤ) (i n : ℕ) → all fitting ws ≡ true → all fitting (take n (drop i ws)) ≡ true
+fit-part : (ws : List ℤ) (i n : ℕ) → all fitting ws ≡ true → all fitting (take n (drop i ws)) ≡ true
 fit-part ws i n h = all-take fitting n (drop i ws) (all-drop fitting i ws h)
 
 -- ---- operator and constant

@@ -195,7 +195,7 @@ pub pair-plain : (zs : List ℤ) (more : Bool) → more ≡ false → print-numb
 unfolding pair-text
 pair-plain zs more h = rw h (sym (append-nil (print-numbers zs)))
 
-pub pair-comma : (zs : List ℤ) (more : Bool) → more ≡ true → print-numbers zs ++ (comma ∷ []) ≡ pair-text zs more
+pair-comma : (zs : List ℤ) (more : Bool) → more ≡ true → print-numbers zs ++ (comma ∷ []) ≡ pair-text zs more
 unfolding pair-text
 pair-comma zs more h = rw h refl
 

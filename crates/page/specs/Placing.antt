@@ -64,7 +64,7 @@ gap-is P t x b = ap (λ (t : Bool). cond t [] (space ∷ []) ++ x) b
 
 -- the three ways of an item
 module _ (i : Item) (P : Page) where
-  abbrev pub else-way : Page
+  abbrev else-way : Page
   else-way = cond (leb (10 + length (flat i)) 80) (put (flat i) (fresh P)) (place-parts i (fresh P))
 
   item-fits : length (P .line) + length (gap P ++ flat i) ≤ 80 → place-item i P ≡ put (gap P ++ flat i) P

@@ -13,8 +13,8 @@ use Rattle.laws.specs.Order.{is-eqZ, not-eqZ}
 use Rattle.laws.specs.Lists.{all}
 use Rattle.laws.specs.Slices.{Has}
 use Rattle.syntax.specs.Words.{max-count}
-use Rattle.syntax.specs.Syntax.{Domain, enumerate, num-candidates, domain-of, encode-domain, IntExpr, IConst, IVar, Linear, encode-int}
-use Rattle.syntax.specs.Written.{EveryInt, EveryColumn}
+use Rattle.syntax.specs.Syntax.{Domain, enumerate, num-candidates, domain-of, encode-domain, IntExpr, IConst, IVar, Linear, If, encode-int}
+use Rattle.syntax.specs.Written.{EveryInt, EveryColumn, EveryIntOf, EveryColumnOf}
 use Rattle.different.specs.Different.{is-like}
 use Rattle.domains.specs.Declared.{Domain-post}
 use Rattle.walk.specs.Decode.{word, read-part}
@@ -32,7 +32,7 @@ module _ (set w : List ℤ) (p : ℕ) {m : ℕ} (code : m ≡ word (read-part w)
   -- a variable, whose index is x
   module _ (k : m ≡ 21) {x : ℕ} (index : x ≡ word (read-part w) (p + 1)) where
     pub variable-of : {X : Type 0} (ds : List Domain) (e : IntExpr) → One set w p ds e → (e ≡ IVar x → x < length ds → X) → X
-    unfolding EveryInt
+    unfolding EveryIntOf
     variable-of ds e o go = variable-inv w p e (o .stands) (sym code ∙ k) λ v i h j.
         let y : x ≡ v = index ∙ j in
         let f : e ≡ IVar x = i ∙ ap IVar (sym y) in
@@ -42,7 +42,7 @@ module _ (set w : List ℤ) (p : ℕ) {m : ℕ} (code : m ≡ word (read-part w)
     one-declared s = variable-of (s .domains) (s .expr) (s .it) λ i l. record { domains = s .domains; it = s .it .declared; below = l }
 
     module _ (d : ℕ) (post : Domain-post set 2 x d) {c : ℤ} (many-is : (dm : Domain) → Has set d (encode-domain dm) → c ≡ num-candidates dm) (n : ℕ) where
-      pub words-of : (ds : List Domain) (e : IntExpr) → One set w p ds e → x < length ds → Has set d (encode-domain (domain-of ds x))
+      words-of : (ds : List Domain) (e : IntExpr) → One set w p ds e → x < length ds → Has set d (encode-domain (domain-of ds x))
       words-of ds e o l = post ds (record { words = o .declared .words }) l
 
       module _ (same : c ≡ pos n) where
@@ -70,6 +70,7 @@ module _ (set w : List ℤ) (p : ℕ) {m : ℕ} (code : m ≡ word (read-part w)
   pub other-not : (m ≡ 21 → ⊥) → {b n : ℕ} → Like set w p b n false
   other-not k ds (IConst c) dm o s = refl
   other-not k ds (IVar v) dm o s = absurd (k (code ∙ code-is w p (IVar v) (o .stands .words)))
+  other-not k ds (If i c t f) dm o s = absurd i
   other-not k ds (Linear ts) dm o s = refl
 
 -- ---- one after the other
@@ -89,7 +90,7 @@ liking-start o = record { left = o; to = λ ds es dm v s. record { exprs = es; o
 
 module _ (set w : List ℤ) (p rest : ℕ) where
   pub first-one : {ds : List Domain} {e : IntExpr} {es : List IntExpr} → Over set w p rest ds (e ∷ es) → One set w p ds e
-  unfolding EveryColumn
+  unfolding EveryColumnOf
   first-one v = record { stands = first-at (v .standing); declared = v .declared; below = v .below .0 }
 
   pub some-one : (rest ≡ 0 → ⊥) → SomeOver set w p rest → SomeOne set w p
@@ -107,10 +108,11 @@ module _ (set w : List ℤ) (p rest : ℕ) where
   unfolding encode-int
   two-words ds n dm (IConst c) h = refl
   two-words ds n dm (IVar v) h = refl
+  two-words ds n dm (If i c t f) h = absurd i
   two-words ds n dm (Linear ts) h = never h
 
   rest-over : {ds : List Domain} {e : IntExpr} {es : List IntExpr} → length (encode-int e) ≡ 2 → Over set w p rest ds (e ∷ es) → Over set w (p + 2) (rest - 1) ds es
-  unfolding EveryColumn
+  unfolding EveryColumnOf
   rest-over {ds} {e} {es} h v = record {
     standing = subst (λ (k : ℕ). Standing w (p + k) (rest - 1) es) h (rest-stands w p rest e es (v .standing));
     declared = v .declared;

@@ -28,7 +28,7 @@ module _ {w : List ℤ} {p n : ℕ} {e : IntExpr} {es : List IntExpr} (s : Stand
   pub first-at : At w p e
   first-at = record { words = first-stands w p n e es s; legal = s .legal .0 }
 
-  pub next-standing : {q : ℕ} → q ≡ int-end (read-part w) 64 p → Standing w q (n - 1) es
+  next-standing : {q : ℕ} → q ≡ int-end (read-part w) 64 p → Standing w q (n - 1) es
   next-standing {q} h = subst (λ (m : ℕ). Standing w m (n - 1) es) (sym (h ∙ ap (λ (x : IntExpr × ℕ). x .1) (first-read w p n e es s))) (rest-stands w p n e es s)
 
 -- one expression stands at a place

@@ -16,7 +16,7 @@ use Rattle.syntax.specs.Syntax.{Domain, Ne, IntExpr, encode-int}
 use Rattle.limits.specs.Limits.{weight, heavy, heavy-comparison, written, many-comparison}
 use Rattle.sums.specs.LinearSum.{LinearSum, mul-sum, sub-sum}
 use Rattle.sums.specs.Linear.{linear-of, linear-of-same}
-use Rattle.sums.specs.Rising.{terms-of, Each, sub-sum-each, among-left, among-right}
+use Rattle.sums.specs.Rising.{terms-of, Among, Each, sub-sum-each, among-left, among-right}
 use Rattle.sums.specs.Bounds.{size, Room, linear-of-size, comparison-room}
 use Rattle.sums.specs.Struct.{terms, sum-of, Stands}
 use Rattle.sums.specs.declared.LinearSum.{LinearSum as Sum}
@@ -56,27 +56,14 @@ module _ (w : List ℤ) (a b : ℕ) (c : Pair w a b) where
 
   -- ---- by their sums
 
+  ready : (at : ℕ) (e : IntExpr) → At w at e → heavy ds e ≡ false → ((v : ℕ) → Among (written e) v → Among (written (c .left) ++ written (c .right)) v) → Ready w at
+  ready at e h l m = record { tree = e; has = has-part w at (encode-int e) (h .words); domains = ds; light = l; vars = written (c .left) ++ written (c .right); few = few; among = m }
+
   pub ready-left : Ready w a
-  ready-left = record {
-    tree = c .left;
-    has = has-part w a (encode-int (c .left)) (c .first .words);
-    domains = ds;
-    light = light-left;
-    vars = written (c .left) ++ written (c .right);
-    few = few;
-    among = λ v m. among-left v (written (c .left)) (written (c .right)) m;
-  }
+  ready-left = ready a (c .left) (c .first) light-left (λ v m. among-left v (written (c .left)) (written (c .right)) m)
 
   pub ready-right : Ready w b
-  ready-right = record {
-    tree = c .right;
-    has = has-part w b (encode-int (c .right)) (c .second .words);
-    domains = ds;
-    light = light-right;
-    vars = written (c .left) ++ written (c .right);
-    few = few;
-    among = λ v m. among-right v (written (c .left)) (written (c .right)) m;
-  }
+  ready-right = ready b (c .right) (c .second) light-right (λ v m. among-right v (written (c .left)) (written (c .right)) m)
 
   module _ {p q : ℕ} {s t : Sum} (x : Linears w (numbers w) a p s) (y : Linears w (numbers w) b q t) where
     abbrev left-is : Stands s (linear-of (number-at (numbers w)) (c .left))

@@ -11,7 +11,7 @@ use Rattle.laws.specs.Ints.{eqZ}
 use Rattle.laws.specs.Order.{not-eqZ}
 use Rattle.laws.specs.Lists.{all}
 use Rattle.laws.specs.Slices.{Has}
-use Rattle.syntax.specs.Syntax.{Domain, enumerate, num-candidates, domain-of, encode-domain, IntExpr, IConst, IVar, Linear}
+use Rattle.syntax.specs.Syntax.{Domain, enumerate, num-candidates, domain-of, encode-domain, IntExpr, IConst, IVar, Linear, If}
 use Rattle.different.specs.Different.{is-like, values-of-first, values-used-up}
 use Rattle.domains.specs.Declared.{Domain-post}
 use Rattle.walk.specs.Decode.{word, read-part}
@@ -57,6 +57,7 @@ module _ (set w : List ℤ) (at count : ℕ) where
       other k ds (IConst c ∷ es) v = refl
       other k ds (IVar x ∷ es) v = absurd (k (code ∙ code-is w at (IVar x) (first-one set w at count v .stands .words)))
       other k ds (Linear ts ∷ es) v = refl
+      other k ds (If i c t f ∷ es) v = refl
 
       pub used-other : (m ≡ 21 → ⊥) → Used set w at count 0
       used-other k = nothing (λ ds es v. of-first ds es v ∙ other k ds es v)
@@ -110,6 +111,7 @@ module _ (set w : List ℤ) (at count : ℕ) where
             names (IConst c ∷ es) = 0 ∷ names es
             names (IVar v ∷ es) = v ∷ names es
             names (Linear ts ∷ es) = 0 ∷ names es
+            names (If i c t f ∷ es) = 0 ∷ names es
 
             names-are : (ds : List Domain) (dm : Domain) (es : List IntExpr) → all (is-like ds count dm) es ≡ true → es ≡ map IVar (names es)
             unfolding names
@@ -117,6 +119,7 @@ module _ (set w : List ℤ) (at count : ℕ) where
             names-are ds dm (IConst c ∷ es) a = never a
             names-are ds dm (IVar v ∷ es) a = ap (λ (fs : List IntExpr). IVar v ∷ fs) (names-are ds dm es (and-r (is-like ds count dm (IVar v)) _ a))
             names-are ds dm (Linear ts ∷ es) a = never a
+            names-are ds dm (If i c t f ∷ es) a = never a
 
             variables : (ds : List Domain) (es : List IntExpr) → Over set w at count ds es → Variables w at count
             variables ds [] v = absurd (some-first (v .standing .counted))

@@ -20,7 +20,7 @@ use Rattle.columns.specs.Describing.{At}
 -- ---- a constant or a variable
 
 -- a variable's number plus 1, or 0 for none
-abbrev pub unit-terms : ℕ → List Term
+abbrev unit-terms : ℕ → List Term
 unit-terms zero = []
 unit-terms (suc v) = term v (pos 1) ∷ []
 

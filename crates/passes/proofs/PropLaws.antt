@@ -24,7 +24,8 @@ use Rattle.domains.specs.Declared.{Plain}
 use Rattle.folding.specs.Steps.{state-of, Reads, Reads-members}
 use Rattle.folding.proofs.BoolLaws.{const-inv, var-inv, cmp-inv, not-inv, list-inv, binary-inv, first-word, second, second-word, code-low, inside, reads-long, reads-not, reads-list, reads-left, reads-right, reads-first, reads-rest, reads-sides}
 use Rattle.passes.specs.Want.{prop-want, members-want, flip, member-want, left-want, right-want, want-not, want-list, want-binary, want-more, status-num, worst-num, clash-num, set-status, set-words, flip-num, member-num, left-num, right-num, flip-is, member-is, left-is, right-is, status-small, worst-two, worst-is, Values, Propagates}
-use Rattle.passes.specs.Contracts.{Some-int, Skip-post, Stands, Stand-members, Comparison-post, Prop-post, Members-post}
+use Rattle.passes.specs.Skip.{Some-int, Skip-post}
+use Rattle.passes.specs.Contracts.{Stands, Stand-members, Comparison-post, Prop-post, Members-post}
 
 -- ---- statuses
 
@@ -43,7 +44,7 @@ module _ (out : List ℤ) (f : Fixed) (vs : Values out f) where
   still = record { statuses = refl; after = f; values = vs; same = λ c g h. updated-same false c f g h; high = refl }
 
   -- nothing changes where the values agree, and no status is worse where they do not
-  pub agrees : (t : Bool) → Propagates (cond t (updated false f) unsatisfiable) out out (cond t 0 2)
+  agrees : (t : Bool) → Propagates (cond t (updated false f) unsatisfiable) out out (cond t 0 2)
   agrees true = still
   agrees false = record { statuses = refl; after = f; values = vs; same = λ c g h. unsat-updated c g h; high = refl }
 
@@ -85,7 +86,7 @@ members-up : (ni : ℕ) (out out' : List ℤ) (at n : ℕ) (ms : Members) → dr
 members-up ni out out' at n ms d h r = record { words = has-up out out' at (encode-members ms) d h (r .words); vars = r .vars; size = r .size }
 
 -- a want as an option
-pub want-of : {X : Type 0} (w : ℕ) → w < 3 → ((k : Option Bool) → w ≡ state-num k → X) → X
+want-of : {X : Type 0} (w : ℕ) → w < 3 → ((k : Option Bool) → w ≡ state-num k → X) → X
 want-of zero h go = go (some false) refl
 want-of (suc zero) h go = go (some true) refl
 want-of (suc (suc zero)) h go = go none refl
@@ -187,23 +188,23 @@ module _ (out : List ℤ) (at w : ℕ) (hw : getD out at (pos 0) ≡ pos w) wher
 
   module _ (h18 : w ≡ 18) where
     pub left-int : Stands out at → Some-int out (at + 2)
-    left-int s = cmp-inv (s .it) (code-is _ (s .it) (s .reads) ∙ h18) λ o a b q. record { it = a; stands = record { words = reads-sides _ out at o a b (rw q at (s .reads)) .0 .words } }
+    left-int s = cmp-inv (s .it) (code-is _ (s .it) (s .reads) ∙ h18) λ o a b q. let g = reads-sides _ out at o a b (rw q at (s .reads)) in record { bools = max-bools; ints = s .ints; it = a; stands = record { words = g .0 .words; vars = g .0 .vars } }
 
     module _ (m : ℕ) (p : Skip-post out (at + 2) m) where
       pub right-int : Stands out at → Some-int out m
       right-int s =
           cmp-inv (s .it) (code-is _ (s .it) (s .reads) ∙ h18) λ o a b q.
           let g = reads-sides _ out at o a b (rw q at (s .reads)) in
-          let e : m ≡ at + 2 + length (encode-int a) = p a (record { words = g .0 .words }) in
-          record { it = b; stands = record { words = rw e (g .1 .words) } }
+          let e : m ≡ at + 2 + length (encode-int a) = p max-bools (s .ints) a (record { words = g .0 .words; vars = g .0 .vars }) in
+          record { bools = max-bools; ints = s .ints; it = b; stands = record { words = rw e (g .1 .words); vars = g .1 .vars } }
 
       pub both-ints : (r : ℕ) → Skip-post out m r → Comparison-post out at r
       unfolding encode-bool
       both-ints r p' ni e rd =
           cmp-inv e (code-is ni e rd ∙ h18) λ o a b q.
           let g = reads-sides ni out at o a b (rw q at rd) in
-          let em : m ≡ at + 2 + length (encode-int a) = p a (record { words = g .0 .words }) in
-          let er : r ≡ m + length (encode-int b) = p' b (record { words = rw em (g .1 .words) }) in
+          let em : m ≡ at + 2 + length (encode-int a) = p max-bools ni a (record { words = g .0 .words; vars = g .0 .vars }) in
+          let er : r ≡ m + length (encode-int b) = p' max-bools ni b (record { words = rw em (g .1 .words); vars = g .1 .vars }) in
           rw q (omega (arith, length-append (encode-int a) (encode-int b)))
 
     pub cmp-props : (want next : ℕ) → Comparison-post out at next → Prop-post out at want out next 0

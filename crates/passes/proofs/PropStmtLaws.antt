@@ -14,7 +14,8 @@ use Rattle.syntax.specs.Syntax.{Stmt, Rule, Table, AllDifferent, encode-int, en
 use Rattle.fold.specs.Optimize.{constant-prop-stmts}
 use Rattle.domains.specs.Declared.{Plain}
 use Rattle.passes.specs.Want.{worst-num}
-use Rattle.passes.specs.Contracts.{Some-int, Skip-post, Stands, Prop-post}
+use Rattle.passes.specs.Skip.{Some-int, Skip-post}
+use Rattle.passes.specs.Contracts.{Stands, Prop-post}
 use Rattle.fold.specs.Ahead.{prop-stmt, prop-stmts-more}
 use Rattle.passes.specs.Statements.{Reads-stmt, Reads-stmts, Stands-stmt, Stand-stmts, Prop-stmt-post, Prop-stmts-post, Some-columns, Skip-columns-post, Skip-stmt-post}
 use Rattle.passes.proofs.StmtLaws.{columns-inv, stmt-inside, stmt-length, stmt-plain, code-word, rule-inv, not-two, table-inv, table-inside, different-inv, stmts-inv}
@@ -28,19 +29,19 @@ columns-end ws at n h ni (e ∷ es) r = absurd (let s : n ≡ suc (length es) = 
 
 module _ (ws : List ℤ) (at n : ℕ) (z : n ≡ 0 → ⊥) where
   pub column-stands : Some-columns ws at n → Some-int ws at
-  column-stands s = columns-inv ws 0 at n ws 0 z _ (s .them) (s .reads) λ e fs q re rs. record { it = e; stands = record { words = re .words } }
+  column-stands s = columns-inv ws 0 at n ws 0 z _ (s .them) (s .reads) λ e fs q re rs. record { bools = max-bools; ints = s .ints; it = e; stands = record { words = re .words; vars = re .vars } }
 
   module _ (m : ℕ) (p : Skip-post ws at m) where
     pub columns-stand : Some-columns ws at n → Some-columns ws m (n - 1)
     columns-stand s =
         columns-inv ws 0 at n ws 0 z _ (s .them) (s .reads) λ e fs q re rs.
-        let x : m ≡ at + length (encode-int e) = p e (record { words = re .words }) in
+        let x : m ≡ at + length (encode-int e) = p max-bools (s .ints) e (record { words = re .words; vars = re .vars }) in
         record { ints = s .ints; them = fs; reads = rw x rs }
 
     pub columns-skip : (r : ℕ) → Skip-columns-post ws m (n - 1) r → Skip-columns-post ws at n r
     columns-skip r p' ni es rd =
         columns-inv ws 0 at n ws 0 z ni es rd λ e fs q re rs.
-        let x : m ≡ at + length (encode-int e) = p e (record { words = re .words }) in
+        let x : m ≡ at + length (encode-int e) = p max-bools ni e (record { words = re .words; vars = re .vars }) in
         let y : r ≡ m + length (flat (map encode-int fs)) = p' ni fs (rw x rs) in
         rw q (omega (arith, length-append (encode-int e) (flat (map encode-int fs))))
 

@@ -6,21 +6,21 @@ use native.Mathlib.Omega.{arith}
 use native.Mathlib.Numerals.{add-one}
 use lib.IntN.{ℤ, pos}
 use lib.ListN.{length, take, drop, getD, set, length-append, length-set, length-drop}
-use lib.Seq.{take-suc, take-suc-set, drop-set-lt, getD-drop, take-set-le, slice-empty, length-take-le}
+use lib.Seq.{take-suc, take-suc-set, drop-set-lt, getD-drop, take-set-le, length-take-le}
 use Rattle.laws.specs.Lists.{flat}
-use Rattle.laws.specs.Slices.{Has, has-fits, has-front, has-back, has-word, has-rest, Pushed, pushed-below, pushed-then, pushed-none, Stored, heads-one, drop-up}
+use Rattle.laws.specs.Slices.{Has, has-fits, has-front, has-back, has-word, has-rest, Pushed, pushed-below, pushed-then, pushed-none, Stored, drop-up}
 use Rattle.laws.specs.Ints.{pos-eq}
 use Rattle.syntax.specs.Words.{max-bools}
 use Rattle.syntax.specs.Syntax.{Domain, IntExpr, BoolExpr, Cell, Stmt, Rule, Table, AllDifferent, encode-int, encode-bool, encode-cell, encode-stmt}
-use Rattle.syntax.specs.Lengths.{rows-length}
-use Rattle.syntax.specs.Written.{EveryColumn}
+use Rattle.syntax.specs.Lengths.{rows-length, table-words, different-words}
+use Rattle.syntax.specs.Written.{EveryColumnOf}
 use Rattle.syntax.specs.Codes.{stmt-code}
-use Rattle.fold.specs.Fold.{constant-folding-int, constant-folding-bool, constant-folding-stmt}
+use Rattle.fold.specs.Fold.{Fixed, constant-folding-int, constant-folding-bool, constant-folding-stmt}
 use Rattle.fold.specs.Forms.{bool-long}
 use Rattle.fold.specs.Kept.{fold-columns-size, fold-stmt-size, fold-int-size}
 use Rattle.domains.specs.Declared.{Plain}
-use Rattle.folding.specs.Steps.{fixed-in, Reads-int, Ready-int, Int-post, Reads, Ready, Fold-post}
-use Rattle.folding.proofs.BoolLaws.{same-fixed}
+use Rattle.folding.specs.Steps.{fixed-in, same-fixed, Reads-int, Ready-int, Int-post, Reads, Ready, Fold-post}
+use Rattle.folding.proofs.IntLaws.{stored-one}
 use Rattle.passes.specs.Statements.{Declared-stmt, Declared-stmts, Reads-columns, Ready-columns, Columns-post, Reads-stmt, Reads-stmts, Ready-stmt, Ready-stmts, Stmt-post, Stmts-post}
 
 -- ---- `copy_words`
@@ -61,7 +61,7 @@ columns-none ws d at n out o h ds (e ∷ es) hd r = absurd (let s : n ≡ suc (l
 
 module _ (ws : List ℤ) (d at n : ℕ) (out : List ℤ) (o : ℕ) (z : n ≡ 0 → ⊥) where
   pub columns-inv : {X : Type 0} (ni : ℕ) (es : List IntExpr) → Reads-columns ni ws at n es → ((e : IntExpr) (fs : List IntExpr) → es ≡ e ∷ fs → Reads-int ni ws at e → Reads-columns ni ws (at + length (encode-int e)) (n - 1) fs → X) → X
-  unfolding EveryColumn
+  unfolding EveryColumnOf
   columns-inv ni [] r go = absurd (z (r .size))
   columns-inv ni (e ∷ fs) r go =
       let h = r .words in
@@ -72,7 +72,7 @@ module _ (ws : List ℤ) (d at n : ℕ) (out : List ℤ) (o : ℕ) (z : n ≡ 0 
   column-ready r =
       columns-inv _ (r .them) (r .reads) λ e fs q re rs.
       let w : o + length (encode-int e ++ flat (map encode-int fs)) ≤ length out = rw q at (r .room) in
-      record { ds = r .ds; domains = r .domains; it = e; reads = re; room = omega (arith, length-append (encode-int e) (flat (map encode-int fs))) }
+      record { ds = r .ds; domains = r .domains; it = e; reads = re; low = r .low; room = omega (arith, length-append (encode-int e) (flat (map encode-int fs))) }
 
   module _ (mid : List ℤ) (next end : ℕ) (p : Int-post ws d at out o mid next end) where
     pub columns-ready : Ready-columns ws d at n out o → length mid ≡ length out → Ready-columns ws d next (n - 1) mid end
@@ -81,29 +81,32 @@ module _ (ws : List ℤ) (d at n : ℕ) (out : List ℤ) (o : ℕ) (z : n ≡ 0 
         let w : o + length (encode-int e ++ flat (map encode-int fs)) ≤ length out = rw q at (r .room) in
         let y = p (r .ds) e (r .domains) re in
         let nx : next ≡ at + length (encode-int e) = y .nexts in
-        let ef : end ≡ o + length (encode-int (constant-folding-int (r .ds) e)) = y .pushed .end in
-        record { ds = r .ds; domains = r .domains; them = fs; reads = rw nx rs; room = omega (arith, length-append (encode-int e) (flat (map encode-int fs)), fold-int-size (r .ds) e) }
+        let ef : end ≡ o + length (encode-int (constant-folding-int (r .ds) (fixed-in out) e)) = y .pushed .end in
+        let lo : max-bools ≤ o = r .low in
+        record { ds = r .ds; domains = r .domains; them = fs; reads = rw nx rs; low = omega arith; room = omega (arith, length-append (encode-int e) (flat (map encode-int fs)), fold-int-size (r .ds) (fixed-in out) e) }
 
-    pub columns-more : (out' : List ℤ) (next' end' : ℕ) → Columns-post ws d next (n - 1) mid end out' next' end' → Columns-post ws d at n out o out' next' end'
-    columns-more out' next' end' p' ds es hd r =
+    pub columns-more : (out' : List ℤ) (next' end' : ℕ) → Ready-columns ws d at n out o → Columns-post ws d next (n - 1) mid end out' next' end' → Columns-post ws d at n out o out' next' end'
+    columns-more out' next' end' rd p' ds es hd r =
         columns-inv _ es r λ e fs q re rs.
         let y = p ds e hd re in
         let nx : next ≡ at + length (encode-int e) = y .nexts in
-        let ef : end ≡ o + length (encode-int (constant-folding-int ds e)) = y .pushed .end in
+        let ef : end ≡ o + length (encode-int (constant-folding-int ds (fixed-in out) e)) = y .pushed .end in
         let y' = p' ds fs hd (rw nx rs) in
         let nx' : next' ≡ next + length (flat (map encode-int fs)) = y' .nexts in
+        let sf : fixed-in mid ≡ fixed-in out = same-fixed out mid (pushed-below out o _ mid end max-bools (y .pushed) (rd .low) (omega (arith, rd .room))) in
+        let yp : Pushed mid end (flat (map encode-int (map (constant-folding-int ds (fixed-in out)) fs))) out' end' = rw sf at (y' .pushed) in
         rw q (record {
           nexts = omega (arith, length-append (encode-int e) (flat (map encode-int fs)));
-          pushed = pushed-then out o _ mid end _ out' end' (y .pushed) (y' .pushed);
-          above = drop-up (end + length (flat (map encode-int fs))) (o + length (encode-int e ++ flat (map encode-int fs))) out' mid (y' .above) (omega (arith, length-append (encode-int e) (flat (map encode-int fs)), fold-int-size ds e))
+          pushed = pushed-then out o _ mid end _ out' end' (y .pushed) yp;
+          above = drop-up (end + length (flat (map encode-int fs))) (o + length (encode-int e ++ flat (map encode-int fs))) out' mid (y' .above) (omega (arith, length-append (encode-int e) (flat (map encode-int fs)), fold-int-size ds (fixed-in out) e))
               ∙ drop-up (o + length (encode-int e)) (o + length (encode-int e ++ flat (map encode-int fs))) mid out (y .above) (omega (arith, length-append (encode-int e) (flat (map encode-int fs))));
         })
 
 -- ---- one statement
 
-map-length : (ds : List Domain) (es : List IntExpr) → length (map (constant-folding-int ds) es) ≡ length es
-map-length ds [] = refl
-map-length ds (e ∷ es) = ap suc (map-length ds es)
+map-length : (ds : List Domain) (f : Fixed) (es : List IntExpr) → length (map (constant-folding-int ds f) es) ≡ length es
+map-length ds f [] = refl
+map-length ds f (e ∷ es) = ap suc (map-length ds f es)
 
 stmt-long : (ni : ℕ) (s : Stmt) → Declared-stmt max-bools ni s → 2 ≤ length (encode-stmt s)
 unfolding encode-stmt Declared-stmt
@@ -145,17 +148,12 @@ module _ (ni : ℕ) (ws : List ℤ) (at : ℕ) where
   -- header, columns, rows
   pub table-inv : {X : Type 0} (s : Stmt) → Reads-stmt ni ws at s → getD ws at (pos 0) ≡ pos 2
       → ((es : List IntExpr) (rows : List (List Cell)) → s ≡ Table es rows → getD ws (at + 1) (pos 0) ≡ pos (length es) → getD ws (at + 2) (pos 0) ≡ pos (length rows) → Reads-columns ni ws (at + 3) (length es) es → Has ws (at + 3 + length (flat (map encode-int es))) (flat (map (map encode-cell) rows)) → length (flat (map (map encode-cell) rows)) ≡ length es * length rows → X) → X
-  unfolding encode-stmt Declared-stmt
+  unfolding Declared-stmt
   table-inv (Rule e) r c2 go = absurd (let z : 1 ≡ 2 = pos-eq _ _ _ (code-word (Rule e) r) c2 in omega arith)
   table-inv (AllDifferent es) r c2 go = absurd (let z : 3 ≡ 2 = pos-eq _ _ _ (code-word (AllDifferent es) r) c2 in omega arith)
   table-inv (Table es rows) r c2 go =
-      let cs = flat (map encode-int es) in
-      let rs = flat (map (map encode-cell) rows) in
-      let h1 = has-rest ws at (pos 2) (pos (length es) ∷ pos (length rows) ∷ cs ++ rs) (r .words) in
-      let h2 = has-rest ws (at + 1) (pos (length es)) (pos (length rows) ∷ cs ++ rs) h1 in
-      let h3 = has-back ws at (pos 2 ∷ pos (length es) ∷ pos (length rows) ∷ []) (cs ++ rs) (r .words) in
-      let a2 : at + 2 ≡ at + 1 + 1 = omega arith in
-      go es rows refl (has-word ws (at + 1) _ _ (pos 0) h1) (ap (λ i. getD ws i (pos 0)) a2 ∙ has-word ws (at + 1 + 1) _ _ (pos 0) h2) (record { words = has-front ws (at + 3) cs rs h3; vars = r .vars .0; size = refl }) (has-back ws (at + 3) cs rs h3) (rows-length (length es) rows (r .vars .1))
+      let d = table-words ws at es rows (r .vars .1) (r .words) in
+      go es rows refl (d .columns-word) (d .rows-word) (record { words = d .columns; vars = r .vars .0; size = refl }) (d .cells) (rows-length (length es) rows (r .vars .1))
 
   pub table-inside : (s : Stmt) → Reads-stmt ni ws at s → getD ws at (pos 0) ≡ pos 2 → at + 3 ≤ length ws
   table-inside s r c2 =
@@ -166,13 +164,10 @@ module _ (ni : ℕ) (ws : List ℤ) (at : ℕ) where
   -- header, expressions
   pub different-inv : {X : Type 0} (s : Stmt) → Reads-stmt ni ws at s → getD ws at (pos 0) ≡ pos 3
       → ((es : List IntExpr) → s ≡ AllDifferent es → getD ws (at + 1) (pos 0) ≡ pos (length es) → Reads-columns ni ws (at + 2) (length es) es → X) → X
-  unfolding encode-stmt Declared-stmt
+  unfolding Declared-stmt
   different-inv (Rule e) r c3 go = absurd (let z : 1 ≡ 3 = pos-eq _ _ _ (code-word (Rule e) r) c3 in omega arith)
   different-inv (Table es rows) r c3 go = absurd (let z : 2 ≡ 3 = pos-eq _ _ _ (code-word (Table es rows) r) c3 in omega arith)
-  different-inv (AllDifferent es) r c3 go =
-      let cs = flat (map encode-int es) in
-      let h1 = has-rest ws at (pos 3) (pos (length es) ∷ cs) (r .words) in
-      go es refl (has-word ws (at + 1) _ _ (pos 0) h1) (record { words = has-back ws at (pos 3 ∷ pos (length es) ∷ []) cs (r .words); vars = r .vars; size = refl })
+  different-inv (AllDifferent es) r c3 go = let d = different-words ws at es (r .words) in go es refl (d .count-word) (record { words = d .columns; vars = r .vars; size = refl })
 
 module _ (ws : List ℤ) (d at : ℕ) (out : List ℤ) (o : ℕ) where
   pub stmt-room : Ready-stmt ws d at out o → (at + 2 ≤ length ws) × (o + 2 ≤ length out)
@@ -183,9 +178,6 @@ module _ (ws : List ℤ) (d at : ℕ) (out : List ℤ) (o : ℕ) where
 
   pub ready-different : (w : ℕ) → getD ws at (pos 0) ≡ pos w → (w ≡ 1 → ⊥) → (w ≡ 2 → ⊥) → Ready-stmt ws d at out o → getD ws at (pos 0) ≡ pos 3
   ready-different w hw a b r = not-two _ ws at (r .it) (r .reads) w hw a b
-
-  stored-one : (u : ℤ) → o < length out → Stored out o (u ∷ []) (set out o u) (o + 1)
-  stored-one u lo = rw (slice-empty (o + 1) out) at (heads-one out o u (o + 1) (omega arith) (omega arith))
 
   -- ---- a rule
 
@@ -205,7 +197,7 @@ module _ (ws : List ℤ) (d at : ℕ) (out : List ℤ) (o : ℕ) where
         rule-inv _ ws at s r w hw h1 λ e q re.
         let y = p ds e hd re in
         let sf : fixed-in mid ≡ fixed-in out = same-fixed out mid (ap (take max-bools) hm ∙ take-set-le max-bools out o (pos 1) (rd .low)) in
-        let w1 : Stored out o (pos 1 ∷ []) mid (o + 1) = rw hm (stored-one (pos 1) (omega (arith, stmt-room rd .1))) in
+        let w1 : Stored out o (pos 1 ∷ []) mid (o + 1) = rw hm (stored-one out o (pos 1) (omega (arith, stmt-room rd .1))) in
         let yp : Pushed mid (o + 1) (encode-bool (constant-folding-bool ds (fixed-in out) e)) out' end = rw sf at (y .pushed) in
         rw q (record {
           nexts = y .nexts ∙ omega arith;
@@ -244,7 +236,7 @@ module _ (ws : List ℤ) (d at : ℕ) (out : List ℤ) (o : ℕ) where
       module _ (mid : List ℤ) (hm : mid ≡ set out o (pos 2)) (mid' : List ℤ) (m : ℕ) (st : Stored mid (o + 1) (pos n ∷ pos k ∷ []) mid' m) where
         header : o < length out → Stored out o (pos 2 ∷ pos n ∷ pos k ∷ []) mid' m
         header lo =
-            let w1 : Stored out o (pos 2 ∷ []) mid (o + 1) = rw hm (stored-one (pos 2) lo) in
+            let w1 : Stored out o (pos 2 ∷ []) mid (o + 1) = rw hm (stored-one out o (pos 2) lo) in
             let me : m ≡ o + 1 + 2 = st .pushed .end in
             record { pushed = pushed-then out o (pos 2 ∷ []) mid (o + 1) (pos n ∷ pos k ∷ []) mid' m (w1 .pushed) (st .pushed); above = st .above ∙ drop-up (o + 1) m mid out (w1 .above) (omega arith) }
 
@@ -253,7 +245,8 @@ module _ (ws : List ℤ) (d at : ℕ) (out : List ℤ) (o : ℕ) where
             the-table _ (r .it) (r .reads) λ es rows q en ek rc rr ln.
             let z : o + length (encode-stmt (Table es rows)) ≤ length out = rw q at (r .room) in
             let me : m ≡ o + 1 + 2 = st .pushed .end in
-            record { ds = r .ds; domains = r .domains; them = es; reads = rc; room = omega (arith, table-length es rows ln) }
+            let lo : max-bools ≤ o = r .low in
+            record { ds = r .ds; domains = r .domains; them = es; reads = rc; low = omega arith; room = omega (arith, table-length es rows ln) }
 
         module _ (mid″ : List ℤ) (next end : ℕ) (p : Columns-post ws d (at + 3) n mid' m mid″ next end) where
           pub table-rows : Ready-stmt ws d at out o → length mid″ ≡ length out → (next + n * k ≤ length ws) × (end + n * k ≤ length mid″)
@@ -264,8 +257,8 @@ module _ (ws : List ℤ) (d at : ℕ) (out : List ℤ) (o : ℕ) where
               let me : m ≡ o + 1 + 2 = st .pushed .end in
               let y = p (r .ds) es (r .domains) rc in
               let nx : next ≡ at + 3 + length (flat (map encode-int es)) = y .nexts in
-              let ef : end ≡ m + length (flat (map encode-int (map (constant-folding-int (r .ds)) es))) = y .pushed .end in
-              (omega (arith, table-length es rows ln), omega (arith, table-length es rows ln, fold-columns-size (r .ds) es))
+              let ef : end ≡ m + length (flat (map encode-int (map (constant-folding-int (r .ds) (fixed-in mid')) es))) = y .pushed .end in
+              (omega (arith, table-length es rows ln), omega (arith, table-length es rows ln, fold-columns-size (r .ds) (fixed-in mid') es))
 
           pub table-folds : (out' : List ℤ) (end' : ℕ) → Ready-stmt ws d at out o → Stored mid″ end (take (n * k) (drop next ws)) out' end' → Stmt-post ws d at out o out' (next + n * k) end'
           unfolding encode-stmt constant-folding-stmt
@@ -275,15 +268,18 @@ module _ (ws : List ℤ) (d at : ℕ) (out : List ℤ) (o : ℕ) where
               let nx : next ≡ at + 3 + length (flat (map encode-int es)) = y .nexts in
               let hs = header (omega (arith, table-room rd .1)) in
               let me : m ≡ o + 3 = hs .pushed .end in
-              let ef : end ≡ m + length (flat (map encode-int (map (constant-folding-int ds) es))) = y .pushed .end in
+              let lo : max-bools ≤ o = rd .low in
+              let sf : fixed-in mid' ≡ fixed-in out = same-fixed out mid' (pushed-below out o _ mid' m max-bools (hs .pushed) lo (omega (arith, rd .room))) in
+              let yp : Pushed mid' m (flat (map encode-int (map (constant-folding-int ds (fixed-in out)) es))) mid″ end = rw sf at (y .pushed) in
+              let ef : end ≡ m + length (flat (map encode-int (map (constant-folding-int ds (fixed-in out)) es))) = yp .end in
               let cw : take (n * k) (drop next ws) ≡ flat (map (map encode-cell) rows) = rw (nx, ← ln) rr in
               let cp' : Stored mid″ end (flat (map (map encode-cell) rows)) out' end' = rw cw at cp in
               let ee : end' ≡ end + length (flat (map (map encode-cell) rows)) = cp' .pushed .end in
-              let lm : length es ≡ length (map (constant-folding-int ds) es) = sym (map-length ds es) in
+              let lm : length es ≡ length (map (constant-folding-int ds (fixed-in out)) es) = sym (map-length ds (fixed-in out) es) in
               rw q (record {
                 nexts = omega (arith, table-length es rows ln);
-                pushed = rw (← lm, ← en, ← ek) (pushed-then out o (pos 2 ∷ pos n ∷ pos k ∷ []) mid' m _ out' end' (hs .pushed) (pushed-then mid' m _ mid″ end _ out' end' (y .pushed) (cp' .pushed)));
-                above = drop-up end' (o + length (encode-stmt (Table es rows))) out' mid″ (cp' .above) (omega (arith, table-length es rows ln, fold-columns-size ds es))
+                pushed = rw (← lm, ← en, ← ek) (pushed-then out o (pos 2 ∷ pos n ∷ pos k ∷ []) mid' m _ out' end' (hs .pushed) (pushed-then mid' m _ mid″ end _ out' end' yp (cp' .pushed)));
+                above = drop-up end' (o + length (encode-stmt (Table es rows))) out' mid″ (cp' .above) (omega (arith, table-length es rows ln, fold-columns-size ds (fixed-in out) es))
                     ∙ drop-up (m + length (flat (map encode-int es))) (o + length (encode-stmt (Table es rows))) mid″ mid' (y .above) (omega (arith, table-length es rows ln))
                     ∙ drop-up m (o + length (encode-stmt (Table es rows))) mid' out (hs .above) (omega (arith, table-length es rows ln));
               })
@@ -308,19 +304,22 @@ module _ (ws : List ℤ) (d at : ℕ) (out : List ℤ) (o : ℕ) where
             the-different _ (r .it) (r .reads) λ es q en rc.
             let z : o + suc (suc (length (flat (map encode-int es)))) ≤ length out = rw q at (r .room) in
             let me : m ≡ o + 2 = st .pushed .end in
-            record { ds = r .ds; domains = r .domains; them = es; reads = rc; room = omega arith }
+            let lo : max-bools ≤ o = r .low in
+            record { ds = r .ds; domains = r .domains; them = es; reads = rc; low = omega arith; room = omega arith }
 
-        pub different-folds : (out' : List ℤ) (next end : ℕ) → Columns-post ws d (at + 2) n mid m out' next end → Stmt-post ws d at out o out' next end
+        pub different-folds : (out' : List ℤ) (next end : ℕ) → Ready-stmt ws d at out o → Columns-post ws d (at + 2) n mid m out' next end → Stmt-post ws d at out o out' next end
         unfolding encode-stmt constant-folding-stmt
-        different-folds out' next end p ds s hd r =
+        different-folds out' next end rd p ds s hd r =
             the-different _ s r λ es q en rc.
             let y = p ds es hd rc in
             let nx : next ≡ at + 2 + length (flat (map encode-int es)) = y .nexts in
+            let sf : fixed-in mid ≡ fixed-in out = same-fixed out mid (pushed-below out o _ mid m max-bools (st .pushed) (rd .low) (omega (arith, rd .room))) in
+            let yp : Pushed mid m (flat (map encode-int (map (constant-folding-int ds (fixed-in out)) es))) out' end = rw sf at (y .pushed) in
             let me : m ≡ o + 2 = st .pushed .end in
-            let lm : length es ≡ length (map (constant-folding-int ds) es) = sym (map-length ds es) in
+            let lm : length es ≡ length (map (constant-folding-int ds (fixed-in out)) es) = sym (map-length ds (fixed-in out) es) in
             rw q (record {
               nexts = omega arith;
-              pushed = rw (← lm, ← en) (pushed-then out o (pos 3 ∷ pos n ∷ []) mid m _ out' end (st .pushed) (y .pushed));
+              pushed = rw (← lm, ← en) (pushed-then out o (pos 3 ∷ pos n ∷ []) mid m _ out' end (st .pushed) yp);
               above = drop-up (m + length (flat (map encode-int es))) (o + suc (suc (length (flat (map encode-int es))))) out' mid (y .above) (omega arith) ∙ drop-up m (o + suc (suc (length (flat (map encode-int es))))) mid out (st .above) (omega arith);
             })
 

@@ -1,4 +1,4 @@
--- What passing over integer expressions and requiring ask and give.
+-- What requiring asks and gives.
 use Prim.Native.Nat.{ℕ, _+_, _≤_}
 use mathlib.Core.Path.{_≡_}
 use mathlib.Core.Bool.{Bool}
@@ -6,47 +6,14 @@ use mathlib.Core.Option.{Option}
 use mathlib.Core.List.{List}
 use lib.IntN.{ℤ}
 use lib.ListN.{length}
-use Rattle.laws.specs.Slices.{Has}
 use Rattle.syntax.specs.Words.{max-bools}
-use Rattle.syntax.specs.Syntax.{IntExpr, IConst, IVar, Linear, Terms, tnil, BoolExpr, Members, count-terms, encode-int, encode-terms, encode-bool, encode-members}
+use Rattle.syntax.specs.Syntax.{BoolExpr, Members, encode-bool, encode-members}
 use Rattle.fold.specs.Fold.{Fixed}
 use Rattle.fold.specs.Table.{state-num}
 use Rattle.folding.specs.Steps.{Reads, Reads-members}
 use Rattle.passes.specs.Want.{prop-want, members-want, Values, Propagates}
 
--- ---- passing over integer expressions
-
-pub record Int-at (ws : List ℤ) (at : ℕ) (e : IntExpr) : Type 0 where
-  pub words : Has ws at (encode-int e)
-
-pub record Terms-at (ws : List ℤ) (at n : ℕ) (ts : Terms) : Type 0 where
-  pub words : Has ws at (encode-terms ts)
-  pub size : n ≡ count-terms ts
-
-pub record Some-int (ws : List ℤ) (at : ℕ) : Type 0 where
-  pub it : IntExpr
-  pub stands : Int-at ws at it
-
-pub record Some-terms (ws : List ℤ) (at n : ℕ) : Type 0 where
-  pub them : Terms
-  pub stand : Terms-at ws at n them
-
--- the terms of a sum; a constant and a variable have none
-abbrev pub body : IntExpr → Terms
-body (IConst c) = tnil
-body (IVar v) = tnil
-body (Linear ts) = ts
-
-abbrev pub Count-post : List ℤ → ℕ → ℕ → Type 0
-Count-post ws at r = (e : IntExpr) → Int-at ws at e → r ≡ count-terms (body e)
-
-abbrev pub Skip-post : List ℤ → ℕ → ℕ → Type 0
-Skip-post ws at r = (e : IntExpr) → Int-at ws at e → r ≡ at + length (encode-int e)
-
-abbrev pub Skip-terms-post : List ℤ → ℕ → ℕ → ℕ → Type 0
-Skip-terms-post ws at n r = (ts : Terms) → Terms-at ws at n ts → r ≡ at + length (encode-terms ts)
-
--- ---- requiring: the expression stands above the fixed values in the same slice
+-- the expression stands above the fixed values in the same slice
 
 pub record Stands (out : List ℤ) (at : ℕ) : Type 0 where
   pub fixed : Fixed

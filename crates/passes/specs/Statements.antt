@@ -9,7 +9,7 @@ use Rattle.laws.specs.Slices.{Has, Pushed}
 use Rattle.syntax.specs.Words.{max-bools}
 use Rattle.syntax.specs.Syntax.{Domain, IntExpr, Stmt, Rule, Table, AllDifferent, encode-int, encode-stmt}
 use Rattle.syntax.specs.Lengths.{Wide}
-use Rattle.syntax.specs.Written.{EveryColumn}
+use Rattle.syntax.specs.Written.{EveryColumnOf, None}
 use Rattle.fold.specs.Fold.{Fixed, constant-folding-int, constant-folding-stmt}
 use Rattle.fold.specs.Optimize.{constant-prop-stmts}
 use Rattle.fold.specs.Ahead.{prop-stmt}
@@ -20,13 +20,13 @@ use Rattle.passes.specs.Want.{Values, Propagates}
 
 -- ---- declared, and every row as wide as its table
 
-abbrev pub Declared-columns : ℕ → List IntExpr → Type 0
-Declared-columns ni es = EveryColumn (λ v. v < ni) es
+abbrev pub Declared-columns : ℕ → ℕ → List IntExpr → Type 0
+Declared-columns nb ni es = EveryColumnOf None (λ v. v < nb) (λ v. v < ni) es
 
 unfoldable pub Declared-stmt : ℕ → ℕ → Stmt → Type 0
 Declared-stmt nb ni (Rule e) = Declared nb ni e
-Declared-stmt nb ni (Table es rows) = Declared-columns ni es × Wide (length es) rows
-Declared-stmt nb ni (AllDifferent es) = Declared-columns ni es
+Declared-stmt nb ni (Table es rows) = Declared-columns nb ni es × Wide (length es) rows
+Declared-stmt nb ni (AllDifferent es) = Declared-columns nb ni es
 
 unfoldable pub Declared-stmts : ℕ → ℕ → List Stmt → Type 0
 Declared-stmts nb ni [] = Unit {0}
@@ -36,7 +36,7 @@ Declared-stmts nb ni (s ∷ ss) = Declared-stmt nb ni s × Declared-stmts nb ni 
 
 pub record Reads-columns (ni : ℕ) (ws : List ℤ) (at n : ℕ) (es : List IntExpr) : Type 0 where
   pub words : Has ws at (flat (map encode-int es))
-  pub vars : Declared-columns ni es
+  pub vars : Declared-columns max-bools ni es
   pub size : n ≡ length es
 
 pub record Ready-columns (ws : List ℤ) (d at n : ℕ) (out : List ℤ) (o : ℕ) : Type 0 where
@@ -44,11 +44,12 @@ pub record Ready-columns (ws : List ℤ) (d at n : ℕ) (out : List ℤ) (o : �
   pub domains : Domains ws d ds
   pub them : List IntExpr
   pub reads : Reads-columns (length ds) ws at n them
+  pub low : max-bools ≤ o
   pub room : o + length (flat (map encode-int them)) ≤ length out
 
 pub record Folds-columns (ds : List Domain) (out : List ℤ) (at o : ℕ) (es : List IntExpr) (out' : List ℤ) (next end : ℕ) : Type 0 where
   pub nexts : next ≡ at + length (flat (map encode-int es))
-  pub pushed : Pushed out o (flat (map encode-int (map (constant-folding-int ds) es))) out' end
+  pub pushed : Pushed out o (flat (map encode-int (map (constant-folding-int ds (fixed-in out)) es))) out' end
   pub above : drop (o + length (flat (map encode-int es))) out' ≡ drop (o + length (flat (map encode-int es))) out
 
 abbrev pub Columns-post : List ℤ → ℕ → ℕ → ℕ → List ℤ → ℕ → List ℤ → ℕ → ℕ → Type 0

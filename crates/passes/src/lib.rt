@@ -8,7 +8,8 @@ ghost use Rattle.laws.specs.Slices.{Stored};
 ghost use Rattle.fold.specs.Table.{state-num};
 ghost use Rattle.folding.specs.Steps.{state-of};
 ghost use Rattle.passes.specs.Want.{worst-num, clash-num, set-status, set-words, flip-num, member-num, left-num, right-num};
-ghost use Rattle.passes.specs.Contracts.{Some-int, Some-terms, Count-post, Skip-post, Skip-terms-post, Stands, Stand-members, Comparison-post, Prop-post, Members-post};
+ghost use Rattle.passes.specs.Skip.{Some-int, Some-terms, Some-bool, Some-members, Int-step-post, Skip-post, Skip-terms-post, Bool-step-post, Skip-members-post};
+ghost use Rattle.passes.specs.Contracts.{Stands, Stand-members, Comparison-post, Prop-post, Members-post};
 ghost use Rattle.passes.specs.Statements.{Ready-columns, Columns-post, Ready-stmt, Stmt-post, Ready-stmts, Stmts-post, Stands-stmt, Prop-stmt-post, Stand-stmts, Prop-stmts-post, Some-columns, Skip-columns-post, Skip-stmt-post};
 
 pub struct Span {
@@ -21,18 +22,37 @@ pub struct Required {
     pub status: usize,
 }
 
-// ---- passing over integer expressions
+// ---- passing over expressions
 
-// The count of terms of the sum at `at`; 0 for a constant and a variable.
-fn sum_count(words: &[i32], at: usize) -> usize
+// The place behind an expression's own words, and how many expressions that stand in it follow there.
+pub struct Step {
+    pub next: usize,
+    pub inner: usize,
+}
+
+// Over all of an If's words, of any other integer expression's own two: how many terms follow.
+fn int_step(words: &[i32], at: usize) -> Step
     requires { ⌜ Some-int (now words) at ⌝ }
-    ensures { λ r. ⌜ Count-post (now (words .entry)) at r ⌝ }
+    ensures { λ r. ⌜ Int-step-post (now (words .entry)) at (r .next) (r .inner) ⌝ }
 {
     let w = domains::number(words, at);
     if w == 22 {
-        return domains::number(words, at + 1);
+        let n = domains::number(words, at + 1);
+        return Step {
+            next: at + 2,
+            inner: n,
+        };
     }
-    0
+    if w == 23 {
+        let t = skip_members(words, at + 1, 1);
+        let e = int_end(words, t);
+        let next = int_end(words, e);
+        return Step { next, inner: 0 };
+    }
+    Step {
+        next: at + 2,
+        inner: 0,
+    }
 }
 
 // The end of as many terms as `count` says, those of inner sums among them.
@@ -43,19 +63,82 @@ fn skip_terms(words: &[i32], at: usize, count: usize) -> usize
     let mut next = at;
     let mut rest = count;
     while rest != 0 {
-        let n = sum_count(words, next + 1);
-        next = next + 3;
-        rest = rest - 1 + n;
+        let s = int_step(words, next + 1);
+        next = s.next;
+        rest = rest - 1 + s.inner;
     }
     next
 }
 
+fn int_end(words: &[i32], at: usize) -> usize
+    requires { ⌜ Some-int (now words) at ⌝ }
+    ensures { λ r. ⌜ Skip-post (now (words .entry)) at r ⌝ }
+{
+    let s = int_step(words, at);
+    skip_terms(words, s.next, s.inner)
+}
+
+// Over a Boolean expression's own words, a comparison's sides among them: how many expressions follow.
+fn bool_step(words: &[i32], at: usize) -> Step
+    requires { ⌜ Some-bool (now words) at ⌝ }
+    ensures { λ r. ⌜ Bool-step-post (now (words .entry)) at (r .next) (r .inner) ⌝ }
+{
+    let code = domains::number(words, at);
+    if code < 12 {
+        return Step {
+            next: at + 2,
+            inner: 0,
+        };
+    }
+    if code < 14 {
+        let n = domains::number(words, at + 1);
+        return Step {
+            next: at + 2,
+            inner: n,
+        };
+    }
+    if code == 14 {
+        return Step {
+            next: at + 1,
+            inner: 1,
+        };
+    }
+    if code < 18 {
+        return Step {
+            next: at + 1,
+            inner: 2,
+        };
+    }
+    let right = int_end(words, at + 2);
+    let next = int_end(words, right);
+    Step { next, inner: 0 }
+}
+
+// The end of as many expressions as `n` says.
+pub fn skip_members(words: &[i32], at: usize, n: usize) -> usize
+    requires { ⌜ Some-members (now words) at n ⌝ }
+    ensures { λ r. ⌜ Skip-members-post (now (words .entry)) at n r ⌝ }
+{
+    let mut next = at;
+    let mut rest = n;
+    while rest != 0 {
+        let s = bool_step(words, next);
+        next = s.next;
+        rest = rest - 1 + s.inner;
+    }
+    next
+}
+
+// A constant and a variable, the most frequent, have two words.
 pub fn skip_int(words: &[i32], at: usize) -> usize
     requires { ⌜ Some-int (now words) at ⌝ }
     ensures { λ r. ⌜ Skip-post (now (words .entry)) at r ⌝ }
 {
-    let n = sum_count(words, at);
-    skip_terms(words, at + 2, n)
+    let w = domains::number(words, at);
+    if w < 22 {
+        return at + 2;
+    }
+    int_end(words, at)
 }
 
 // ---- the wants of parts

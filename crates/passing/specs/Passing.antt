@@ -22,7 +22,7 @@ use Rattle.call.specs.Call.{Result, contradiction, refused, checked, when-read,
 use Rattle.call.specs.declared.Choices.{Choices}
 use Rattle.call.specs.Claim.{of-set, within, satisfied as meets, Passed, NotRefused}
 use Rattle.call.specs.Demand.{demand-3}
-use Rattle.evaluate.specs.Roster.{bool-of, int-of, is-bit, right-count, all-inside, satisfied, refused as refuses, judged, rostered, when-admitted, check-roster, judged-satisfied, satisfied-judged, Breaks, judged-breaks}
+use Rattle.verdict.specs.Roster.{bool-of, int-of, is-bit, right-count, all-inside, satisfied, refused as refuses, judged, rostered, when-admitted, check-roster, judged-satisfied, satisfied-judged, Breaks, judged-breaks}
 
 -- how many Booleans the set declares, and the integers' values behind theirs
 abbrev pub declared-bools : List ℤ → ℕ

@@ -11,9 +11,8 @@ use Rattle.laws.specs.Lists.{flat, below, length-from}
 use Rattle.laws.specs.Slices.{Has, has-back, has-sets}
 use Rattle.syntax.specs.Syntax.{Domain, Stmt, Problem}
 use Rattle.fold.specs.Fold.{Fixed}
-use Rattle.clauses.specs.Log.{next-bool, next-int, get-bool-var, get-int-var}
-use Rattle.tables.specs.Tables.{emitted-domains}
-use Rattle.tables.specs.Emitted.{length-emitted}
+use Rattle.clauses.specs.Log.{next-bool, next-int, get-bool-var, get-int-var, emitted-domains}
+use Rattle.clauses.specs.Emitted.{length-emitted}
 use Rattle.answer.specs.Answer.{fixed-word, map-word, bool-word, domain-words}
 use Rattle.statements.specs.Stages.{log-of, head-words}
 

@@ -41,14 +41,14 @@ module _ (merge : Bool) (p : Problem) (f : Fixed) (ss : List Stmt) where
   abbrev tail : List ℤ
   tail = clauses-words (clauses-of merge p ss)
 
-  pub layout-is : layout (normalize merge p f ss) ≡ head ++ (pos (length (clauses-of merge p ss)) ∷ tail)
+  layout-is : layout (normalize merge p f ss) ≡ head ++ (pos (length (clauses-of merge p ss)) ∷ tail)
   layout-is = layout-head merge p f ss
 
-  pub layout-length : length (layout (normalize merge p f ss)) ≡ length head + 1 + length tail
+  layout-length : length (layout (normalize merge p f ss)) ≡ length head + 1 + length tail
   layout-length = ap length layout-is ∙ omega (arith, length-append head (pos (length (clauses-of merge p ss)) ∷ tail))
 
   -- the words in front of the count alone do not fit
-  pub layout-long : (w : List ℤ) (c : Counters) (b i : ℕ) → b ≡ p .bools → i ≡ length (p .domains) → NumberedSet merge p f ss w c → 2 * b + i + 2 + 3 * c .ints < length (layout (normalize merge p f ss))
+  layout-long : (w : List ℤ) (c : Counters) (b i : ℕ) → b ≡ p .bools → i ≡ length (p .domains) → NumberedSet merge p f ss w c → 2 * b + i + 2 + 3 * c .ints < length (layout (normalize merge p f ss))
   layout-long w c b i eb ei r =
       let n : c .ints ≡ next-int (log-of merge p ss) = r .numbered .ints in
       omega (arith, layout-length, head-length merge p f ss)
@@ -59,17 +59,17 @@ module _ {merge : Bool} {p : Problem} {f : Fixed} {ss : List Stmt} {c : Counters
       let n : c .ints ≡ next-int (log-of merge p ss) = h .ready .numbered .ints in
       omega (arith, head-length merge p f ss, h .bools, h .ints)
 
-  pub head-fits : length (head-words merge p f ss) < length out
+  head-fits : length (head-words merge p f ss) < length out
   head-fits = omega (arith, head-is, h .fits)
 
   module _ (mid : List ℤ) (at : ℕ) (wr : Wrote out 0 (head-words merge p f ss) mid at) where
-    pub head-at : at ≡ length (head-words merge p f ss)
+    head-at : at ≡ length (head-words merge p f ss)
     head-at = omega (arith, wr .at, head-fits, h .part)
 
-    pub at-low : at < length out
+    at-low : at < length out
     at-low = omega (arith, head-at, head-fits)
 
-    pub writable : (w' : List ℤ) → NumberedSet merge p f ss w' c → Writable merge p f ss c set' w' end from (2 * b + i + 2) mid (at + 1)
+    writable : (w' : List ℤ) → NumberedSet merge p f ss w' c → Writable merge p f ss c set' w' end from (2 * b + i + 2) mid (at + 1)
     writable w' r = record {
       words = h .words;
       ready = r;
@@ -81,14 +81,14 @@ module _ {merge : Bool} {p : Problem} {f : Fixed} {ss : List Stmt} {c : Counters
     }
 
     module _ (out' : List ℤ) (end' k : ℕ) (cl : Clauses mid (at + 1) 0 (clauses-of merge p ss) out' end' k) where
-      pub answer-long : end' ≡ min (length (layout (normalize merge p f ss))) cap
+      answer-long : end' ≡ min (length (layout (normalize merge p f ss))) cap
       answer-long = omega (arith, cl .words .at, head-at, layout-length merge p f ss)
 
       -- the count fits a word where the answer fits
-      pub count-fits : end' ≤ length out → k < 2147483648
+      count-fits : end' ≤ length out → k < 2147483648
       count-fits l = omega (arith, cl .low, h .part)
 
-      pub answer-words : end' ≤ length out → set out' at (pos k) ≡ sets out 0 (layout (normalize merge p f ss))
+      answer-words : end' ≤ length out → set out' at (pos k) ≡ sets out 0 (layout (normalize merge p f ss))
       answer-words l =
           let n : k ≡ length (clauses-of merge p ss) = omega (arith, cl .count (omega (arith, h .part))) in
           ap (λ (x : List ℤ). set x at (pos k)) (cl .words .words ∙ ap (λ (x : List ℤ). sets x (at + 1) (clauses-words (clauses-of merge p ss))) (wr .words))
@@ -142,11 +142,11 @@ module _ (set' w : List ℤ) (b i end from : ℕ) (c : Counters) (out : List ℤ
 
 -- ---- refusal 12, exactly
 
-pub measured-fits : (n : ℕ) (ws : List ℤ) → length ws ≤ n → length ws ≤ max-answer-words → measured n ws ≡ compiled ws
+measured-fits : (n : ℕ) (ws : List ℤ) → length ws ≤ n → length ws ≤ max-answer-words → measured n ws ≡ compiled ws
 unfolding measured
 measured-fits n ws h k = rw (le-ltb n (length ws) h, le-ltb max-answer-words (length ws) k) refl
 
-pub measured-long : (n : ℕ) (ws : List ℤ) → min n max-answer-words < length ws → measured n ws ≡ refused 12
+measured-long : (n : ℕ) (ws : List ℤ) → min n max-answer-words < length ws → measured n ws ≡ refused 12
 unfolding measured
 measured-long n ws h = go (ltb n (length ws)) refl
   where
@@ -158,12 +158,12 @@ measured-long n ws h = go (ltb n (length ws)) refl
 pub gives-to : {x y : Result} {n : ℕ} {out' : List ℤ} {r : Answer} → y ≡ x → Gives x n out' r → Gives y n out' r
 gives-to {x} {y} {n} {out'} {r} e g = subst (λ (z : Result). Gives z n out' r) (sym e) g
 
-pub gives-long : (n : ℕ) (ws out' : List ℤ) → min n max-answer-words < length ws → out' ≡ zeros n → Gives (measured n ws) n out' (answer.Refused 12)
+gives-long : (n : ℕ) (ws out' : List ℤ) → min n max-answer-words < length ws → out' ≡ zeros n → Gives (measured n ws) n out' (answer.Refused 12)
 unfolding answer-of output-after
 gives-long n ws out' h e = gives-to (measured-long n ws h) (record { answer = refl; output = e })
 
 -- room: as much of the output as an answer can fill
-pub gives-words : (out ws part : List ℤ) (room words : ℕ) → out ≡ zeros (length out) → room ≡ min (length out) max-answer-words → words ≡ min (length ws) cap → words ≤ room
+gives-words : (out ws part : List ℤ) (room words : ℕ) → out ≡ zeros (length out) → room ≡ min (length out) max-answer-words → words ≡ min (length ws) cap → words ≤ room
     → part ≡ sets (take room out) 0 ws → Gives (measured (length out) ws) (length out) (part ++ drop room out) (answer.Compiled words)
 unfolding answer-of output-after
 gives-words out ws part room words z er ew h e =

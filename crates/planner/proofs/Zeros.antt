@@ -10,7 +10,7 @@ use lib.Seq.{sets, sets-eq, set-comm}
 use Rattle.laws.specs.Writes.{sets-append}
 use Rattle.laws.specs.Slices.{zeros}
 
-pub set-below : (l : List ℤ) (i : ℕ) (x : ℤ) (o : ℕ) (vs : List ℤ) → i < o → set (sets l o vs) i x ≡ sets (set l i x) o vs
+set-below : (l : List ℤ) (i : ℕ) (x : ℤ) (o : ℕ) (vs : List ℤ) → i < o → set (sets l o vs) i x ≡ sets (set l i x) o vs
 set-below l i x o [] h = refl
 set-below l i x o (v ∷ vs) h = set-below (set l o v) i x (suc o) vs (omega arith) ∙ ap (λ m. sets m (suc o) vs) (set-comm l o i v x (λ e. omega arith))
 
@@ -25,17 +25,17 @@ patched out head x tail =
 
 -- ---- zeros
 
-pub drop-zeros : (n k : ℕ) → drop k (zeros n) ≡ zeros (n - k)
+drop-zeros : (n k : ℕ) → drop k (zeros n) ≡ zeros (n - k)
 drop-zeros n zero = let e : n ≡ n - 0 = omega arith in ap zeros e
 drop-zeros zero (suc k) = let e : 0 ≡ 0 - suc k = omega arith in ap zeros e
 drop-zeros (suc n) (suc k) = let e : n - k ≡ suc n - suc k = omega arith in drop-zeros n k ∙ ap zeros e
 
-pub take-zeros : (n k : ℕ) → k ≤ n → take k (zeros n) ≡ zeros k
+take-zeros : (n k : ℕ) → k ≤ n → take k (zeros n) ≡ zeros k
 take-zeros n zero h = refl
 take-zeros zero (suc k) h = absurd (omega arith)
 take-zeros (suc n) (suc k) h = ap (λ (l : List ℤ). pos 0 ∷ l) (take-zeros n k (omega arith))
 
-pub sets-zeros : (n : ℕ) (ws : List ℤ) → length ws ≤ n → sets (zeros n) 0 ws ≡ ws ++ zeros (n - length ws)
+sets-zeros : (n : ℕ) (ws : List ℤ) → length ws ≤ n → sets (zeros n) 0 ws ≡ ws ++ zeros (n - length ws)
 sets-zeros n ws h =
     let e : n - (0 + length ws) ≡ n - length ws = omega arith in
     sets-eq ws (zeros n) 0 (omega (arith, length-replicate n (pos 0)))

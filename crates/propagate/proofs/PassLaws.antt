@@ -76,7 +76,7 @@ opening-next out₀ out i out' h l e o = record {
 pub opening-end : (out₀ out : List ℤ) (i : ℕ) → max-bools ≤ i → Opening out₀ out i → Opened out₀ out
 opening-end out₀ out i h o = record { cells = λ v k. o .cells v (omega arith); high = o .high }
 
-pub opened-values : (out out' : List ℤ) → Opened out out' → Values out' (λ v. none)
+opened-values : (out out' : List ℤ) → Opened out out' → Values out' (λ v. none)
 opened-values out out' o = record { cells = λ v h. o .cells v h; others = λ v h. refl }
 
 -- ---- `domains_end`
@@ -115,7 +115,7 @@ module _ (ws : List ℤ) (at n : ℕ) (out mid : List ℤ) (next end : ℕ) (p :
     pub fits : end ≤ max-bools + size
     pub above : drop (max-bools + size) mid ≡ drop (max-bools + size) out
 
-  pub folded : (ds : List Domain) (ss : List Stmt) (f : Fixed) → Domains ws 2 ds → Reads-stmts (length ds) ws at n ss → max-bools + length (flat (map encode-stmt ss)) ≤ length out → Values out f → Folded (length ds) f (map (constant-folding-stmt ds f) ss) (length (flat (map encode-stmt ss)))
+  folded : (ds : List Domain) (ss : List Stmt) (f : Fixed) → Domains ws 2 ds → Reads-stmts (length ds) ws at n ss → max-bools + length (flat (map encode-stmt ss)) ≤ length out → Values out f → Folded (length ds) f (map (constant-folding-stmt ds f) ss) (length (flat (map encode-stmt ss)))
   folded ds ss f hd r room vs =
       let lo : max-bools ≤ length out = omega arith in
       let y = p ds ss hd r in
@@ -269,13 +269,13 @@ module _ (words : List ℤ) (p : Problem) (is : words ≡ encode p) (well : Well
       has-whole : (p : Problem) → Has (encode p) 2 (flat (map encode-domain (p .domains)) ++ (pos (length (p .stmts)) ∷ flat (map encode-stmt (p .stmts)))) × (getD (encode p) 1 (pos 0) ≡ pos (length (p .domains)))
       has-whole p = (let rest : List ℤ = flat (map encode-domain (p .domains)) ++ (pos (length (p .stmts)) ∷ flat (map encode-stmt (p .stmts))) in take-all (length rest) rest (omega arith), refl)
 
-  pub domains-here : Domains words 2 (p .domains)
+  domains-here : Domains words 2 (p .domains)
   domains-here = record { words = has-front words 2 domain-words (pos (length (p .stmts)) ∷ stmt-words) (parts .0) }
 
   behind : Has words (2 + length domain-words) (pos (length (p .stmts)) ∷ stmt-words)
   behind = has-back words 2 domain-words (pos (length (p .stmts)) ∷ stmt-words) (parts .0)
 
-  pub set-fits : 2 + length domain-words + suc (length stmt-words) ≤ length words
+  set-fits : 2 + length domain-words + suc (length stmt-words) ≤ length words
   set-fits = has-fits words (2 + length domain-words) (pos (length (p .stmts)) ∷ stmt-words) behind (omega arith)
 
   pub ints-word : Plain words 1

@@ -52,7 +52,7 @@ only-set n a b i e = record { others = λ j p z k h. go j p z k h (eqb j i) (ltb
 -- ---- places
 
 module _ (ws : List ℤ) (at n : ℕ) where
-  pub places-only : (m : ℕ) (a b : List ℤ) → Only m a b → ((m ≡ 0 → ⊥) → Place-in ws at n m) → Places ws at n a → Places ws at n b
+  places-only : (m : ℕ) (a b : List ℤ) → Only m a b → ((m ≡ 0 → ⊥) → Place-in ws at n m) → Places ws at n a → Places ws at n b
   places-only m a b o pm pa = record { each = λ i p z h. go i p z h (eqb p m) refl }
     where
       go : (i p : ℕ) → (p ≡ 0 → ⊥) → getD b i (pos 0) ≡ pos p → (t : Bool) → eqb p m ≡ t → Place-in ws at n p
@@ -73,10 +73,10 @@ front-size [] s back = omega (arith, length-append (encode-stmt s) (flat (map en
 front-size (x ∷ front) s back = omega (arith, front-size front s back, length-append (encode-stmt x) (flat (map encode-stmt (front ++ (s ∷ back)))))
 
 module _ (ni : ℕ) (ws : List ℤ) (at n : ℕ) (ss : List Stmt) (p : ℕ) (x : Place at ss p) where
-  pub place-reads : Reads-stmts ni ws at n ss → Reads-stmt ni ws p (x .it)
+  place-reads : Reads-stmts ni ws at n ss → Reads-stmt ni ws p (x .it)
   place-reads r = rw (x .is) (front-reads ni ws at n (x .front) (x .it) (x .back) (rw (x .split) at r))
 
-  pub place-size : length (encode-stmt (x .it)) ≤ length (flat (map encode-stmt ss))
+  place-size : length (encode-stmt (x .it)) ≤ length (flat (map encode-stmt ss))
   place-size = rw (x .split) (front-size (x .front) (x .it) (x .back))
 
 -- the first i statements end at p
@@ -97,7 +97,7 @@ module _ (ws : List ℤ) (at n : ℕ) where
   abbrev pub Reached : ℕ → ℕ → Type 0
   Reached i p = (ds : List Domain) (ss : List Stmt) → Domains ws 2 ds → Reads-stmts (length ds) ws at n ss → Reach at ss i p
 
-  pub reached-none : Reached 0 at
+  reached-none : Reached 0 at
   reached-none ds ss hd r = record { front = []; back = ss; split = refl; many = refl; is = omega arith }
 
   module _ (i p : ℕ) (l : i < n) (h : Reached i p) where
@@ -108,10 +108,10 @@ module _ (ws : List ℤ) (at n : ℕ) where
         pick front [] e m k = absurd (let z : n ≡ length ss = r .size in omega (arith, ap length e, length-append front []))
         pick front (s ∷ back) e m k = go front s back e m k
 
-    pub reached-place : Place-in ws at n p
+    reached-place : Place-in ws at n p
     reached-place ds ss hd r = reach-inv ds ss hd r λ front s back e m k. record { front = front; it = s; back = back; split = e; is = k }
 
-    pub reached-next : (next : ℕ) → Next-post ws p next → Reached (i + 1) next
+    reached-next : (next : ℕ) → Next-post ws p next → Reached (i + 1) next
     reached-next next q ds ss hd r =
         reach-inv ds ss hd r λ front s back e m k.
         let o = one-more front s back in
@@ -120,7 +120,7 @@ module _ (ws : List ℤ) (at n : ℕ) where
 
 -- ---- `step`
 
-pub place-ready : (ws : List ℤ) (at n : ℕ) (out : List ℤ) (p : ℕ) → Place-in ws at n p → Ready-passes ws at n out → Ready-step ws p out
+place-ready : (ws : List ℤ) (at n : ℕ) (out : List ℤ) (p : ℕ) → Place-in ws at n p → Ready-passes ws at n out → Ready-step ws p out
 place-ready ws at n out p h rp =
     let r = rp .ready in
     let x = h (r .ds) (r .them) (r .domains) (r .reads) in
@@ -132,7 +132,7 @@ place-ready ws at n out p h rp =
 
 module _ (ws : List ℤ) (at : ℕ) (out mid : List ℤ) (next end : ℕ) (q : Stmt-post ws 2 at out max-bools mid next end) (l : length mid ≡ length out) where
   -- the folded statement stands above the fixed values, which are kept
-  pub record Stands-folded (ni : ℕ) (f : Fixed) (F : Stmt) (size : ℕ) : Type 0 where
+  record Stands-folded (ni : ℕ) (f : Fixed) (F : Stmt) (size : ℕ) : Type 0 where
     pub values : Values mid f
     pub reads : Reads-stmt ni mid max-bools F
     pub fits : end ≤ max-bools + size
@@ -174,7 +174,7 @@ module _ (ws : List ℤ) (at : ℕ) (out mid : List ℤ) (next end : ℕ) (q : S
     λ ds s hd r. q ds s hd r .nexts,
   )
 
-pub step-fits : (ws : List ℤ) (at : ℕ) (out out' : List ℤ) (end status : ℕ) → Ready-step ws at out → Step-post ws at out out' end status → length out' ≡ length out → end ≤ length out'
+step-fits : (ws : List ℤ) (at : ℕ) (out out' : List ℤ) (end status : ℕ) → Ready-step ws at out → Step-post ws at out out' end status → length out' ≡ length out → end ≤ length out'
 step-fits ws at out out' end status s q l =
     let k = s .ready in
     omega (arith, q (k .ds) (k .it) (s .fixed) (k .domains) (k .reads) (k .room) (s .values) .fits, k .room)
@@ -182,10 +182,10 @@ step-fits ws at out out' end status s q l =
 -- ---- any number of steps
 
 module _ (ws : List ℤ) (at n : ℕ) where
-  pub advanced-none : (out : List ℤ) (status : ℕ) → (status ≡ 2 → ⊥) → Worklist-post ws at n out out status
+  advanced-none : (out : List ℤ) (status : ℕ) → (status ≡ 2 → ⊥) → Worklist-post ws at n out out status
   advanced-none out status h ds ss f hd r room vs = record { now = f; values = vs; ahead = λ k. (λ v b e. e, λ g e a. e); no-rest = λ k. absurd (h k); above = refl }
 
-  pub advanced-then : (out mid out' : List ℤ) (a b : ℕ) → (a ≡ 2 → ⊥) → length mid ≡ length out → Worklist-post ws at n out mid a → Worklist-post ws at n mid out' b → Worklist-post ws at n out out' b
+  advanced-then : (out mid out' : List ℤ) (a b : ℕ) → (a ≡ 2 → ⊥) → length mid ≡ length out → Worklist-post ws at n out mid a → Worklist-post ws at n mid out' b → Worklist-post ws at n out out' b
   advanced-then out mid out' a b na l p q ds ss f hd r room vs =
       let x = p ds ss f hd r room vs in
       let y = q ds ss (x .now) hd r (omega arith) (x .values) in
@@ -198,12 +198,12 @@ module _ (ws : List ℤ) (at n : ℕ) where
         above = y .above ∙ x .above;
       }
 
-  pub advanced-as : (out out' : List ℤ) (a b : ℕ) → (a ≡ 2 → ⊥) → (b ≡ 2 → ⊥) → Worklist-post ws at n out out' a → Worklist-post ws at n out out' b
+  advanced-as : (out out' : List ℤ) (a b : ℕ) → (a ≡ 2 → ⊥) → (b ≡ 2 → ⊥) → Worklist-post ws at n out out' a → Worklist-post ws at n out out' b
   advanced-as out out' a b na nb p ds ss f hd r room vs =
       let x = p ds ss f hd r room vs in
       record { now = x .now; values = x .values; ahead = λ k. x .ahead na; no-rest = λ k. absurd (nb k); above = x .above }
 
-  pub advanced-step : (out out' : List ℤ) (p end status : ℕ) → Place-in ws at n p → Step-post ws p out out' end status → Worklist-post ws at n out out' status
+  advanced-step : (out out' : List ℤ) (p end status : ℕ) → Place-in ws at n p → Step-post ws p out out' end status → Worklist-post ws at n out out' status
   advanced-step out out' p end status h q ds ss f hd r room vs =
       let x = h ds ss hd r in
       let sz = place-size (length ds) ws at n ss p x in
@@ -226,7 +226,7 @@ module _ (ws : List ℤ) (at n : ℕ) where
           low false h = absurd (omega arith)
 
   -- what is fixed now
-  pub ready-now : (out out' : List ℤ) (status : ℕ) → Worklist-post ws at n out out' status → length out' ≡ length out → Ready-passes ws at n out → Ready-passes ws at n out'
+  ready-now : (out out' : List ℤ) (status : ℕ) → Worklist-post ws at n out out' status → length out' ≡ length out → Ready-passes ws at n out → Ready-passes ws at n out'
   ready-now out out' status p l rp =
       let r = rp .ready in
       let y = p (r .ds) (r .them) (rp .fixed) (r .domains) (r .reads) (r .room) (rp .values) in
@@ -280,7 +280,7 @@ module _ (ws : List ℤ) where
   pub moves-none : (out places : List ℤ) (status : ℕ) → (status ≡ 2 → ⊥) → Moves ws out places out places status
   moves-none out places status h at n p = (advanced-none ws at n out status h, p)
 
-  pub moves-then : (out₀ places₀ out places out' places' : List ℤ) (a b : ℕ) → (a ≡ 2 → ⊥) → length out ≡ length out₀ → Moves ws out₀ places₀ out places a → Moves ws out places out' places' b → Moves ws out₀ places₀ out' places' b
+  moves-then : (out₀ places₀ out places out' places' : List ℤ) (a b : ℕ) → (a ≡ 2 → ⊥) → length out ≡ length out₀ → Moves ws out₀ places₀ out places a → Moves ws out places out' places' b → Moves ws out₀ places₀ out' places' b
   moves-then out₀ places₀ out places out' places' a b na l p q at n r =
       let x = p at n r in
       let y = q at n (x .1) in
@@ -289,7 +289,7 @@ module _ (ws : List ℤ) where
   pub moves-as : (out places out' places' : List ℤ) (a b : ℕ) → (a ≡ 2 → ⊥) → (b ≡ 2 → ⊥) → Moves ws out places out' places' a → Moves ws out places out' places' b
   moves-as out places out' places' a b na nb p at n r = let x = p at n r in (advanced-as ws at n out out' a b na nb (x .0), x .1)
 
-  pub moved-ready : (out places out' places' : List ℤ) (a : ℕ) → Moves ws out places out' places' a → length out' ≡ length out → Ready-worklist ws out places → Ready-worklist ws out' places'
+  moved-ready : (out places out' places' : List ℤ) (a : ℕ) → Moves ws out places out' places' a → length out' ≡ length out → Ready-worklist ws out places → Ready-worklist ws out' places'
   moved-ready out places out' places' a p l r =
       let x = p (r .at) (r .count) (r .placed) in
       record { at = r .at; count = r .count; ready = ready-now ws (r .at) (r .count) out out' a (x .0) l (r .ready); placed = x .1 }

@@ -7,35 +7,38 @@ use native.Mathlib.Omega.{arith}
 use lib.ListN.{length}
 use Rattle.syntax.specs.Words.{max-bools}
 use Rattle.syntax.specs.Syntax.{Domain, IntExpr, Stmt, Rule, Table, AllDifferent}
-use Rattle.syntax.specs.Written.{EveryStmt, EveryStmts, every-map, Any, None}
+use Rattle.syntax.specs.Written.{EveryStmt, EveryStmts, EveryColumnOf, every-map, every-column-map, Any, None}
 use Rattle.fold.specs.Fold.{Fixed, constant-folding-int, constant-folding-stmt}
 use Rattle.fold.specs.Optimize.{unsatisfiable, updated, constant-prop-stmts, inconsistent, settled, passes}
 use Rattle.fold.specs.Ends.{prop-stmts-after, prop-extends, passes-original, opens, opens-most, Fewer, fewer-steps}
 use Rattle.fold.specs.Kept.{fold-columns-every, fold-every}
-use Rattle.passes.specs.Statements.{Declared-stmt, Declared-stmts}
+use Rattle.passes.specs.Statements.{Declared-columns, Declared-stmt, Declared-stmts}
 
 -- ---- declared, in the words of the theorems on folding
 
 module _ (nb ni : ℕ) where
+  columns-every : (es : List IntExpr) → Declared-columns nb ni es → EveryColumnOf Any (λ v. v < nb) (λ v. v < ni) es
+  columns-every es h = every-column-map None (λ v. v < nb) (λ v. v < ni) Any (λ v. v < nb) (λ v. v < ni) (λ n k. tt) (λ v k. k) (λ v k. k) es h
+
   pub stmts-every : (ss : List Stmt) → Declared-stmts nb ni ss → EveryStmts (λ v. v < nb) (λ v. v < ni) ss
   unfolding Declared-stmts Declared-stmt EveryStmts EveryStmt
   stmts-every [] h = tt
   stmts-every (Rule e ∷ ss) h = (every-map None (λ v. v < nb) (λ v. v < ni) Any (λ v. v < nb) (λ v. v < ni) (λ n k. tt) (λ v k. k) (λ v k. k) e (h .0), stmts-every ss (h .1))
-  stmts-every (Table es rows ∷ ss) h = (h .0 .0, stmts-every ss (h .1))
-  stmts-every (AllDifferent es ∷ ss) h = (h .0, stmts-every ss (h .1))
+  stmts-every (Table es rows ∷ ss) h = (columns-every es (h .0 .0), stmts-every ss (h .1))
+  stmts-every (AllDifferent es ∷ ss) h = (columns-every es (h .0), stmts-every ss (h .1))
 
   -- ---- folding keeps it
 
   module _ (ds : List Domain) (f : Fixed) where
-    map-length : (es : List IntExpr) → length (map (constant-folding-int ds) es) ≡ length es
+    map-length : (es : List IntExpr) → length (map (constant-folding-int ds f) es) ≡ length es
     map-length [] = refl
     map-length (e ∷ es) = ap suc (map-length es)
 
     pub stmt-kept : (s : Stmt) → Declared-stmt nb ni s → Declared-stmt nb ni (constant-folding-stmt ds f s)
     unfolding Declared-stmt constant-folding-stmt
     stmt-kept (Rule e) h = fold-every None (λ v. v < nb) (λ v. v < ni) ds f e h
-    stmt-kept (Table es rows) h = (fold-columns-every (λ v. v < ni) ds es (h .0), rw (map-length es) (h .1))
-    stmt-kept (AllDifferent es) h = fold-columns-every (λ v. v < ni) ds es h
+    stmt-kept (Table es rows) h = (fold-columns-every None (λ v. v < nb) (λ v. v < ni) ds f es (h .0), rw (map-length es) (h .1))
+    stmt-kept (AllDifferent es) h = fold-columns-every None (λ v. v < nb) (λ v. v < ni) ds f es h
 
     pub stmts-kept : (ss : List Stmt) → Declared-stmts nb ni ss → Declared-stmts nb ni (map (constant-folding-stmt ds f) ss)
     unfolding Declared-stmts

@@ -17,8 +17,8 @@ module _ (nb ni m : ℕ) (few : nb ≤ m) where
   unfolding Declared-stmts Declared-stmt
   stmts-well [] h = tt
   stmts-well (Rule e ∷ ss) h = (every-map None (λ v. v < nb) (λ v. v < ni) None (λ v. v < m) (λ v. v < ni) (λ n k. k) (λ v k. omega (arith, k)) (λ v k. k) e (bool-vars nb ni max-depth e (h .0)), stmts-well ss (h .1))
-  stmts-well (Table es rows ∷ ss) h = ((columns-vars ni max-depth es (h .0 .2), rows-wide (length es) rows (h .0 .3)), stmts-well ss (h .1))
-  stmts-well (AllDifferent es ∷ ss) h = (columns-vars ni max-depth es (h .0 .1), stmts-well ss (h .1))
+  stmts-well (Table es rows ∷ ss) h = ((columns-vars None (λ v. v < m) ni max-depth es (h .0 .2), rows-wide (length es) rows (h .0 .3)), stmts-well ss (h .1))
+  stmts-well (AllDifferent es ∷ ss) h = (columns-vars None (λ v. v < m) ni max-depth es (h .0 .1), stmts-well ss (h .1))
 
 pub well-stmts : (p : Problem) → WellFormed p → (m : ℕ) → p .bools ≤ m → Declared-stmts m (length (p .domains)) (p .stmts)
 well-stmts p w m few = stmts-well (p .bools) (length (p .domains)) m few (p .stmts) (w .stmts-well)

@@ -1,27 +1,28 @@
 -- What reading accepts writes declared variables only and no emitted number, and its rows are as wide as their tables.
 use mathlib.Core.List.{List, [], _∷_}
 use Prim.Native.Nat.{ℕ, _-_, _<_}
-use Rattle.syntax.specs.Syntax.{IntExpr, IConst, IVar, Linear, Terms, tnil, tmore, BoolExpr, Const, Var, NVar, And, Or, Not, Xor, Iff, Imp, Cmp, Members, mnil, more, Cell}
-use Rattle.syntax.specs.Written.{EveryInt, EveryTerm, EveryColumn, EveryOf, EveryMemberOf, None}
+use Rattle.syntax.specs.Syntax.{IntExpr, IConst, IVar, Linear, If, Terms, tnil, tmore, BoolExpr, Const, Var, NVar, And, Or, Not, Xor, Iff, Imp, Cmp, Members, mnil, more, Cell}
+use Rattle.syntax.specs.Written.{EveryIntOf, EveryTermOf, EveryColumnOf, EveryOf, EveryMemberOf, None}
 use Rattle.syntax.specs.Lengths.{Wide}
 use Rattle.words.specs.Exact.{Each}
 use Rattle.read.specs.WellFormed.{WellInt, WellTerms, WellBool, WellMembers, WellRow}
 
-module _ (ni : ℕ) where
+module _ (N P : ℕ → Type 0) (ni : ℕ) where
   mutual
-    unfolding WellInt EveryInt
+    unfolding WellInt EveryIntOf
 
-    pub int-vars : (left : ℕ) (e : IntExpr) → WellInt ni left e → EveryInt (λ v. v < ni) e
+    pub int-vars : (left : ℕ) (e : IntExpr) → WellInt ni left e → EveryIntOf N P (λ v. v < ni) e
     int-vars left (IConst c) h = tt
     int-vars left (IVar v) h = h .1
+    int-vars left (If i c t f) h = absurd i
     int-vars left (Linear ts) h = terms-vars (left - 1) ts (h .2)
 
-    terms-vars : (left : ℕ) (ts : Terms) → WellTerms ni left ts → EveryTerm (λ v. v < ni) ts
+    terms-vars : (left : ℕ) (ts : Terms) → WellTerms ni left ts → EveryTermOf N P (λ v. v < ni) ts
     terms-vars left tnil h = tt
     terms-vars left (tmore k e ts) h = (int-vars left e (h .1), terms-vars left ts (h .2))
 
-  pub columns-vars : (left : ℕ) (es : List IntExpr) → Each (WellInt ni left) es → EveryColumn (λ v. v < ni) es
-  unfolding EveryColumn
+  pub columns-vars : (left : ℕ) (es : List IntExpr) → Each (WellInt ni left) es → EveryColumnOf N P (λ v. v < ni) es
+  unfolding EveryColumnOf
   columns-vars left [] h = tt
   columns-vars left (e ∷ es) h = (int-vars left e (h .0), columns-vars left es (h .1))
 
@@ -39,7 +40,7 @@ module _ (nb ni : ℕ) where
     bool-vars left (Xor a b) h = (bool-vars (left - 1) a (h .1), bool-vars (left - 1) b (h .2))
     bool-vars left (Iff a b) h = (bool-vars (left - 1) a (h .1), bool-vars (left - 1) b (h .2))
     bool-vars left (Imp a b) h = (bool-vars (left - 1) a (h .1), bool-vars (left - 1) b (h .2))
-    bool-vars left (Cmp o a b) h = (int-vars ni (left - 1) a (h .1), int-vars ni (left - 1) b (h .2))
+    bool-vars left (Cmp o a b) h = (int-vars None (λ v. v < nb) ni (left - 1) a (h .1), int-vars None (λ v. v < nb) ni (left - 1) b (h .2))
 
     members-vars : (left : ℕ) (ms : Members) → WellMembers nb ni left ms → EveryMemberOf None (λ v. v < nb) (λ v. v < ni) ms
     members-vars left mnil h = tt

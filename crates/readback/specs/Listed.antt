@@ -36,5 +36,5 @@ unfoldable pub list-text : (out-length work-length : ℕ) → List ℕ → List 
 list-text out-length work-length t = list-words out-length work-length (read-text t)
 
 -- what the program prints for a text: it lends 16384 output words and as many work words
-unfoldable pub listing : List ℕ → List ℕ
+unfoldable listing : List ℕ → List ℕ
 listing t = list-text 16384 16384 t

@@ -135,7 +135,7 @@ module _ (fs ms is : List ℤ) (b i : ℕ) (fs-count : length fs ≡ b) (ms-coun
 
 -- ---- the results
 
-pub layout-back : (a : Answer) (b i : ℕ) → length (a .fixed) ≡ b → length (a .bool-map) ≡ b → length (a .int-map) ≡ i → read-listing (print-compiled b i (layout a)) ≡ some (compiled (layout a))
+layout-back : (a : Answer) (b i : ℕ) → length (a .fixed) ≡ b → length (a .bool-map) ≡ b → length (a .int-map) ≡ i → read-listing (print-compiled b i (layout a)) ≡ some (compiled (layout a))
 unfolding layout
 layout-back a b i f m n =
     compiled-back (map fixed-word (a .fixed)) (map bool-word (a .bool-map)) (map map-word (a .int-map)) b i (length-map (a .fixed) fixed-word ∙ f) (length-map (a .bool-map) bool-word ∙ m) (length-map (a .int-map) map-word ∙ n) (a .emitted-bools) (a .emitted-ints) (a .clauses)

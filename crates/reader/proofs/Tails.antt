@@ -17,7 +17,7 @@ pub record Tail (xs r : List ℤ) : Type 0 where
 abbrev pub Shortens : {A : Type 0} → Parser A → Type 0
 Shortens {A} p = (xs : List ℤ) (a : A) (r : List ℤ) → p xs ≡ ok a r → Tail xs r
 
-pub tail-append : (front r : List ℤ) → Tail (front ++ r) r
+tail-append : (front r : List ℤ) → Tail (front ++ r) r
 tail-append front r = record {
   short = rw (length-append front r) (omega arith);
   back = drop-at front r (length (front ++ r) - length r) (rw (length-append front r) (omega arith));
@@ -26,7 +26,7 @@ tail-append front r = record {
 pub tail-of : (xs front r : List ℤ) → xs ≡ front ++ r → Tail xs r
 tail-of xs front r e = rw e (tail-append front r)
 
-pub tail-trans : (xs s r : List ℤ) → Tail xs s → Tail s r → Tail xs r
+tail-trans : (xs s r : List ℤ) → Tail xs s → Tail s r → Tail xs r
 tail-trans xs s r h k = record {
   short = omega (arith, h .short, k .short);
   back =

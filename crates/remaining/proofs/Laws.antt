@@ -72,7 +72,7 @@ cells w f i (suc k) h e =
     ap (take (suc k)) (drop-cons w i (pos 0) (omega arith))
     ∙ rw (e i (omega arith), cells w f (suc i) k (omega arith) (λ v l. e v (omega arith))) refl
 
-pub standing : (p : Problem) (f : Fixed) (ss : List Stmt) (w : List ℤ) → Folded p f ss w → (b m : ℕ) → b ≡ p .bools → m ≡ length (stmts-words ss) → take b w ++ take m (drop 512 w) ≡ remaining-words p f ss
+standing : (p : Problem) (f : Fixed) (ss : List Stmt) (w : List ℤ) → Folded p f ss w → (b m : ℕ) → b ≡ p .bools → m ≡ length (stmts-words ss) → take b w ++ take m (drop 512 w) ≡ remaining-words p f ss
 unfolding remaining-words
 standing p f ss w h b m e n =
     let few = h .set .well .few-bools in

@@ -219,7 +219,7 @@ module _ (lines : List ℕ) (work : List ℤ) (out out' : List ℕ) (r a : ℕ) 
 
 -- ---- `check_with_room`
 
-pub clean-of : (work : List ℤ) (n : ℕ) → work ≡ zeros n → work ≡ zeros (length work)
+clean-of : (work : List ℤ) (n : ℕ) → work ≡ zeros n → work ≡ zeros (length work)
 clean-of work n e = e ∙ ap zeros (sym (ap length e ∙ zeros-length n))
 
 module _ (text : List ℕ) (work work' : List ℤ) (out out' : List ℕ) (r : ℕ) where

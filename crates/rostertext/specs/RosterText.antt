@@ -9,7 +9,7 @@ use lib.ListN.{length, getD, take, drop}
 use Rattle.decimal.specs.Bytes.{comma, line-feed}
 use Rattle.decimal.specs.Decimal.{print-natural}
 use Rattle.input.specs.ReadText.{split, after, read-numbers, max-bytes, read-text}
-use Rattle.evaluate.specs.Roster.{check-roster}
+use Rattle.verdict.specs.Roster.{check-roster}
 use Rattle.evaluate.specs.Contracts.{checked-of}
 use Rattle.evaluate.specs.declared.Checked.{Checked}
 use Rattle.evaluate.specs.declared.Checked.the-variants.{Yes, Broken, Refused}

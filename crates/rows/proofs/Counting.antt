@@ -14,9 +14,9 @@ use Rattle.laws.specs.Order.{is-eqZ, not-eqZ}
 use Rattle.laws.specs.Lists.{keep-if, select}
 use Rattle.syntax.specs.Words.{star-word}
 use Rattle.tables.specs.Tables.{Row}
-use Rattle.rows.specs.Rows.{rows-of, row-at}
+use Rattle.sorting.specs.Rows.{rows-of, row-at}
 use Rattle.rows.specs.Stars.{is-value, values-in, is-free, is-single, is-longer, count-rows}
-use Rattle.rows.proofs.Sorting.{length-rows, row-is, row-from, row-done}
+use Rattle.sorting.proofs.Sorting.{length-rows, row-is, row-from, row-done}
 
 -- ---- the values of a row
 

@@ -22,8 +22,8 @@ use Rattle.answer.specs.Answer.{linear-words, clause-words}
 use Rattle.tables.specs.Tables.{Row, cell-at, linear-eq, linear-ne, takes, variable, differs, column-clause}
 use Rattle.tables.specs.Values.{after}
 use Rattle.rows.specs.declared.Best.the-variants.{Nothing, Value}
-use Rattle.rows.specs.Rows.{rows-of}
-use Rattle.rows.specs.Columns.{word, vars-of}
+use Rattle.sorting.specs.Rows.{rows-of}
+use Rattle.sorting.specs.Columns.{word, vars-of}
 use Rattle.rows.specs.Next.{next-of, Holds}
 use Rattle.rows.specs.Emit.{comparison, linears-words, Starless, group-of}
 use Rattle.rows.proofs.Next.{all-left, left-none, left-next}
@@ -65,7 +65,7 @@ five o a b c d r s s1 s2 s3 s4 s5 w1 w2 w3 w4 w5 u1 u2 u3 u4 u5 l p1 p2 p3 p4 p5
 
 -- ---- the prefix
 
-pub var-is : (n : ℕ) (cs : List ℤ) (i : ℕ) → i < n → getD (vars-of n cs) i 0 ≡ natAbs (word cs (3 * i))
+var-is : (n : ℕ) (cs : List ℤ) (i : ℕ) → i < n → getD (vars-of n cs) i 0 ≡ natAbs (word cs (3 * i))
 unfolding vars-of
 var-is zero cs i h = absurd (omega arith)
 var-is (suc n) cs zero h = refl

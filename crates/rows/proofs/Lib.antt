@@ -1,5 +1,3 @@
-pub mod Sorting
-pub mod Dropping
 pub mod Next
 pub mod Emitting
 pub mod Looping

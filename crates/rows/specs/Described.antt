@@ -10,7 +10,7 @@ use lib.ListN.{length}
 use Rattle.laws.specs.Slices.{Has}
 use Rattle.syntax.specs.Syntax.{Range, Enumerative, num-candidates}
 use Rattle.tables.specs.Domains.{sub-nonNeg}
-use Rattle.rows.specs.Columns.{domain-in}
+use Rattle.sorting.specs.Columns.{domain-in}
 
 nonneg-next : (z : ℤ) → T (nonNeg z) → T (nonNeg (z +ℤ pos 1))
 nonneg-next (pos n) t = tt

@@ -13,8 +13,8 @@ use Rattle.syntax.specs.Syntax.{Domain, enumerate, domain-of, Cell}
 use Rattle.clauses.specs.Clause.{LinearLit, Clause}
 use Rattle.answer.specs.Answer.{linear-words, clause-words}
 use Rattle.tables.specs.Tables.{Row, cell-value, plain-table}
-use Rattle.rows.specs.Rows.{rows-of}
-use Rattle.rows.specs.Columns.{EachColumn, Columns, size-from, vars-of, domains-of}
+use Rattle.sorting.specs.Rows.{rows-of}
+use Rattle.sorting.specs.Columns.{EachColumn, Columns, size-from, vars-of, domains-of}
 use Rattle.rows.specs.Next.{Holds}
 
 -- the words of a comparison of the variable v with x; op: the operator's number

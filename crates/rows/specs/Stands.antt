@@ -19,9 +19,10 @@ use Rattle.laws.specs.Lists.{any, all, keep-if, select, flat, any-append, all-a
 use Rattle.laws.specs.Slices.{Has, has-front, has-back}
 use Rattle.syntax.specs.Words.{max-value, star-word}
 use Rattle.syntax.specs.Syntax.{Cell, star, value, encode-cell}
+use Rattle.syntax.specs.Lengths.{Wide}
 use Rattle.tables.specs.Tables.{is-star, cell-value}
 use Rattle.tables.specs.Agree.{wide, wide-is}
-use Rattle.rows.specs.Rows.{rows-of}
+use Rattle.sorting.specs.Rows.{rows-of}
 use Rattle.rows.specs.Emit.{Starless}
 use Rattle.rows.specs.Stars.{values-in}
 
@@ -54,6 +55,15 @@ rows-stand n ws at (cs ∷ rows) h w s =
     let l : length (map encode-cell cs) ≡ n = length-map cs encode-cell ∙ wide-is n cs (and-l (wide n cs) (all (wide n) rows) w) in
     let a : take n (drop at ws) ≡ map cell-value cs = ap (λ (m : ℕ). take m (drop at ws)) (sym l) ∙ has-front ws at (map encode-cell cs) (cells-words rows) h ∙ plain-row cs (or-no-l (any is-star cs) (any (any is-star) rows) s) in
     let b : rows-of n (length rows) (drop (at + n) ws) ≡ map (map cell-value) rows = rows-stand n ws (at + n) rows (ap (λ (m : ℕ). take (length (cells-words rows)) (drop (at + m) ws)) (sym l) ∙ has-back ws at (map encode-cell cs) (cells-words rows) h) (and-r (wide n cs) (all (wide n) rows) w) (or-no-r (any is-star cs) (any (any is-star) rows) s) in
+    rw (a, drop-drop n at ws, b) refl
+
+pub cells-stand : (ws : List ℤ) (at n : ℕ) (rows : List (List Cell)) → Has ws at (cells-words rows) → Wide n rows → rows-of n (length rows) (drop at ws) ≡ map (map encode-cell) rows
+unfolding rows-of Wide
+cells-stand ws at n [] h w = refl
+cells-stand ws at n (cs ∷ rows) h w =
+    let l : length (map encode-cell cs) ≡ n = length-map cs encode-cell ∙ w .0 in
+    let a : take n (drop at ws) ≡ map encode-cell cs = ap (λ (m : ℕ). take m (drop at ws)) (sym l) ∙ has-front ws at (map encode-cell cs) (cells-words rows) h in
+    let b : rows-of n (length rows) (drop (at + n) ws) ≡ map (map encode-cell) rows = cells-stand ws (at + n) n rows (ap (λ (m : ℕ). take (length (cells-words rows)) (drop (at + m) ws)) (sym l) ∙ has-back ws at (map encode-cell cs) (cells-words rows) h) (w .1) in
     rw (a, drop-drop n at ws, b) refl
 
 -- ---- the stars

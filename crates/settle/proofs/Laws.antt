@@ -35,7 +35,7 @@ use Rattle.settle.specs.Settle.{settling-of, settling-checked, settling-
 -- ---- refusals 1 to 11
 
 module _ (n : ℕ) (ws : List ℤ) where
-  pub refused-is : (k : ℕ) → accepted n ws ≡ taken.Refused k → settling.Refused k ≡ settling-words n ws
+  refused-is : (k : ℕ) → accepted n ws ≡ taken.Refused k → settling.Refused k ≡ settling-words n ws
   unfolding settling-words settling-read settling-checked
   refused-is k h =
       accepted-refused n ws k h
@@ -44,7 +44,7 @@ module _ (n : ℕ) (ws : List ℤ) where
       (λ a b e. rw (a, b, e) refl)
       (λ p r m a b e x z. rw (a, b, e, x, z) refl)
 
-  pub taken-is : (d : Declared) (t : Taken n ws d) → settling-words n ws ≡ settling-of (t .it) (optimize (t .it))
+  taken-is : (d : Declared) (t : Taken n ws d) → settling-words n ws ≡ settling-of (t .it) (optimize (t .it))
   unfolding settling-words settling-read settling-checked
   taken-is d t = rw (t .enough, t .short, t .says, t .unrefused) refl
 
@@ -58,11 +58,11 @@ cleared-is w ys h e =
     ∙ ap (λ (z : List ℤ). take 4608 w ++ (zeros 768 ++ z)) (drop-drop 768 4608 w)
 
 module _ (w : List ℤ) (h : 16384 ≤ length w) where
-  pub empty-above : drop 4608 (maps-empty w) ≡ zeros 768 ++ drop 5376 w
+  empty-above : drop 4608 (maps-empty w) ≡ zeros 768 ++ drop 5376 w
   unfolding maps-empty
   empty-above = drop-at (take 4608 w) (zeros 768 ++ drop 5376 w) 4608 (length-take-le 4608 w (omega arith))
 
-  pub empty-length : length (maps-empty w) ≡ length w
+  empty-length : length (maps-empty w) ≡ length w
   unfolding maps-empty
   empty-length =
       omega (
@@ -82,7 +82,7 @@ module _ (w : List ℤ) (h : 16384 ≤ length w) where
       ∙ List·getD-append (zeros 768) (drop 5376 w) (pos 0) v (omega (arith, k, length-replicate 768 (pos 0)))
       ∙ getD-replicate 768 v (pos 0) (pos 0) k
 
-  pub emptied : Empty (maps-empty w)
+  emptied : Empty (maps-empty w)
   unfolding bool-at int-entry nat
   emptied = record {
     bools = λ v k. zero-at v (omega arith);

@@ -68,7 +68,7 @@ sound-turn ls k = all-append sound ls (spaces 10 ∷ []) ∙ and-i (all sound ls
 
 -- ---- a page while an item is placed: the tokens before, and the piece of the item on the last line
 
-pub record State (Q : Page) (T : List (List ℕ)) (c : List ℕ) : Type 0 where
+record State (Q : Page) (T : List (List ℕ)) (c : List ℕ) : Type 0 where
   pub tok : (t : List ℕ) → toks (Q .lines) ++ tokens (drop 10 (Q .line) ++ t) ≡ T ++ tokens (c ++ t)
   pub long : 10 ≤ length (Q .line)
   pub leads : led (Q .lines ++ (Q .line ∷ [])) ≡ true
@@ -83,7 +83,7 @@ pub record Read (P : Page) (done : List (List ℕ)) : Type 0 where
   pub sounds : all sound (P .lines ++ (P .line ∷ [])) ≡ true
 
 -- whatever token comes next is glued behind pre
-pub record Glues (T : List (List ℕ)) (pre : List ℕ) (done : List (List ℕ)) : Type 0 where
+record Glues (T : List (List ℕ)) (pre : List ℕ) (done : List (List ℕ)) : Type 0 where
   pub next : (us ws : List (List ℕ)) (y : List ℕ) → glued us ≡ y ∷ ws → glued (T ++ us) ≡ done ++ ((pre ++ y) ∷ ws)
 
 pub record Plain (t : List ℕ) : Type 0 where
@@ -97,7 +97,7 @@ pub data Good : Item → Type 0 where
   more : {t : List ℕ} {ts : Item} → Plain t → ends-open t ≡ true → Good ts → Good (t ∷ ts)
 
 -- a piece that goes on, or none
-pub data Piece : List ℕ → Type 0 where
+data Piece : List ℕ → Type 0 where
   piece-nil : Piece []
   some : {c : List ℕ} → is-empty c ≡ false → avoids space c ≡ true → ends-open c ≡ true → Piece c
 
@@ -158,7 +158,7 @@ piece-clear piece-nil = refl
 piece-clear (some h k o) = k
 
 module _ {done : List (List ℕ)} where
-  pub parts-read : {ts : Item} → Good ts → {Q : Page} {T : List (List ℕ)} {pre c : List ℕ} → State Q T c → Glues T pre done → Piece c → Read (place-parts ts Q) (done ++ ((pre ++ (c ++ flat ts)) ∷ []))
+  parts-read : {ts : Item} → Good ts → {Q : Page} {T : List (List ℕ)} {pre c : List ℕ} → State Q T c → Glues T pre done → Piece c → Read (place-parts ts Q) (done ++ ((pre ++ (c ++ flat ts)) ∷ []))
   unfolding place-parts place-part
   parts-read (last {t} p o) {Q} {T} {pre} {c} s g k = go (leb (length (Q .line) + length t) width)
     where
@@ -228,7 +228,7 @@ module _ {P : Page} {done : List (List ℕ)} (r : Read P done) where
   bare-ten : P .bare ≡ true → length (P .line) ≡ 10
   bare-ten b = let l = r .long in omega (arith, length-drop 10 (P .line), ap length (r .start b))
 
-  pub item-read : {i : Item} → Good i → Read (place-item i P) (done ++ (flat i ∷ []))
+  item-read : {i : Item} → Good i → Read (place-item i P) (done ++ (flat i ∷ []))
   item-read (last {t} p o) = subst (λ (X : Page). Read X (done ++ (flat (t ∷ []) ∷ []))) (sym (place-begun t [] P bare-ten)) (parts-read (last p o) (begun-state _) before-glues piece-nil)
   item-read (more {t} {ts} p o g) = subst (λ (X : Page). Read X (done ++ (flat (t ∷ ts) ∷ []))) (sym (place-begun t ts P bare-ten)) (parts-read (more p o g) (begun-state _) before-glues piece-nil)
 

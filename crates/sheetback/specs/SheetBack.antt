@@ -119,7 +119,7 @@ unfolding linear-item
 linear-good (linear o (linear-sum c ts)) = terms-good (encode-op o) c (terms-words ts)
 
 -- its text is the listing's
-pub linear-flat : (k : LinearLit) → flat (linear-item k) ≡ linear-body k
+linear-flat : (k : LinearLit) → flat (linear-item k) ≡ linear-body k
 unfolding linear-item
 linear-flat (linear o (linear-sum c ts)) =
     flat-front (head (encode-op o) c) (pair-parts (terms-words ts)) ∙ ap (λ (x : List ℕ). head (encode-op o) c ++ x) (flat-pairs (terms-words ts))
@@ -302,7 +302,7 @@ flats-are ls ks = map-append flat (map literal-item (lits-words ls)) (map linear
 abbrev pub page-lines : ℕ → Clause → List (List ℕ)
 page-lines k c = all-lines (place-items (items-of c) (numbered k))
 
-pub record ClauseRead (c : Clause) (ls : List (List ℕ)) : Type 0 where
+record ClauseRead (c : Clause) (ls : List (List ℕ)) : Type 0 where
   pub items : read-items (glued (toks ls)) ≡ some (clause-words c)
   pub leads : led ls ≡ true
   pub sounds : all sound ls ≡ true

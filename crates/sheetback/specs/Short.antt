@@ -33,7 +33,7 @@ abbrev pub within80 : List ℕ → Bool
 within80 l = leb (length l) 80
 
 -- C characters are placed: each finished line is paid by 24 of them
-pub record Tight (P : Page) (C : ℕ) : Type 0 where
+record Tight (P : Page) (C : ℕ) : Type 0 where
   pub lines : all within80 (P .lines) ≡ true
   pub low : 10 ≤ length (P .line)
   pub high : length (P .line) ≤ 80
@@ -87,7 +87,7 @@ tight-parts [] {P} {C} i h = tight-more (omega arith) i
 tight-parts (t ∷ ts) {P} {C} i h = tight-more (omega (arith, length-append t (flat ts))) (tight-parts ts (tight-part t i (leb-true (length t) 25 (and-l (small t) (all small ts) h))) (and-r (small t) (all small ts) h))
 
 -- a line that an item alone has begun, with one line not yet paid
-pub record Owes (P : Page) (C x : ℕ) : Type 0 where
+record Owes (P : Page) (C x : ℕ) : Type 0 where
   pub lines : all within80 (P .lines) ≡ true
   pub here : length (P .line) ≡ 10 + x
   pub high : x ≤ 70
@@ -194,7 +194,7 @@ pairs-small (v ∷ a ∷ w ∷ ws) h =
     and-i (small t) (all small (pair-parts (w ∷ ws))) (le-leb (length t) 25 (omega (arith, numbers-short (v ∷ a ∷ []) two, length-append (print-numbers (v ∷ a ∷ [])) (comma ∷ [])))) (pairs-small (w ∷ ws) r)
 
 -- n words: an item with the space in front of it has at most 12 characters for each
-pub record Sized (i : Item) (n : ℕ) : Type 0 where
+record Sized (i : Item) (n : ℕ) : Type 0 where
   pub shape : i ≡ head-part i ∷ tail-parts i
   pub first : length (head-part i) ≤ 51
   pub others : all small (tail-parts i) ≡ true
@@ -223,7 +223,7 @@ linear-sized (linear o (linear-sum c ts)) h =
     let f : length (flat (pair-parts zs)) ≡ length (print-numbers zs) = ap length (flat-pairs zs) in
     front-sized (head oz c) (pair-parts zs) (suc (suc (suc (length zs)))) (omega (arith, numbers-short (oz ∷ []) ho, numbers-short (c ∷ []) hc)) (pairs-small zs h2) (omega (arith, numbers-short (oz ∷ []) ho, numbers-short (c ∷ []) hc, numbers-short zs h2))
 
-pub data AllSized : List Item → ℕ → Type 0 where
+data AllSized : List Item → ℕ → Type 0 where
   sized-nil : AllSized [] 0
   more : {i : Item} {is : List Item} {m n : ℕ} → Sized i m → AllSized is n → AllSized (i ∷ is) (m + n)
 
@@ -260,7 +260,7 @@ numbered-tight k h =
     let e : length (spaces (8 - length ds) ++ (ds ++ spaces 2)) ≡ 10 = omega (arith, length-append (spaces (8 - length ds)) (ds ++ spaces 2), length-append ds (spaces 2), length-replicate {A = ℕ} (8 - length ds) 32, natural-short 7 k (omega (arith, h))) in
     record { lines = refl; low = omega arith; high = omega arith; start = λ b. e; paid = omega arith }
 
-pub record Few (ls : List (List ℕ)) (n : ℕ) : Type 0 where
+record Few (ls : List (List ℕ)) (n : ℕ) : Type 0 where
   pub short : all within80 ls ≡ true
   pub few : 2 * length ls ≤ n
 
@@ -315,10 +315,10 @@ module _ (cs : List Clause) (h : length cs < 100000000) (f : all fitting (flat (
       let ws : List ℤ = flat (map clause-words cs) in
       ap (λ (x : List (List ℕ)). flat (map full x)) (ap (sheet-lines 1 (length cs)) (sym (append-nil ws)) ∙ lines-shown 1 cs [])
 
-  pub clauses-lined : Lined (print-sheet (counted clause-words cs))
+  clauses-lined : Lined (print-sheet (counted clause-words cs))
   clauses-lined = record { lines = lines-of 1 cs; made = sheet-is; each = fulls-are (lines-of 1 cs) (lines-few 1 cs (omega arith) f .short) }
 
-  pub clauses-short : 2 * length (print-sheet (counted clause-words cs)) ≤ 81 * length (flat (map clause-words cs))
+  clauses-short : 2 * length (print-sheet (counted clause-words cs)) ≤ 81 * length (flat (map clause-words cs))
   clauses-short = let b = lines-few 1 cs (omega arith) f in let u = b .few in omega (arith, ap length sheet-is, fulls-length (lines-of 1 cs) (b .short))
 
 -- ---- for every answer of the call whose words are within i32

@@ -36,7 +36,7 @@ same-second : {a b c d : ℕ} → sheeted.Compiled a b ≡ sheeted.Compiled c d 
 same-second e = cc
 
 -- what the call gave
-pub record Gave (set out work out' : List ℤ) (n : ℕ) : Type 0 where
+record Gave (set out work out' : List ℤ) (n : ℕ) : Type 0 where
   pub words : List ℤ
   pub call-is : call set (length out) (length work) ≡ compiled words
   pub count : n ≡ length words

@@ -25,8 +25,8 @@ use Rattle.walk.specs.Item.{is-none, word-of, extra, block}
 use Rattle.walk.specs.Texts.{linears-more}
 use Rattle.walk.specs.declared.Mode.{Mode}
 use Rattle.walk.specs.declared.Mode.the-variants.{Pool, One, Two, Each}
-use Rattle.rows.specs.Rows.{rows-of, row-at}
-use Rattle.rows.specs.Columns.{word, vars-of}
+use Rattle.sorting.specs.Rows.{rows-of, row-at}
+use Rattle.sorting.specs.Columns.{word, vars-of}
 use Rattle.rows.specs.Emit.{comparison, linears-words, Behind}
 use Rattle.rows.specs.Stars.{is-value, values-in, is-single, is-longer}
 use Rattle.rows.proofs.Emitting.{room-after}
@@ -38,7 +38,7 @@ use Rattle.stars.specs.Stars.{RowAt, RowsAt}
 pub lines-none : {out : List ℤ} {o c : ℕ} → Behind out o c → Lines out o c [] out o c
 lines-none {out} {o} b = record { words = wrote-none out o (b .room .low); count = λ h. omega arith; low = b .low }
 
-pub lines-one : {out out' : List ℤ} {o o' c : ℕ} (x : ℤ) (t : List ℤ) → c ≤ o → o < cap → Wrote out o (x ∷ t) out' o' → Lines out o c ((x ∷ t) ∷ []) out' o' (c + 1)
+lines-one : {out out' : List ℤ} {o o' c : ℕ} (x : ℤ) (t : List ℤ) → c ≤ o → o < cap → Wrote out o (x ∷ t) out' o' → Lines out o c ((x ∷ t) ∷ []) out' o' (c + 1)
 lines-one x t h l w = record { words = wrote-to (sym (append-nil (x ∷ t))) w; count = λ k. refl; low = omega (arith, w .at) }
 
 -- too long: nothing more is written
@@ -141,11 +141,11 @@ above-star (negsuc n) f e =
     lt-ltb n 2147483647 (omega (arith, k, d))
 
 module _ (ls : List ℤ) (v : ℕ) (x : ℤ) where
-  pub cell-none : is-value x ≡ false → row-linears (v ∷ []) (x ∷ []) ≡ []
+  cell-none : is-value x ≡ false → row-linears (v ∷ []) (x ∷ []) ≡ []
   unfolding row-linears
   cell-none e = rw e refl
 
-  pub cell-one : is-value x ≡ true → row-linears (v ∷ []) (x ∷ []) ≡ linear-eq v x ∷ []
+  cell-one : is-value x ≡ true → row-linears (v ∷ []) (x ∷ []) ≡ linear-eq v x ∷ []
   unfolding row-linears
   cell-one e = rw e refl
 

@@ -11,14 +11,15 @@ use lib.Seq.{getD-drop}
 use Rattle.laws.specs.Lists.{length-select}
 use Rattle.laws.specs.Writes.{cap, wrote-low}
 use Rattle.syntax.specs.Syntax.{encode-cell}
+use Rattle.read.specs.Vars.{rows-wide}
 use Rattle.tables.specs.Tables.{Row}
 use Rattle.walk.specs.Item.{mode-in}
 use Rattle.walk.specs.declared.Mode.{Mode}
-use Rattle.rows.specs.Rows.{rows-of}
-use Rattle.rows.specs.Columns.{vars-of}
+use Rattle.sorting.specs.Rows.{rows-of}
+use Rattle.sorting.specs.Columns.{vars-of}
 use Rattle.rows.specs.Stars.{values-in, is-single, is-longer, count-rows}
-use Rattle.rows.proofs.Sorting.{length-rows}
-use Rattle.numbered.specs.Fresh.{cells-stand}
+use Rattle.rows.specs.Stands.{cells-stand}
+use Rattle.sorting.proofs.Sorting.{length-rows}
 use Rattle.stars.specs.Lines.{long-lines, single-linears, pool-line, pool-lines, lines-in-mode, star-lines, Lines}
 use Rattle.stars.specs.Stars.{RowsAt, StarRows, Starred}
 use Rattle.stars.proofs.Laws.{lines-then, lines-to}
@@ -48,7 +49,7 @@ module _ (work : List ℤ) (at n k cols m : ℕ) (t : StarRows work at n k cols 
     starred : Lines out o c (star-lines m vs R) out' o' c' → Starred work at n k cols m out o c out' o' c'
     starred l = record {
       clauses = λ rows s h e w free next small.
-          let r : R ≡ map (map encode-cell) rows = ap (λ (i : ℕ). rows-of n i (drop at work)) e ∙ cells-stand work at n rows h w in
+          let r : R ≡ map (map encode-cell) rows = ap (λ (i : ℕ). rows-of n i (drop at work)) e ∙ cells-stand work at n rows h (rows-wide n rows w) in
           table-clauses n vs (length-vars n (drop cols work)) rows w free s small (lines-to (rw (r, next) refl) l);
       place = wrote-low (l .words);
       low = l .low;

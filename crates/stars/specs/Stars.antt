@@ -15,7 +15,7 @@ use Rattle.read.specs.WellFormed.{WellRow}
 use Rattle.clauses.specs.Log.{Log, next-bool}
 use Rattle.tables.specs.Tables.{star-table}
 use Rattle.walk.specs.Item.{limit}
-use Rattle.rows.specs.Columns.{word, EachColumn, vars-of}
+use Rattle.sorting.specs.Columns.{word, EachColumn, vars-of}
 use Rattle.rows.specs.Stands.{cells-words}
 use Rattle.rows.specs.Emit.{Clauses}
 use Rattle.statements.specs.Star.{any-free}

@@ -5,8 +5,8 @@ ghost use lib.ListN.{drop};
 ghost use Rattle.laws.specs.Writes.{Wrote, Open};
 ghost use Rattle.syntax.specs.Words.{max-count};
 ghost use Rattle.walk.specs.Item.{limit, extra};
-ghost use Rattle.rows.specs.Rows.{rows-of, row-at};
-ghost use Rattle.rows.specs.Columns.{vars-of};
+ghost use Rattle.sorting.specs.Rows.{rows-of, row-at};
+ghost use Rattle.sorting.specs.Columns.{vars-of};
 ghost use Rattle.rows.specs.Emit.{linears-words, Behind};
 ghost use Rattle.stars.specs.Lines.{row-linears, counted-lits, row-lines, long-lines, single-linears, pool-line, Lines};
 ghost use Rattle.stars.specs.Stars.{RowAt, RowsAt, StarRows, Starred};
@@ -86,7 +86,7 @@ fn put_row(
     let mut d = c;
     while rest != 0 {
         let x = work[p];
-        let v = rows::number_at(work, col);
+        let v = sorting::number_at(work, col);
         let w = put_equality(mode, m, j, v, x, out, q, d);
         q = w.at;
         d = w.clauses;
@@ -157,7 +157,7 @@ fn put_values(work: &[i32], a: usize, n: usize, cols: usize, out: &mut [i32], o:
     let mut q = o;
     while left != 0 {
         let x = work[p];
-        let v = rows::number_at(work, col);
+        let v = sorting::number_at(work, col);
         q = put_value(v, x, out, q);
         p += 1;
         col += 3;

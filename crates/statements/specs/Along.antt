@@ -2,7 +2,7 @@
 -- F: the folded words as numbering left them; w: the work slice with the maps and the columns' numbers of the whole log.
 use mathlib.Core.Path.{_≡_, refl, sym, ap, _∙_, subst}
 use mathlib.Core.Bool.{Bool, true, false, cond}
-use mathlib.Core.List.{List, [], _∷_, _++_, append-assoc}
+use mathlib.Core.List.{List, [], _∷_, _++_}
 use Prim.Native.Nat.{ℕ, _+_, _≤_, _<_}
 use native.Mathlib.Omega.{arith}
 use lib.IntN.{ℤ, pos}
@@ -13,25 +13,24 @@ use Rattle.syntax.specs.Written.{EveryStmt, EveryStmts}
 use Rattle.words.specs.Exact.{Each}
 use Rattle.fold.specs.Fold.{Fixed}
 use Rattle.clauses.specs.Clause.{Clause}
-use Rattle.clauses.specs.Log.{Log, next-bool, next-int}
+use Rattle.clauses.specs.Log.{Log, next-bool, next-int, emitted-domains, clauses-of}
 use Rattle.clauses.specs.Merge.{merge-stmts}
-use Rattle.clauses.specs.Disjunction.{Out}
-use Rattle.tables.specs.Tables.{emitted-domains}
 use Rattle.tables.specs.ColumnMeaning.{WithinDomain}
 use Rattle.answer.specs.Answer.{start-log, normalize-stmt, normalize-stmts}
 use Rattle.call.specs.WellRead.{Plain}
 use Rattle.walk.specs.Item.{limit, bool-map, bool-at, int-entry, nat, State}
+use Rattle.clauses.specs.Since.{clauses-since, top-adds}
 use Rattle.walk.specs.Grow.{Grows}
 use Rattle.walk.specs.Num.{max-emitted, Numbered}
 use Rattle.walk.specs.TwoWalks.{low-back}
 use Rattle.statements.specs.Columns.{ColumnRecord}
-use Rattle.statements.specs.Statements.{LegalStmt, LegalStmts, Stable, InPlace, AllInPlace, meet-stmt, stmts-grow, stable-back, stmt-walks}
+use Rattle.statements.specs.Statements.{LegalStmt, LegalStmts, Stable, InPlace, AllInPlace, meet-stmt, stmt-grows, stmts-grow, stable-back, stmt-walks}
 use Rattle.statements.specs.Bounds.{start-low}
 use Rattle.statements.specs.Ties.{meet-ties, ties-num}
 use Rattle.statements.specs.Settled.{settled-legal, settled-plain}
-use Rattle.statements.specs.Whole.{Empty, start, start-numbered, lowest, log-standing}
+use Rattle.statements.specs.Whole.{Empty, start, start-numbered, lowest, start-none, log-standing}
 use Rattle.statements.specs.NumberedEntry.{settled-emitted, settled-low}
-use Rattle.statements.specs.Stages.{stmts-words, Settled, clauses-of, log-of, StmtFacts, settled-facts, settled-short}
+use Rattle.statements.specs.Stages.{stmts-words, Settled, log-of, StmtFacts, settled-facts, settled-short}
 
 -- ---- a work slice of zeros, from which the numbering of a set may start
 
@@ -62,15 +61,15 @@ pub record StmtAt (ds : List Domain) (F w : List ℤ) (L : Log) (q : ℕ) (t : S
   pub inside : q + length (encode-stmt t) ≤ bool-map
   pub numbered : Numbered (ColumnRecord F ds) st s
   pub placed : InPlace F ds w q t s
-  pub grows : Grows (normalize-stmt ds t s .1) L
-  pub stable : Stable ds (domain-of (emitted-domains ds L)) (normalize-stmt ds t s .1)
+  pub grows : Grows (normalize-stmt ds t s) L
+  pub stable : Stable ds (domain-of (emitted-domains ds L)) (normalize-stmt ds t s)
 
--- ---- the statements that are left, behind clauses cs
+-- ---- the statements that are left, behind the clauses cs of the log before them
 
 -- m: merging chosen
 pub record Rest (m : Bool) (p : Problem) (ss : List Stmt) (F w : List ℤ) (q : ℕ) (rest : List Stmt) (s : Log) (st : State) (cs : List Clause) : Type 0 where
-  pub joins : cs ++ normalize-stmts (p .domains) rest s .0 ≡ clauses-of m p ss
-  pub ends : normalize-stmts (p .domains) rest s .1 ≡ log-of m p ss
+  pub done : cs ≡ clauses-of s
+  pub ends : normalize-stmts (p .domains) rest s ≡ log-of m p ss
   pub stands : Has F q (stmts-words rest)
   pub behind : 512 ≤ q
   pub place : q + length (stmts-words rest) ≡ 512 + length (stmts-words ss)
@@ -101,7 +100,7 @@ module _ (m : Bool) {p : Problem} {f : Fixed} {ss : List Stmt} (set : Settled p 
 
   pub rest-start : {F w : List ℤ} → Has F 512 (stmts-words ss) → AllInPlace F ds w 512 ss (start-log m ss) → Rest m p ss F w 512 ss (start-log m ss) (begin m F ss) []
   rest-start {F} stands h = record {
-    joins = refl;
+    done = sym (start-none m ss);
     ends = refl;
     stands = stands;
     behind = omega arith;
@@ -115,7 +114,7 @@ module _ (m : Bool) {p : Problem} {f : Fixed} {ss : List Stmt} (set : Settled p 
   }
 
   module _ {F w : List ℤ} {q : ℕ} {t : Stmt} {ts : List Stmt} {s : Log} {st : State} {cs : List Clause} (r : Rest m p ss F w q (t ∷ ts) s st cs) where
-    abbrev here : Out
+    abbrev here : Log
     here = normalize-stmt ds t s
 
     words : length (stmts-words (t ∷ ts)) ≡ length (encode-stmt t) + length (stmts-words ts)
@@ -124,17 +123,17 @@ module _ (m : Bool) {p : Problem} {f : Fixed} {ss : List Stmt} (set : Settled p 
     room : q + length (encode-stmt t) ≤ bool-map
     room = omega (arith, words, r .place, short)
 
-    later : normalize-stmts ds ts (here .1) .1 ≡ log-of m p ss
+    later : normalize-stmts ds ts here ≡ log-of m p ss
     unfolding normalize-stmts
     later = r .ends
 
-    grows : Grows (here .1) (log-of m p ss)
-    grows = subst (λ (l : Log). Grows (here .1) l) later (stmts-grow F ds ts (here .1) (r .legal .1))
+    grows : Grows here (log-of m p ss)
+    grows = subst (λ (l : Log). Grows here l) later (stmts-grow F ds ts here (r .legal .1))
 
     pub rest-first : StmtAt ds F w (log-of m p ss) q t s st
     unfolding AllInPlace EveryStmts
     rest-first =
-        let whole : Stable ds (domain-of (emitted-domains ds (log-of m p ss))) (normalize-stmts ds ts (here .1) .1) = λ v h. ap (λ (l : Log). domain-of (emitted-domains ds l) v) (sym later) in
+        let whole : Stable ds (domain-of (emitted-domains ds (log-of m p ss))) (normalize-stmts ds ts here) = λ v h. ap (λ (l : Log). domain-of (emitted-domains ds l) v) (sym later) in
         record {
           facts = r .facts .0;
           legal = r .legal .0;
@@ -146,16 +145,16 @@ module _ (m : Bool) {p : Problem} {f : Fixed} {ss : List Stmt} (set : Settled p 
           numbered = r .numbered;
           placed = r .placed .0;
           grows = grows;
-          stable = stable-back F ds (domain-of (emitted-domains ds (log-of m p ss))) (lowest ds) ts (here .1) (r .plain .1) (r .standing .1) whole;
+          stable = stable-back ds (domain-of (emitted-domains ds (log-of m p ss))) (stmts-grow F ds ts here (r .legal .1)) whole;
         }
 
-    pub rest-next : Rest m p ss F w (q + length (encode-stmt t)) ts (here .1) (meet-stmt q t st) (cs ++ here .0)
+    pub rest-next : Rest m p ss F w (q + length (encode-stmt t)) ts here (meet-stmt q t st) (cs ++ clauses-since s here)
     unfolding AllInPlace EveryStmts normalize-stmts
     rest-next =
         let has = has-front F q (encode-stmt t) (stmts-words ts) (r .stands) in
-        let fewer : next-int (here .1) < max-emitted = omega (arith, grows .ints, settled-emitted m set) in
+        let fewer : next-int here < max-emitted = omega (arith, grows .ints, settled-emitted m set) in
         record {
-          joins = append-assoc cs (here .0) (normalize-stmts ds ts (here .1) .0) ∙ r .joins;
+          done = ap (λ (l : List Clause). l ++ clauses-since s here) (r .done) ∙ sym (top-adds (stmt-grows F ds t s (r .legal .0) .top));
           ends = r .ends;
           stands = has-back F q (encode-stmt t) (stmts-words ts) (r .stands);
           behind = omega (arith, r .behind);

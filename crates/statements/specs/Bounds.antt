@@ -11,22 +11,22 @@ use lib.ListN.{length, length-append, length-map}
 use Rattle.laws.specs.Lists.{any, flat}
 use Rattle.syntax.specs.Syntax.{Domain, domain-of, encode-int, BoolExpr, Const, Var, NVar, And, Or, Not, Xor, Iff, Imp, Cmp, Members, mnil, more, encode-bool, encode-members, Cell, Stmt, Rule, Table, AllDifferent, encode-stmt}
 use Rattle.clauses.specs.Clause.{BoolLit, Clause, clause}
-use Rattle.clauses.specs.Log.{Log, next-bool, get-bool-var, bool-var-at, convert-bool-var}
+use Rattle.clauses.specs.Log.{Log, next-bool, get-bool-var, bool-var-at, convert-bool-var, emitted-domains}
 use Rattle.clauses.specs.Disjunction.{Sorted, satisfied, pool, pooled, with-longer, sorted, finish-sorted, normalize-disjunction}
-use Rattle.clauses.specs.Normalize.{no-run, run-then, normalize-conjunction, disjunction-of, cross as cross-run, normalize-var, normalize-comparison, normalize-int-expr, lit-clauses, normalize-bool-expr}
-use Rattle.clauses.specs.Split.{unsplit, normalize-each, normalize-and-register-expr, tseitin-transformation-bool as split}
+use Rattle.clauses.specs.Normalize.{register, no-run, run-then, normalize-conjunction, disjunction-of, cross as cross-run, normalize-num, normalize-var, normalize-comparison, normalize-int-expr, lit-clauses, normalize-bool-expr}
+use Rattle.clauses.specs.Split.{unsplit, register-each, normalize-and-register-expr, tseitin-transformation-bool as split}
 use Rattle.words.specs.Exact.{Each}
-use Rattle.tables.specs.Tables.{is-star, star-row, star-table, plain-table, emitted-domains, equivalent-int-vars, normalize-extension-supports, normalize-table}
+use Rattle.tables.specs.Tables.{is-star, star-row, star-table, plain-table, equivalent-int-vars, normalize-extension-supports, normalize-table}
 use Rattle.clauses.specs.Merge.{as-var, tie-found, tie as merge-tie, merge-rule, merge-stmt, merge-stmts}
 use Rattle.answer.specs.Answer.{start-log, normalize-stmt, normalize-stmts}
-use Rattle.walk.specs.Tree.{Tree, var, num, cmp, conj, disj, cross, tied, Trees, nil, cons, size, append, pair, joined, crossed, splits, splits-members, resolve, resolves, tie, both-tied, ties, ties-members, num-run, run, runs}
+use Rattle.walk.specs.Tree.{Tree, var, num, cmp, conj, disj, cross, tied, Trees, nil, cons, size, append, pair, joined, crossed, splits, splits-members, resolve, resolves, tie, both-tied, ties, ties-members, run, runs, registers}
 use Rattle.walk.specs.Resolve.{rule-trees, rule-runs, split-sided}
 use Rattle.walk.specs.Item.{mode-in, fresh-in}
 use Rattle.walk.specs.Texts.{finish-count, disjunction-finish}
 use Rattle.walk.specs.Ints.{int-bools}
 use Rattle.walk.specs.Legal.{Legal, LegalMembers}
 use Rattle.walk.specs.Rule.{LegalRule, true-rule, legal-rule}
-use Rattle.statements.specs.Different.{pairs-bools, different-log}
+use Rattle.statements.specs.Different.{different-bools}
 use Rattle.statements.specs.Table.{columns-bools}
 use Rattle.statements.specs.Statements.{LegalStmt, LegalStmts}
 
@@ -88,30 +88,36 @@ var-low : (o : Option BoolLit) (v : ℕ) (s : Log) → next-bool (bool-var-at o 
 var-low none v s = omega arith
 var-low (some n) v s = omega arith
 
-runs-size : (ts : Trees) (s : Log) → length (runs ts s .0) ≡ size ts
-unfolding runs no-run run-then
-runs-size nil s = refl
-runs-size (cons t ts) s = ap suc (runs-size ts (run t s .1))
+module _ (ds : List Domain) where
+  runs-size : (ts : Trees) (s : Log) → length (runs ds ts s .0) ≡ size ts
+  unfolding runs no-run run-then
+  runs-size nil s = refl
+  runs-size (cons t ts) s = ap suc (runs-size ts (run ds t s .1))
 
-mutual
-  unfolding run weight normalize-var convert-bool-var normalize-comparison normalize-conjunction disjunction-of cross-run no-run run-then num-run
+  mutual
+    unfolding run weight normalize-var convert-bool-var normalize-comparison normalize-conjunction disjunction-of cross-run no-run run-then normalize-num
 
-  run-low : (t : Tree) (s : Log) → next-bool (run t s .1) ≤ next-bool s + weight t
-  run-low (var v g) s = var-low (get-bool-var v s) v s
-  run-low (num n g) s = omega arith
-  run-low (cmp p o a b g) s = omega (arith, int-bools a s, int-bools b (normalize-int-expr a s .1))
-  run-low (conj ts) s = runs-low ts s
-  run-low (disj ts) s = omega (arith, runs-low ts s, runs-size ts s, disj-low (runs ts s .0) (runs ts s .1))
-  run-low (cross ts us) s =
-      let a = runs ts s in let b = runs us (a .1) in let c = normalize-disjunction (a .0) (b .1) in
-      omega (arith, runs-low ts s, runs-low us (a .1), runs-size ts s, runs-size us (a .1), disj-low (a .0) (b .1), disj-low (b .0) (c .1))
-  run-low (tied v t u) s =
-      let a = run t s in let b = run u (a .1) in let c = normalize-disjunction (a .0 ∷ lit-clauses v true ∷ []) (b .1) in
-      omega (arith, run-low t s, run-low u (a .1), disj-low (a .0 ∷ lit-clauses v true ∷ []) (b .1), disj-low (b .0 ∷ lit-clauses v false ∷ []) (c .1))
+    run-low : (t : Tree) (s : Log) → next-bool (run ds t s .1) ≤ next-bool s + weight t
+    run-low (var v g) s = var-low (get-bool-var v s) v s
+    run-low (num n g) s = omega arith
+    run-low (cmp p o a b g) s = omega (arith, int-bools ds a s, int-bools ds b (normalize-int-expr ds a s .1))
+    run-low (conj ts) s = runs-low ts s
+    run-low (disj ts) s = omega (arith, runs-low ts s, runs-size ts s, disj-low (runs ds ts s .0) (runs ds ts s .1))
+    run-low (cross ts us) s =
+        let a = runs ds ts s in let b = runs ds us (a .1) in let c = normalize-disjunction (a .0) (b .1) in
+        omega (arith, runs-low ts s, runs-low us (a .1), runs-size ts s, runs-size us (a .1), disj-low (a .0) (b .1), disj-low (b .0) (c .1))
+    run-low (tied v t u) s =
+        let a = run ds t s in let b = run ds u (a .1) in let c = normalize-disjunction (a .0 ∷ lit-clauses v true ∷ []) (b .1) in
+        omega (arith, run-low t s, run-low u (a .1), disj-low (a .0 ∷ lit-clauses v true ∷ []) (b .1), disj-low (b .0 ∷ lit-clauses v false ∷ []) (c .1))
 
-  runs-low : (ts : Trees) (s : Log) → next-bool (runs ts s .1) ≤ next-bool s + weights ts
-  runs-low nil s = omega arith
-  runs-low (cons t ts) s = omega (arith, run-low t s, runs-low ts (run t s .1))
+    runs-low : (ts : Trees) (s : Log) → next-bool (runs ds ts s .1) ≤ next-bool s + weights ts
+    runs-low nil s = omega arith
+    runs-low (cons t ts) s = omega (arith, run-low t s, runs-low ts (run ds t s .1))
+
+  registers-low : (ts : Trees) (s : Log) → next-bool (registers ds ts s) ≤ next-bool s + weights ts
+  unfolding registers register weight
+  registers-low nil s = omega arith
+  registers-low (cons t ts) s = omega (arith, run-low t s, registers-low ts (register (run ds t s)))
 
 -- ---- words
 
@@ -215,14 +221,14 @@ mutual
   splits-each mnil l t h = omega arith
   splits-each (more e ms) l t h = omega (arith, splits-low e l t (h .0), splits-each ms l t (h .1), length-append (encode-bool e) (encode-members ms))
 
-rule-low : (e : BoolExpr) (s : Log) → LegalRule e 64 → next-bool (normalize-and-register-expr e s .1) ≤ next-bool s + 14 * length (encode-bool e)
-unfolding normalize-conjunction weight ties resolve splits runs run no-run run-then normalize-and-register-expr split unsplit normalize-each normalize-bool-expr
-rule-low e s (true-rule x) = omega arith
-rule-low e s (legal-rule x) =
+rule-low : (ds : List Domain) (e : BoolExpr) (s : Log) → LegalRule e 64 → next-bool (normalize-and-register-expr ds e s) ≤ next-bool s + 14 * length (encode-bool e)
+unfolding weight ties resolve splits normalize-and-register-expr split unsplit register-each register normalize-bool-expr
+rule-low ds e s (true-rule x) = omega arith
+rule-low ds e s (legal-rule x) =
     let ts : Trees = rule-trees e 0 (next-bool s) in
     let z : Log = split e false s .log in
     let b : weights ts ≡ weights (ties e false 0 (next-bool s)) + weights (cons (resolve e false 0 (next-bool s) false) nil) = weights-append (ties e false 0 (next-bool s)) (cons (resolve e false 0 (next-bool s) false) nil) in
-    rw (rule-runs e 0 s) (omega (arith, runs-low ts z, split-sided e false s .bools, splits-low e 64 false x, one-low e 64 x 0 (next-bool s) false))
+    rw (rule-runs ds e 0 s) (omega (arith, registers-low ds ts z, split-sided e false s .bools, splits-low e 64 false x, one-low e 64 x 0 (next-bool s) false))
 
 map-length : (vs : List ℕ) (rows : List (List Cell)) → length (map (star-row vs) rows) ≡ length rows
 map-length vs rows = length-map rows (star-row vs)
@@ -247,16 +253,16 @@ stmt-words (Rule e) = omega arith
 stmt-words (Table es rows) = omega arith
 stmt-words (AllDifferent es) = omega arith
 
-stmt-low : (F : List ℤ) (ds : List Domain) (t : Stmt) (s : Log) → LegalStmt ds t → FewRows t → next-bool (normalize-stmt ds t s .1) ≤ next-bool s + 4110 * length (encode-stmt t)
-unfolding normalize-stmt normalize-table
-stmt-low F ds (Rule e) s x h = let n : length (encode-stmt (Rule e)) ≡ suc (length (encode-bool e)) = unfold encode-stmt in refl in omega (arith, rule-low e s x)
+stmt-low : (F : List ℤ) (ds : List Domain) (t : Stmt) (s : Log) → LegalStmt ds t → FewRows t → next-bool (normalize-stmt ds t s) ≤ next-bool s + 4110 * length (encode-stmt t)
+unfolding normalize-stmt normalize-table register
+stmt-low F ds (Rule e) s x h = let n : length (encode-stmt (Rule e)) ≡ suc (length (encode-bool e)) = unfold encode-stmt in refl in omega (arith, rule-low ds e s x)
 stmt-low F ds (Table es rows) s x h = omega (arith, supports-low ds (equivalent-int-vars ds es s .vars) rows (equivalent-int-vars ds es s .log), columns-bools F ds es s, stmt-words (Table es rows))
-stmt-low F ds (AllDifferent es) s x h = rw (different-log ds es s) (omega (arith, pairs-bools es s))
+stmt-low F ds (AllDifferent es) s x h = omega (arith, different-bools ds es s)
 
-pub stmts-low : (F : List ℤ) (ds : List Domain) (ts : List Stmt) (s : Log) → LegalStmts F ds ts → Each FewRows ts → next-bool (normalize-stmts ds ts s .1) ≤ next-bool s + 4110 * length (flat (map encode-stmt ts))
+pub stmts-low : (F : List ℤ) (ds : List Domain) (ts : List Stmt) (s : Log) → LegalStmts F ds ts → Each FewRows ts → next-bool (normalize-stmts ds ts s) ≤ next-bool s + 4110 * length (flat (map encode-stmt ts))
 unfolding normalize-stmts
 stmts-low F ds [] s x h = omega arith
-stmts-low F ds (t ∷ ts) s x h = omega (arith, stmt-low F ds t s (x .0) (h .0), stmts-low F ds ts (normalize-stmt ds t s .1) (x .1) (h .1), length-append (encode-stmt t) (flat (map encode-stmt ts)))
+stmts-low F ds (t ∷ ts) s x h = omega (arith, stmt-low F ds t s (x .0) (h .0), stmts-low F ds ts (normalize-stmt ds t s) (x .1) (h .1), length-append (encode-stmt t) (flat (map encode-stmt ts)))
 
 -- ---- merging: at most one number for each statement
 

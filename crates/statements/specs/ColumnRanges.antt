@@ -11,18 +11,17 @@ use lib.Seq.{take-length}
 use Rattle.laws.specs.Bools.{never, and-l, and-r}
 use Rattle.laws.specs.Order.{leZ-trans}
 use Rattle.syntax.specs.Words.{max-value, max-weight}
-use Rattle.syntax.specs.Syntax.{Domain, Range, lower-bound, in-domain, domain-of, IntExpr, IConst, IVar, Linear, Terms, tnil, tmore}
-use Rattle.syntax.specs.Written.{EveryInt, EveryTerm}
+use Rattle.syntax.specs.Syntax.{Domain, Range, lower-bound, in-domain, domain-of, IntExpr, IConst, IVar, Linear, If, Terms, tnil, tmore}
+use Rattle.syntax.specs.Written.{EveryInt, EveryTerm, EveryIntOf}
 use Rattle.limits.specs.Limits.{heavy, written, written-terms}
 use Rattle.sums.specs.LinearSum.{LinearSum, linear-sum, lowest, highest, sum-value, get-domain-linear-sum}
 use Rattle.sums.specs.Linear.{linear-of}
 use Rattle.sums.specs.Rising.{constant-of, terms-of, Among}
 use Rattle.sums.specs.Domain.{ordered, linear-of-domain}
 use Rattle.sums.specs.Bounds.{domain-bounds-fit}
-use Rattle.clauses.specs.Log.{Log}
+use Rattle.clauses.specs.Log.{Log, emitted-domains}
 use Rattle.clauses.specs.Normalize.{normalize-int-expr}
-use Rattle.tables.specs.Tables.{emitted-domains}
-use Rattle.tables.specs.Emitted.{int-var-domain}
+use Rattle.clauses.specs.Emitted.{int-var-domain}
 use Rattle.walk.specs.Item.{int-number}
 use Rattle.walk.specs.Grow.{Fit}
 use Rattle.walk.specs.Ints.{int-linear}
@@ -33,11 +32,12 @@ use Rattle.statements.specs.Whole.{lowest-in}
 
 module _ (Q : ℕ → Type 0) where
   mutual
-    unfolding written EveryInt
+    unfolding written EveryIntOf
 
     every-among : (e : IntExpr) → EveryInt Q e → (v : ℕ) → Among (written e) v → Q v
     every-among (IConst c) h v m = never m
     every-among (IVar u) h v m = subst Q (sym (single v u m)) h
+    every-among (If i c t f) h v m = absurd i
     every-among (Linear ts) h v m = terms-among ts h v m
 
     terms-among : (ts : Terms) → EveryTerm Q ts → (v : ℕ) → Among (written-terms ts) v → Q v
@@ -76,12 +76,12 @@ linear-range ds number domain e l h =
     sum-range domain x (sum-value (λ n. lower-bound (domain n)) x) i (rw t at (b .0)) (rw t at (b .1))
 
 -- of the expression behind a log, w being a work slice with the maps of a log that is at least as long
-pub column-range : (ds : List Domain) (w : List ℤ) (e : IntExpr) (s : Log) → heavy ds e ≡ false → EveryInt (λ v. ordered (domain-of ds v) ≡ true) e → Fit w (normalize-int-expr e s .1)
-    → RangeOf (get-domain-linear-sum (domain-of (emitted-domains ds (normalize-int-expr e s .1))) (normalize-int-expr e s .0))
+pub column-range : (ds : List Domain) (w : List ℤ) (e : IntExpr) (s : Log) → heavy ds e ≡ false → EveryInt (λ v. ordered (domain-of ds v) ≡ true) e → Fit w (normalize-int-expr ds e s .1)
+    → RangeOf (get-domain-linear-sum (domain-of (emitted-domains ds (normalize-int-expr ds e s .1))) (normalize-int-expr ds e s .0))
 column-range ds w e s l o f =
-    let t : Log = normalize-int-expr e s .1 in
-    let i : normalize-int-expr e s .0 ≡ linear-of (int-number w) e = int-linear w e s f in
+    let t : Log = normalize-int-expr ds e s .1 in
+    let i : normalize-int-expr ds e s .0 ≡ linear-of (int-number w) e = int-linear w ds e s f in
     rw i (linear-range ds (int-number w) (domain-of (emitted-domains ds t)) e l (λ v m.
-    let x : Found t v = written-found e s v m in
+    let x : Found t v = written-found ds e s v m in
     let n : int-number w v ≡ x .number = omega (arith, f .agree-int v (x .number) (x .is)) in
     (ap (domain-of (emitted-domains ds t)) n ∙ int-var-domain ds t v (x .number) (x .is), every-among (λ u. ordered (domain-of ds u) ≡ true) e o v m)))

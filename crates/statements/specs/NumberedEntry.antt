@@ -8,7 +8,7 @@ use lib.ListN.{length}
 use Rattle.syntax.specs.Syntax.{Stmt, Problem}
 use Rattle.fold.specs.Fold.{Fixed}
 use Rattle.clauses.specs.Log.{next-int}
-use Rattle.clauses.specs.Grow.{Grows as GrowsFrom, same}
+use Rattle.clauses.specs.Grow.{Extends, same}
 use Rattle.answer.specs.Answer.{start-log}
 use Rattle.answer.specs.Start.{start-ints}
 use Rattle.walk.specs.Grow.{Fit}
@@ -18,7 +18,7 @@ use Rattle.walk.specs.Num.{numbered-fit}
 use Rattle.walk.specs.TwoWalks.{Low}
 use Rattle.walk.specs.declared.Counters.{Counters}
 use Rattle.statements.specs.Columns.{ColumnRecord}
-use Rattle.statements.specs.Whole.{lowest, grown, declared, emitted, log-low}
+use Rattle.statements.specs.Whole.{falses, lowest, grown, declared, emitted, log-low}
 use Rattle.statements.specs.Records.{Entry, entry-at}
 use Rattle.statements.specs.Stages.{stmts-words, Settled, settled-short, log-of, NumberedSet}
 
@@ -43,5 +43,5 @@ module _ {m : Bool} {p : Problem} {f : Fixed} {ss : List Stmt} {w : List ℤ} {c
   pub ready-entry : (n : ℕ) → n < c .ints → Entry (read-part w) (p .domains) (p .bools) (length (p .domains)) w (log-of m p ss) n
   ready-entry n h =
       let s = r .set in
-      let g : GrowsFrom (lowest (p .domains)) (start-log m ss) (log-of m p ss) = grown m p (s .well) f ss (s .ends) in
-      entry-at (read-part w) (p .domains) (p .bools) (length (p .domains)) w (log-of m p ss) (lowest (p .domains)) (start-ints m ss) g same (r .numbered .records) (declared m p (s .well) f ss (s .ends)) ready-fit n (omega (arith, r .numbered .ints))
+      let g : Extends falses (lowest (p .domains)) (start-log m ss) (log-of m p ss) = grown m p (s .well) f ss (s .ends) in
+      entry-at (read-part w) (p .domains) (p .bools) (length (p .domains)) w (log-of m p ss) falses (lowest (p .domains)) (start-ints m ss) g same (r .numbered .records) (declared m p (s .well) f ss (s .ends)) ready-fit n (omega (arith, r .numbered .ints))

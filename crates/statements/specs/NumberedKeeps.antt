@@ -11,7 +11,7 @@ use Rattle.laws.specs.Slices.{Has}
 use Rattle.syntax.specs.Syntax.{Domain, Stmt, encode-stmt, Problem}
 use Rattle.fold.specs.Fold.{Fixed}
 use Rattle.sums.specs.LinearSum.{LinearSum}
-use Rattle.clauses.specs.Log.{merged, declared, aux, side, declared-int, column, Log, next-int}
+use Rattle.clauses.specs.Log.{declared-int, column, chosen, binary, bool, merged, int, added, defined, known, Log, next-int}
 use Rattle.answer.specs.Answer.{start-log, normalize-stmt}
 use Rattle.walk.specs.Item.{nat, bool-map, int-map, emitted-ints, bool-at, int-entry}
 use Rattle.walk.specs.Decode.{read-part}
@@ -44,12 +44,15 @@ module _ {w w' : List ℤ} (same : Saved 0 w w') where
   recorded-same : (C : Log → ℤ → LinearSum → Domain → Type 0) (s : Log) → next-int s ≤ max-emitted → Recorded C w s → Recorded C w' s
   unfolding Recorded
   recorded-same C [] h r = tt
-  recorded-same C (declared v ∷ s) h r = recorded-same C s h r
+  recorded-same C (bool m ∷ s) h r = recorded-same C s h r
   recorded-same C (merged u v g ∷ s) h r = recorded-same C s h r
-  recorded-same C (aux cs ∷ s) h r = recorded-same C s h r
-  recorded-same C (side e ∷ s) h r = recorded-same C s h r
-  recorded-same C (declared-int v ∷ s) h r = (word-same (emitted-ints + next-int s) (omega arith) ∙ r .0, recorded-same C s (omega arith) (r .1))
-  recorded-same C (column l d ∷ s) h r = (rw (word-same (emitted-ints + next-int s) (omega arith)) (r .0), recorded-same C s (omega arith) (r .1))
+  recorded-same C (int (declared-int v) ∷ s) h r = (word-same (emitted-ints + next-int s) (omega arith) ∙ r .0, recorded-same C s (omega arith) (r .1))
+  recorded-same C (int (column l d) ∷ s) h r = (rw (word-same (emitted-ints + next-int s) (omega arith)) (r .0), recorded-same C s (omega arith) (r .1))
+  recorded-same C (int (chosen i e d) ∷ s) h r = absurd i
+  recorded-same C (int (binary i l a b) ∷ s) h r = absurd i
+  recorded-same C (added cs ∷ s) h r = recorded-same C s h r
+  recorded-same C (defined cs ∷ s) h r = recorded-same C s h r
+  recorded-same C (known e n ∷ s) h r = recorded-same C s h r
 
   numbered-same : (C : Log → ℤ → LinearSum → Domain → Type 0) (c : Counters) (s : Log) → next-int s ≤ max-emitted → Numbered C (state-of w c) s → Numbered C (state-of w' c) s
   numbered-same C c s h n = record {
@@ -69,7 +72,7 @@ module _ {w w' : List ℤ} (same : Saved 0 w w') where
     all-placed-same at [] s h k = tt
     all-placed-same at (t ∷ ss) s h k =
         let n = length-append (encode-stmt t) (stmts-words ss) in
-        (in-place-saved F ds at t s (omega arith) (omega (arith, n)) same (k .0), all-placed-same (at + length (encode-stmt t)) ss (normalize-stmt ds t s .1) (omega (arith, n)) (k .1))
+        (in-place-saved F ds at t s (omega arith) (omega (arith, n)) same (k .0), all-placed-same (at + length (encode-stmt t)) ss (normalize-stmt ds t s) (omega (arith, n)) (k .1))
 
 pub ready-keeps : {m : Bool} {p : Problem} {f : Fixed} {ss : List Stmt} {w w' : List ℤ} {c : Counters} → take free-from w' ≡ take free-from w → length w' ≡ length w → NumberedSet m p f ss w c → NumberedSet m p f ss w' c
 ready-keeps {m} {p} {f} {ss} {w} {w'} {c} e l r =

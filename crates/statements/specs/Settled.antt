@@ -9,9 +9,9 @@ use lib.IntN.{ℤ}
 use lib.ListN.{length}
 use Rattle.laws.specs.Bools.{or-no-l, or-no-r}
 use Rattle.laws.specs.Lists.{any}
-use Rattle.syntax.specs.Syntax.{Domain, IntExpr, IConst, IVar, Linear, Terms, tnil, tmore, BoolExpr, Const, Var, NVar, And, Or, Not, Xor, Iff, Imp, Cmp, Members, mnil, more, Stmt, Rule, Table, AllDifferent, Problem}
+use Rattle.syntax.specs.Syntax.{Domain, IntExpr, IConst, IVar, Linear, If, Terms, tnil, tmore, BoolExpr, Const, Var, NVar, And, Or, Not, Xor, Iff, Imp, Cmp, Members, mnil, more, Stmt, Rule, Table, AllDifferent, Problem}
 use Rattle.syntax.specs.Depth.{depth-int, depth-terms, depth, depth-members}
-use Rattle.syntax.specs.Written.{EveryInt, EveryTerm, Every, EveryMember, EveryStmt, EveryStmts, every-stmts-map, EveryOf}
+use Rattle.syntax.specs.Written.{Any, EveryInt, EveryTerm, EveryIntOf, EveryOf, Every, EveryMember, EveryStmt, EveryStmts, ints-of, columns-of, every-stmts-map}
 use Rattle.words.specs.Exact.{Each}
 use Rattle.read.specs.WellFormed.{WellInt, WellTerms, WellBool, WellMembers, WellStmt, WellFormed}
 use Rattle.limits.specs.Limits.{any-part, check, heavy-stmt, many-stmt}
@@ -37,6 +37,7 @@ module _ (nb ni : ℕ) where
     pub int-depth : (l : ℕ) (e : IntExpr) → WellInt ni l e → depth-int e ≤ l
     int-depth l (IConst c) h = omega (arith, h .0)
     int-depth l (IVar v) h = omega (arith, h .0)
+    int-depth l (If i c t f) h = absurd i
     int-depth l (Linear ts) h = omega (arith, h .0, terms-depth (l - 1) ts (h .2))
 
     terms-depth : (l : ℕ) (ts : Terms) → WellTerms ni l ts → depth-terms ts ≤ l
@@ -65,25 +66,41 @@ module _ (nb ni : ℕ) where
 -- ---- legal
 
 mutual
-  unfolding LegalInt EveryInt depth-int
+  unfolding LegalInt EveryIntOf depth-int
 
   pub int-legal : (e : IntExpr) (l : ℕ) → EveryInt (λ v. v < 256) e → depth-int e ≤ l → LegalInt e l
   int-legal (IConst c) l v d = omega arith
   int-legal (IVar v) l h d = (omega arith, h)
+  int-legal (If i c t f) l v d = absurd i
   int-legal (Linear ts) l v d = (omega arith, terms-legal ts (l - 1) v (omega arith))
 
   terms-legal : (ts : Terms) (l : ℕ) → EveryTerm (λ v. v < 256) ts → depth-terms ts ≤ l → LegalTerms ts l
   terms-legal tnil l v d = tt
   terms-legal (tmore k e ts) l v d = (int-legal e l (v .0) (omega arith), terms-legal ts l (v .1) (omega arith))
 
-module _ (ds : List Domain) where
+-- refusals 9 and 10 of a statement
+pub record Light (ds : List Domain) (t : Stmt) : Type 0 where
+  pub weight : heavy-stmt ds t ≡ false
+  pub variables : many-stmt t ≡ false
+
+-- the levels of rules
+abbrev Shallow : Stmt → Type 0
+Shallow (Rule e) = depth e ≤ 64
+Shallow (Table es rows) = Unit {0}
+Shallow (AllDifferent es) = Unit {0}
+
+-- f: the fixed values
+module _ (ds : List Domain) (f : Fixed) where
   abbrev Small : BoolExpr → Type 0
   Small = Every (λ v. v < 512) (λ v. v < 256)
+
+  abbrev small-int : (e : IntExpr) → EveryIntOf Any (λ v. v < 512) (λ v. v < 256) e → EveryInt (λ v. v < 256) e
+  small-int e h = ints-of Any (λ v. v < 512) (λ v. v < 256) e h
 
   mutual
     unfolding Solid Legal EveryOf depth expr-bound
 
-    solid-legal : (e : BoolExpr) (l : ℕ) → Solid ds e → Small e → expr-bound e ≤ 0 → depth e ≤ l → Legal e l
+    solid-legal : (e : BoolExpr) (l : ℕ) → Solid ds f e → Small e → expr-bound e ≤ 0 → depth e ≤ l → Legal e l
     solid-legal (Const b) l s v n d = s
     solid-legal (Var v) l s h n d = (omega arith, h)
     solid-legal (NVar k) l s v n d = absurd (omega arith)
@@ -93,16 +110,16 @@ module _ (ds : List Domain) where
     solid-legal (Xor a b) l s v n d = (omega arith, solid-legal a (l - 1) (s .0) (v .0) (omega arith) (omega arith), solid-legal b (l - 1) (s .1) (v .1) (omega arith) (omega arith))
     solid-legal (Iff a b) l s v n d = (omega arith, solid-legal a (l - 1) (s .0) (v .0) (omega arith) (omega arith), solid-legal b (l - 1) (s .1) (v .1) (omega arith) (omega arith))
     solid-legal (Imp a b) l s v n d = (omega arith, solid-legal a (l - 1) (s .0) (v .0) (omega arith) (omega arith), solid-legal b (l - 1) (s .1) (v .1) (omega arith) (omega arith))
-    solid-legal (Cmp o a b) l s v n d = (omega arith, int-legal a (l - 1) (v .0) (omega arith), int-legal b (l - 1) (v .1) (omega arith))
+    solid-legal (Cmp o a b) l s v n d = (omega arith, int-legal a (l - 1) (small-int a (v .0)) (omega arith), int-legal b (l - 1) (small-int b (v .1)) (omega arith))
 
-    solids-legal : (ms : Members) (l : ℕ) → SolidMembers ds ms → EveryMember (λ v. v < 512) (λ v. v < 256) ms → members-bound ms ≤ 0 → depth-members ms ≤ l → LegalMembers ms l
+    solids-legal : (ms : Members) (l : ℕ) → SolidMembers ds f ms → EveryMember (λ v. v < 512) (λ v. v < 256) ms → members-bound ms ≤ 0 → depth-members ms ≤ l → LegalMembers ms l
     solids-legal mnil l s v n d = tt
     solids-legal (more e ms) l s v n d = (solid-legal e l (s .0) (v .0) (omega arith) (omega arith), solids-legal ms l (s .1) (v .1) (omega arith) (omega arith))
 
   -- a rule that settled: true, or solid
   abbrev SettledRoot : Option Bool → BoolExpr → Type 0
   SettledRoot (some b) e = b ≡ true
-  SettledRoot none e = Solid ds e
+  SettledRoot none e = Solid ds f e
 
   root-legal : (e : BoolExpr) → SettledRoot (is-const e) e → Small e → expr-bound e ≤ 0 → depth e ≤ 64 → LegalRule e 64
   root-legal (Const true) s v n d = true-rule {l = 64} (omega arith)
@@ -117,49 +134,38 @@ module _ (ds : List Domain) where
   root-legal (Imp a b) s v n d = legal-rule (solid-legal (Imp a b) 64 s v n d)
   root-legal (Cmp o a b) s v n d = legal-rule (solid-legal (Cmp o a b) 64 s v n d)
 
-  -- the levels of rules
-  abbrev Shallow : Stmt → Type 0
-  Shallow (Rule e) = depth e ≤ 64
-  Shallow (Table es rows) = Unit {0}
-  Shallow (AllDifferent es) = Unit {0}
-
-  -- refusals 9 and 10 of a statement
-  pub record Light (t : Stmt) : Type 0 where
-    pub weight : heavy-stmt ds t ≡ false
-    pub variables : many-stmt t ≡ false
-
-  stmts-legal : (F : List ℤ) (ss : List Stmt) → SettledStmts ds ss → EveryStmts (λ v. v < 512) (λ v. v < 256) ss → Each Plain ss → Each Shallow ss → Each Light ss → LegalStmts F ds ss
+  stmts-legal : (F : List ℤ) (ss : List Stmt) → SettledStmts ds f ss → EveryStmts (λ v. v < 512) (λ v. v < 256) ss → Each Plain ss → Each Shallow ss → Each (Light ds) ss → LegalStmts F ds ss
   unfolding SettledStmts EveryStmts EveryStmt any-part
   stmts-legal F [] s v n d l = tt
   stmts-legal F (Rule e ∷ ss) s v n d l = (root-legal e (s .0) (v .0) (n .0) (d .0), stmts-legal F ss (s .1) (v .1) (n .1) (d .1) (l .1))
-  stmts-legal F (Table es rows ∷ ss) s v n d l = ((v .0, l .0 .weight, l .0 .variables), stmts-legal F ss (s .1) (v .1) (n .1) (d .1) (l .1))
-  stmts-legal F (AllDifferent es ∷ ss) s v n d l = (v .0, stmts-legal F ss (s .1) (v .1) (n .1) (d .1) (l .1))
+  stmts-legal F (Table es rows ∷ ss) s v n d l = ((columns-of Any (λ v. v < 512) (λ v. v < 256) es (v .0), l .0 .weight, l .0 .variables), stmts-legal F ss (s .1) (v .1) (n .1) (d .1) (l .1))
+  stmts-legal F (AllDifferent es ∷ ss) s v n d l = (columns-of Any (λ v. v < 512) (λ v. v < 256) es (v .0), stmts-legal F ss (s .1) (v .1) (n .1) (d .1) (l .1))
 
   -- ---- after folding
 
-  folded-shallow : (f : Fixed) (nb ni : ℕ) (ss : List Stmt) → Each (WellStmt nb ni) ss → Each Shallow (map (fold-stmt ds f) ss)
+  folded-shallow : (nb ni : ℕ) (ss : List Stmt) → Each (WellStmt nb ni) ss → Each Shallow (map (fold-stmt ds f) ss)
   unfolding fold-stmt
-  folded-shallow f nb ni [] h = tt
-  folded-shallow f nb ni (Rule e ∷ ss) h = (omega (arith, fold-depth ds f e, bool-depth nb ni 64 e (h .0)), folded-shallow f nb ni ss (h .1))
-  folded-shallow f nb ni (Table es rows ∷ ss) h = (tt, folded-shallow f nb ni ss (h .1))
-  folded-shallow f nb ni (AllDifferent es ∷ ss) h = (tt, folded-shallow f nb ni ss (h .1))
+  folded-shallow nb ni [] h = tt
+  folded-shallow nb ni (Rule e ∷ ss) h = (omega (arith, fold-depth ds f e, bool-depth nb ni 64 e (h .0)), folded-shallow nb ni ss (h .1))
+  folded-shallow nb ni (Table es rows ∷ ss) h = (tt, folded-shallow nb ni ss (h .1))
+  folded-shallow nb ni (AllDifferent es ∷ ss) h = (tt, folded-shallow nb ni ss (h .1))
 
-  folded-light : (f : Fixed) (ss : List Stmt) → any (heavy-stmt ds) ss ≡ false → any many-stmt ss ≡ false → Each Light (map (fold-stmt ds f) ss)
-  folded-light f [] h k = tt
-  folded-light f (t ∷ ss) h k = (
+  folded-light : (ss : List Stmt) → any (heavy-stmt ds) ss ≡ false → any many-stmt ss ≡ false → Each (Light ds) (map (fold-stmt ds f) ss)
+  folded-light [] h k = tt
+  folded-light (t ∷ ss) h k = (
     record {
       weight = fold-stmt-light ds f t (or-no-l (heavy-stmt ds t) _ h);
       variables = fold-stmt-few ds f t (or-no-l (many-stmt t) _ k);
     },
-    folded-light f ss (or-no-r (heavy-stmt ds t) _ h) (or-no-r (many-stmt t) _ k),
+    folded-light ss (or-no-r (heavy-stmt ds t) _ h) (or-no-r (many-stmt t) _ k),
   )
 
-  folded-few : (f : Fixed) (nb ni : ℕ) (ss : List Stmt) → Each (WellStmt nb ni) ss → Each FewRows (map (fold-stmt ds f) ss)
+  folded-few : (nb ni : ℕ) (ss : List Stmt) → Each (WellStmt nb ni) ss → Each FewRows (map (fold-stmt ds f) ss)
   unfolding fold-stmt
-  folded-few f nb ni [] h = tt
-  folded-few f nb ni (Rule e ∷ ss) h = (tt, folded-few f nb ni ss (h .1))
-  folded-few f nb ni (Table es rows ∷ ss) h = (h .0 .1, folded-few f nb ni ss (h .1))
-  folded-few f nb ni (AllDifferent es ∷ ss) h = (tt, folded-few f nb ni ss (h .1))
+  folded-few nb ni [] h = tt
+  folded-few nb ni (Rule e ∷ ss) h = (tt, folded-few nb ni ss (h .1))
+  folded-few nb ni (Table es rows ∷ ss) h = (h .0 .1, folded-few nb ni ss (h .1))
+  folded-few nb ni (AllDifferent es ∷ ss) h = (tt, folded-few nb ni ss (h .1))
 
 -- ---- of an accepted set
 
@@ -191,8 +197,8 @@ module _ (p : Problem) (well : WellFormed p) (f : Fixed) (ss : List Stmt) (end :
 
   pub settled-legal : check p ≡ 0 → (F : List ℤ) → LegalStmts F (p .domains) ss
   settled-legal h F =
-      stmts-legal (p .domains) F ss
-      (settled-shape (p .domains) (p .stmts) f ss (optimize-rests p (well-declared p well) f ss end))
+      stmts-legal (p .domains) f F ss
+      (settled-shape (p .domains) f (p .stmts) ss (optimize-rests p (well-declared p well) f ss end))
       (every-stmts-map (λ v. v < p .bools) (λ v. v < length (p .domains)) (λ v. v < 512) (λ v. v < 256) (λ v h. omega (arith, well .few-bools)) (λ v h. omega (arith, well .few-ints)) ss settled-declared)
       settled-plain
       (rw origin (folded-shallow (p .domains) f (p .bools) (length (p .domains)) (p .stmts) (well .stmts-well)))

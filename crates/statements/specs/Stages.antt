@@ -12,7 +12,7 @@ use Rattle.laws.specs.Lists.{any, flat, below, counted}
 use Rattle.laws.specs.Slices.{Has}
 use Rattle.syntax.specs.Words.{max-count, max-set-words}
 use Rattle.syntax.specs.Syntax.{Domain, Range, Enumerative, IntExpr, BoolExpr, Cell, Stmt, Rule, Table, AllDifferent, encode-domain, encode-stmt, Problem, encode}
-use Rattle.syntax.specs.Written.{EveryColumn, EveryStmt, EveryStmts, every-int-map}
+use Rattle.syntax.specs.Written.{Any, EveryColumn, EveryColumnOf, EveryStmt, EveryStmts, every-int-map, columns-of}
 use Rattle.words.specs.Exact.{Each}
 use Rattle.read.specs.WellFormed.{WellDomain, WellInt, WellRow, WellStmt, WellFormed}
 use Rattle.limits.specs.Limits.{any-comparison, any-pair, any-part, heavy, heavy-comparison, many-comparison, many-column, check}
@@ -21,8 +21,7 @@ use Rattle.fold.specs.Optimize.{settled, optimize}
 use Rattle.fold.specs.Ends.{optimize-rests}
 use Rattle.fold.specs.Kept.{fold-int-depth, fold-stmts-size}
 use Rattle.clauses.specs.Clause.{Clause}
-use Rattle.clauses.specs.Log.{Log, next-bool, get-bool-var, get-int-var}
-use Rattle.tables.specs.Tables.{emitted-domains}
+use Rattle.clauses.specs.Log.{Log, next-bool, get-bool-var, get-int-var, emitted-domains, clauses-of as clauses-in}
 use Rattle.answer.specs.Answer.{fixed-word, map-word, bool-word, start-log, domain-words, clause-words, layout, answer-of, normalize, normalize-stmts}
 use Rattle.call.specs.WellRead.{well-declared}
 use Rattle.walk.specs.Legal.{LegalInt}
@@ -47,12 +46,12 @@ pub record Settled (p : Problem) (f : Fixed) (ss : List Stmt) : Type 0 where
   pub short : length (encode p) ≤ max-set-words
   pub ends : optimize p ≡ settled f ss
 
--- its clauses and the log of its emitted numbers; m: merging chosen
-abbrev pub clauses-of : Bool → Problem → List Stmt → List Clause
-clauses-of m p ss = normalize-stmts (p .domains) ss (start-log m ss) .0
-
+-- its log and its clauses; m: merging chosen
 abbrev pub log-of : Bool → Problem → List Stmt → Log
-log-of m p ss = normalize-stmts (p .domains) ss (start-log m ss) .1
+log-of m p ss = normalize-stmts (p .domains) ss (start-log m ss)
+
+abbrev pub clauses-of : Bool → Problem → List Stmt → List Clause
+clauses-of m p ss = clauses-in (log-of m p ss)
 
 -- ---- what is known of a folded statement
 
@@ -83,11 +82,11 @@ StmtFacts ds (Table es rows) = TableFacts ds es rows
 StmtFacts ds (AllDifferent es) = DifferentFacts ds es
 
 module _ (ds : List Domain) (f : Fixed) (nb : ℕ) (small : length ds ≤ 256) where
-  columns-legal : (es : List IntExpr) → Each (WellInt (length ds) 64) es → EveryColumn (λ v. v < length ds) (map (fold-int ds) es) → Each (λ e. LegalInt e 64) (map (fold-int ds) es)
-  unfolding EveryColumn
+  columns-legal : (es : List IntExpr) → Each (WellInt (length ds) 64) es → EveryColumn (λ v. v < length ds) (map (fold-int ds f) es) → Each (λ e. LegalInt e 64) (map (fold-int ds f) es)
+  unfolding EveryColumnOf
   columns-legal [] w d = tt
   columns-legal (e ∷ es) w d = (
-    int-legal (fold-int ds e) 64 (every-int-map (λ v. v < length ds) (λ v. v < 256) (λ v h. omega arith) (fold-int ds e) (d .0)) (omega (arith, fold-int-depth ds e, int-depth nb (length ds) 64 e (w .0))),
+    int-legal (fold-int ds f e) 64 (every-int-map Any Any (λ v. v < length ds) Any Any (λ v. v < 256) (λ n k. k) (λ v k. k) (λ v h. omega arith) (fold-int ds f e) (d .0)) (omega (arith, fold-int-depth ds f e, int-depth nb (length ds) 64 e (w .0))),
     columns-legal es (w .1) (d .1),
   )
 
@@ -98,12 +97,12 @@ module _ (ds : List Domain) (f : Fixed) (nb : ℕ) (small : length ds ≤ 256) w
   stmts-facts F [] w d l k = tt
   stmts-facts F (Rule e ∷ ss) w d l k = (record { legal = l .0; light = k .0 .weight; few = k .0 .variables }, stmts-facts F ss (w .1) (d .1) (l .1) (k .1))
   stmts-facts F (Table es rows ∷ ss) w d l k =
-      let n : length (map (fold-int ds) es) ≡ length es = length-map es (fold-int ds) in (
+      let n : length (map (fold-int ds f) es) ≡ length es = length-map es (fold-int ds f) in (
         record {
           columns-few = omega (arith, n, w .0 .0);
           rows-few = w .0 .1;
-          legal = columns-legal es (w .0 .2) (d .0);
-          declared = d .0;
+          legal = columns-legal es (w .0 .2) (columns-of Any (λ v. v < nb) (λ v. v < length ds) (map (fold-int ds f) es) (d .0));
+          declared = columns-of Any (λ v. v < nb) (λ v. v < length ds) (map (fold-int ds f) es) (d .0);
           light = k .0 .weight;
           few = k .0 .variables;
           cells = rw n (w .0 .3);
@@ -111,13 +110,13 @@ module _ (ds : List Domain) (f : Fixed) (nb : ℕ) (small : length ds ≤ 256) w
         stmts-facts F ss (w .1) (d .1) (l .1) (k .1),
       )
   stmts-facts F (AllDifferent es ∷ ss) w d l k =
-      let n : length (map (fold-int ds) es) ≡ length es = length-map es (fold-int ds) in (
+      let n : length (map (fold-int ds f) es) ≡ length es = length-map es (fold-int ds f) in (
         record {
           few = omega (arith, n, w .0 .0);
-          legal = columns-legal es (w .0 .1) (d .0);
-          declared = d .0;
-          light = or-no-r (any (heavy ds) (map (fold-int ds) es)) _ (k .0 .weight);
-          variables = or-no-r (any (λ e. false) (map (fold-int ds) es)) _ (k .0 .variables);
+          legal = columns-legal es (w .0 .1) (columns-of Any (λ v. v < nb) (λ v. v < length ds) (map (fold-int ds f) es) (d .0));
+          declared = columns-of Any (λ v. v < nb) (λ v. v < length ds) (map (fold-int ds f) es) (d .0);
+          light = or-no-r (any (heavy ds) (map (fold-int ds f) es)) _ (k .0 .weight);
+          variables = or-no-r (any (λ e. false) (map (fold-int ds f) es)) _ (k .0 .variables);
         },
         stmts-facts F ss (w .1) (d .1) (l .1) (k .1),
       )

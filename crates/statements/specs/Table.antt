@@ -9,23 +9,24 @@ use lib.ListN.{length, length-append}
 use Rattle.laws.specs.Bools.{or-no-l, or-no-r}
 use Rattle.laws.specs.Lists.{any, flat, any-cong}
 use Rattle.laws.specs.Slices.{Has}
-use Rattle.syntax.specs.Syntax.{Domain, domain-of, IntExpr, IConst, IVar, Linear, encode-int, Cell, star, value}
+use Rattle.syntax.specs.Syntax.{Domain, domain-of, IntExpr, IConst, IVar, Linear, If, encode-int, Cell, star, value}
 use Rattle.syntax.specs.Written.{EveryColumn}
 use Rattle.limits.specs.Limits.{heavy, many-column}
 use Rattle.sums.specs.LinearSum.{LinearSum}
 use Rattle.clauses.specs.Clause.{Clause}
-use Rattle.clauses.specs.Log.{Log, next-bool, next-int, convert-int-var}
+use Rattle.clauses.specs.Log.{Log, next-bool, next-int, convert-int-var, emitted-domains, clauses-of}
 use Rattle.clauses.specs.Disjunction.{Out}
-use Rattle.clauses.specs.Normalize.{normalize-int-expr, normalize-int-var}
+use Rattle.clauses.specs.Normalize.{register, normalize-int-expr, normalize-int-var}
 use Rattle.clauses.specs.Grow.{get-int-below as int-below}
-use Rattle.tables.specs.Tables.{Columns, emitted-domains, is-star, new-column, old-column, equivalent-int-var, equivalent-int-vars, star-row, star-table, plain-table, normalize-extension-supports, normalize-table}
+use Rattle.tables.specs.Tables.{Columns, is-star, new-column, old-column, equivalent-int-var, equivalent-int-vars, star-row, star-table, plain-table, normalize-extension-supports, normalize-table}
 use Rattle.answer.specs.Answer.{clause-words}
 use Rattle.walk.specs.Item.{limit, bump, bool-map, State, walk-bools, Tally, tally, mode-in, fresh-in, fresh, tallies, Item, conj-item}
-use Rattle.walk.specs.Grow.{Grows, same, then, Fit, back}
+use Rattle.clauses.specs.Since.{clauses-since, Adds, since-is, adds-then}
+use Rattle.walk.specs.Grow.{Grows, same, then, grow-added, Fit, back}
 use Rattle.walk.specs.Texts.{layout-words, Auxed, Untouched, disjunction-auxed, auxed-untouched}
 use Rattle.walk.specs.Implements.{disj-grows}
 use Rattle.walk.specs.Ints.{var-found, int-bools}
-use Rattle.walk.specs.Num.{max-emitted, Numbered, numbered-fit}
+use Rattle.walk.specs.Num.{max-emitted, Numbered, numbered-fit, added-num}
 use Rattle.walk.specs.TwoWalks.{Low, walk-bools-num, auxed-recorded}
 use Rattle.statements.specs.Columns.{ColumnRecord, Grown, meet-columns, column-numbers, columns-clauses, Placed, MetAll, columns-met, columns-grow, columns-are}
 use Rattle.statements.specs.Star.{eq-item, row-items, joined, row-item, no-equality, any-free, star-item, star-good, free-table, star-count}
@@ -158,7 +159,7 @@ after-fit w z e u f l = record {
 }
 
 untouched-same : (z : Log) → Untouched z z
-untouched-same z = record { ints = refl; keep = λ v. refl; keep-int = λ v. refl }
+untouched-same z = record { ints = refl; keep = λ v. refl; keep-int = λ v. refl; quiet = refl }
 
 module _ (F : List ℤ) (ds : List Domain) where
   abbrev CR : Log → ℤ → LinearSum → Domain → Type 0
@@ -224,6 +225,7 @@ module _ (F : List ℤ) (ds : List Domain) where
   unfolding equivalent-int-var old-column new-column
   column-below (IConst c) s = (omega arith, tt)
   column-below (IVar v) s = (int-below (convert-int-var v s .1) v (convert-int-var v s .0) (var-found v s), tt)
+  column-below (If i c t f) s = absurd i
   column-below (Linear ts) s = (omega arith, tt)
 
   pub columns-below : (es : List IntExpr) (s : Log) → Below (next-int (equivalent-int-vars ds es s .log)) (equivalent-int-vars ds es s .vars)
@@ -235,9 +237,10 @@ module _ (F : List ℤ) (ds : List Domain) where
 
   column-bools : (e : IntExpr) (s : Log) → next-bool (equivalent-int-var ds e s .log) ≡ next-bool s
   unfolding equivalent-int-var old-column new-column
-  column-bools (IConst c) s = int-bools (IConst c) s
-  column-bools (IVar v) s = unfold normalize-int-expr normalize-int-var in int-bools (IVar v) s
-  column-bools (Linear ts) s = int-bools (Linear ts) s
+  column-bools (IConst c) s = int-bools ds (IConst c) s
+  column-bools (IVar v) s = unfold normalize-int-expr normalize-int-var in int-bools ds (IVar v) s
+  column-bools (If i c t f) s = absurd i
+  column-bools (Linear ts) s = int-bools ds (Linear ts) s
 
   pub columns-bools : (es : List IntExpr) (s : Log) → next-bool (equivalent-int-vars ds es s .log) ≡ next-bool s
   unfolding equivalent-int-vars
@@ -248,6 +251,7 @@ module _ (F : List ℤ) (ds : List Domain) where
   unfolding equivalent-int-var old-column new-column
   column-count (IConst c) s = refl
   column-count (IVar v) s = refl
+  column-count (If i c t f) s = absurd i
   column-count (Linear ts) s = refl
 
   pub columns-count : (es : List IntExpr) (s : Log) → length (equivalent-int-vars ds es s .vars) ≡ length es
@@ -262,13 +266,13 @@ module _ (F : List ℤ) (ds : List Domain) where
   -- ---- both walks over a table
 
   pub record TablePasses (p : ℕ) (es : List IntExpr) (rows : List (List Cell)) (st : State) (s : Log) : Type 0 where
-    pub numbered : Numbered CR (meet-table p es rows st) (normalize-table ds es rows s .1)
+    pub numbered : Numbered CR (meet-table p es rows st) (normalize-table ds es rows s)
     pub placed : Placed F ds (meet-table p es rows st .work) p es s
     pub grown : Grown p (st .work) (meet-table p es rows st .work)
-    pub count : bump (st .bools) (table-fresh (length es) rows) ≡ next-bool (normalize-table ds es rows s .1)
-    pub text : (w : List ℤ) (dom : ℕ → Domain) → Fit w (normalize-table ds es rows s .1) → Placed F ds w p es s
+    pub count : bump (st .bools) (table-fresh (length es) rows) ≡ next-bool (normalize-table ds es rows s)
+    pub text : (w : List ℤ) (dom : ℕ → Domain) → Fit w (normalize-table ds es rows s) → Placed F ds w p es s
         → ((v : ℕ) → v < next-int (equivalent-int-vars ds es s .log) → dom v ≡ domain-of (emitted-domains ds (equivalent-int-vars ds es s .log)) v)
-        → table-text w dom p es rows (st .bools) ≡ flat (map clause-words (normalize-table ds es rows s .0))
+        → table-text w dom p es rows (st .bools) ≡ flat (map clause-words (clauses-since s (normalize-table ds es rows s)))
 
   pub supports-grow : (vs : List ℕ) (rows : List (List Cell)) (z : Log) → Grows z (normalize-extension-supports ds vs rows z .1)
   unfolding normalize-extension-supports
@@ -278,32 +282,53 @@ module _ (F : List ℤ) (ds : List Domain) where
       go true = unfold star-table in disj-grows [] (map (star-row vs) rows) z
       go false = same
 
-  pub table-grows : (es : List IntExpr) (rows : List (List Cell)) (s : Log) → Grows s (normalize-table ds es rows s .1)
-  unfolding normalize-table
-  table-grows es rows s = then (columns-grow F ds es s) (supports-grow (equivalent-int-vars ds es s .vars) rows (equivalent-int-vars ds es s .log))
+  pub table-grows : (es : List IntExpr) (rows : List (List Cell)) (s : Log) → Grows s (normalize-table ds es rows s)
+  unfolding normalize-table register
+  table-grows es rows s = then (columns-grow F ds es s) (then (supports-grow (equivalent-int-vars ds es s .vars) rows (equivalent-int-vars ds es s .log)) (grow-added _ _))
+
+  -- the rows add no clause before theirs are
+  supports-quiet : (vs : List ℕ) (rows : List (List Cell)) (z : Log) → clauses-of (normalize-extension-supports ds vs rows z .1) ≡ clauses-of z
+  unfolding normalize-extension-supports
+  supports-quiet vs rows z = go (starred rows)
+    where
+      go : (t : Bool) → clauses-of (cond t (star-table vs rows z) (plain-table vs (map (domain-of (emitted-domains ds z)) vs) rows, z) .1) ≡ clauses-of z
+      go true = unfold star-table in auxed-untouched (disjunction-auxed (map (star-row vs) rows) z) .quiet
+      go false = refl
+
+  -- the clauses of a table: its columns', then its rows'
+  pub table-adds : (w : List ℤ) (p : ℕ) (es : List IntExpr) (rows : List (List Cell)) (s : Log) → Adds s (equivalent-int-vars ds es s .log) (columns-clauses w p es)
+      → Adds s (normalize-table ds es rows s) (columns-clauses w p es ++ normalize-extension-supports ds (equivalent-int-vars ds es s .vars) rows (equivalent-int-vars ds es s .log) .0)
+  unfolding normalize-table register clauses-of
+  table-adds w p es rows s a =
+      let c : Columns = equivalent-int-vars ds es s in
+      let o : Out = normalize-extension-supports ds (c .vars) rows (c .log) in
+      adds-then s (c .log) (register o) (columns-clauses w p es) (o .0) a (ap (λ (cs : List Clause). cs ++ o .0) (supports-quiet (c .vars) rows (c .log)))
 
   pub words-append : (cs es : List Clause) → flat (map clause-words (cs ++ es)) ≡ flat (map clause-words cs) ++ flat (map clause-words es)
   words-append [] es = refl
   words-append (c ∷ cs) es = ap (λ (l : List ℤ). clause-words c ++ l) (words-append cs es) ∙ sym (append-assoc (clause-words c) (flat (map clause-words cs)) (flat (map clause-words es)))
 
   pub table-walks : (p : ℕ) (es : List IntExpr) (rows : List (List Cell)) (st : State) (s : Log) → 512 ≤ p → p + length (flat (map encode-int es)) ≤ bool-map → Has F p (flat (map encode-int es))
-      → EveryColumn (λ v. v < 256) es → any (heavy ds) es ≡ false → any many-column es ≡ false → Numbered CR st s → Low (normalize-table ds es rows s .1) → next-int (normalize-table ds es rows s .1) < max-emitted → TablePasses p es rows st s
-  unfolding normalize-table meet-table table-text walk-bools
+      → EveryColumn (λ v. v < 256) es → any (heavy ds) es ≡ false → any many-column es ≡ false → Numbered CR st s → Low (normalize-table ds es rows s) → next-int (normalize-table ds es rows s) < max-emitted → TablePasses p es rows st s
+  unfolding normalize-table register meet-table table-text walk-bools
   table-walks p es rows st s l k f v y z h low room =
       let c : Columns = equivalent-int-vars ds es s in
-      let g : Grows (c .log) (normalize-extension-supports ds (c .vars) rows (c .log) .1) = supports-grow (c .vars) rows (c .log) in
+      let o : Out = normalize-extension-supports ds (c .vars) rows (c .log) in
+      let g : Grows (c .log) (o .1) = supports-grow (c .vars) rows (c .log) in
       let m : MetAll F ds p es st s = columns-met F ds p es st s l k f v y z h (omega (arith, g .ints)) in
-      let n : Numbered CR (walk-bools (table-fresh (length (c .vars)) rows) (meet-columns p es st)) (normalize-extension-supports ds (c .vars) rows (c .log) .1) = rows-numbered (c .vars) rows (meet-columns p es st) (c .log) (m .numbered) (low .bools) in
+      let n : Numbered CR (walk-bools (table-fresh (length (c .vars)) rows) (meet-columns p es st)) (o .1) = rows-numbered (c .vars) rows (meet-columns p es st) (c .log) (m .numbered) (low .bools) in
       record {
-        numbered = rw (columns-count es s) at n;
+        numbered = added-num CR (o .0) _ (o .1) (rw (columns-count es s) at n);
         placed = m .placed;
         grown = m .grown;
         count =
             let b : st .bools ≡ meet-columns p es st .bools = h .bools ∙ sym (columns-bools es s) ∙ sym (m .numbered .bools) in
             ap (λ (k : ℕ). bump k (table-fresh (length es) rows)) b ∙ (rw (columns-count es s) at (n .bools));
         text = λ w dom fit placed d.
-            let x = columns-are F ds w p es s placed (back g fit) in
-            let e = rows-words w dom (c .vars) rows (c .log) (domains-agree dom (c .log) (c .vars) (columns-below es s) d) fit in
+            let fo : Fit w (o .1) = back (grow-added (o .0) (o .1)) fit in
+            let x = columns-are F ds w p es s placed (back g fo) in
+            let e = rows-words w dom (c .vars) rows (c .log) (domains-agree dom (c .log) (c .vars) (columns-below es s) d) fo in
             let b : st .bools ≡ next-bool (c .log) = h .bools ∙ sym (columns-bools es s) in
-            rw (x .0, x .1, b, e) (sym (words-append (c .clauses) (normalize-extension-supports ds (c .vars) rows (c .log) .0)));
+            let a : clauses-since s (normalize-table ds es rows s) ≡ columns-clauses w p es ++ o .0 = since-is s _ _ (table-adds w p es rows s (x .1)) in
+            rw (x .0, b, e) (sym (words-append (columns-clauses w p es) (o .0))) ∙ ap (λ (cs : List Clause). flat (map clause-words cs)) (sym a);
       }

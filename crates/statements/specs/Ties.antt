@@ -4,7 +4,7 @@ use mathlib.Core.Path.{_≡_, refl, sym, ap, _∙_, subst}
 use mathlib.Core.Bool.{Bool, true, false, _&&_, cond, false≢true}
 use mathlib.Core.Option.{Option, none, some}
 use mathlib.Core.List.{List, [], _∷_, _++_, map}
-use Prim.Native.Nat.{ℕ, suc, _+_, _-_, _≤_, _<_}
+use Prim.Native.Nat.{ℕ, suc, _+_, _≤_, _<_}
 use native.Mathlib.Omega.{arith}
 use lib.Dec.{eqb, ltb}
 use borrow.Author.Tests.{eqb-true, eq-eqb, ne-eqb, lt-ltb}
@@ -17,7 +17,7 @@ use Rattle.laws.specs.Slices.{Has, has-front, has-back, has-word, has-rest}
 use Rattle.syntax.specs.Syntax.{Domain, BoolExpr, Const, Var, NVar, And, Or, Not, Xor, Iff, Imp, Cmp, encode-bool, Stmt, Rule, Table, AllDifferent, encode-stmt}
 use Rattle.sums.specs.LinearSum.{LinearSum}
 use Rattle.clauses.specs.Clause.{BoolLit, lit}
-use Rattle.clauses.specs.Log.{declared, merged, Log, next-bool, negate-lit, negate-found, get-bool-var, get-int-var}
+use Rattle.clauses.specs.Log.{declared, bool, merged, Log, next-bool, negate-lit, negate-found, get-bool-var, get-int-var}
 use Rattle.clauses.specs.Merge.{as-var, tie-found, tie, merge-rule, merge-stmt, merge-stmts}
 use Rattle.answer.specs.Answer.{bool-word}
 use Rattle.walk.specs.Item.{limit, bump, nat, bool-map, bool-at, signed, State, new-bool, meet-bool}
@@ -101,13 +101,13 @@ module _ (C : Log → ℤ → LinearSum → Domain → Type 0) where
   old-num x y g st s l e hx hy h low = let z : bool-at (st .work) x ≡ lit-word l = h .map x hx ∙ word-some C l (get-bool-var x s) e in rw z (give-num x y g st s l e hy h low)
 
   -- neither has
-  new-num : (x y : ℕ) (g : Bool) (st : State) (s : Log) → get-bool-var x s ≡ none → x < 512 → y < 512 → Numbered C st s → suc (next-bool s) ≤ limit → Numbered C (give y (signed (pos (bump (st .bools) 1)) g) (new-bool x st)) (merged y x g ∷ declared x ∷ s)
+  new-num : (x y : ℕ) (g : Bool) (st : State) (s : Log) → get-bool-var x s ≡ none → x < 512 → y < 512 → Numbered C st s → suc (next-bool s) ≤ limit → Numbered C (give y (signed (pos (bump (st .bools) 1)) g) (new-bool x st)) (merged y x g ∷ bool (declared x) ∷ s)
   unfolding meet-bool
   new-num x y g st s e hx hy h low =
       let z : is-zero (bool-at (st .work) x) ≡ true = ap is-zero (h .map x hx ∙ ap bool-word e) in
-      let k : Numbered C (new-bool x st) (declared x ∷ s) = rw z at (bool-num C x st s none e hx h low) in
+      let k : Numbered C (new-bool x st) (bool (declared x) ∷ s) = rw z at (bool-num C x st s none e hx h low) in
       let n : bump (st .bools) 1 ≡ suc (next-bool s) = omega (arith, h .bools) in
-      subst (λ (z : ℤ). Numbered C (give y (signed z g) (new-bool x st)) (merged y x g ∷ declared x ∷ s)) (ap pos (sym n)) (give-num x y g (new-bool x st) (declared x ∷ s) (lit (next-bool s) false) (bool-here x s) hy k low)
+      subst (λ (z : ℤ). Numbered C (give y (signed z g) (new-bool x st)) (merged y x g ∷ bool (declared x) ∷ s)) (ap pos (sym n)) (give-num x y g (new-bool x st) (bool (declared x) ∷ s) (lit (next-bool s) false) (bool-here x s) hy k low)
 
   found-num : (x y : ℕ) (g : Bool) (st : State) (s : Log) (a b : Option BoolLit) → get-bool-var x s ≡ a → get-bool-var y s ≡ b → x < 512 → y < 512 → Numbered C st s → next-bool (tie-found a b x y g s) ≤ limit
       → Numbered C (tie-words (is-zero (bool-word a)) (is-zero (bool-word b)) x y g st) (tie-found a b x y g s)

@@ -9,7 +9,7 @@ use mir.Syntax.{w64}
 use mir.Val.{toZ, ofZ, SFits}
 use mir.Facts.{toZ-ofZ}
 use Rattle.laws.specs.Ints.{apart}
-use Rattle.evaluate.specs.Roster.{Verdict, satisfied, broken, refused, check-roster}
+use Rattle.verdict.specs.Roster.{Verdict, satisfied, broken, refused, check-roster}
 use Rattle.evaluate.specs.Contracts.{checked-of, Checks}
 use Rattle.evaluate.specs.declared.Checked.{Checked}
 use Rattle.evaluate.specs.declared.Checked.the-variants.{Yes, Broken, Refused}

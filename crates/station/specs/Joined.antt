@@ -65,7 +65,7 @@ admitted-low n ws = go (ltb n min-work-words) (ltb max-set-words (length ws)) (r
     go false false (refuse k) h = h
     go false false (ok p r) h = limited-low (check p) p r (check-small p)
 
-abbrev pub Small-agreement : Agreement → Type 0
+abbrev Small-agreement : Agreement → Type 0
 Small-agreement (agreed p q) = length (encode (both p q)) ≤ 4096
 Small-agreement (refusal k) = k ≤ 17
 

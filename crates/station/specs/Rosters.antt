@@ -22,7 +22,7 @@ use Rattle.limits.specs.Admitted.{admitted, limited}
 use Rattle.call.specs.Call.{call-with}
 use Rattle.call.specs.declared.Choices.{Choices}
 use Rattle.call.specs.Claim.{Passed, NotRefused}
-use Rattle.evaluate.specs.Roster.{bool-of, int-of, Verdict, satisfied, broken, refused, right-count, all-inside, first-false, truth, judged, rostered, when-admitted, check-roster}
+use Rattle.verdict.specs.Roster.{bool-of, int-of, Verdict, satisfied, broken, refused, right-count, all-inside, first-false, truth, judged, rostered, when-admitted, check-roster}
 use Rattle.passing.specs.Passing.{declared-bools, is-roster}
 use Rattle.station.specs.Small.{Low, set-low, Checked, check-small}
 

@@ -2,7 +2,7 @@
 use mathlib.Core.Path.{_≡_, refl}
 use mathlib.Core.Bool.{false, _||_}
 use mathlib.Core.List.{List, [], _∷_, _++_, map}
-use Prim.Native.Nat.{ℕ, suc, _+_, _*_, _≤_, max}
+use Prim.Native.Nat.{ℕ, _+_, _*_, _≤_, max}
 use native.Mathlib.Nat.{mul-le-mul-left, le-trans}
 use native.Mathlib.Omega.{arith}
 use lib.Dec.{eqb, ltb}
@@ -10,10 +10,10 @@ use lib.IntN.{ℤ, pos, negsuc, natAbs, _+ℤ_}
 use lib.ListN.{length, take}
 use borrow.Author.Tests.{eq-eqb, ltb-false}
 use Rattle.laws.specs.Bools.{or-l, or-no-l, or-no-r}
-use Rattle.laws.specs.Ints.{times-low, times-high, natAbs-add, natAbs-mul}
+use Rattle.laws.specs.Ints.{times-low, times-high, natAbs-add, times-low-size, times-high-size}
 use Rattle.laws.specs.Lists.{different}
 use Rattle.syntax.specs.Words.{max-weight, max-comparison-vars, max-column-vars}
-use Rattle.syntax.specs.Syntax.{Domain, Range, Enumerative, lower-bound, upper-bound, last-or, domain-of, IntExpr, IConst, IVar, Linear, Terms, tnil, tmore}
+use Rattle.syntax.specs.Syntax.{Domain, Range, Enumerative, lower-bound, upper-bound, last-or, domain-of, IntExpr, IConst, IVar, Linear, If, Terms, tnil, tmore}
 use Rattle.limits.specs.Limits.{largest, domain-weight, weight, terms-weight, heavy, heavy-terms, heavy-comparison, written, written-terms, many-comparison, many-column}
 use Rattle.sums.specs.LinearSum.{Term, term, LinearSum, linear-sum, constant, singleton, add-coef, add-sum, mul-sum, lowest, highest}
 use Rattle.sums.specs.Rising.{terms-of, constant-of, Rises, add-coef-rises, Each, each-map, add-coef-each, mul-sum-each, singleton-each, Among, among-left, among-right, few-terms, different-cons, different-map}
@@ -22,11 +22,11 @@ use Rattle.sums.specs.Norm.{norm, load, constant-load, singleton-load, a
 
 -- ---- weights
 
-pub domain-weight-one : (d : Domain) → 1 ≤ domain-weight d
+domain-weight-one : (d : Domain) → 1 ≤ domain-weight d
 domain-weight-one (Range low high) = omega arith
 domain-weight-one (Enumerative xs) = omega arith
 
-pub lower-weight : (d : Domain) → natAbs (lower-bound d) ≤ domain-weight d
+lower-weight : (d : Domain) → natAbs (lower-bound d) ≤ domain-weight d
 lower-weight (Range low high) = omega arith
 lower-weight (Enumerative []) = omega arith
 lower-weight (Enumerative (x ∷ xs)) = omega arith
@@ -35,7 +35,7 @@ last-weight : (x : ℤ) (xs : List ℤ) → natAbs (last-or x xs) ≤ max (natAb
 last-weight x [] = omega arith
 last-weight x (y ∷ ys) = omega (arith, last-weight y ys)
 
-pub upper-weight : (d : Domain) → natAbs (upper-bound d) ≤ domain-weight d
+upper-weight : (d : Domain) → natAbs (upper-bound d) ≤ domain-weight d
 upper-weight (Range low high) = omega arith
 upper-weight (Enumerative []) = omega arith
 upper-weight (Enumerative (x ∷ xs)) = omega (arith, last-weight x xs)
@@ -45,6 +45,7 @@ pub heavy-weight : (ds : List Domain) (e : IntExpr) → heavy ds e ≡ false →
 unfolding heavy
 heavy-weight ds (IConst c) h = ltb-false max-weight (weight ds (IConst c)) h
 heavy-weight ds (IVar v) h = ltb-false max-weight (weight ds (IVar v)) h
+heavy-weight ds (If i c t f) h = absurd i
 heavy-weight ds (Linear ts) h = ltb-false max-weight (weight ds (Linear ts)) (or-no-l (ltb max-weight (weight ds (Linear ts))) (heavy-terms ds ts) h)
 
 -- w: a weight of each emitted number, no more than its declared variable's
@@ -55,9 +56,10 @@ module _ (ds : List Domain) (number : ℕ → ℕ) (w : ℕ → ℕ) where
     pub linear-of-load : (e : IntExpr) → ((v : ℕ) → Among (written e) v → w (number v) ≤ domain-weight (domain-of ds v)) → load w (linear-of number e) ≤ weight ds e
     linear-of-load (IConst c) h = omega (arith, constant-load w c)
     linear-of-load (IVar v) h = omega (arith, singleton-load w (number v), h v (or-l (eqb v v) _ (eq-eqb v v refl)))
+    linear-of-load (If i c t f) h = absurd i
     linear-of-load (Linear ts) h = omega (arith, linear-terms-load ts (constant (pos 0)) h, constant-load w (pos 0))
 
-    pub linear-terms-load : (ts : Terms) (sum : LinearSum) → ((v : ℕ) → Among (written-terms ts) v → w (number v) ≤ domain-weight (domain-of ds v)) → load w (linear-terms number ts sum) ≤ load w sum + terms-weight ds ts
+    linear-terms-load : (ts : Terms) (sum : LinearSum) → ((v : ℕ) → Among (written-terms ts) v → w (number v) ≤ domain-weight (domain-of ds v)) → load w (linear-terms number ts sum) ≤ load w sum + terms-weight ds ts
     linear-terms-load tnil sum h = omega arith
     linear-terms-load (tmore k e ts) sum h =
         let a = linear-of-load e (λ v m. h v (among-left v (written e) (written-terms ts) m)) in
@@ -84,7 +86,7 @@ pub record Fits (l : LinearSum) : Type 0 where
   pub constant-fits : natAbs (constant-of l) ≤ max-weight
   pub coefficients-fit : Coefficients max-weight (terms-of l)
 
-pub size-fits : (l : LinearSum) → size l ≤ max-weight → Fits l
+size-fits : (l : LinearSum) → size l ≤ max-weight → Fits l
 unfolding load
 size-fits (linear-sum c ts) h = record { constant-fits = omega arith; coefficients-fit = norm-coefficients max-weight ts (omega arith) }
 
@@ -116,9 +118,10 @@ module _ (number : ℕ → ℕ) where
     pub computed : IntExpr → List LinearSum
     computed (IConst c) = constant c ∷ []
     computed (IVar v) = singleton (number v) ∷ []
+    computed (If i c t f) = absurd i
     computed (Linear ts) = constant (pos 0) ∷ computed-terms ts (constant (pos 0))
 
-    pub computed-terms : Terms → LinearSum → List LinearSum
+    computed-terms : Terms → LinearSum → List LinearSum
     computed-terms tnil sum = []
     computed-terms (tmore k e ts) sum =
         computed e ++ (mul-sum k (linear-of number e) ∷ sum-steps sum (mul-sum k (linear-of number e)) ++ computed-terms ts (add-sum sum (mul-sum k (linear-of number e))))
@@ -151,6 +154,7 @@ module _ (ds : List Domain) (number : ℕ → ℕ) where
     computed-small : (e : IntExpr) → heavy ds e ≡ false → Every Small (computed number e)
     computed-small (IConst c) h = (omega (arith, constant-load (λ v. 1) c, heavy-weight ds (IConst c) h), tt)
     computed-small (IVar v) h = (omega (arith, singleton-load (λ v. 1) (number v)), tt)
+    computed-small (If i c t f) h = absurd i
     computed-small (Linear ts) h =
         (omega (arith, constant-load (λ v. 1) (pos 0)), computed-terms-small ts (constant (pos 0)) (or-no-r (ltb max-weight (terms-weight ds ts)) (heavy-terms ds ts) h) (omega (arith, constant-load (λ v. 1) (pos 0), heavy-weight ds (Linear ts) h)))
 
@@ -193,19 +197,11 @@ reach d = max (natAbs (lower-bound d)) (natAbs (upper-bound d))
 pub reach-weight : (d : Domain) → reach d ≤ domain-weight d
 reach-weight d = omega (arith, lower-weight d, upper-weight d)
 
-times-low-size : (k a b : ℤ) (n : ℕ) → natAbs a ≤ n → natAbs b ≤ n → natAbs (times-low k a b) ≤ natAbs k * n
-times-low-size (pos k) a b n h g = rw (natAbs-mul (pos k) a) (mul-le-mul-left k h)
-times-low-size (negsuc k) a b n h g = rw (natAbs-mul (negsuc k) b) (mul-le-mul-left (suc k) g)
-
-times-high-size : (k a b : ℤ) (n : ℕ) → natAbs a ≤ n → natAbs b ≤ n → natAbs (times-high k a b) ≤ natAbs k * n
-times-high-size (pos k) a b n h g = rw (natAbs-mul (pos k) b) (mul-le-mul-left k g)
-times-high-size (negsuc k) a b n h g = rw (natAbs-mul (negsuc k) a) (mul-le-mul-left (suc k) h)
-
 module _ (domain : ℕ → Domain) where
   pub low-size : (k : ℤ) (v : ℕ) → natAbs (times-low k (lower-bound (domain v)) (upper-bound (domain v))) ≤ natAbs k * reach (domain v)
   low-size k v = times-low-size k (lower-bound (domain v)) (upper-bound (domain v)) (reach (domain v)) (omega arith) (omega arith)
 
-  pub high-size : (k : ℤ) (v : ℕ) → natAbs (times-high k (lower-bound (domain v)) (upper-bound (domain v))) ≤ natAbs k * reach (domain v)
+  high-size : (k : ℤ) (v : ℕ) → natAbs (times-high k (lower-bound (domain v)) (upper-bound (domain v))) ≤ natAbs k * reach (domain v)
   high-size k v = times-high-size k (lower-bound (domain v)) (upper-bound (domain v)) (reach (domain v)) (omega arith) (omega arith)
 
   lowest-size : (c : ℤ) (ts : List Term) → natAbs (lowest domain c ts) ≤ natAbs c + norm (λ v. reach (domain v)) ts

@@ -44,7 +44,7 @@ module _ (w : ℕ → ℕ) where
       go true = omega arith
       go false = insert-norm v a ts
 
-  pub add-terms-norm : (ts us : List Term) → norm (add-terms ts us) ≤ norm ts + norm us
+  add-terms-norm : (ts us : List Term) → norm (add-terms ts us) ≤ norm ts + norm us
   unfolding norm add-terms
   add-terms-norm ts [] = omega arith
   add-terms-norm ts (term v a ∷ us) = omega (arith, add-terms-norm (add-coef v a ts) us, add-coef-norm v a ts)

@@ -45,7 +45,7 @@ module _ (ι : IVal) where
   insert-coef-value v a [] = refl
   insert-coef-value v a (term w b ∷ ts) = place-value (ltb v w) (eqb v w) v a w b ts (insert-coef v a ts) refl (insert-coef-value v a ts)
 
-  pub add-coef-value : (v : ℕ) (a : ℤ) (ts : List Term) → sum-terms-value ι (add-coef v a ts) ≡ a *ℤ ι v +ℤ sum-terms-value ι ts
+  add-coef-value : (v : ℕ) (a : ℤ) (ts : List Term) → sum-terms-value ι (add-coef v a ts) ≡ a *ℤ ι v +ℤ sum-terms-value ι ts
   unfolding add-coef
   add-coef-value v a ts = go (is-zero a) refl
     where
@@ -75,7 +75,7 @@ module _ (ι : IVal) where
       go true h = rw (is-zero-true k h, zero-*ℤ (c +ℤ sum-terms-value ι ts)) refl
       go false h = rw (mul-terms-value k ts, *ℤ-dist-l k c (sum-terms-value ι ts), *ℤ-comm c k) refl
 
-  pub sub-sum-value : (a b : LinearSum) → sum-value ι (sub-sum a b) ≡ sum-value ι a -ℤ sum-value ι b
+  sub-sum-value : (a b : LinearSum) → sum-value ι (sub-sum a b) ≡ sum-value ι a -ℤ sum-value ι b
   unfolding sub-sum
   sub-sum-value a b = add-sum-value a (mul-sum (negsuc 0) b) ∙ rw (mul-sum-value (negsuc 0) b, *ℤ-minus-one (sum-value ι b)) refl
 
@@ -89,7 +89,7 @@ compare-shift Lt x y c = ltZ-shift x y c
 compare-shift Ge x y c = leZ-shift y x c
 compare-shift Gt x y c = ltZ-shift y x c
 
-pub compare-difference : (o : CmpOp) (x y : ℤ) → compare o x y ≡ compare o (x -ℤ y) (pos 0)
+compare-difference : (o : CmpOp) (x y : ℤ) → compare o x y ≡ compare o (x -ℤ y) (pos 0)
 compare-difference o x y = sym (compare-shift o x y (negℤ y)) ∙ ap (compare o (x -ℤ y)) (+ℤ-invr y)
 
 -- a comparison's linear sum, left side minus right, against 0

@@ -223,7 +223,7 @@ join-is e f = cc
 
 -- ---- stores
 
-pub pos-fits : (x : ℕ) → x ≤ limit → SFits w32 (pos x)
+pos-fits : (x : ℕ) → x ≤ limit → SFits w32 (pos x)
 pos-fits x h = record { sfits = omega arith }
 
 pub pos-is : (x : ℕ) → x ≤ limit → toZ w32 x ≡ pos x

@@ -1,5 +1,5 @@
 -- When an assignment satisfies a set, in whole numbers.
-use mathlib.Core.Bool.{Bool, true, false, not, _&&_, _||_, Bool·beq}
+use mathlib.Core.Bool.{Bool, true, false, not, _&&_, _||_, Bool·beq, cond}
 use mathlib.Core.List.{List, [], _∷_, map}
 use Prim.Native.Nat.{ℕ}
 use lib.IntN.{ℤ, pos, _+ℤ_, _*ℤ_}
@@ -7,7 +7,7 @@ use lib.Signed.{ltZ, leZ}
 use lib.ListN.{length}
 use Rattle.laws.specs.Ints.{eqZ}
 use Rattle.laws.specs.Lists.{any, all, below}
-use Rattle.syntax.specs.Syntax.{in-domain, domain-of, CmpOp, Eq, Ne, Le, Lt, Ge, Gt, IntExpr, IConst, IVar, Linear, Terms, tnil, tmore, BoolExpr, Const, Var, NVar, And, Or, Not, Xor, Iff, Imp, Cmp, Members, mnil, more, Cell, star, value, Stmt, Rule, Table, AllDifferent, Problem}
+use Rattle.syntax.specs.Syntax.{in-domain, domain-of, CmpOp, Eq, Ne, Le, Lt, Ge, Gt, IntExpr, IConst, IVar, Linear, If, Terms, tnil, tmore, BoolExpr, Const, Var, NVar, And, Or, Not, Xor, Iff, Imp, Cmp, Members, mnil, more, Cell, star, value, Stmt, Rule, Table, AllDifferent, Problem}
 
 -- values of Booleans and of integers, by their numbers
 abbrev pub Val : Type 0
@@ -28,22 +28,6 @@ abbrev pub permits : Cell → ℤ → Bool
 permits star x = true
 permits (value c) x = eqZ c x
 
-module _ (ε : IVal) where
-  unfoldable mutual
-    pub int-value : IntExpr → ℤ
-    int-value (IConst c) = c
-    int-value (IVar v) = ε v
-    int-value (Linear ts) = terms-value ts
-
-    pub terms-value : Terms → ℤ
-    terms-value tnil = pos 0
-    terms-value (tmore k e ts) = k *ℤ int-value e +ℤ terms-value ts
-
-  abbrev pub row-holds : List IntExpr → List Cell → Bool
-  row-holds [] cs = true
-  row-holds (e ∷ es) [] = true
-  row-holds (e ∷ es) (c ∷ cs) = permits c (int-value e) && row-holds es cs
-
 -- the values differ pairwise
 unfoldable pub distinct : List ℤ → Bool
 distinct [] = true
@@ -52,6 +36,16 @@ distinct (x ∷ xs) = not (any (eqZ x) xs) && distinct xs
 -- δ, ε: the declared variables. ρ: the emitted numbers, which only splitting writes
 module _ (δ : Val) (ε : IVal) (ρ : Val) where
   unfoldable mutual
+    pub int-value : IntExpr → ℤ
+    int-value (IConst c) = c
+    int-value (IVar v) = ε v
+    int-value (Linear ts) = terms-value ts
+    int-value (If i c t f) = cond (holds c) (int-value t) (int-value f)
+
+    pub terms-value : Terms → ℤ
+    terms-value tnil = pos 0
+    terms-value (tmore k e ts) = k *ℤ int-value e +ℤ terms-value ts
+
     pub holds : BoolExpr → Bool
     holds (Const b) = b
     holds (Var v) = δ v
@@ -62,7 +56,7 @@ module _ (δ : Val) (ε : IVal) (ρ : Val) where
     holds (Xor a b) = not (Bool·beq (holds a) (holds b))
     holds (Iff a b) = Bool·beq (holds a) (holds b)
     holds (Imp a b) = not (holds a) || holds b
-    holds (Cmp o a b) = compare o (int-value ε a) (int-value ε b)
+    holds (Cmp o a b) = compare o (int-value a) (int-value b)
 
     pub holds-all : Members → Bool
     holds-all mnil = true
@@ -72,10 +66,15 @@ module _ (δ : Val) (ε : IVal) (ρ : Val) where
     holds-any mnil = false
     holds-any (more e ms) = holds e || holds-any ms
 
+  abbrev pub row-holds : List IntExpr → List Cell → Bool
+  row-holds [] cs = true
+  row-holds (e ∷ es) [] = true
+  row-holds (e ∷ es) (c ∷ cs) = permits c (int-value e) && row-holds es cs
+
   unfoldable pub stmt-holds : Stmt → Bool
   stmt-holds (Rule e) = holds e
-  stmt-holds (Table es rows) = any (row-holds ε es) rows
-  stmt-holds (AllDifferent es) = distinct (map (int-value ε) es)
+  stmt-holds (Table es rows) = any (row-holds es) rows
+  stmt-holds (AllDifferent es) = distinct (map int-value es)
 
 -- every declared integer has a value of its domain
 unfoldable pub in-domains : Problem → IVal → Bool

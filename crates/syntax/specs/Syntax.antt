@@ -3,7 +3,7 @@ use mathlib.Core.Bool.{Bool, true, false, _&&_, cond}
 use mathlib.Core.Option.{Option, none, some}
 use mathlib.Core.List.{List, [], _∷_, _++_, map}
 use Prim.Native.Nat.{ℕ, zero, suc}
-use lib.IntN.{ℤ, pos, natAbs, sucℤ, _+ℤ_, _-ℤ_}
+use lib.IntN.{ℤ, pos, negsuc, natAbs, sucℤ, _+ℤ_, _-ℤ_}
 use lib.Signed.{leZ}
 use lib.ListN.{length, getD}
 use Rattle.laws.specs.Ints.{eqZ}
@@ -63,19 +63,24 @@ domain-of ds v = getD ds v (Range (pos 0) (pos 0))
 pub data CmpOp : Type 0 where
   Eq Ne Le Lt Ge Gt : CmpOp
 
+-- request 2.5 is under way: no If is read yet, so none can be made
+abbrev pub IfIsRead : Type 0
+IfIsRead = ⊥
+
+-- If: a condition, the value where it holds, the value where it fails.
+-- NVar is an emitted number: splitting makes it, reading never does
 mutual
   pub data IntExpr : Type 0 where
     IConst : ℤ → IntExpr
     IVar : ℕ → IntExpr
     Linear : Terms → IntExpr
+    If : IfIsRead → BoolExpr → IntExpr → IntExpr → IntExpr
 
   -- coefficient and expression for each term
   pub data Terms : Type 0 where
     tnil : Terms
     tmore : ℤ → IntExpr → Terms → Terms
 
--- NVar is an emitted number: splitting makes it, reading never does
-mutual
   pub data BoolExpr : Type 0 where
     Const : Bool → BoolExpr
     Var : ℕ → BoolExpr
@@ -139,25 +144,26 @@ abbrev pub count-members : Members → ℕ
 count-members mnil = 0
 count-members (more e ms) = suc (count-members ms)
 
+abbrev pub encode-bit : Bool → ℤ
+encode-bit false = pos 0
+encode-bit true = pos 1
+
+-- no set holds an emitted number; it is written -(n + 1), so that different expressions have different words
 unfoldable mutual
   pub encode-int : IntExpr → List ℤ
   encode-int (IConst c) = pos 20 ∷ c ∷ []
   encode-int (IVar v) = pos 21 ∷ pos v ∷ []
   encode-int (Linear ts) = pos 22 ∷ pos (count-terms ts) ∷ encode-terms ts
+  encode-int (If i c t f) = pos 23 ∷ encode-bool c ++ (encode-int t ++ encode-int f)
 
   pub encode-terms : Terms → List ℤ
   encode-terms tnil = []
   encode-terms (tmore k e ts) = k ∷ encode-int e ++ encode-terms ts
 
-abbrev pub encode-bit : Bool → ℤ
-encode-bit false = pos 0
-encode-bit true = pos 1
-
-unfoldable mutual
   pub encode-bool : BoolExpr → List ℤ
   encode-bool (Const b) = pos 10 ∷ encode-bit b ∷ []
   encode-bool (Var v) = pos 11 ∷ pos v ∷ []
-  encode-bool (NVar n) = []
+  encode-bool (NVar n) = negsuc n ∷ []
   encode-bool (And ms) = pos 12 ∷ pos (count-members ms) ∷ encode-members ms
   encode-bool (Or ms) = pos 13 ∷ pos (count-members ms) ∷ encode-members ms
   encode-bool (Not e) = pos 14 ∷ encode-bool e

@@ -6,26 +6,21 @@ use mathlib.Core.List.{List, [], _∷_}
 use Prim.Native.Nat.{ℕ, _<_}
 use lib.ListN.{length}
 use Rattle.laws.specs.Lists.{all-below}
-use Rattle.syntax.specs.Syntax.{Domain, in-domain, domain-of, IntExpr, IConst, IVar, Linear, Terms, tnil, tmore, BoolExpr, Const, Var, NVar, And, Or, Not, Xor, Iff, Imp, Cmp, Members, mnil, more, Stmt, Rule, Table, AllDifferent, Problem}
+use Rattle.syntax.specs.Syntax.{Domain, in-domain, domain-of, IntExpr, IConst, IVar, Linear, If, Terms, tnil, tmore, BoolExpr, Const, Var, NVar, And, Or, Not, Xor, Iff, Imp, Cmp, Members, mnil, more, Stmt, Rule, Table, AllDifferent, Problem}
 use Rattle.syntax.specs.Satisfies.{IVal, in-domains}
-
-module _ (Q : ℕ → Type 0) where
-  unfoldable mutual
-    pub EveryInt : IntExpr → Type 0
-    EveryInt (IConst c) = Unit {0}
-    EveryInt (IVar v) = Q v
-    EveryInt (Linear ts) = EveryTerm ts
-
-    pub EveryTerm : Terms → Type 0
-    EveryTerm tnil = Unit {0}
-    EveryTerm (tmore k e ts) = EveryInt e × EveryTerm ts
-
-  unfoldable pub EveryColumn : List IntExpr → Type 0
-  EveryColumn [] = Unit {0}
-  EveryColumn (e ∷ es) = EveryInt e × EveryColumn es
 
 module _ (N P Q : ℕ → Type 0) where
   unfoldable mutual
+    pub EveryIntOf : IntExpr → Type 0
+    EveryIntOf (IConst c) = Unit {0}
+    EveryIntOf (IVar v) = Q v
+    EveryIntOf (Linear ts) = EveryTermOf ts
+    EveryIntOf (If i c t f) = EveryOf c × (EveryIntOf t × EveryIntOf f)
+
+    pub EveryTermOf : Terms → Type 0
+    EveryTermOf tnil = Unit {0}
+    EveryTermOf (tmore k e ts) = EveryIntOf e × EveryTermOf ts
+
     pub EveryOf : BoolExpr → Type 0
     EveryOf (Const b) = Unit {0}
     EveryOf (Var v) = P v
@@ -36,11 +31,15 @@ module _ (N P Q : ℕ → Type 0) where
     EveryOf (Xor a b) = EveryOf a × EveryOf b
     EveryOf (Iff a b) = EveryOf a × EveryOf b
     EveryOf (Imp a b) = EveryOf a × EveryOf b
-    EveryOf (Cmp o a b) = EveryInt Q a × EveryInt Q b
+    EveryOf (Cmp o a b) = EveryIntOf a × EveryIntOf b
 
     pub EveryMemberOf : Members → Type 0
     EveryMemberOf mnil = Unit {0}
     EveryMemberOf (more e ms) = EveryOf e × EveryMemberOf ms
+
+  unfoldable pub EveryColumnOf : List IntExpr → Type 0
+  EveryColumnOf [] = Unit {0}
+  EveryColumnOf (e ∷ es) = EveryIntOf e × EveryColumnOf es
 
 -- any emitted number; none
 abbrev pub Any : ℕ → Type 0
@@ -48,6 +47,17 @@ Any n = Unit {0}
 
 abbrev pub None : ℕ → Type 0
 None n = ⊥
+
+-- of integers alone
+module _ (Q : ℕ → Type 0) where
+  abbrev pub EveryInt : IntExpr → Type 0
+  EveryInt e = EveryIntOf Any Any Q e
+
+  abbrev pub EveryTerm : Terms → Type 0
+  EveryTerm ts = EveryTermOf Any Any Q ts
+
+  abbrev pub EveryColumn : List IntExpr → Type 0
+  EveryColumn es = EveryColumnOf Any Any Q es
 
 module _ (P Q : ℕ → Type 0) where
   abbrev pub Every : BoolExpr → Type 0
@@ -58,8 +68,8 @@ module _ (P Q : ℕ → Type 0) where
 
   unfoldable pub EveryStmt : Stmt → Type 0
   EveryStmt (Rule e) = Every e
-  EveryStmt (Table es rows) = EveryColumn Q es
-  EveryStmt (AllDifferent es) = EveryColumn Q es
+  EveryStmt (Table es rows) = EveryColumnOf Any P Q es
+  EveryStmt (AllDifferent es) = EveryColumnOf Any P Q es
 
   unfoldable pub EveryStmts : List Stmt → Type 0
   EveryStmts [] = Unit {0}
@@ -71,27 +81,19 @@ AllDeclared p = EveryStmts (λ v. v < p .bools) (λ v. v < length (p .domains)) 
 
 -- ---- a weaker property
 
-module _ (Q Q' : ℕ → Type 0) (to : (v : ℕ) → Q v → Q' v) where
-  mutual
-    unfolding EveryInt
-
-    pub every-int-map : (e : IntExpr) → EveryInt Q e → EveryInt Q' e
-    every-int-map (IConst c) h = tt
-    every-int-map (IVar v) h = to v h
-    every-int-map (Linear ts) h = every-term-map ts h
-
-    pub every-term-map : (ts : Terms) → EveryTerm Q ts → EveryTerm Q' ts
-    every-term-map tnil h = tt
-    every-term-map (tmore k e ts) h = (every-int-map e (h .0), every-term-map ts (h .1))
-
-  pub every-column-map : (es : List IntExpr) → EveryColumn Q es → EveryColumn Q' es
-  unfolding EveryColumn
-  every-column-map [] h = tt
-  every-column-map (e ∷ es) h = (every-int-map e (h .0), every-column-map es (h .1))
-
 module _ (N P Q N' P' Q' : ℕ → Type 0) (toN : (n : ℕ) → N n → N' n) (toP : (v : ℕ) → P v → P' v) (toQ : (v : ℕ) → Q v → Q' v) where
   mutual
-    unfolding EveryOf
+    unfolding EveryIntOf
+
+    pub every-int-map : (e : IntExpr) → EveryIntOf N P Q e → EveryIntOf N' P' Q' e
+    every-int-map (IConst c) h = tt
+    every-int-map (IVar v) h = toQ v h
+    every-int-map (Linear ts) h = every-term-map ts h
+    every-int-map (If i c t f) h = (every-map c (h .0), (every-int-map t (h .1 .0), every-int-map f (h .1 .1)))
+
+    pub every-term-map : (ts : Terms) → EveryTermOf N P Q ts → EveryTermOf N' P' Q' ts
+    every-term-map tnil h = tt
+    every-term-map (tmore k e ts) h = (every-int-map e (h .0), every-term-map ts (h .1))
 
     pub every-map : (e : BoolExpr) → EveryOf N P Q e → EveryOf N' P' Q' e
     every-map (Const b) h = tt
@@ -103,18 +105,31 @@ module _ (N P Q N' P' Q' : ℕ → Type 0) (toN : (n : ℕ) → N n → N' n) (t
     every-map (Xor a b) h = (every-map a (h .0), every-map b (h .1))
     every-map (Iff a b) h = (every-map a (h .0), every-map b (h .1))
     every-map (Imp a b) h = (every-map a (h .0), every-map b (h .1))
-    every-map (Cmp o a b) h = (every-int-map Q Q' toQ a (h .0), every-int-map Q Q' toQ b (h .1))
+    every-map (Cmp o a b) h = (every-int-map a (h .0), every-int-map b (h .1))
 
     pub every-member-map : (ms : Members) → EveryMemberOf N P Q ms → EveryMemberOf N' P' Q' ms
     every-member-map mnil h = tt
     every-member-map (more e ms) h = (every-map e (h .0), every-member-map ms (h .1))
 
+  pub every-column-map : (es : List IntExpr) → EveryColumnOf N P Q es → EveryColumnOf N' P' Q' es
+  unfolding EveryColumnOf
+  every-column-map [] h = tt
+  every-column-map (e ∷ es) h = (every-int-map e (h .0), every-column-map es (h .1))
+
+-- what is said of Booleans left out
+module _ (N P Q : ℕ → Type 0) where
+  pub ints-of : (e : IntExpr) → EveryIntOf N P Q e → EveryInt Q e
+  ints-of e h = every-int-map N P Q Any Any Q (λ n k. tt) (λ v k. tt) (λ v k. k) e h
+
+  pub columns-of : (es : List IntExpr) → EveryColumnOf N P Q es → EveryColumn Q es
+  columns-of es h = every-column-map N P Q Any Any Q (λ n k. tt) (λ v k. tt) (λ v k. k) es h
+
 module _ (P Q P' Q' : ℕ → Type 0) (toP : (v : ℕ) → P v → P' v) (toQ : (v : ℕ) → Q v → Q' v) where
   pub every-stmt-map : (s : Stmt) → EveryStmt P Q s → EveryStmt P' Q' s
   unfolding EveryStmt
   every-stmt-map (Rule e) h = every-map Any P Q Any P' Q' (λ n k. k) toP toQ e h
-  every-stmt-map (Table es rows) h = every-column-map Q Q' toQ es h
-  every-stmt-map (AllDifferent es) h = every-column-map Q Q' toQ es h
+  every-stmt-map (Table es rows) h = every-column-map Any P Q Any P' Q' (λ n k. k) toP toQ es h
+  every-stmt-map (AllDifferent es) h = every-column-map Any P Q Any P' Q' (λ n k. k) toP toQ es h
 
   pub every-stmts-map : (ss : List Stmt) → EveryStmts P Q ss → EveryStmts P' Q' ss
   unfolding EveryStmts
@@ -124,26 +139,19 @@ module _ (P Q P' Q' : ℕ → Type 0) (toP : (v : ℕ) → P v → P' v) (toQ : 
 -- ---- no property at all
 
 mutual
-  unfolding EveryInt
+  unfolding EveryIntOf
 
-  any-int : (e : IntExpr) → EveryInt (λ v. Unit {0}) e
+  any-int : (e : IntExpr) → EveryInt Any e
   any-int (IConst c) = tt
   any-int (IVar v) = tt
   any-int (Linear ts) = any-terms ts
+  any-int (If i c t f) = (any-bool c, (any-int t, any-int f))
 
-  any-terms : (ts : Terms) → EveryTerm (λ v. Unit {0}) ts
+  any-terms : (ts : Terms) → EveryTerm Any ts
   any-terms tnil = tt
   any-terms (tmore k e ts) = (any-int e, any-terms ts)
 
-any-columns : (es : List IntExpr) → EveryColumn (λ v. Unit {0}) es
-unfolding EveryColumn
-any-columns [] = tt
-any-columns (e ∷ es) = (any-int e, any-columns es)
-
-mutual
-  unfolding EveryOf
-
-  pub any-bool : (e : BoolExpr) → Every (λ v. Unit {0}) (λ v. Unit {0}) e
+  pub any-bool : (e : BoolExpr) → Every Any Any e
   any-bool (Const b) = tt
   any-bool (Var v) = tt
   any-bool (NVar n) = tt
@@ -155,11 +163,16 @@ mutual
   any-bool (Imp a b) = (any-bool a, any-bool b)
   any-bool (Cmp o a b) = (any-int a, any-int b)
 
-  pub any-members : (ms : Members) → EveryMember (λ v. Unit {0}) (λ v. Unit {0}) ms
+  pub any-members : (ms : Members) → EveryMember Any Any ms
   any-members mnil = tt
   any-members (more e ms) = (any-bool e, any-members ms)
 
-pub any-stmts : (ss : List Stmt) → EveryStmts (λ v. Unit {0}) (λ v. Unit {0}) ss
+any-columns : (es : List IntExpr) → EveryColumn Any es
+unfolding EveryColumnOf
+any-columns [] = tt
+any-columns (e ∷ es) = (any-int e, any-columns es)
+
+pub any-stmts : (ss : List Stmt) → EveryStmts Any Any ss
 unfolding EveryStmts EveryStmt
 any-stmts [] = tt
 any-stmts (Rule e ∷ ss) = (any-bool e, any-stmts ss)

@@ -12,7 +12,7 @@ use Rattle.laws.specs.Ints.{eqZ}
 use Rattle.laws.specs.Order.{eqZ-is, eqZ-sym}
 use Rattle.laws.specs.Lists.{any}
 use Rattle.syntax.specs.Syntax.{Domain, in-domain, domain-of, IntExpr, Cell, star, value}
-use Rattle.syntax.specs.Satisfies.{IVal, permits, int-value, row-holds}
+use Rattle.syntax.specs.Satisfies.{Val, IVal, permits, int-value, row-holds}
 use Rattle.tables.specs.Tables.{Row, cell-at, cell-value, is-star, within, agree}
 
 -- a row of n cells
@@ -90,12 +90,12 @@ row-permits (c ∷ cs) [] = true
 row-permits (c ∷ cs) (x ∷ xs) = permits c x && row-permits cs xs
 
 -- a row holds when its cells permit the columns' values
-pub row-holds-permits : (ε : IVal) (es : List IntExpr) (cs : List Cell) → row-holds ε es cs ≡ row-permits cs (map (int-value ε) es)
+pub row-holds-permits : (δ : Val) (ε : IVal) (ρ : Val) (es : List IntExpr) (cs : List Cell) → row-holds δ ε ρ es cs ≡ row-permits cs (map (int-value δ ε ρ) es)
 unfolding row-permits
-row-holds-permits ε [] [] = refl
-row-holds-permits ε [] (c ∷ cs) = refl
-row-holds-permits ε (e ∷ es) [] = refl
-row-holds-permits ε (e ∷ es) (c ∷ cs) = ap (λ (b : Bool). permits c (int-value ε e) && b) (row-holds-permits ε es cs)
+row-holds-permits δ ε ρ [] [] = refl
+row-holds-permits δ ε ρ [] (c ∷ cs) = refl
+row-holds-permits δ ε ρ (e ∷ es) [] = refl
+row-holds-permits δ ε ρ (e ∷ es) (c ∷ cs) = ap (λ (b : Bool). permits c (int-value δ ε ρ e) && b) (row-holds-permits δ ε ρ es cs)
 
 -- without a star that is agreement
 pub permits-agree : (n : ℕ) (cs : List Cell) (t : Row) → length cs ≤ n → any is-star cs ≡ false → row-permits cs t ≡ agree n (map cell-value cs) t

@@ -14,23 +14,22 @@ use Rattle.laws.specs.Bools.{and-l, and-r, and-i, eq1}
 use Rattle.laws.specs.Ints.{eqZ}
 use Rattle.laws.specs.Order.{eqZ-is, eqZ-sym, is-eqZ}
 use Rattle.laws.specs.Lists.{all, all-append}
-use Rattle.syntax.specs.Syntax.{Domain, in-domain, domain-of, Eq, IntExpr, IConst, IVar, Linear, Terms, tnil, tmore}
+use Rattle.syntax.specs.Syntax.{Domain, in-domain, domain-of, Eq, IntExpr, IConst, IVar, Linear, If, Terms, tnil, tmore}
 use Rattle.syntax.specs.Satisfies.{Val, IVal, int-value}
-use Rattle.syntax.specs.Written.{EveryInt, EveryTerm, EveryColumn, Within}
-use Rattle.sums.specs.LinearSum.{LinearSum, constant, singleton, add-sum, mul-sum, get-domain-linear-sum, sum-value}
+use Rattle.syntax.specs.Written.{EveryInt, EveryTerm, EveryColumn, Within, EveryIntOf, EveryColumnOf}
+use Rattle.sums.specs.LinearSum.{LinearSum, constant, singleton, add-sum, mul-sum, sum-value}
 use Rattle.sums.specs.Value.{singleton-value, compare-sum}
 use Rattle.sums.specs.Rising.{terms-of, Each, constant-each, singleton-each, add-sum-each, mul-sum-each}
 use Rattle.sums.specs.Domain.{ordered, between, domain-between, domain-holds}
-use Rattle.clauses.specs.Clause.{clause-true}
-use Rattle.clauses.specs.Log.{declared-int, column, Log, next-int, get-int-var, int-var-at, convert-int-var}
-use Rattle.clauses.specs.Normalize.{IntOut, normalize-int-var, normalize-term, normalize-int-expr, normalize-terms}
-use Rattle.clauses.specs.Bounds.{clauses-bound, clauses-bound-append, sum-same, sub-sum-bound, ints-bound, ints-bound-append}
-use Rattle.clauses.specs.Valuation.{AgreesInts, Agrees, Fits, all-true}
-use Rattle.clauses.specs.Grow.{Legal, Grows, same, grow, grows-trans, grows-int, get-int-below, grows-get-int, agrees-int, agrees-back, fits-back}
+use Rattle.clauses.specs.Log.{declared-int, column, int, added, Log, next-int, get-int-var, int-var-at, convert-int-var}
+use Rattle.clauses.specs.Normalize.{IntOut, equals, domain-of-sum, normalize-int-var, normalize-term, normalize-int-expr, normalize-terms}
+use Rattle.clauses.specs.Bounds.{int-bound, NoNumbers, sum-same, sub-sum-bound}
+use Rattle.clauses.specs.Valuation.{Agrees, Fits, fits-agrees, all-true}
+use Rattle.clauses.specs.Emitted.{domain-at, new-domain, domain-step, domain-stays, int-var-domain}
+use Rattle.clauses.specs.Grow.{Legal, Grows, Extends, extends, same, grow, Lawful, lawful-over, grows-trans, grows-int, get-int-below, grows-get-int, agrees-int, agrees-back, fits-back, AddedBy, added-then, added-first, added-second, added-none}
 use Rattle.clauses.specs.Means.{MeansInt}
 use Rattle.clauses.specs.NormalizeMeaning.{int-expr-means}
-use Rattle.tables.specs.Tables.{emitted-domains, Columns, new-column, old-column, equivalent-int-var, equivalent-int-vars}
-use Rattle.tables.specs.Emitted.{new-column-domain, domain-stays, int-var-domain}
+use Rattle.tables.specs.Tables.{Columns, new-column, old-column, equivalent-int-var, equivalent-int-vars}
 
 -- ---- the number of a declared variable
 
@@ -42,71 +41,63 @@ convert-gets : (v : ℕ) (s : Log) → get-int-var v (convert-int-var v s .1) �
 unfolding convert-int-var
 convert-gets v s = int-var-gets v s (get-int-var v s) refl
 
-module _ {ε : IVal} where
-  int-var-grows : (v : ℕ) (s : Log) (o : Option ℕ) → get-int-var v s ≡ o → Grows ε s (int-var-at o v s .1)
+module _ {δ : Val} {ε : IVal} (ds : List Domain) where
+  int-var-grows : (v : ℕ) (s : Log) (o : Option ℕ) → get-int-var v s ≡ o → Grows δ ε s (int-var-at o v s .1)
   int-var-grows v s (some n) e = same
-  int-var-grows v s none e = grow (declared-int v) e same
+  int-var-grows v s none e = grow (int (declared-int v)) e same
 
-  convert-grows : (v : ℕ) (s : Log) → Grows ε s (convert-int-var v s .1)
+  convert-grows : (v : ℕ) (s : Log) → Grows δ ε s (convert-int-var v s .1)
   unfolding convert-int-var
   convert-grows v s = int-var-grows v s (get-int-var v s) refl
 
   mutual
     unfolding normalize-int-expr normalize-int-var normalize-term
 
-    int-grows : (e : IntExpr) (s : Log) → Grows ε s (normalize-int-expr e s .1)
+    int-grows : (e : IntExpr) (s : Log) → Grows δ ε s (normalize-int-expr ds e s .1)
     int-grows (IConst c) = λ s. same
     int-grows (IVar v) = λ s. convert-grows v s
     int-grows (Linear ts) = λ s. terms-grow ts (constant (pos 0)) s
+    int-grows (If i c t f) = absurd i
 
-    terms-grow : (ts : Terms) (sum : LinearSum) (s : Log) → Grows ε s (normalize-terms ts sum s .1)
+    terms-grow : (ts : Terms) (sum : LinearSum) (s : Log) → Grows δ ε s (normalize-terms ds ts sum s .1)
     terms-grow tnil = λ sum s. same
-    terms-grow (tmore k e ts) = λ sum s. grows-trans (int-grows e s) (terms-grow ts (add-sum sum (mul-sum k (normalize-int-expr e s .0))) (normalize-int-expr e s .1))
+    terms-grow (tmore k e ts) = λ sum s. grows-trans (int-grows e s) (terms-grow ts (add-sum sum (mul-sum k (normalize-int-expr ds e s .0))) (normalize-int-expr ds e s .1))
 
 module _ (ds : List Domain) (ε : IVal) where
   -- what reading and the assignment give of a declared variable
   abbrev pub WithinDomain : ℕ → Type 0
   WithinDomain v = (ordered (domain-of ds v) ≡ true) × Within ds ε v
 
-  abbrev domain-at : Log → ℕ → Domain
-  domain-at t n = domain-of (emitted-domains ds t) n
-
   -- ---- the variables of a column's sum lie within their domains
 
-  module _ (ι : IVal) (t : Log) (a : AgreesInts ε ι t) where
+  module _ (δ : Val) (ρ : Val) (ι : IVal) (t : Log) (a : Agrees δ ε ρ ι t) where
     abbrev Bounded : ℕ → Type 0
-    Bounded n = between (domain-at t n) (ι n) ≡ true
+    Bounded n = between (domain-at ds t n) (ι n) ≡ true
 
     declared-bounded : (v n : ℕ) → WithinDomain v → get-int-var v t ≡ some n → Bounded n
-    declared-bounded v n h e = rw (int-var-domain ds t v n e, agrees-int ε ι t a v n e) (domain-between (domain-of ds v) (ε v) (h .0) (h .1))
+    declared-bounded v n h e = rw (int-var-domain ds t v n e, agrees-int δ ε ρ ι t a v n e) (domain-between (domain-of ds v) (ε v) (h .0) (h .1))
 
     mutual
-      unfolding normalize-int-expr normalize-int-var normalize-term EveryInt
+      unfolding normalize-int-expr normalize-int-var normalize-term EveryIntOf
 
-      int-bounded : (e : IntExpr) → EveryInt WithinDomain e → (s : Log) → Grows ε (normalize-int-expr e s .1) t → Each Bounded (terms-of (normalize-int-expr e s .0))
+      int-bounded : (e : IntExpr) → EveryInt WithinDomain e → (s : Log) → Grows δ ε (normalize-int-expr ds e s .1) t → Each Bounded (terms-of (normalize-int-expr ds e s .0))
       int-bounded (IConst c) h = λ s g. constant-each Bounded c
       int-bounded (IVar v) h = λ s g. singleton-each Bounded (convert-int-var v s .0) (declared-bounded v (convert-int-var v s .0) h (grows-get-int g v (convert-int-var v s .0) (convert-gets v s)))
       int-bounded (Linear ts) h = λ s g. terms-bounded ts h (constant (pos 0)) s g (constant-each Bounded (pos 0))
+      int-bounded (If i c x y) h = absurd i
 
-      terms-bounded : (ts : Terms) → EveryTerm WithinDomain ts → (sum : LinearSum) (s : Log) → Grows ε (normalize-terms ts sum s .1) t → Each Bounded (terms-of sum) → Each Bounded (terms-of (normalize-terms ts sum s .0))
+      terms-bounded : (ts : Terms) → EveryTerm WithinDomain ts → (sum : LinearSum) (s : Log) → Grows δ ε (normalize-terms ds ts sum s .1) t → Each Bounded (terms-of sum) → Each Bounded (terms-of (normalize-terms ds ts sum s .0))
       terms-bounded tnil h = λ sum s g b. b
       terms-bounded (tmore k e ts) h = λ sum s g b.
-          let x = normalize-int-expr e s in
+          let x = normalize-int-expr ds e s in
           let y = add-sum sum (mul-sum k (x .0)) in
-          terms-bounded ts (h .1) y (x .1) g (add-sum-each Bounded sum (mul-sum k (x .0)) b (mul-sum-each Bounded k (x .0) (int-bounded e (h .0) s (grows-trans (terms-grow ts y (x .1)) g))))
+          terms-bounded ts (h .1) y (x .1) g (add-sum-each Bounded sum (mul-sum k (x .0)) b (mul-sum-each Bounded k (x .0) (int-bounded e (h .0) s (grows-trans (terms-grow ds ts y (x .1)) g))))
 
   -- ---- a new variable
 
-  -- what a column may be made of: a sum over numbers given, within its domain
-  column-legal : (e : IntExpr) → EveryInt WithinDomain e → (s : Log) → let x = normalize-int-expr e s in Legal ε (column (x .0) (get-domain-linear-sum (domain-at (x .1)) (x .0))) (x .1)
-  column-legal e h s =
-      let x = normalize-int-expr e s in
-      (int-expr-means (λ n. false) ε (λ n. false) ε e s .bounded, λ ι a. domain-holds (domain-at (x .1)) ι (x .0) (int-bounded ι (x .1) a e h s same))
-
-  -- the clause says that the variable has the sum's value
-  pub new-column-true : (ρ : Val) (ι : IVal) (x : IntOut) → all-true ρ ι (new-column ds x .clauses) ≡ eqZ (ι (next-int (x .1))) (sum-value ι (x .0))
-  unfolding new-column
-  new-column-true ρ ι x = tidy _ ∙ compare-sum ι Eq (x .0) (singleton (next-int (x .1))) ∙ ap (eqZ (sum-value ι (x .0))) (singleton-value ι (next-int (x .1))) ∙ eqZ-sym (sum-value ι (x .0)) (ι (next-int (x .1)))
+  -- its clause says that the variable has the sum's value
+  pub equals-true : (ρ : Val) (ι : IVal) (l : LinearSum) (v : ℕ) → all-true ρ ι (equals l v ∷ []) ≡ eqZ (ι v) (sum-value ι l)
+  equals-true ρ ι l v = tidy _ ∙ compare-sum ι Eq l (singleton v) ∙ ap (eqZ (sum-value ι l)) (singleton-value ι v) ∙ eqZ-sym (sum-value ι l) (ι v)
     where
       tidy : (a : Bool) → (a || false) && true ≡ a
       tidy = eq1 _ _ refl
@@ -121,130 +112,124 @@ module _ (ds : List Domain) (ε : IVal) where
   with-value-new : (ι : IVal) (n : ℕ) (z : ℤ) → with-value ι n z n ≡ z
   with-value-new ι n z = rw (eq-eqb n n refl) refl
 
-  -- of all values z of a column's new variable, its clause admits exactly one, the expression's, and that lies within the variable's domain
-  pub record OneValue (e : IntExpr) (s : Log) (ρ : Val) (ι : IVal) : Type 0 where
-    pub admits : (z : ℤ) → all-true ρ (with-value ι (next-int (normalize-int-expr e s .1)) z) (new-column ds (normalize-int-expr e s) .clauses) ≡ eqZ z (int-value ε e)
-    pub inside : in-domain (int-value ε e) (domain-at (new-column ds (normalize-int-expr e s) .log) (next-int (normalize-int-expr e s .1))) ≡ true
+  module _ (δ : Val) (e : IntExpr) (low : int-bound e ≤ 0) (h : EveryInt WithinDomain e) (s : Log) (lawful : Lawful δ ε s) where
+    abbrev x : IntOut
+    x = normalize-int-expr ds e s
 
-  pub column-one-value : (e : IntExpr) → EveryInt WithinDomain e → (s : Log) (δ ρ : Val) (ι : IVal) → Agrees δ ε ρ ι (normalize-int-expr e s .1) → OneValue e s ρ ι
-  column-one-value e h s δ ρ ι a =
-      record {
-        admits = λ z. new-column-true ρ (with-value ι v z) x ∙ rw (with-value-new ι v z) (ap (eqZ z) (sum-same v (with-value ι v z) ι (with-value-old ι v z) (x .0) (m .bounded) ∙ m .value a));
-        inside = unfold new-column in rw (new-column-domain ds (x .0) d (x .1)) (rw (m .value a) at (column-legal e h s .1 ι (a .ints)));
-      }
-    where
-      x : IntOut
-      x = normalize-int-expr e s
+    abbrev m : MeansInt δ ε s x (λ ρ ι. int-value δ ε ρ e)
+    m = int-expr-means δ ε ds e s (omega (arith, low)) lawful
 
-      v : ℕ
-      v = next-int (x .1)
+    -- what a column may be made of: a sum over numbers given, within its domain
+    column-legal : Legal true δ ε (int (column (x .0) (domain-of-sum ds (x .1) (x .0)))) (x .1)
+    unfolding domain-of-sum
+    column-legal = (m .bounded, λ ρ ι f. domain-holds (domain-at ds (x .1)) ι (x .0) (int-bounded δ ρ ι (x .1) (fits-agrees δ ε ρ ι (x .1) f) e h s same))
 
-      d : Domain
-      d = get-domain-linear-sum (domain-at (x .1)) (x .0)
+    -- of all values z of a column's new variable, its clause admits exactly one, the expression's, and that lies within the variable's domain
+    pub record OneValue (ρ : Val) (ι : IVal) : Type 0 where
+      pub admits : (z : ℤ) → all-true ρ (with-value ι (next-int (x .1)) z) (equals (x .0) (next-int (x .1)) ∷ []) ≡ eqZ z (int-value δ ε ρ e)
+      pub inside : in-domain (int-value δ ε ρ e) (domain-of-sum ds (x .1) (x .0)) ≡ true
 
-      m : MeansInt δ ε ρ ι s x (int-value ε e)
-      m = int-expr-means δ ε ρ ι e s
+    pub column-one-value : (ρ : Val) (ι : IVal) → Fits δ ε ρ ι (x .1) → OneValue ρ ι
+    column-one-value ρ ι f =
+        let v : ℕ = next-int (x .1) in
+        let is : sum-value ι (x .0) ≡ int-value δ ε ρ e = m .value ρ ι (fits-agrees δ ε ρ ι (x .1) f) in
+        record {
+          admits = λ z. equals-true ρ (with-value ι v z) (x .0) v ∙ rw (with-value-new ι v z) (ap (eqZ z) (sum-same v (with-value ι v z) ι (with-value-old ι v z) (x .0) (m .bounded) ∙ is));
+          inside = rw is at (column-legal .1 ρ ι f);
+        }
 
   -- ---- columns
 
-  module _ (δ ρ : Val) (ι : IVal) where
+  module _ (δ : Val) where
     -- from the log s, the columns c have the values xs
-    pub record ColumnsMean (s : Log) (c : Columns) (xs : List ℤ) : Type 0 where
-      pub grows : Grows ε s (c .log)
+    pub record ColumnsMean (s : Log) (c : Columns) (xs : Val → List ℤ) : Type 0 where
+      pub grows : Extends δ ε s (c .log)
       pub below : all (λ v. ltb v (next-int (c .log))) (c .vars) ≡ true
-      pub as-many : length (c .vars) ≡ length xs
-      pub no-literal : clauses-bound (c .clauses) ≡ 0
-      pub numbered : ints-bound (c .clauses) ≤ next-int (c .log)
-      pub sound : Agrees δ ε ρ ι (c .log) → all-true ρ ι (c .clauses) ≡ true → map ι (c .vars) ≡ xs
-      pub complete : Fits δ ε ρ ι (c .log) → all-true ρ ι (c .clauses) ≡ true
-      pub inside : Agrees δ ε ρ ι (c .log) → all (λ v. in-domain (ι v) (domain-at (c .log) v)) (c .vars) ≡ true
+      pub as-many : (ρ : Val) → length (c .vars) ≡ length (xs ρ)
+      pub sound : (ρ : Val) (ι : IVal) → Agrees δ ε ρ ι (c .log) → AddedBy ρ ι grows → map ι (c .vars) ≡ xs ρ
+      pub complete : (ρ : Val) (ι : IVal) → Fits δ ε ρ ι (c .log) → AddedBy ρ ι grows
+      pub inside : (ρ : Val) (ι : IVal) → Agrees δ ε ρ ι (c .log) → all (λ v. in-domain (ι v) (domain-at ds (c .log) v)) (c .vars) ≡ true
 
-    old-column-means : (v : ℕ) → WithinDomain v → (s : Log) → ColumnsMean s (old-column (convert-int-var v s)) (ε v ∷ [])
+    old-column-means : (v : ℕ) → WithinDomain v → (s : Log) → ColumnsMean s (old-column (convert-int-var v s)) (λ ρ. ε v ∷ [])
     unfolding old-column
     old-column-means v h s =
         let n : ℕ = convert-int-var v s .0 in
         let t : Log = convert-int-var v s .1 in
         let e : get-int-var v t ≡ some n = convert-gets v s in
         record {
-          grows = convert-grows v s;
+          grows = extends (convert-grows ds v s);
           below = rw (lt-ltb n (next-int t) (get-int-below t v n e)) refl;
-          as-many = refl;
-          no-literal = refl;
-          numbered = omega arith;
-          sound = λ a k. ap (λ (z : ℤ). z ∷ []) (agrees-int ε ι t (a .ints) v n e);
-          complete = λ f. refl;
-          inside = λ a. rw (int-var-domain ds t v n e, agrees-int ε ι t (a .ints) v n e, h .1) refl;
+          as-many = λ ρ. refl;
+          sound = λ ρ ι a d. ap (λ (z : ℤ). z ∷ []) (agrees-int δ ε ρ ι t a v n e);
+          complete = λ ρ ι f. added-none ρ ι (convert-grows {δ = δ} {ε = ε} ds v s);
+          inside = λ ρ ι a. rw (int-var-domain ds t v n e, agrees-int δ ε ρ ι t a v n e, h .1) refl;
         }
 
-    new-column-means : (e : IntExpr) → EveryInt WithinDomain e → (s : Log) → ColumnsMean s (new-column ds (normalize-int-expr e s)) (int-value ε e ∷ [])
-    new-column-means e h s = record {
-      grows = unfold new-column in grow (column (x .0) d) (column-legal e h s) (m .grows);
-      below = unfold new-column in rw (lt-ltb v (suc v) (omega arith)) refl;
-      as-many = unfold new-column in refl;
-      no-literal = unfold new-column in omega arith;
-      numbered = unfold new-column in omega (arith, sub-sum-bound (x .0) (singleton v), m .bounded);
-      sound = λ a k. unfold new-column in ap (λ (z : ℤ). z ∷ []) (eqZ-is (ι v) (sum-value ι (x .0)) (sym (new-column-true ρ ι x) ∙ k) ∙ m .value (older (unfold new-column in a)));
-      complete = λ f. new-column-true ρ ι x ∙ is-eqZ (ι v) (sum-value ι (x .0)) (value-of (unfold new-column in f));
-      inside = λ a. unfold new-column in rw (new-column-domain ds (x .0) d (x .1), own (unfold new-column in a)) refl;
+    new-column-means : (e : IntExpr) → int-bound e ≤ 0 → EveryInt WithinDomain e → (s : Log) → Lawful δ ε s → ColumnsMean s (new-column ds (normalize-int-expr ds e s)) (λ ρ. int-value δ ε ρ e ∷ [])
+    unfolding new-column
+    new-column-means e low h s lawful = record {
+      grows = grow {t = int (column l d) ∷ t} (added (equals l v ∷ [])) (refl, omega arith, omega (arith, sub-sum-bound l (singleton v), p .bounded)) (grow (int (column l d)) legal (extends (p .grows)));
+      below = rw (lt-ltb v (suc v) (omega arith)) refl;
+      as-many = λ ρ. refl;
+      sound = λ ρ ι a k. ap (λ (z : ℤ). z ∷ []) (eqZ-is (ι v) (sum-value ι l) (sym (equals-true ρ ι l v) ∙ k .0) ∙ p .value ρ ι (a .1 .1));
+      complete = λ ρ ι f. (equals-true ρ ι l v ∙ is-eqZ (ι v) (sum-value ι l) (f .1 .0 .0), (tt, added-none ρ ι (p .grows)));
+      inside = λ ρ ι a. rw (domain-step ds (added (equals l v ∷ [])) (int (column l d) ∷ t) v (omega arith), new-domain ds (column l d) t, a .1 .0) refl;
     }
       where
-        x : IntOut
-        x = normalize-int-expr e s
+        p : MeansInt δ ε s (normalize-int-expr ds e s) (λ ρ ι. int-value δ ε ρ e)
+        p = m δ e low h s lawful
+
+        l : LinearSum
+        l = normalize-int-expr ds e s .0
+
+        t : Log
+        t = normalize-int-expr ds e s .1
 
         v : ℕ
-        v = next-int (x .1)
+        v = next-int t
 
         d : Domain
-        d = get-domain-linear-sum (domain-at (x .1)) (x .0)
+        d = domain-of-sum ds t l
 
-        m : MeansInt δ ε ρ ι s x (int-value ε e)
-        m = int-expr-means δ ε ρ ι e s
+        legal : Legal true δ ε (int (column l d)) t
+        legal = column-legal δ e low h s lawful
 
-        older : Agrees δ ε ρ ι (column (x .0) d ∷ x .1) → Agrees δ ε ρ ι (x .1)
-        older a = agrees-back (grow (column (x .0) d) (column-legal e h s) same) a
-
-        value-of : Fits δ ε ρ ι (column (x .0) d ∷ x .1) → ι v ≡ sum-value ι (x .0)
-        value-of f = f .0 .0
-
-        own : Agrees δ ε ρ ι (column (x .0) d ∷ x .1) → in-domain (ι v) d ≡ true
-        own a = a .ints .0
-
-    column-means : (e : IntExpr) → EveryInt WithinDomain e → (s : Log) → ColumnsMean s (equivalent-int-var ds e s) (int-value ε e ∷ [])
+    column-means : (e : IntExpr) → int-bound e ≤ 0 → EveryInt WithinDomain e → (s : Log) → Lawful δ ε s → ColumnsMean s (equivalent-int-var ds e s) (λ ρ. int-value δ ε ρ e ∷ [])
     unfolding equivalent-int-var
-    column-means (IVar v) h s = unfold int-value EveryInt in old-column-means v h s
-    column-means (IConst c) h s = new-column-means (IConst c) h s
-    column-means (Linear ts) h s = new-column-means (Linear ts) h s
+    column-means (IVar v) low h s l = unfold int-value EveryIntOf in old-column-means v h s
+    column-means (IConst c) low h s l = new-column-means (IConst c) low h s l
+    column-means (Linear ts) low h s l = new-column-means (Linear ts) low h s l
+    column-means (If i c x y) low h s l = new-column-means (If i c x y) low h s l
 
     -- numbers keep their domains
-    inside-stays : {s t : Log} → Grows ε s t → (vs : List ℕ) → all (λ v. ltb v (next-int s)) vs ≡ true → all (λ v. in-domain (ι v) (domain-at s v)) vs ≡ true → all (λ v. in-domain (ι v) (domain-at t v)) vs ≡ true
-    inside-stays {s} g [] b h = refl
-    inside-stays {s} {t} g (v ∷ vs) b h =
+    inside-stays : (ι : IVal) {s t : Log} → Extends δ ε s t → (vs : List ℕ) → all (λ v. ltb v (next-int s)) vs ≡ true → all (λ v. in-domain (ι v) (domain-at ds s v)) vs ≡ true → all (λ v. in-domain (ι v) (domain-at ds t v)) vs ≡ true
+    inside-stays ι {s} g [] b h = refl
+    inside-stays ι {s} {t} g (v ∷ vs) b h =
         let l : v < next-int s = ltb-true v (next-int s) (and-l (ltb v (next-int s)) _ b) in
-        and-i (in-domain (ι v) (domain-at t v)) _ (rw (domain-stays ds g v l) (and-l (in-domain (ι v) (domain-at s v)) _ h)) (inside-stays g vs (and-r (ltb v (next-int s)) _ b) (and-r (in-domain (ι v) (domain-at s v)) _ h))
+        and-i (in-domain (ι v) (domain-at ds t v)) _ (rw (domain-stays ds g v l) (and-l (in-domain (ι v) (domain-at ds s v)) _ h)) (inside-stays ι g vs (and-r (ltb v (next-int s)) _ b) (and-r (in-domain (ι v) (domain-at ds s v)) _ h))
 
-    below-stays : {s t : Log} → Grows ε s t → (vs : List ℕ) → all (λ v. ltb v (next-int s)) vs ≡ true → all (λ v. ltb v (next-int t)) vs ≡ true
+    below-stays : {s t : Log} → Extends δ ε s t → (vs : List ℕ) → all (λ v. ltb v (next-int s)) vs ≡ true → all (λ v. ltb v (next-int t)) vs ≡ true
     below-stays {s} g [] b = refl
     below-stays {s} {t} g (v ∷ vs) b = and-i (ltb v (next-int t)) _ (lt-ltb v (next-int t) (omega (arith, ltb-true v (next-int s) (and-l (ltb v (next-int s)) _ b), grows-int g))) (below-stays g vs (and-r (ltb v (next-int s)) _ b))
 
     -- columns after columns
-    columns-append : (s : Log) (a b : Columns) (xs ys : List ℤ) → ColumnsMean s a xs → ColumnsMean (a .log) b ys → ColumnsMean s (record { vars = a .vars ++ b .vars; clauses = a .clauses ++ b .clauses; log = b .log }) (xs ++ ys)
+    columns-append : (s : Log) (a b : Columns) (xs ys : Val → List ℤ) → ColumnsMean s a xs → ColumnsMean (a .log) b ys → ColumnsMean s (record { vars = a .vars ++ b .vars; log = b .log }) (λ ρ. xs ρ ++ ys ρ)
     columns-append s a b xs ys p q = record {
       grows = grows-trans (p .grows) (q .grows);
       below = all-append (λ v. ltb v (next-int (b .log))) (a .vars) (b .vars) ∙ and-i _ _ (below-stays (q .grows) (a .vars) (p .below)) (q .below);
-      as-many = length-append (a .vars) (b .vars) ∙ omega (arith, p .as-many, q .as-many, length-append xs ys);
-      no-literal = omega (arith, clauses-bound-append (a .clauses) (b .clauses), p .no-literal, q .no-literal);
-      numbered = omega (arith, ints-bound-append (a .clauses) (b .clauses), p .numbered, q .numbered, grows-int (q .grows));
-      sound = λ r h.
-          let k = sym (all-append (clause-true ρ ι) (a .clauses) (b .clauses)) ∙ h in
-          map-append ι (a .vars) (b .vars) ∙ both (p .sound (agrees-back (q .grows) r) (and-l (all-true ρ ι (a .clauses)) _ k)) (q .sound r (and-r (all-true ρ ι (a .clauses)) _ k));
-      complete = λ f. all-append (clause-true ρ ι) (a .clauses) (b .clauses) ∙ and-i _ _ (p .complete (fits-back δ ρ ι (q .grows) f)) (q .complete f);
-      inside = λ r. all-append (λ v. in-domain (ι v) (domain-at (b .log) v)) (a .vars) (b .vars) ∙ and-i _ _ (inside-stays (q .grows) (a .vars) (p .below) (p .inside (agrees-back (q .grows) r))) (q .inside r);
+      as-many = λ ρ. length-append (a .vars) (b .vars) ∙ omega (arith, p .as-many ρ, q .as-many ρ, length-append (xs ρ) (ys ρ));
+      sound = λ ρ ι r d. map-append ι (a .vars) (b .vars) ∙ both (p .sound ρ ι (agrees-back ρ ι (q .grows) r) (added-first ρ ι (p .grows) (q .grows) d)) (q .sound ρ ι r (added-second ρ ι (p .grows) (q .grows) d));
+      complete = λ ρ ι f. added-then ρ ι (p .grows) (q .grows) (p .complete ρ ι (fits-back ρ ι (q .grows) f)) (q .complete ρ ι f);
+      inside = λ ρ ι r. all-append (λ v. in-domain (ι v) (domain-at ds (b .log) v)) (a .vars) (b .vars) ∙ and-i _ _ (inside-stays ι (q .grows) (a .vars) (p .below) (p .inside ρ ι (agrees-back ρ ι (q .grows) r))) (q .inside ρ ι r);
     }
       where
-        both : {us vs : List ℤ} → us ≡ xs → vs ≡ ys → us ++ vs ≡ xs ++ ys
+        both : {us vs xs' ys' : List ℤ} → us ≡ xs' → vs ≡ ys' → us ++ vs ≡ xs' ++ ys'
         both e f = cc
 
-    pub columns-mean : (es : List IntExpr) → EveryColumn WithinDomain es → (s : Log) → ColumnsMean s (equivalent-int-vars ds es s) (map (int-value ε) es)
-    unfolding equivalent-int-vars EveryColumn
-    columns-mean [] h s = record { grows = same; below = refl; as-many = refl; no-literal = refl; numbered = omega arith; sound = λ a k. refl; complete = λ f. refl; inside = λ a. refl }
-    columns-mean (e ∷ es) h s = columns-append s (equivalent-int-var ds e s) (equivalent-int-vars ds es (equivalent-int-var ds e s .log)) (int-value ε e ∷ []) (map (int-value ε) es) (column-means e (h .0) s) (columns-mean es (h .1) (equivalent-int-var ds e s .log))
+    pub columns-mean : (es : List IntExpr) → NoNumbers es → EveryColumn WithinDomain es → (s : Log) → Lawful δ ε s → ColumnsMean s (equivalent-int-vars ds es s) (λ ρ. map (int-value δ ε ρ) es)
+    unfolding equivalent-int-vars EveryColumnOf
+    columns-mean [] low h s l = record { grows = same; below = refl; as-many = λ ρ. refl; sound = λ ρ ι a k. refl; complete = λ ρ ι f. tt; inside = λ ρ ι a. refl }
+    columns-mean (e ∷ es) low h s l =
+        let a : Columns = equivalent-int-var ds e s in
+        let p = column-means e (low .0) (h .0) s l in
+        columns-append s a (equivalent-int-vars ds es (a .log)) (λ ρ. int-value δ ε ρ e ∷ []) (λ ρ. map (int-value δ ε ρ) es) p (columns-mean es (low .1) (h .1) (a .log) (lawful-over l (p .grows)))

@@ -5,7 +5,6 @@ pub mod Domains
 pub mod Agree
 pub mod PlainMeaning
 pub mod StarMeaning
-pub mod Emitted
 pub mod ColumnMeaning
 pub mod TableMeaning
 pub mod Values

@@ -16,7 +16,7 @@ use Rattle.clauses.specs.Clause.{clause-true}
 use Rattle.clauses.specs.Log.{Log, next-int}
 use Rattle.clauses.specs.Bounds.{clauses-bound, lists-bound, ints-bound, int-lists-bound}
 use Rattle.clauses.specs.Valuation.{any-all-true}
-use Rattle.clauses.specs.Means.{Means}
+use Rattle.clauses.specs.Means.{Means, means-to}
 use Rattle.clauses.specs.DisjunctionMeaning.{disjunction-means}
 use Rattle.tables.specs.Tables.{star-row, star-table}
 use Rattle.tables.specs.Agree.{row-permits}
@@ -63,7 +63,7 @@ star-rows-ints n vs [] h = omega arith
 star-rows-ints n vs (cs ∷ rows) h = omega (arith, star-row-ints n vs cs h, star-rows-ints n vs rows h)
 
 -- from any log that has the columns' numbers
-pub star-table-means : (δ : Val) (ε : IVal) (ρ : Val) (ι : IVal) (vs : List ℕ) (rows : List (List Cell)) (s : Log) → all (λ v. ltb v (next-int s)) vs ≡ true
-    → Means δ ε ρ ι s (star-table vs rows s) (any (λ cs. row-permits cs (map ι vs)) rows)
+pub star-table-means : (δ : Val) (ε : IVal) (vs : List ℕ) (rows : List (List Cell)) (s : Log) → all (λ v. ltb v (next-int s)) vs ≡ true
+    → Means δ ε s (star-table vs rows s) (λ ρ ι. any (λ cs. row-permits cs (map ι vs)) rows)
 unfolding star-table
-star-table-means δ ε ρ ι vs rows s h = rw (star-rows-true ρ ι vs rows) at (disjunction-means δ ε ρ ι (map (star-row vs) rows) s (omega (arith, star-rows-bound vs rows)) (star-rows-ints (next-int s) vs rows h))
+star-table-means δ ε vs rows s h = means-to δ ε s _ _ _ (λ ρ ι. star-rows-true ρ ι vs rows) (disjunction-means δ ε (map (star-row vs) rows) s (omega (arith, star-rows-bound vs rows)) (star-rows-ints (next-int s) vs rows h))

@@ -9,18 +9,20 @@ use lib.Dec.{ltb}
 use lib.ListN.{length, length-map, getD}
 use borrow.Author.Tests.{ltb-true}
 use Rattle.laws.specs.Bools.{and-l, and-r, and-i}
-use Rattle.laws.specs.Lists.{any, all, keep-if, select, flat, any-cong, all-append}
+use Rattle.laws.specs.Lists.{any, all, keep-if, select, flat, any-cong}
 use Rattle.syntax.specs.Syntax.{Domain, in-domain, domain-of, enumerate, IntExpr, Cell, Table}
 use Rattle.syntax.specs.Satisfies.{Val, IVal, int-value, row-holds, stmt-holds}
 use Rattle.syntax.specs.Written.{EveryColumn}
-use Rattle.clauses.specs.Clause.{clause-true}
-use Rattle.clauses.specs.Log.{Log, next-int}
-use Rattle.clauses.specs.Bounds.{clauses-bound, clauses-bound-append, linears-bound, linears-bound-append, ints-bound, ints-bound-append}
-use Rattle.clauses.specs.Valuation.{Agrees, fits-agrees, all-true}
-use Rattle.clauses.specs.Grow.{same, grows-trans, grows-int, agrees-back, fits-back}
+use Rattle.clauses.specs.Log.{added, Log, next-int}
+use Rattle.clauses.specs.Bounds.{NoNumbers, clauses-bound, clauses-bound-append, linears-bound, linears-bound-append, ints-bound, ints-bound-append}
+use Rattle.clauses.specs.Valuation.{Agrees, Fits, fits-agrees, all-true}
+use Rattle.clauses.specs.Grow.{same, grow, Lawful, extends, grows-trans, agrees-back, fits-back, AddedBy, added-then, added-first, added-none}
+use Rattle.clauses.specs.Emitted.{domain-at}
+use Rattle.clauses.specs.Normalize.{register}
+use Rattle.clauses.specs.RuleMeaning.{Says}
 use Rattle.clauses.specs.Disjunction.{Out}
 use Rattle.clauses.specs.Means.{Means}
-use Rattle.tables.specs.Tables.{linear-eq, linear-ne, is-star, Row, cell-value, cell-at, sort-rows, within, groups, takes, differs, column-clause, column-clauses, prefixes, plain-clauses, plain-table, star-table, emitted-domains, Columns, equivalent-int-vars, normalize-extension-supports, normalize-table}
+use Rattle.tables.specs.Tables.{linear-eq, linear-ne, is-star, Row, cell-value, cell-at, sort-rows, within, groups, takes, differs, column-clause, column-clauses, prefixes, plain-clauses, plain-table, star-table, Columns, equivalent-int-vars, normalize-extension-supports, normalize-table}
 use Rattle.tables.specs.Agree.{wide, row-permits, row-holds-permits}
 use Rattle.tables.specs.PlainMeaning.{plain-table-means}
 use Rattle.tables.specs.StarMeaning.{star-table-means}
@@ -110,74 +112,70 @@ unfolding within
 within-map f ι [] h = refl
 within-map f ι (v ∷ vs) h = and-i (in-domain (ι v) (f v)) _ (and-l (in-domain (ι v) (f v)) _ h) (within-map f ι vs (and-r (in-domain (ι v) (f v)) _ h))
 
-module _ (δ : Val) (ε : IVal) (ρ : Val) (ι : IVal) (ds : List Domain) where
+module _ (δ : Val) (ε : IVal) (ds : List Domain) where
   -- ---- the rows, over variables that have values of their domains
 
-  abbrev permitted : List ℕ → List (List Cell) → Bool
-  permitted vs rows = any (λ cs. row-permits cs (map ι vs)) rows
+  abbrev permitted : List ℕ → List (List Cell) → Val → IVal → Bool
+  permitted vs rows ρ ι = any (λ cs. row-permits cs (map ι vs)) rows
 
-  Inside : List ℕ → Log → Type 0
-  Inside vs s = Agrees δ ε ρ ι s → all (λ v. in-domain (ι v) (domain-of (emitted-domains ds s) v)) vs ≡ true
+  abbrev Inside : List ℕ → Log → Type 0
+  Inside vs s = (ρ : Val) (ι : IVal) → Agrees δ ε ρ ι s → all (λ v. in-domain (ι v) (domain-at ds s v)) vs ≡ true
 
   plain-means : (vs : List ℕ) (rows : List (List Cell)) (s : Log) → all (wide (length vs)) rows ≡ true → any (any is-star) rows ≡ false → all (λ v. ltb v (next-int s)) vs ≡ true → Inside vs s
-      → Means δ ε ρ ι s (plain-table vs (map (domain-of (emitted-domains ds s)) vs) rows, s) (permitted vs rows)
+      → Means δ ε s (plain-table vs (map (domain-at ds s) vs) rows, s) (permitted vs rows)
   plain-means vs rows s w h low inside =
-      let f : ℕ → Domain = domain-of (emitted-domains ds s) in
-      let e : Agrees δ ε ρ ι s → all-true ρ ι (plain-table vs (map f vs) rows) ≡ permitted vs rows = λ a.
-      plain-table-means vs (map f vs) ρ ι rows (length-map vs f) (within-map f ι vs (unfold Inside in inside a)) w h in
+      let f : ℕ → Domain = domain-at ds s in
+      let e : (ρ : Val) (ι : IVal) → Agrees δ ε ρ ι s → all-true ρ ι (plain-table vs (map f vs) rows) ≡ permitted vs rows ρ ι = λ ρ ι a.
+      plain-table-means vs (map f vs) ρ ι rows (length-map vs f) (within-map f ι vs (inside ρ ι a)) w h in
       record {
         grows = same;
         bounded = omega (arith, table-bound vs (map f vs) rows);
         numbered = table-ints (next-int s) vs (map f vs) rows low;
-        sound = λ a k. sym (e a) ∙ k;
-        complete = λ g k. e (fits-agrees δ ε ρ ι s g) ∙ k;
+        sound = λ ρ ι a k. sym (e ρ ι a) ∙ k;
+        complete = λ ρ ι g k. e ρ ι (fits-agrees δ ε ρ ι s g) ∙ k;
       }
 
   supports-mean : (vs : List ℕ) (rows : List (List Cell)) (s : Log) → all (wide (length vs)) rows ≡ true → all (λ v. ltb v (next-int s)) vs ≡ true → Inside vs s
-      → Means δ ε ρ ι s (normalize-extension-supports ds vs rows s) (permitted vs rows)
+      → Means δ ε s (normalize-extension-supports ds vs rows s) (permitted vs rows)
   unfolding normalize-extension-supports
   supports-mean vs rows s w low inside = go (any (any is-star) rows) refl
     where
-      go : (t : Bool) → any (any is-star) rows ≡ t → Means δ ε ρ ι s (cond t (star-table vs rows s) (plain-table vs (map (domain-of (emitted-domains ds s)) vs) rows, s)) (permitted vs rows)
-      go true e = star-table-means δ ε ρ ι vs rows s low
+      go : (t : Bool) → any (any is-star) rows ≡ t → Means δ ε s (cond t (star-table vs rows s) (plain-table vs (map (domain-at ds s) vs) rows, s)) (permitted vs rows)
+      go true e = star-table-means δ ε vs rows s low
       go false e = plain-means vs rows s w e low inside
 
   -- ---- the statement
 
-  abbrev held : List IntExpr → List (List Cell) → Bool
-  held es rows = any (row-holds ε es) rows
-
-  held-permitted : (es : List IntExpr) (vs : List ℕ) (rows : List (List Cell)) → map ι vs ≡ map (int-value ε) es → held es rows ≡ permitted vs rows
-  held-permitted es vs rows e = any-cong (row-holds ε es) (λ cs. row-permits cs (map ι vs)) rows (λ cs. row-holds-permits ε es cs ∙ ap (row-permits cs) (sym e))
+  held-permitted : (ρ : Val) (ι : IVal) (es : List IntExpr) (vs : List ℕ) (rows : List (List Cell)) → map ι vs ≡ map (int-value δ ε ρ) es → any (row-holds δ ε ρ es) rows ≡ permitted vs rows ρ ι
+  held-permitted ρ ι es vs rows e = any-cong (row-holds δ ε ρ es) (λ cs. row-permits cs (map ι vs)) rows (λ cs. row-holds-permits δ ε ρ es cs ∙ ap (row-permits cs) (sym e))
 
   -- a table's rows have as many cells as it has columns (reading); its columns write variables whose domains are ordered and hold their values
-  pub table-means : (es : List IntExpr) (rows : List (List Cell)) (s : Log) → all (wide (length es)) rows ≡ true → EveryColumn (WithinDomain ds ε) es
-      → Means δ ε ρ ι s (normalize-table ds es rows s) (stmt-holds δ ε ρ (Table es rows))
-  unfolding normalize-table stmt-holds
-  table-means es rows s w h = record {
-    grows = grows-trans (m .grows) (r .grows);
-    bounded = omega (arith, clauses-bound-append (c .clauses) (o .0), m .no-literal, r .bounded);
-    numbered = omega (arith, ints-bound-append (c .clauses) (o .0), m .numbered, r .numbered, grows-int (r .grows));
-    sound = λ a k.
-        let parts = sym (all-append (clause-true ρ ι) (c .clauses) (o .0)) ∙ k in
-        held-permitted es (c .vars) rows (m .sound (agrees-back (r .grows) a) (and-l (all-true ρ ι (c .clauses)) _ parts)) ∙ r .sound a (and-r (all-true ρ ι (c .clauses)) _ parts);
-    complete = λ f k.
-        let g = fits-back δ ρ ι (r .grows) f in
-        let values = m .sound (fits-agrees δ ε ρ ι (c .log) g) (m .complete g) in
-        all-append (clause-true ρ ι) (c .clauses) (o .0) ∙ and-i _ _ (m .complete g) (r .complete f (sym (held-permitted es (c .vars) rows values) ∙ k));
+  pub table-means : (es : List IntExpr) (rows : List (List Cell)) (s : Log) → all (wide (length es)) rows ≡ true → NoNumbers es → EveryColumn (WithinDomain ds ε) es → Lawful δ ε s
+      → Says δ ε s (normalize-table ds es rows s) (λ ρ ι. stmt-holds δ ε ρ (Table es rows))
+  unfolding normalize-table stmt-holds register
+  table-means es rows s w low h l = record {
+    grows = grow (added (o .0)) (refl, r .bounded, r .numbered) (grows-trans (m .grows) (extends (r .grows)));
+    sound = λ ρ ι a d.
+        let z : Agrees δ ε ρ ι (c .log) = agrees-back ρ ι (r .grows) (a .1) in
+        held-permitted ρ ι es (c .vars) rows (m .sound ρ ι z (added-first ρ ι (m .grows) (extends (r .grows)) (d .1))) ∙ r .sound ρ ι (a .1) (d .0);
+    complete = λ ρ ι f k.
+        let g : Fits δ ε ρ ι (c .log) = fits-back ρ ι (r .grows) (f .1) in
+        let b : AddedBy ρ ι (m .grows) = m .complete ρ ι g in
+        let values = m .sound ρ ι (fits-agrees δ ε ρ ι (c .log) g) b in
+        (r .complete ρ ι (f .1) (sym (held-permitted ρ ι es (c .vars) rows values) ∙ k), added-then ρ ι (m .grows) (extends (r .grows)) b (added-none ρ ι (r .grows)));
   }
     where
       c : Columns
       c = equivalent-int-vars ds es s
 
-      m : ColumnsMean ds ε δ ρ ι s c (map (int-value ε) es)
-      m = columns-mean ds ε δ ρ ι es h s
+      m : ColumnsMean ds ε δ s c (λ ρ. map (int-value δ ε ρ) es)
+      m = columns-mean ds ε δ es low h s l
 
       o : Out
       o = normalize-extension-supports ds (c .vars) rows (c .log)
 
       wides : all (wide (length (c .vars))) rows ≡ true
-      wides = let e : length (c .vars) ≡ length es = m .as-many ∙ length-map es (int-value ε) in rw e w
+      wides = let e : length (c .vars) ≡ length es = m .as-many (λ n. false) ∙ length-map es (int-value δ ε (λ n. false)) in rw e w
 
-      r : Means δ ε ρ ι (c .log) o (permitted (c .vars) rows)
-      r = supports-mean (c .vars) rows (c .log) wides (m .below) (unfold Inside in m .inside)
+      r : Means δ ε (c .log) o (permitted (c .vars) rows)
+      r = supports-mean (c .vars) rows (c .log) wides (m .below) (m .inside)

@@ -11,9 +11,8 @@ use Rattle.laws.specs.Slices.{Has}
 use Rattle.laws.specs.Writes.{cap, Wrote, wrote-then}
 use Rattle.syntax.specs.Syntax.{Domain, Stmt}
 use Rattle.clauses.specs.Clause.{clause}
-use Rattle.clauses.specs.Log.{Log, next-int}
-use Rattle.tables.specs.Tables.{emitted-domains}
-use Rattle.tables.specs.Emitted.{length-emitted}
+use Rattle.clauses.specs.Log.{Log, next-int, emitted-domains}
+use Rattle.clauses.specs.Emitted.{length-emitted}
 use Rattle.answer.specs.Answer.{domain-words}
 use Rattle.rows.specs.Emit.{Clauses, Behind}
 use Rattle.rows.proofs.Looping.{clauses-one}

@@ -10,21 +10,19 @@ use lib.ListN.{length, getD}
 use Rattle.laws.specs.Bools.{or-no-l, or-no-r}
 use Rattle.laws.specs.Lists.{any, flat}
 use Rattle.laws.specs.Slices.{Has, has-front, has-back}
-use Rattle.syntax.specs.Syntax.{Domain, domain-of, IntExpr, IConst, IVar, Linear, encode-int}
-use Rattle.syntax.specs.Satisfies.{IVal}
-use Rattle.syntax.specs.Written.{EveryInt, EveryColumn, every-int-map}
+use Rattle.syntax.specs.Syntax.{Domain, domain-of, IntExpr, IConst, IVar, Linear, If, encode-int}
+use Rattle.syntax.specs.Written.{EveryInt, EveryColumn, EveryIntOf, EveryColumnOf}
 use Rattle.limits.specs.Limits.{heavy}
-use Rattle.sums.specs.LinearSum.{get-domain-linear-sum}
 use Rattle.sums.specs.Domain.{ordered}
-use Rattle.clauses.specs.Log.{Log, column, next-int, get-int-var, convert-int-var}
-use Rattle.clauses.specs.Normalize.{IntOut, normalize-int-expr}
-use Rattle.clauses.specs.Grow.{Grows as GrowsFrom, grows-int, get-int-below}
-use Rattle.tables.specs.Tables.{emitted-domains, new-column, old-column, equivalent-int-var, equivalent-int-vars}
-use Rattle.tables.specs.Emitted.{length-emitted, new-column-domain, domain-stays, int-var-domain}
-use Rattle.tables.specs.ColumnMeaning.{WithinDomain, columns-mean}
+use Rattle.clauses.specs.Log.{Log, column, int, added, next-int, get-int-var, convert-int-var, emitted-domains}
+use Rattle.clauses.specs.Normalize.{IntOut, equals, domain-of-sum, normalize-int-expr}
+use Rattle.clauses.specs.Grow.{get-int-below}
+use Rattle.clauses.specs.Since.{top-domain}
+use Rattle.tables.specs.Tables.{new-column, old-column, equivalent-int-var, equivalent-int-vars}
+use Rattle.clauses.specs.Emitted.{length-emitted, new-domain, domain-step, int-var-domain}
 use Rattle.answer.specs.Answer.{domain-words}
 use Rattle.walk.specs.Item.{nat, int-number}
-use Rattle.walk.specs.Grow.{Fit, back}
+use Rattle.walk.specs.Grow.{Grows, Fit, back, then, grow-added}
 use Rattle.walk.specs.Ints.{var-found}
 use Rattle.statements.specs.Columns.{column-map, column-number, PlacedOne, Placed, grow-column, columns-grow}
 use Rattle.statements.specs.Statements.{Stable}
@@ -44,13 +42,13 @@ has-triple (d ∷ os) out at (suc n) l h =
 
 -- ---- L: the log of all statements; w: a work slice with its maps and columns' numbers
 
-module _ (F : List ℤ) (ds : List Domain) (ε : IVal) (L : Log) (w out : List ℤ) (triples : ℕ) (words : Has out triples (flat (map domain-words (emitted-domains ds L)))) where
+module _ (F : List ℤ) (ds : List Domain) (L : Log) (w out : List ℤ) (triples : ℕ) (words : Has out triples (flat (map domain-words (emitted-domains ds L)))) where
   abbrev dom : ℕ → Domain
   dom = domain-of (emitted-domains ds L)
 
   -- a number of the log t, behind which the columns' log z has grown
-  dom-at : (t z : Log) (n : ℕ) → GrowsFrom ε t z → Stable ds dom z → n < next-int t → dom n ≡ domain-of (emitted-domains ds t) n
-  dom-at t z n g d h = d n (omega (arith, grows-int g)) ∙ domain-stays ds g n h
+  dom-at : (t z : Log) (n : ℕ) → Grows t z → Stable ds dom z → n < next-int t → dom n ≡ domain-of (emitted-domains ds t) n
+  dom-at t z n g d h = d n (omega (arith, g .ints)) ∙ top-domain ds (g .top) n h
 
   ranged : (n : ℕ) → n < next-int L → RangeOf (dom n) → Ranged dom out triples n
   ranged n h r = record {
@@ -63,25 +61,25 @@ module _ (F : List ℤ) (ds : List Domain) (ε : IVal) (L : Log) (w out : List �
     words = has-triple (emitted-domains ds L) out triples n (omega (arith, length-emitted ds L)) words;
   }
 
-  new-known : (p : ℕ) (e : IntExpr) (s z : Log) → EveryInt (WithinDomain ds ε) e → heavy ds e ≡ false → getD w (column-map + p) (pos 0) ≡ pos (suc (next-int (normalize-int-expr e s .1)))
-      → GrowsFrom ε (new-column ds (normalize-int-expr e s) .log) z → Fit w (normalize-int-expr e s .1) → Stable ds dom z → next-int z ≤ next-int L → Ranged dom out triples (nat (getD w (column-map + p) (pos 0)) - 1)
-  unfolding new-column nat
+  new-known : (p : ℕ) (e : IntExpr) (s z : Log) → EveryInt (λ v. ordered (domain-of ds v) ≡ true) e → heavy ds e ≡ false → getD w (column-map + p) (pos 0) ≡ pos (suc (next-int (normalize-int-expr ds e s .1)))
+      → Grows (new-column ds (normalize-int-expr ds e s) .log) z → Fit w (normalize-int-expr ds e s .1) → Stable ds dom z → next-int z ≤ next-int L → Ranged dom out triples (nat (getD w (column-map + p) (pos 0)) - 1)
+  unfolding new-column nat domain-of-sum
   new-known p e s z v l h g f d k =
-      let x : IntOut = normalize-int-expr e s in
-      let o : Domain = get-domain-linear-sum (domain-of (emitted-domains ds (x .1))) (x .0) in
+      let x : IntOut = normalize-int-expr ds e s in
+      let o : Domain = domain-of-sum ds (x .1) (x .0) in
       let n : nat (getD w (column-map + p) (pos 0)) - 1 ≡ next-int (x .1) = rw h (omega arith) in
-      let r : RangeOf o = column-range ds w e s l (every-int-map (WithinDomain ds ε) (λ u. ordered (domain-of ds u) ≡ true) (λ u q. q .0) e v) f in
-      let i : dom (next-int (x .1)) ≡ o = dom-at (column (x .0) o ∷ x .1) z (next-int (x .1)) g d (omega arith) ∙ new-column-domain ds (x .0) o (x .1) in
-      rw n (ranged (next-int (x .1)) (omega (arith, grows-int g)) (subst RangeOf (sym i) r))
+      let r : RangeOf o = column-range ds w e s l v f in
+      let i : dom (next-int (x .1)) ≡ o = dom-at _ z (next-int (x .1)) g d (omega arith) ∙ domain-step ds (added (equals (x .0) (next-int (x .1)) ∷ [])) (int (column (x .0) o) ∷ x .1) (next-int (x .1)) (omega arith) ∙ new-domain ds (column (x .0) o) (x .1) in
+      rw n (ranged (next-int (x .1)) (omega (arith, g .ints)) (subst RangeOf (sym i) r))
 
-  new-fit : (e : IntExpr) (s : Log) → Fit w (new-column ds (normalize-int-expr e s) .log) → Fit w (normalize-int-expr e s .1)
+  new-fit : (e : IntExpr) (s : Log) → Fit w (new-column ds (normalize-int-expr ds e s) .log) → Fit w (normalize-int-expr ds e s .1)
   unfolding new-column
-  new-fit e s f = back (grow-column F ds _ _ (normalize-int-expr e s .1)) f
+  new-fit e s f = back (then (grow-column F ds _ _ (normalize-int-expr ds e s .1)) (grow-added _ _)) f
 
   -- one column at p, behind which the log has grown to z
-  one-known : (p : ℕ) (e : IntExpr) (s z : Log) → EveryInt (WithinDomain ds ε) e → EveryInt (λ v. v < length ds) e → heavy ds e ≡ false → PlacedOne F ds w p e s
-      → GrowsFrom ε (equivalent-int-var ds e s .log) z → Fit w (equivalent-int-var ds e s .log) → Stable ds dom z → next-int z ≤ next-int L → Known ds dom out triples (column-number w p e) e
-  unfolding equivalent-int-var old-column column-number EveryInt
+  one-known : (p : ℕ) (e : IntExpr) (s z : Log) → EveryInt (λ v. ordered (domain-of ds v) ≡ true) e → EveryInt (λ v. v < length ds) e → heavy ds e ≡ false → PlacedOne F ds w p e s
+      → Grows (equivalent-int-var ds e s .log) z → Fit w (equivalent-int-var ds e s .log) → Stable ds dom z → next-int z ≤ next-int L → Known ds dom out triples (column-number w p e) e
+  unfolding equivalent-int-var old-column column-number EveryIntOf
   one-known p (IConst c) s z v u l h g f d k = new-known p (IConst c) s z v l h g (new-fit (IConst c) s f) d k
   one-known p (IVar x) s z v u l h g f d k =
       let t : Log = convert-int-var x s .1 in
@@ -89,15 +87,16 @@ module _ (F : List ℤ) (ds : List Domain) (ε : IVal) (L : Log) (w out : List �
       let q : get-int-var x t ≡ some n = var-found x s in
       let i : int-number w x ≡ n = omega (arith, f .agree-int x n q) in
       (u, ap dom i ∙ dom-at t z n g d (get-int-below t x n q) ∙ int-var-domain ds t x n q)
+  one-known p (If j c x y) s z v u l h g f d k = absurd j
   one-known p (Linear ts) s z v u l h g f d k = new-known p (Linear ts) s z v l h g (new-fit (Linear ts) s f) d k
 
   -- the columns from p on, s the log before them
-  pub all-known : (p : ℕ) (es : List IntExpr) (s : Log) → EveryColumn (WithinDomain ds ε) es → EveryColumn (λ v. v < length ds) es → any (heavy ds) es ≡ false → Placed F ds w p es s
+  pub all-known : (p : ℕ) (es : List IntExpr) (s : Log) → EveryColumn (λ v. ordered (domain-of ds v) ≡ true) es → EveryColumn (λ v. v < length ds) es → any (heavy ds) es ≡ false → Placed F ds w p es s
       → Fit w (equivalent-int-vars ds es s .log) → Stable ds dom (equivalent-int-vars ds es s .log) → next-int (equivalent-int-vars ds es s .log) ≤ next-int L → AllKnown ds dom out triples w p es
-  unfolding equivalent-int-vars Placed EveryColumn
+  unfolding equivalent-int-vars Placed EveryColumnOf
   all-known p [] s v u l h f d k = tt
   all-known p (e ∷ es) s v u l h f d k =
       let t : Log = equivalent-int-var ds e s .log in
       let z : Log = equivalent-int-vars ds es t .log in
-      let g : GrowsFrom ε t z = columns-mean ds ε (λ n. false) (λ n. false) ε es (v .1) t .grows in
+      let g : Grows t z = columns-grow F ds es t in
       (one-known p e s z (v .0) (u .0) (or-no-l (heavy ds e) (any (heavy ds) es) l) (h .0) g (back (columns-grow F ds es t) f) d k, all-known (p + length (encode-int e)) es t (v .1) (u .1) (or-no-r (heavy ds e) (any (heavy ds) es) l) (h .1) f d k)

@@ -7,8 +7,8 @@ use lib.IntN.{ℤ}
 use lib.ListN.{drop}
 use Rattle.syntax.specs.Syntax.{Cell}
 use Rattle.clauses.specs.Disjunction.{Out}
-use Rattle.rows.specs.Rows.{rows-of}
-use Rattle.rows.specs.Columns.{vars-of}
+use Rattle.sorting.specs.Rows.{rows-of}
+use Rattle.sorting.specs.Columns.{vars-of}
 use Rattle.rows.specs.Stars.{is-free, count-rows}
 use Rattle.rows.specs.Emit.{Behind}
 use Rattle.rows.proofs.Whole.{length-vars}

@@ -13,20 +13,24 @@ use Rattle.laws.specs.Lists.{any, flat, counted}
 use Rattle.laws.specs.Slices.{Has, has-back}
 use Rattle.syntax.specs.Words.{star-word}
 use Rattle.syntax.specs.Syntax.{Domain, domain-of, encode-domain, IntExpr, encode-int, Cell, Table, encode-stmt, Problem, encode}
-use Rattle.syntax.specs.Written.{EveryStmt}
+use Rattle.syntax.specs.Written.{Any, EveryStmt, every-column-map}
 use Rattle.words.specs.Exact.{Each}
 use Rattle.read.specs.WellFormed.{WellRow}
 use Rattle.clauses.specs.Clause.{clause}
-use Rattle.clauses.specs.Log.{Log, next-bool}
+use Rattle.clauses.specs.Log.{Log, next-bool, emitted-domains}
+use Rattle.clauses.specs.Normalize.{register}
+use Rattle.clauses.specs.Since.{Adds}
 use Rattle.clauses.specs.Disjunction.{Out}
-use Rattle.tables.specs.Tables.{emitted-domains, star-table, plain-table, plain-clauses, sort-rows, normalize-extension-supports, normalize-table}
+use Rattle.sums.specs.Domain.{ordered}
+use Rattle.tables.specs.ColumnMeaning.{WithinDomain}
+use Rattle.tables.specs.Tables.{star-table, plain-table, plain-clauses, sort-rows, normalize-extension-supports, normalize-table}
 use Rattle.answer.specs.Answer.{normalize-stmt}
 use Rattle.walk.specs.Item.{limit, bool-map}
-use Rattle.walk.specs.Grow.{Grows, Fit, then, back}
+use Rattle.walk.specs.Grow.{Grows, Fit, then, back, grow-added}
 use Rattle.walk.specs.Decode.{read-part}
 use Rattle.walk.specs.DecodeExact.{has-part}
-use Rattle.rows.specs.Rows.{rows-of, row-at}
-use Rattle.rows.specs.Columns.{vars-of, domains-of}
+use Rattle.sorting.specs.Rows.{rows-of, row-at}
+use Rattle.sorting.specs.Columns.{vars-of, domains-of}
 use Rattle.rows.specs.Stands.{cells-words, length-cells, rows-stand, starless-stand}
 use Rattle.rows.specs.Emit.{Clauses, Table as RowsTable, Tabled}
 use Rattle.rows.proofs.Looping.{clauses-to}
@@ -61,7 +65,7 @@ declared-has p = take-append-seam (flat (map encode-domain (p .domains))) _
 
 -- ---- no rows
 
-pub empty-rows : (ds : List Domain) (vs : List ℕ) (z : Log) → normalize-extension-supports ds vs [] z .0 ≡ clause [] [] ∷ []
+empty-rows : (ds : List Domain) (vs : List ℕ) (z : Log) → normalize-extension-supports ds vs [] z .0 ≡ clause [] [] ∷ []
 unfolding normalize-extension-supports plain-table plain-clauses sort-rows
 empty-rows ds vs z = refl
 
@@ -86,7 +90,7 @@ module _ {x : Place} {es : List IntExpr} {rows : List (List Cell)} {set w : List
   cells-length : length (cells-words rows) ≡ k * n
   cells-length = length-cells n rows (rows-wide n rows well) ∙ ap (λ (i : ℕ). i * n) (sym (h .height))
 
-  pub table-inside : p + k * n ≤ bool-map
+  table-inside : p + k * n ≤ bool-map
   table-inside = omega (arith, h .at .at .inside, table-length es rows, cells-length, h .cells)
 
   pub table-end : p + k * n ≡ q + length (encode-stmt (Table es rows))
@@ -112,8 +116,8 @@ module _ {x : Place} {es : List IntExpr} {rows : List (List Cell)} {set w : List
   -- ---- the log of the columns
 
   z-grows : Grows z (x .whole)
-  unfolding normalize-stmt normalize-table
-  z-grows = then (supports-grow (x .folded) ds vs rows z) (h .at .at .grows)
+  unfolding normalize-stmt normalize-table register
+  z-grows = then (supports-grow (x .folded) ds vs rows z) (then (grow-added _ _) (h .at .at .grows))
 
   z-stable : Stable ds dom z
   unfolding normalize-stmt normalize-table
@@ -122,12 +126,12 @@ module _ {x : Place} {es : List IntExpr} {rows : List (List Cell)} {set w : List
   z-fit : Fit w z
   z-fit = back z-grows (h .at .fit)
 
-  pub numbers-are : (column-numbers w (q + 3) es ≡ vs) × (columns-clauses w (q + 3) es ≡ columns-of x es .clauses)
+  pub numbers-are : (column-numbers w (q + 3) es ≡ vs) × Adds (x .before) z (columns-clauses w (q + 3) es)
   numbers-are = columns-are (x .folded) ds w (q + 3) es (x .before) (h .at .at .placed) z-fit
 
   -- ---- the columns can be described
 
-  pub columns-stand : Standing w (q + 3) n es
+  columns-stand : Standing w (q + 3) n es
   columns-stand = record {
     words = table-words (read-part w) ds q es rows (h .at .stands);
     counted = h .width;
@@ -137,9 +141,9 @@ module _ {x : Place} {es : List IntExpr} {rows : List (List Cell)} {set w : List
 
   known : AllKnown ds dom out triples w (q + 3) es
   unfolding EveryStmt
-  known = all-known (x .folded) ds (lowest ds) (x .whole) w out triples (h .at .domains) (q + 3) es (x .before) (h .at .at .standing) (h .at .at .facts .declared) (h .at .at .facts .light) (h .at .at .placed) z-fit z-stable (z-grows .ints)
+  known = all-known (x .folded) ds (x .whole) w out triples (h .at .domains) (q + 3) es (x .before) (every-column-map Any Any (WithinDomain ds (lowest ds)) Any Any (λ v. ordered (domain-of ds v) ≡ true) (λ n y. y) (λ v y. y) (λ v y. y .0) es (h .at .at .standing)) (h .at .at .facts .declared) (h .at .at .facts .light) (h .at .at .placed) z-fit z-stable (z-grows .ints)
 
-  pub describable : (k ≡ 0 → ⊥) → Describable set w (q + 3) n out triples ds dom es
+  describable : (k ≡ 0 → ⊥) → Describable set w (q + 3) n out triples ds dom es
   describable c = record {
     standing = columns-stand;
     declared = subst (λ (l : List ℤ). Has l 2 (flat (map encode-domain ds))) (sym (h .at .words)) (declared-has (x .problem));
@@ -164,7 +168,7 @@ module _ {x : Place} {es : List IntExpr} {rows : List (List Cell)} {set w : List
     kept : Saved 0 w w₁
     kept = saved-below (d .below) (d .size)
 
-    pub described-stand : RowsStand w₁ p n k rows
+    described-stand : RowsStand w₁ p n k rows
     described-stand = record {
       stands = has-part w₁ p (cells-words rows) (has-saved p (cells-words rows) (omega arith) kept cells-has);
       count = h .height;
@@ -180,12 +184,12 @@ module _ {x : Place} {es : List IntExpr} {rows : List (List Cell)} {set w : List
     star-seen : (t : Bool) → t ≡ any (λ u. eqZ u star-word) (row-at (k * n) p w₁) → starred rows ≡ t
     star-seen t e = sym (e ∙ stars-are w₁ p n k rows described-stand)
 
-    pub described-fits : p + k * n ≤ length w₁
+    described-fits : p + k * n ≤ length w₁
     described-fits = omega (arith, table-inside, d .size, h .at .size)
 
     -- ---- no star
 
-    pub plain-table-at : false ≡ any (λ u. eqZ u star-word) (row-at (k * n) p w₁) → RowsTable w₁ set p n k column-words
+    plain-table-at : false ≡ any (λ u. eqZ u star-word) (row-at (k * n) p w₁) → RowsTable w₁ set p n k column-words
     plain-table-at e = record {
       few = omega (arith, h .height, h .at .at .facts .rows-few);
       narrow = omega (arith, h .width, h .at .at .facts .columns-few);
@@ -210,7 +214,7 @@ module _ {x : Place} {es : List IntExpr} {rows : List (List Cell)} {set w : List
 
     -- ---- some star
 
-    pub star-rows-at : StarRows w₁ p n k column-words m
+    star-rows-at : StarRows w₁ p n k column-words m
     star-rows-at = record {
       few = omega (arith, h .height, h .at .at .facts .rows-few);
       narrow = omega (arith, h .width, h .at .at .facts .columns-few);
@@ -221,7 +225,7 @@ module _ {x : Place} {es : List IntExpr} {rows : List (List Cell)} {set w : List
     }
 
     pub rows-starred : true ≡ any (λ u. eqZ u star-word) (row-at (k * n) p w₁) → {c : ℕ} {out' : List ℤ} {o' c' : ℕ} → StarsDid w₁ p n k m out o c out' o' c' → RowsDid x es rows w p n k out o c w₁ out' o' c'
-    unfolding normalize-extension-supports normalize-stmt normalize-table
+    unfolding normalize-extension-supports normalize-stmt normalize-table register
     rows-starred e t = record {
       clauses =
           let s : starred rows ≡ true = star-seen true e in

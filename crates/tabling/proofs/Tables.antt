@@ -1,13 +1,14 @@
 -- A table among the statements: its counts, the end of its columns, and what is written of it.
 use mathlib.Core.Path.{_≡_, sym, ap, _∙_}
-use mathlib.Core.List.{List, [], _∷_}
+use mathlib.Core.List.{List, [], _∷_, _++_}
 use Prim.Native.Nat.{ℕ, _+_, _*_, _≤_}
 use native.Mathlib.Omega.{arith}
 use lib.IntN.{ℤ, pos}
 use lib.ListN.{length}
 use Rattle.laws.specs.Slices.{Has, has-word, has-back}
 use Rattle.laws.specs.Writes.{cap, Wrote}
-use Rattle.syntax.specs.Syntax.{IntExpr, Cell, Table, encode-stmt}
+use Rattle.syntax.specs.Syntax.{Domain, IntExpr, Cell, Table, encode-stmt}
+use Rattle.clauses.specs.Since.{clauses-since, since-is}
 use Rattle.tables.specs.Tables.{normalize-table}
 use Rattle.answer.specs.Answer.{normalize-stmt}
 use Rattle.walk.specs.Item.{bump, nat, bool-map}
@@ -17,7 +18,7 @@ use Rattle.walk.specs.Decode.{word, read-part}
 use Rattle.rows.specs.Emit.{Clauses, Behind}
 use Rattle.rows.proofs.Looping.{clauses-then, clauses-to}
 use Rattle.statements.specs.Columns.{columns-clauses}
-use Rattle.statements.specs.Table.{table-fresh}
+use Rattle.statements.specs.Table.{table-fresh, table-adds}
 use Rattle.statements.specs.Statements.{stmt-count, stmt-walks, table-words, table-length}
 use Rattle.statements.specs.NumberColumns.{columns-end, columns-stop}
 use Rattle.numbered.specs.Fresh.{Freshens}
@@ -91,16 +92,17 @@ module _ {set w : List ℤ} {q triples m : ℕ} {out : List ℤ} {o : ℕ} where
     pub table-did : {f : ℕ} → Freshens w p n k f → {w' out' : List ℤ} {o' c' : ℕ}
         → ((x : Place) (es : List IntExpr) (rows : List (List Cell)) → TableAt x es rows set w q p n k triples m out₁ o₁ → RowsDid x es rows w p n k out₁ o₁ c₁ w' out' o' c')
         → (x : Place) (es : List IntExpr) (rows : List (List Cell)) → At x (Table es rows) set w q triples m out o → Did x (Table es rows) w q out o c w' out' (p + k * n) (bump m f) o' c'
-    unfolding normalize-stmt normalize-table stmt-count
+    unfolding normalize-stmt stmt-count
     table-did {f} hf g x es rows h =
+        let ds : List Domain = x .problem .domains in
         let t = table-then h in
         let r = g x es rows t in
-        let a = numbers-are t .1 in
+        let a : clauses-since (x .before) (normalize-table ds es rows (x .before)) ≡ columns-clauses w (q + 3) es ++ _ = since-is (x .before) _ _ (table-adds (x .folded) ds w (q + 3) es rows (x .before) (numbers-are t .1)) in
         let e : f ≡ table-fresh (length es) rows = hf rows (table-stand t) ∙ ap (λ (i : ℕ). table-fresh i rows) (t .width) in
         let i : m ≡ x .state .bools = h .number ∙ sym (h .at .numbered .bools) in
         let s = stmt-walks (x .folded) (x .problem .domains) q (Table es rows) (x .state) (x .before) (h .at .behind, h .at .inside) (h .at .stands) (h .at .legal) (h .at .numbered) (low-back (h .at .grows) (h .low)) (omega (arith, h .at .grows .ints, h .few)) in
         record {
-          clauses = clauses-then (b .room .room) (clauses-to a (equalities h)) (r .clauses);
+          clauses = clauses-to (sym a) (clauses-then (b .room .room) (equalities h) (r .clauses));
           next = table-end t;
           bools = ap (λ (j : ℕ). bump j f) i ∙ ap (bump (x .state .bools)) e ∙ s .count w (back (h .at .grows) (h .fit));
           saved = r .saved;

@@ -10,9 +10,8 @@ use Rattle.syntax.specs.Words.{max-set-words}
 use Rattle.syntax.specs.Syntax.{IntExpr, Cell, Stmt, Table, encode-stmt, Problem, encode}
 use Rattle.words.specs.Exact.{Each}
 use Rattle.read.specs.WellFormed.{WellDomain}
-use Rattle.clauses.specs.Log.{Log, next-bool, next-int}
-use Rattle.clauses.specs.Disjunction.{Out}
-use Rattle.tables.specs.Tables.{emitted-domains}
+use Rattle.clauses.specs.Log.{Log, next-bool, next-int, emitted-domains}
+use Rattle.clauses.specs.Since.{clauses-since}
 use Rattle.answer.specs.Answer.{domain-words, normalize-stmt}
 use Rattle.walk.specs.Item.{State}
 use Rattle.walk.specs.Grow.{Fit}
@@ -31,8 +30,8 @@ pub record Place : Type 0 where
   pub before : Log
   pub state : State
 
--- the statement's clauses, and the log behind it
-abbrev pub after : Place → Stmt → Out
+-- the log behind the statement
+abbrev pub after : Place → Stmt → Log
 after x t = normalize-stmt (x .problem .domains) t (x .before)
 
 -- it stands at q in the work slice w; m: the next Boolean's number; the emitted integers' words stand in the answer from `triples` on, in front of o
@@ -64,7 +63,7 @@ pub record SomeTable (set w : List ℤ) (q triples m : ℕ) (out : List ℤ) (o 
 -- its clauses are written behind k others, and the work slice is saved from its end to the free region. Free, but for their number, are the
 -- words before its end (a table's rows are sorted in place) and those of the free region (its columns are described there)
 pub record Did (x : Place) (t : Stmt) (w : List ℤ) (q : ℕ) (out : List ℤ) (o k : ℕ) (w' out' : List ℤ) (e m' o' k' : ℕ) : Type 0 where
-  pub clauses : Clauses out o k (after x t .0) out' o' k'
+  pub clauses : Clauses out o k (clauses-since (x .before) (after x t)) out' o' k'
   pub next : e ≡ q + length (encode-stmt t)
-  pub bools : m' ≡ next-bool (after x t .1)
+  pub bools : m' ≡ next-bool (after x t)
   pub saved : Saved e w w'

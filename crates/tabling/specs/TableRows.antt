@@ -9,7 +9,7 @@ use Rattle.syntax.specs.Syntax.{IntExpr, encode-int, Cell, Table}
 use Rattle.clauses.specs.Log.{Log, next-bool}
 use Rattle.tables.specs.Tables.{Columns, equivalent-int-vars, star-table, normalize-extension-supports}
 use Rattle.walk.specs.Item.{limit}
-use Rattle.rows.specs.Columns.{vars-of}
+use Rattle.sorting.specs.Columns.{vars-of}
 use Rattle.rows.specs.Emit.{Clauses}
 use Rattle.statements.specs.Saved.{Saved}
 use Rattle.numbered.specs.Fresh.{RowsStand}

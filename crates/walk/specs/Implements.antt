@@ -11,18 +11,17 @@ use lib.ListN.{length, length-append}
 use lib.Dec.{eqb}
 use borrow.Author.Tests.{eq-eqb, ne-eqb}
 use Rattle.laws.specs.Lists.{flat}
-use Rattle.syntax.specs.Syntax.{CmpOp, IntExpr}
+use Rattle.syntax.specs.Syntax.{Domain, CmpOp, IntExpr}
 use Rattle.syntax.specs.Written.{EveryInt}
 use Rattle.sums.specs.LinearSum.{sub-sum}
 use Rattle.clauses.specs.Clause.{BoolLit, lit, LinearLit, linear, Clause, clause}
-use Rattle.clauses.specs.Log.{Log, declared, negate-lit, next-bool, get-bool-var, bool-var-at, convert-bool-var}
+use Rattle.clauses.specs.Log.{declared, bool, Log, number-of, negate-lit, next-bool, get-bool-var, bool-var-at, convert-bool-var}
 use Rattle.clauses.specs.Disjunction.{add-bool-each, Sorted, satisfied, pool, sorted, Out, Outs, each-longer, finish-disjunction, finish-sorted, normalize-disjunction}
-use Rattle.clauses.specs.Normalize.{Run, Runs, no-run, run-then, two, normalize-conjunction, disjunction-of, cross as cross-run, lit-clauses, normalize-var, negate-op-if, normalize-comparison, normalize-int-expr}
+use Rattle.clauses.specs.Normalize.{Run, Runs, no-run, run-then, two, normalize-conjunction, disjunction-of, cross as cross-run, lit-clauses, normalize-num, normalize-var, negate-op-if, normalize-comparison, normalize-int-expr}
 use Rattle.answer.specs.Answer.{linear-words}
-use Rattle.walk.specs.Tree.{Tree, var, num, cmp, conj, disj, cross, tied, Trees, nil, cons, size, num-run, run, runs}
+use Rattle.walk.specs.Tree.{Tree, var, num, cmp, conj, disj, cross, tied, Trees, nil, cons, size, run, runs}
 use Rattle.walk.specs.Item.{limit, bump, bool-at, nat, signed, bool-entry, word-of, comparison, clause-text, tally, long, fresh, disj-lines, closed, lines-of, extra, Item, tallies, all-lines, counts, pools, texts, long-texts, disj-text, var-item, num-item, cmp-item, conj-item, disj-item, cross-item, tied-item, item, items}
 use Rattle.walk.specs.Grow.{Grows, same, then, grow-declared, bool-below, bool-here, Fit, back, lit-word, word-lit, signed-lit}
-use Rattle.clauses.specs.Grow.{number-of}
 use Rattle.walk.specs.Ints.{int-grows, int-bools, int-linear}
 use Rattle.walk.specs.Texts.{words, linears, layout, words-more, linears-more, layout-append, layout-add, long-layout, AllLong, finish-words, finish-count, finish-grows, lengths, finish-lines, finish-long, disjunction-finish}
 
@@ -84,7 +83,7 @@ module _ (w : List ℤ) where
   goods-grows goods-nil s = same
   goods-grows (more {i} {r} {is} {rs} g gs) s = then (g .grows s) (goods-grows gs (r s .1))
 
-  shape-lines : (i : Item) (cs : List Clause) → Shape i cs → lines-of (i .unit) ≡ min (length cs) limit
+  pub shape-lines : (i : Item) (cs : List Clause) → Shape i cs → lines-of (i .unit) ≡ min (length cs) limit
   unfolding lines-of
   shape-lines i cs (single ls ks e u p q) = rw (u, e) (omega arith)
   shape-lines i cs (many h u p q) = rw u
@@ -254,8 +253,8 @@ module _ (w : List ℤ) where
   beside-text : (i : Item) (s : Log) (o : Out) (v : ℕ) (g : Bool) (suf : List ℤ) → v < limit → ImplementsAt i s o → i .text w (next-bool s) (word-of (v + 1) g ∷ suf) ≡ layout suf (add-bool-each (lit v g) (o .0))
   beside-text i s o v g suf h x = x .text (word-of (v + 1) g ∷ suf) ∙ ap (λ y. layout (y ∷ suf) (o .0)) (ap (λ n. word-of n g) (add-one v) ∙ word-lit v g h) ∙ sym (layout-add (lit v g) suf (o .0))
 
-  pub tied-good : (v : ℕ) (i j : Item) (r q : Run) → v < limit → Implements i r → Implements j q → Implements (tied-item v i j) (cross-run (two r (num-run v true)) (two q (num-run v false)))
-  unfolding tied-item cross-run run-then num-run no-run
+  pub tied-good : (v : ℕ) (i j : Item) (r q : Run) → v < limit → Implements i r → Implements j q → Implements (tied-item v i j) (cross-run (two r (normalize-num v true)) (two q (normalize-num v false)))
+  unfolding tied-item cross-run run-then normalize-num no-run
   tied-good v i j r q h x y = record {
     grows = λ s.
         let a = r s in let b = q (a .1) in
@@ -281,8 +280,8 @@ module _ (w : List ℤ) where
 
   -- ---- leaves
 
-  pub num-good : (n : ℕ) (g : Bool) → n < limit → Implements (num-item n g) (num-run n g)
-  unfolding num-item num-run layout
+  pub num-good : (n : ℕ) (g : Bool) → n < limit → Implements (num-item n g) (normalize-num n g)
+  unfolding num-item normalize-num layout
   num-good n g h = record {
     grows = λ s. same;
     at = λ s f.
@@ -294,19 +293,19 @@ module _ (w : List ℤ) where
         };
   }
 
-  pub cmp-good : (o : CmpOp) (a b : IntExpr) (g : Bool) → Implements (cmp-item o a b g) (normalize-comparison o g (normalize-int-expr a) (normalize-int-expr b))
+  pub cmp-good : (ds : List Domain) (o : CmpOp) (a b : IntExpr) (g : Bool) → Implements (cmp-item o a b g) (normalize-comparison o g (normalize-int-expr ds a) (normalize-int-expr ds b))
   unfolding cmp-item normalize-comparison layout comparison
-  cmp-good o a b g = record {
-    grows = λ s. then (int-grows a s) (int-grows b (normalize-int-expr a s .1));
+  cmp-good ds o a b g = record {
+    grows = λ s. then (int-grows ds a s) (int-grows ds b (normalize-int-expr ds a s .1));
     at = λ s f.
-        let x = normalize-int-expr a s in
-        let y = normalize-int-expr b (x .1) in
-        let p = int-linear w a s (back (int-grows b (x .1)) f) in
-        let q = int-linear w b (x .1) f in
+        let x = normalize-int-expr ds a s in
+        let y = normalize-int-expr ds b (x .1) in
+        let p = int-linear w ds a s (back (int-grows ds b (x .1)) f) in
+        let q = int-linear w ds b (x .1) f in
         let k = linear (negate-op-if g o) (sub-sum (x .0) (y .0)) in
         let e : comparison w o a b g ≡ linear-words k = rw (p, q) in
         record {
-          count = sym (int-bools b (x .1) ∙ int-bools a s);
+          count = sym (int-bools ds b (x .1) ∙ int-bools ds a s);
           text = λ suf. ap (clause-text [] suf 1) (e ∙ sym (append-nil (linear-words k))) ∙ sym (append-nil _);
           shape = single [] (k ∷ []) refl refl refl (e ∙ sym (append-nil (linear-words k)));
         };
@@ -342,7 +341,7 @@ module _ (w : List ℤ) where
       gr s (some n) e = same
 
       go : (s : Log) (o : Option BoolLit) → get-bool-var v s ≡ o → Fit w (bool-var-at o v s .1) → ImplementsAt (var-item v g) s (clause (negate-lit g (bool-var-at o v s .0) ∷ []) [] ∷ [], bool-var-at o v s .1)
-      go s none e f = var-at v g s (lit (next-bool s) false) (declared v ∷ s) (bool-here v s) f (rw (new-entry v (next-bool s) (f .agree v (lit (next-bool s) false) (bool-here v s))) (omega (arith, f .small)))
+      go s none e f = var-at v g s (lit (next-bool s) false) (bool (declared v) ∷ s) (bool-here v s) f (rw (new-entry v (next-bool s) (f .agree v (lit (next-bool s) false) (bool-here v s))) (omega (arith, f .small)))
       go s (some l) e f = var-at v g s l s e f (rw (old-entry v (next-bool s) l (f .agree v l e) (bool-below s v l e)))
 
   length-items : (ts : Trees) → length (items ts) ≡ size ts
@@ -350,18 +349,19 @@ module _ (w : List ℤ) where
   length-items nil = refl
   length-items (cons t ts) = ap suc (length-items ts)
 
-  mutual
-    unfolding item run Proper
+  module _ (ds : List Domain) where
+    mutual
+      unfolding item run Proper
 
-    pub item-good : (t : Tree) → Proper t → Implements (item t) (run t)
-    item-good (var v g) p = var-good v g
-    item-good (num n g) p = num-good n g p
-    item-good (cmp k o a b g) p = cmp-good o a b g
-    item-good (conj ts) p = conj-good (items ts) (runs ts) (items-good ts (p .1)) (omega (arith, length-items ts, p .0))
-    item-good (disj ts) p = disj-good (items ts) (runs ts) (items-good ts p)
-    item-good (cross ts us) p = cross-good (items ts) (items us) (runs ts) (runs us) (items-good ts (p .0)) (items-good us (p .1))
-    item-good (tied v t u) p = tied-good v (item t) (item u) (run t) (run u) (p .0) (item-good t (p .1)) (item-good u (p .2))
+      pub item-good : (t : Tree) → Proper t → Implements (item t) (run ds t)
+      item-good (var v g) p = var-good v g
+      item-good (num n g) p = num-good n g p
+      item-good (cmp k o a b g) p = cmp-good ds o a b g
+      item-good (conj ts) p = conj-good (items ts) (runs ds ts) (items-good ts (p .1)) (omega (arith, length-items ts, p .0))
+      item-good (disj ts) p = disj-good (items ts) (runs ds ts) (items-good ts p)
+      item-good (cross ts us) p = cross-good (items ts) (items us) (runs ds ts) (runs ds us) (items-good ts (p .0)) (items-good us (p .1))
+      item-good (tied v t u) p = tied-good v (item t) (item u) (run ds t) (run ds u) (p .0) (item-good t (p .1)) (item-good u (p .2))
 
-    pub items-good : (ts : Trees) → Propers ts → Goods (items ts) (runs ts)
-    items-good nil p = goods-nil
-    items-good (cons t ts) p = more (item-good t (p .0)) (items-good ts (p .1))
+      pub items-good : (ts : Trees) → Propers ts → Goods (items ts) (runs ds ts)
+      items-good nil p = goods-nil
+      items-good (cons t ts) p = more (item-good t (p .0)) (items-good ts (p .1))

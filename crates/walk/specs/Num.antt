@@ -12,14 +12,14 @@ use lib.ListN.{length, getD, set, length-set}
 use lib.Seq.{getD-set-same, getD-set-other}
 use lib.Dec.{eqb, eqb→eq}
 use borrow.Author.Tests.{eq-eqb, ne-eqb}
-use Rattle.syntax.specs.Syntax.{Domain, IntExpr, IConst, IVar, Linear, Terms, tnil, tmore}
-use Rattle.syntax.specs.Written.{EveryInt, EveryTerm}
+use Rattle.syntax.specs.Syntax.{Domain, IntExpr, IConst, IVar, Linear, If, Terms, tnil, tmore}
+use Rattle.syntax.specs.Written.{EveryInt, EveryTerm, EveryIntOf}
 use Rattle.sums.specs.LinearSum.{LinearSum, constant, add-sum, mul-sum}
-use Rattle.clauses.specs.Log.{declared, aux, side, declared-int, column, Log, next-bool, next-int, get-bool-var, get-int-var, bool-var-at, int-var-at, convert-int-var, merged}
+use Rattle.clauses.specs.Log.{declared, declared-int, column, chosen, binary, bool, merged, int, added, defined, known, Log, next-bool, next-int, get-bool-var, get-int-var, bool-var-at, int-var-at, convert-int-var}
 use Rattle.clauses.specs.Normalize.{normalize-int-var, normalize-term, normalize-int-expr, normalize-terms}
 use Rattle.walk.specs.Item.{limit, bump, is-none, bool-map, int-map, emitted-ints, nat, int-entry, State, meet-bool, meet-int-var, meet-int, meet-terms, bool-at}
 use Rattle.walk.specs.Grow.{Fit, lit-word}
-use Rattle.clauses.specs.Clause.{BoolLit, lit}
+use Rattle.clauses.specs.Clause.{BoolLit, lit, Clause}
 use Rattle.answer.specs.Answer.{bool-word}
 use Rattle.walk.specs.Ints.{terms-grow}
 
@@ -34,12 +34,15 @@ code (some n) = suc n
 module _ (Column : Log → ℤ → LinearSum → Domain → Type 0) where
   unfoldable pub Recorded : List ℤ → Log → Type 0
   Recorded w [] = Unit {0}
-  Recorded w (declared v ∷ s) = Recorded w s
+  Recorded w (bool m ∷ s) = Recorded w s
   Recorded w (merged q r z ∷ s) = Recorded w s
-  Recorded w (aux cs ∷ s) = Recorded w s
-  Recorded w (side e ∷ s) = Recorded w s
-  Recorded w (declared-int v ∷ s) = (getD w (emitted-ints + next-int s) (pos 0) ≡ pos v) × Recorded w s
-  Recorded w (column l d ∷ s) = Column s (getD w (emitted-ints + next-int s) (pos 0)) l d × Recorded w s
+  Recorded w (int (declared-int v) ∷ s) = (getD w (emitted-ints + next-int s) (pos 0) ≡ pos v) × Recorded w s
+  Recorded w (int (column l d) ∷ s) = Column s (getD w (emitted-ints + next-int s) (pos 0)) l d × Recorded w s
+  Recorded w (int (chosen i e d) ∷ s) = absurd i
+  Recorded w (int (binary i l a b) ∷ s) = absurd i
+  Recorded w (added cs ∷ s) = Recorded w s
+  Recorded w (defined cs ∷ s) = Recorded w s
+  Recorded w (known e n ∷ s) = Recorded w s
 
   -- the state of a log
   pub record Numbered (st : State) (s : Log) : Type 0 where
@@ -73,14 +76,17 @@ module _ (Column : Log → ℤ → LinearSum → Domain → Type 0) where
   pub recorded-set : (w : List ℤ) (p : ℕ) (x : ℤ) (s : Log) → ((k : ℕ) → k < next-int s → emitted-ints + k ≡ p → ⊥) → Recorded w s → Recorded (set w p x) s
   unfolding Recorded
   recorded-set w p x [] f h = tt
-  recorded-set w p x (declared v ∷ s) f h = recorded-set w p x s f h
+  recorded-set w p x (bool m ∷ s) f h = recorded-set w p x s f h
   recorded-set w p x (merged q r z ∷ s) f h = recorded-set w p x s f h
-  recorded-set w p x (aux cs ∷ s) f h = recorded-set w p x s f h
-  recorded-set w p x (side e ∷ s) f h = recorded-set w p x s f h
-  recorded-set w p x (declared-int v ∷ s) f h =
+  recorded-set w p x (int (declared-int v) ∷ s) f h =
       (getD-set-other w p (emitted-ints + next-int s) x (pos 0) (f (next-int s) (omega arith)) ∙ h .0, recorded-set w p x s (λ k l. f k (omega arith)) (h .1))
-  recorded-set w p x (column l d ∷ s) f h =
+  recorded-set w p x (int (column l d) ∷ s) f h =
       (rw (getD-set-other w p (emitted-ints + next-int s) x (pos 0) (f (next-int s) (omega arith))) (h .0), recorded-set w p x s (λ k l. f k (omega arith)) (h .1))
+  recorded-set w p x (int (chosen i e d) ∷ s) f h = absurd i
+  recorded-set w p x (int (binary i l a b) ∷ s) f h = absurd i
+  recorded-set w p x (added cs ∷ s) f h = recorded-set w p x s f h
+  recorded-set w p x (defined cs ∷ s) f h = recorded-set w p x s f h
+  recorded-set w p x (known e n ∷ s) f h = recorded-set w p x s f h
 
   pub bool-other : (w : List ℤ) (p : ℕ) (x : ℤ) (u : ℕ) → (bool-map + u ≡ p → ⊥) → bool-at (set w p x) u ≡ bool-at w u
   unfolding bool-at
@@ -97,6 +103,20 @@ module _ (Column : Log → ℤ → LinearSum → Domain → Type 0) where
   int-same : (w : List ℤ) (v n : ℕ) → int-map + v < length w → int-entry (set w (int-map + v) (pos n)) v ≡ n
   unfolding int-entry nat
   int-same w v n h = ap nat (getD-set-same w (int-map + v) (pos n) (pos 0) h)
+
+  -- clauses added change no number
+  pub added-num : (cs : List Clause) (st : State) (s : Log) → Numbered st s → Numbered st (added cs ∷ s)
+  unfolding get-bool-var get-int-var Recorded
+  added-num cs st s h = record {
+    map = λ v hv. h .map v hv;
+    map-int = λ v hv. h .map-int v hv;
+    bools = h .bools;
+    ints = h .ints;
+    low = λ v n q. h .low v n q;
+    low-int = λ v n q. h .low-int v n q;
+    size = h .size;
+    records = h .records;
+  }
 
   -- ---- a declared variable
 
@@ -118,13 +138,13 @@ module _ (Column : Log → ℤ → LinearSum → Domain → Type 0) where
         records = recorded-set (st .work) (bool-map + v) _ s (λ k l q. omega arith) (h .records);
       })
     where
-      mp : (u : ℕ) → u < 512 → (c : Bool) → eqb u v ≡ c → bool-at (set (st .work) (bool-map + v) (pos (suc (next-bool s)))) u ≡ bool-word (get-bool-var u (declared v ∷ s))
+      mp : (u : ℕ) → u < 512 → (c : Bool) → eqb u v ≡ c → bool-at (set (st .work) (bool-map + v) (pos (suc (next-bool s)))) u ≡ bool-word (get-bool-var u (bool (declared v) ∷ s))
       mp u hu true q = let p : u ≡ v = eqb→eq u v (rw q tt) in rw q (rw p (bool-same (st .work) v (suc (next-bool s)) (omega (arith, h .size))))
       mp u hu false q =
           let ne : u ≢ v = λ (p : u ≡ v). false≢true (sym q ∙ eq-eqb u v p) in
           rw q (bool-other (st .work) (bool-map + v) (pos (suc (next-bool s))) u (λ x. ne (omega arith)) ∙ h .map u hu)
 
-      lw : (u : ℕ) (n : BoolLit) (c : Bool) → eqb u v ≡ c → get-bool-var u (declared v ∷ s) ≡ some n → u < 512
+      lw : (u : ℕ) (n : BoolLit) (c : Bool) → eqb u v ≡ c → get-bool-var u (bool (declared v) ∷ s) ≡ some n → u < 512
       lw u n true q f = let p : u ≡ v = eqb→eq u v (rw q tt) in omega arith
       lw u n false q f = h .low u n (rw q at f)
 
@@ -153,29 +173,31 @@ module _ (Column : Log → ℤ → LinearSum → Domain → Type 0) where
       mid : List ℤ
       mid = set (st .work) (int-map + v) (pos (suc (next-int s)))
 
-      mp : (u : ℕ) → u < 256 → (c : Bool) → eqb u v ≡ c → int-entry mid u ≡ code (get-int-var u (declared-int v ∷ s))
+      mp : (u : ℕ) → u < 256 → (c : Bool) → eqb u v ≡ c → int-entry mid u ≡ code (get-int-var u (int (declared-int v) ∷ s))
       mp u hu true q = let p : u ≡ v = eqb→eq u v (rw q tt) in rw q (rw p (int-same (st .work) v (suc (next-int s)) (omega (arith, h .size))))
       mp u hu false q =
           let ne : u ≢ v = λ (p : u ≡ v). false≢true (sym q ∙ eq-eqb u v p) in
           rw q (int-other (st .work) (int-map + v) (pos (suc (next-int s))) u (λ x. ne (omega arith)) ∙ h .map-int u hu)
 
-      lw : (u n : ℕ) (c : Bool) → eqb u v ≡ c → get-int-var u (declared-int v ∷ s) ≡ some n → u < 256
+      lw : (u n : ℕ) (c : Bool) → eqb u v ≡ c → get-int-var u (int (declared-int v) ∷ s) ≡ some n → u < 256
       lw u n true q f = let p : u ≡ v = eqb→eq u v (rw q tt) in omega arith
       lw u n false q f = h .low-int u n (rw q at f)
 
   -- ---- the integers of an expression
 
-  mutual
-    unfolding normalize-int-expr normalize-int-var normalize-term convert-int-var meet-int EveryInt
+  module _ (ds : List Domain) where
+    mutual
+      unfolding normalize-int-expr normalize-int-var normalize-term convert-int-var meet-int EveryIntOf
 
-    pub expr-num : (e : IntExpr) → EveryInt (λ v. v < 256) e → (st : State) (s : Log) → Numbered st s → next-int (normalize-int-expr e s .1) ≤ max-emitted → Numbered (meet-int e st) (normalize-int-expr e s .1)
-    expr-num (IConst c) p st s h l = h
-    expr-num (IVar v) p st s h l = int-num v st s (get-int-var v s) refl p h l
-    expr-num (Linear ts) p st s h l = terms-num ts p st (constant (pos 0)) s h l
+      pub expr-num : (e : IntExpr) → EveryInt (λ v. v < 256) e → (st : State) (s : Log) → Numbered st s → next-int (normalize-int-expr ds e s .1) ≤ max-emitted → Numbered (meet-int e st) (normalize-int-expr ds e s .1)
+      expr-num (IConst c) p st s h l = h
+      expr-num (IVar v) p st s h l = int-num v st s (get-int-var v s) refl p h l
+      expr-num (If i c t f) p st s h l = absurd i
+      expr-num (Linear ts) p st s h l = terms-num ts p st (constant (pos 0)) s h l
 
-    terms-num : (ts : Terms) → EveryTerm (λ v. v < 256) ts → (st : State) (sum : LinearSum) (s : Log) → Numbered st s → next-int (normalize-terms ts sum s .1) ≤ max-emitted → Numbered (meet-terms ts st) (normalize-terms ts sum s .1)
-    terms-num tnil p st sum s h l = h
-    terms-num (tmore k e ts) p st sum s h l =
-        let a = normalize-int-expr e s in
-        let x = add-sum sum (mul-sum k (a .0)) in
-        terms-num ts (p .1) (meet-int e st) x (a .1) (expr-num e (p .0) st s h (omega (arith, terms-grow ts x (a .1) .ints))) l
+      terms-num : (ts : Terms) → EveryTerm (λ v. v < 256) ts → (st : State) (sum : LinearSum) (s : Log) → Numbered st s → next-int (normalize-terms ds ts sum s .1) ≤ max-emitted → Numbered (meet-terms ts st) (normalize-terms ds ts sum s .1)
+      terms-num tnil p st sum s h l = h
+      terms-num (tmore k e ts) p st sum s h l =
+          let a = normalize-int-expr ds e s in
+          let x = add-sum sum (mul-sum k (a .0)) in
+          terms-num ts (p .1) (meet-int e st) x (a .1) (expr-num e (p .0) st s h (omega (arith, terms-grow ds ts x (a .1) .ints))) l

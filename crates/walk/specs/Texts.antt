@@ -8,7 +8,7 @@ use lib.IntN.{ℤ, pos, negsuc}
 use lib.ListN.{length, length-append, length-map}
 use Rattle.laws.specs.Lists.{flat, flat-append}
 use Rattle.clauses.specs.Clause.{BoolLit, lit, LinearLit, Clause, clause}
-use Rattle.clauses.specs.Log.{Log, next-bool, next-int, get-bool-var, get-int-var, aux}
+use Rattle.clauses.specs.Log.{aux, bool, Log, next-bool, next-int, get-bool-var, get-int-var, clauses-of}
 use Rattle.clauses.specs.Disjunction.{add-bool-each, Sorted, satisfied, pool, sorted, each-longer, finish-disjunction, finish-sorted, normalize-disjunction}
 use Rattle.answer.specs.Answer.{lit-words, linear-words, clause-words}
 use Rattle.walk.specs.Item.{limit, word-of, clause-text, mode-in, fresh-in, lines-in, extra, block, pool-text}
@@ -83,12 +83,12 @@ long-layout x (a ∷ cx) k suf = layout (x k ++ suf) a ++ long-layout x cx (k + 
 pub each-length : (cx : List (List Clause)) (ls : List BoolLit) (ks : List LinearLit) (s : Log) → next-bool (each-longer cx ls ks s .1) ≡ length cx + next-bool s
 unfolding each-longer
 each-length [] ls ks s = omega arith
-each-length (a ∷ cx) ls ks s = each-length cx _ ks (aux a ∷ s) ∙ (omega arith)
+each-length (a ∷ cx) ls ks s = each-length cx _ ks (bool (aux a) ∷ s) ∙ (omega arith)
 
 each-grows : (cx : List (List Clause)) (ls : List BoolLit) (ks : List LinearLit) (s : Log) → Grows s (each-longer cx ls ks s .1)
 unfolding each-longer
 each-grows [] ls ks s = same
-each-grows (a ∷ cx) ls ks s = then (grow-aux a s) (each-grows cx _ ks (aux a ∷ s))
+each-grows (a ∷ cx) ls ks s = then (grow-aux a s) (each-grows cx _ ks (bool (aux a) ∷ s))
 
 each-words : (cx : List (List Clause)) (ls : List BoolLit) (ks : List LinearLit) (s : Log) (b j : ℕ) (w suf : List ℤ) → next-bool s ≡ b + j → length cx + next-bool s ≤ limit
     → long-layout (extra Each b w) cx j suf ++ clause-text (words ls) (block (b + j) (length cx) ++ suf) (length ks) (linears ks) ≡ layout suf (each-longer cx ls ks s .0)
@@ -101,9 +101,9 @@ each-words (a ∷ cx) ls ks s b j w suf e h =
     let f : word-of (b + j + 1) false ≡ lit-word (lit n false) = ap (λ n. word-of n false) p ∙ word-lit n false (omega arith) in
     let g : word-of (b + j + 1) true ≡ lit-word (lit n true) = ap (λ n. word-of n true) p ∙ word-lit n true (omega arith) in
     rw (
-      layout-append suf (add-bool-each (lit n true) a) (each-longer cx (ls ++ (lit n false ∷ [])) ks (aux a ∷ s) .0),
+      layout-append suf (add-bool-each (lit n true) a) (each-longer cx (ls ++ (lit n false ∷ [])) ks (bool (aux a) ∷ s) .0),
       layout-add (lit n true) suf a,
-      ← each-words cx (ls ++ (lit n false ∷ [])) ks (aux a ∷ s) b (j + 1) w suf (omega arith) (omega arith),
+      ← each-words cx (ls ++ (lit n false ∷ [])) ks (bool (aux a) ∷ s) b (j + 1) w suf (omega arith) (omega arith),
       clause-shift ls (lit n false) (block (b + (j + 1)) (length cx) ++ suf) (length ks) (linears ks),
       q,
       f,
@@ -183,7 +183,7 @@ each-lines : (cx : List (List Clause)) (ls : List BoolLit) (ks : List LinearLit)
 unfolding each-longer
 each-lines [] ls ks s = refl
 each-lines (a ∷ cx) ls ks s =
-    length-append (add-bool-each (lit (next-bool s) true) a) _ ∙ (omega (arith, length-add (lit (next-bool s) true) a, each-lines cx (ls ++ (lit (next-bool s) false ∷ [])) ks (aux a ∷ s)))
+    length-append (add-bool-each (lit (next-bool s) true) a) _ ∙ (omega (arith, length-add (lit (next-bool s) true) a, each-lines cx (ls ++ (lit (next-bool s) false ∷ [])) ks (bool (aux a) ∷ s)))
 
 pub finish-lines : (cx : List (List Clause)) (ls : List BoolLit) (ks : List LinearLit) (s : Log)
     → min (length (finish-disjunction cx ls ks s .0)) limit ≡ lines-in (mode-in (length cx) (length ls) (length ks)) (min (lengths cx) limit)
@@ -228,12 +228,12 @@ disjunction-finish (cs ∷ ds ∷ css) s = refl
 -- t has only such numbers on top of s
 pub data Auxed : Log → Log → Type 0 where
   here : {s : Log} → Auxed s s
-  above : {s t : Log} {a : List Clause} → Auxed (aux a ∷ s) t → Auxed s t
+  above : {s t : Log} {a : List Clause} → Auxed (bool (aux a) ∷ s) t → Auxed s t
 
 each-auxed : (cx : List (List Clause)) (ls : List BoolLit) (ks : List LinearLit) (s : Log) → Auxed s (each-longer cx ls ks s .1)
 unfolding each-longer
 each-auxed [] ls ks s = here
-each-auxed (a ∷ cx) ls ks s = above (each-auxed cx (ls ++ (lit (next-bool s) false ∷ [])) ks (aux a ∷ s))
+each-auxed (a ∷ cx) ls ks s = above (each-auxed cx (ls ++ (lit (next-bool s) false ∷ [])) ks (bool (aux a) ∷ s))
 
 finish-auxed : (cx : List (List Clause)) (ls : List BoolLit) (ks : List LinearLit) (s : Log) → Auxed s (finish-disjunction cx ls ks s .1)
 unfolding finish-disjunction each-longer
@@ -255,13 +255,14 @@ disjunction-auxed css s = rw (disjunction-finish css s) (go (sorted css))
     go satisfied = here
     go (pool ls ks cx) = finish-auxed cx ls ks s
 
--- variables keep their numbers, and no integer is new
+-- variables keep their numbers, no integer is new, and no clause is added
 pub record Untouched (s t : Log) : Type 0 where
   pub ints : next-int t ≡ next-int s
   pub keep : (v : ℕ) → get-bool-var v t ≡ get-bool-var v s
   pub keep-int : (v : ℕ) → get-int-var v t ≡ get-int-var v s
+  pub quiet : clauses-of t ≡ clauses-of s
 
 pub auxed-untouched : {s t : Log} → Auxed s t → Untouched s t
-unfolding get-bool-var get-int-var
-auxed-untouched here = record { ints = refl; keep = λ v. refl; keep-int = λ v. refl }
-auxed-untouched (above {s} {t} {a} h) = let u = auxed-untouched h in record { ints = u .ints; keep = λ v. u .keep v; keep-int = λ v. u .keep-int v }
+unfolding get-bool-var get-int-var clauses-of
+auxed-untouched here = record { ints = refl; keep = λ v. refl; keep-int = λ v. refl; quiet = refl }
+auxed-untouched (above {s} {t} {a} h) = let u = auxed-untouched h in record { ints = u .ints; keep = λ v. u .keep v; keep-int = λ v. u .keep-int v; quiet = u .quiet }

@@ -1,11 +1,13 @@
 -- A rule with negation pushed inward and splitting done: a tree of leaves, conjunctions, disjunctions and crosses, and the sides tied to
 -- their numbers; and the clauses of a tree, as the Rust makes them.
 use mathlib.Core.Bool.{Bool, true, false, not}
+use mathlib.Core.List.{List, [], _++_}
 use Prim.Native.Nat.{ℕ, suc, _+_}
 use lib.ListN.{length}
-use Rattle.syntax.specs.Syntax.{CmpOp, IntExpr, BoolExpr, Const, Var, NVar, And, Or, Not, Xor, Iff, Imp, Cmp, Members, mnil, more, encode-bool}
-use Rattle.clauses.specs.Clause.{negate-if}
-use Rattle.clauses.specs.Normalize.{Run, Runs, no-run, run-then, two, normalize-conjunction, disjunction-of, cross as cross-run, lit-clauses, normalize-var, normalize-comparison, normalize-int-expr}
+use Rattle.syntax.specs.Syntax.{Domain, CmpOp, IntExpr, BoolExpr, Const, Var, NVar, And, Or, Not, Xor, Iff, Imp, Cmp, Members, mnil, more, encode-bool}
+use Rattle.clauses.specs.Clause.{negate-if, Clause}
+use Rattle.clauses.specs.Log.{Log}
+use Rattle.clauses.specs.Normalize.{Run, Runs, register, no-run, run-then, two, normalize-conjunction, disjunction-of, cross as cross-run, normalize-num, normalize-var, normalize-comparison, normalize-int-expr}
 
 -- a declared variable; an emitted number; a comparison, with the place of its words; each with whether it is negated.
 -- tied v a b: a number, and its side, plain and negated
@@ -111,21 +113,29 @@ unfoldable mutual
   ties-members mnil t at n = nil
   ties-members (more e ms) t at n = append (ties e t at n) (ties-members ms t (at + length (encode-bool e)) (n + splits e t))
 
--- ---- the clauses of a tree
+-- ---- the clauses of a tree; ds: the declared domains
 
-unfoldable pub num-run : ℕ → Bool → Run
-num-run n g s = (lit-clauses n g, s)
+module _ (ds : List Domain) where
+  unfoldable mutual
+    pub run : Tree → Run
+    run (var v g) = normalize-var v g
+    run (num n g) = normalize-num n g
+    run (cmp p o a b g) = normalize-comparison o g (normalize-int-expr ds a) (normalize-int-expr ds b)
+    run (conj ts) = normalize-conjunction (runs ts)
+    run (disj ts) = disjunction-of (runs ts)
+    run (cross ts us) = cross-run (runs ts) (runs us)
+    run (tied v a b) = cross-run (two (run a) (normalize-num v true)) (two (run b) (normalize-num v false))
 
-unfoldable mutual
-  pub run : Tree → Run
-  run (var v g) = normalize-var v g
-  run (num n g) = num-run n g
-  run (cmp p o a b g) = normalize-comparison o g (normalize-int-expr a) (normalize-int-expr b)
-  run (conj ts) = normalize-conjunction (runs ts)
-  run (disj ts) = disjunction-of (runs ts)
-  run (cross ts us) = cross-run (runs ts) (runs us)
-  run (tied v a b) = cross-run (two (run a) (num-run v true)) (two (run b) (num-run v false))
+    pub runs : Trees → Runs
+    runs nil = no-run
+    runs (cons t ts) = run-then (run t) (runs ts)
 
-  pub runs : Trees → Runs
-  runs nil = no-run
-  runs (cons t ts) = run-then (run t) (runs ts)
+  -- the clauses of one after another are added
+  unfoldable pub registers : Trees → Log → Log
+  registers nil s = s
+  registers (cons t ts) s = registers ts (register (run t s))
+
+  -- these
+  unfoldable pub registered : Trees → Log → List Clause
+  registered nil s = []
+  registered (cons t ts) s = run t s .0 ++ registered ts (register (run t s))

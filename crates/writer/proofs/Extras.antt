@@ -30,12 +30,12 @@ unfolding items
 items-append nil us = refl
 items-append (cons t ts) us = ap (λ (is : List Item). item t ∷ is) (items-append ts us)
 
-pub all-fit-left : (w : List ℤ) (ts us : Trees) → AllComparisonsFit w (append ts us) → AllComparisonsFit w ts
+all-fit-left : (w : List ℤ) (ts us : Trees) → AllComparisonsFit w (append ts us) → AllComparisonsFit w ts
 unfolding ComparisonsFit
 all-fit-left w nil us h = tt
 all-fit-left w (cons t ts) us h = (h .0, all-fit-left w ts us (h .1))
 
-pub all-fit-right : (w : List ℤ) (ts us : Trees) → AllComparisonsFit w (append ts us) → AllComparisonsFit w us
+all-fit-right : (w : List ℤ) (ts us : Trees) → AllComparisonsFit w (append ts us) → AllComparisonsFit w us
 unfolding ComparisonsFit
 all-fit-right w nil us h = h
 all-fit-right w (cons t ts) us h = all-fit-right w ts us (h .1)
@@ -72,7 +72,7 @@ listed-then {w} {out} {a} {b} {is} {js} {n} {o} {m} {k} {p} {m'} {k'} {q} h x y 
       low = y .low;
     }
 
-pub trees-then : {w out a b : List ℤ} {n o m k p m' k' q : ℕ} (ts us : Trees) → Open out o → Listed w (items ts) n out o a m k p → Listed w (items us) m a p b m' k' q → Listed w (items (append ts us)) n out o b m' (bump k k') q
+trees-then : {w out a b : List ℤ} {n o m k p m' k' q : ℕ} (ts us : Trees) → Open out o → Listed w (items ts) n out o a m k p → Listed w (items us) m a p b m' k' q → Listed w (items (append ts us)) n out o b m' (bump k k') q
 trees-then {w} {out} {a} {b} {n} {o} {m} {k} {p} {m'} {k'} {q} ts us h x y = subst (λ (is : List Item). Listed w is n out o b m' (bump k k') q) (sym (items-append ts us)) (listed-then h x y)
 
 -- ---- a tie
@@ -189,7 +189,7 @@ module _ (w : List ℤ) (l : ℕ) (t : Bool) (k at base : ℕ) (z : k ≡ 0 → 
   pub members-first : AllComparisonsFit w (many-ties (decode F2 l t) (ties-at F2 l t) k at base) → AllComparisonsFit w (ties-at F2 l t at base)
   members-first x = all-fit-left w (ties-at F2 l t at base) later (subst (λ (ts : Trees). AllComparisonsFit w ts) (step-is k z) x)
 
-  pub members-rest : AllComparisonsFit w (many-ties (decode F2 l t) (ties-at F2 l t) k at base) → AllComparisonsFit w later
+  members-rest : AllComparisonsFit w (many-ties (decode F2 l t) (ties-at F2 l t) k at base) → AllComparisonsFit w later
   members-rest x = all-fit-right w (ties-at F2 l t at base) later (subst (λ (ts : Trees). AllComparisonsFit w ts) (step-is k z) x)
 
   pub members-more : {out a b : List ℤ} {e o m j p m' j' q : ℕ} → Open out o → Listed w (items (ties-at F2 l t at base)) e out o a m j p → Listed w (items later) m a p b m' j' q

@@ -100,11 +100,11 @@ module _ (w : List ℤ) (l : ℕ) (t : Bool) (k : ℕ) (g h : Bool) (at base : �
   unfolding items
   items-is = ap items trees-is
 
-  pub all-fit-rest : AllComparisonsFit w (many R k g h at base .trees) → AllComparisonsFit w (many R (k - 1) h h q c .trees)
+  all-fit-rest : AllComparisonsFit w (many R k g h at base .trees) → AllComparisonsFit w (many R (k - 1) h h q c .trees)
   unfolding ComparisonsFit
   all-fit-rest x = subst (λ (ts : Trees). AllComparisonsFit w ts) trees-is x .1
 
-pub all-fit-head : (w : List ℤ) (l : ℕ) (t : Bool) (k : ℕ) (g h : Bool) (at base : ℕ) → (k ≡ 0 → ⊥) → AllComparisonsFit w (many (decode (read-part w) l t) k g h at base .trees) → ComparisonsFit w (decode (read-part w) l t g at base .tree)
+all-fit-head : (w : List ℤ) (l : ℕ) (t : Bool) (k : ℕ) (g h : Bool) (at base : ℕ) → (k ≡ 0 → ⊥) → AllComparisonsFit w (many (decode (read-part w) l t) k g h at base .trees) → ComparisonsFit w (decode (read-part w) l t g at base .tree)
 unfolding ComparisonsFit
 all-fit-head w l t k g h at base z x = subst (λ (ts : Trees). AllComparisonsFit w ts) (ap (λ (r : Reads). r .trees) (many-more (decode (read-part w) l t) k g h at base z)) x .0
 

@@ -15,6 +15,7 @@ use Rattle.limits.specs.Limits.{heavy-comparison, many-comparison, any-comparis
 use Rattle.sums.specs.LinearSum.{LinearSum}
 use Rattle.clauses.specs.Clause.{negate-if}
 use Rattle.clauses.specs.Log.{Log, next-bool}
+use Rattle.clauses.specs.Since.{clauses-since}
 use Rattle.clauses.specs.Split.{normalize-and-register-expr}
 use Rattle.answer.specs.Answer.{clause-words}
 use Rattle.walk.specs.Tree.{Tree, Trees, nil, cons, pair, append, joined, splits, crossed, resolve, resolves, tie, both-tied, ties, ties-members}
@@ -68,7 +69,7 @@ module _ (w : List ℤ) (ds : List Domain) (column : IntExpr → Bool) where
   MM ms = any-comparison-members many-comparison column ms
 
   -- no comparison is too heavy, none has too many variables
-  abbrev pub Light : BoolExpr → Type 0
+  abbrev Light : BoolExpr → Type 0
   Light e = (H e ≡ false) × (M e ≡ false)
 
   abbrev LightMembers : Members → Type 0
@@ -204,13 +205,13 @@ writable-fit w at n h =
     (resolve-fit w (h .domains) (λ e. false) e false at n false d (h .light, h .few), tt))
 
 -- for every legal rule e that stands there: its extras and its tree are written
-pub record RuleText (e : BoolExpr) (w : List ℤ) (at n : ℕ) (out : List ℤ) (o : ℕ) (out' : List ℤ) (end m k p : ℕ) : Type 0 where
+record RuleText (e : BoolExpr) (w : List ℤ) (at n : ℕ) (out : List ℤ) (o : ℕ) (out' : List ℤ) (end m k p : ℕ) : Type 0 where
   pub wrote : Wrote out o (texts (items (rule-trees e at n)) w (bump n (splits e false)) []) out' p
   pub stop : end ≡ at + length (encode-bool e)
   pub count : m ≡ counts (items (rule-trees e at n)) w (bump n (splits e false))
   pub lines : k ≡ all-lines (items (rule-trees e at n))
 
-pub rule-text : (w : List ℤ) (at n : ℕ) (out : List ℤ) (o : ℕ) (out' : List ℤ) (end m k p : ℕ) → RuleWrote w at n out o out' end m k p
+rule-text : (w : List ℤ) (at n : ℕ) (out : List ℤ) (o : ℕ) (out' : List ℤ) (end m k p : ℕ) → RuleWrote w at n out o out' end m k p
     → (e : BoolExpr) → LegalRule e 64 → Has (read-part w) at (encode-bool e) → n + splits e false ≤ limit → RuleText e w at n out o out' end m k p
 rule-text w at n out o out' end m k p r e l h room =
     let i = rule-stands e (read-part w) 64 at n l h room in
@@ -224,19 +225,19 @@ rule-text w at n out o out' end m k p r e l h room =
 
 -- where the numbers before it are those of the log s, and the maps those of a log that is at least as long: the words written are those of
 -- its clauses, and their count, the counter and the place behind it are theirs
-pub record RuleIs (e : BoolExpr) (s : Log) (at : ℕ) (out : List ℤ) (o : ℕ) (out' : List ℤ) (end m k p : ℕ) : Type 0 where
-  pub wrote : Wrote out o (flat (map clause-words (normalize-and-register-expr e s .0))) out' p
+pub record RuleIs (ds : List Domain) (e : BoolExpr) (s : Log) (at : ℕ) (out : List ℤ) (o : ℕ) (out' : List ℤ) (end m k p : ℕ) : Type 0 where
+  pub wrote : Wrote out o (flat (map clause-words (clauses-since s (normalize-and-register-expr ds e s)))) out' p
   pub stop : end ≡ at + length (encode-bool e)
-  pub count : m ≡ next-bool (normalize-and-register-expr e s .1)
-  pub lines : k ≡ min (length (normalize-and-register-expr e s .0)) limit
+  pub count : m ≡ next-bool (normalize-and-register-expr ds e s)
+  pub lines : k ≡ min (length (clauses-since s (normalize-and-register-expr ds e s))) limit
 
 module _ (Column : Log → ℤ → LinearSum → Domain → Type 0) where
   pub rule-written : (w : List ℤ) (at : ℕ) (out : List ℤ) (o : ℕ) (out' : List ℤ) (end m k p : ℕ) (st : State) → RuleWrote w at (st .bools) out o out' end m k p
-      → (e : BoolExpr) (s : Log) → LegalRule e 64 → Has (read-part w) at (encode-bool e) → st .bools + splits e false ≤ limit → Numbered Column st s → Low (normalize-and-register-expr e s .1) → Fit w (normalize-and-register-expr e s .1)
-      → RuleIs e s at out o out' end m k p
-  rule-written w at out o out' end m k p st r e s l h room num low fit =
+      → (ds : List Domain) (e : BoolExpr) (s : Log) → LegalRule e 64 → Has (read-part w) at (encode-bool e) → st .bools + splits e false ≤ limit → Numbered Column st s → Low (normalize-and-register-expr ds e s) → Fit w (normalize-and-register-expr ds e s)
+      → RuleIs ds e s at out o out' end m k p
+  rule-written w at out o out' end m k p st r ds e s l h room num low fit =
       let t = rule-text w at (st .bools) out o out' end m k p r e l h room in
-      let q = rule-walks Column e 64 at s st l num low in
+      let q = rule-walks Column ds e 64 at s st l num low in
       record {
         wrote = wrote-to (q .text w fit) (t .wrote);
         stop = t .stop;

@@ -8,14 +8,13 @@ use lib.ListN.{length}
 use Rattle.laws.specs.Lists.{flat}
 use Rattle.laws.specs.Slices.{Has, has-word, has-back}
 use Rattle.syntax.specs.Syntax.{Domain, encode-domain, IntExpr, encode-int, AllDifferent, encode-stmt}
-use Rattle.clauses.specs.Log.{Log, next-bool}
 use Rattle.answer.specs.Answer.{normalize-stmt}
 use Rattle.walk.specs.Item.{nat}
 use Rattle.walk.specs.Grow.{Fit, back}
 use Rattle.walk.specs.Decode.{word, read-part}
 use Rattle.rows.proofs.Looping.{clauses-to}
 use Rattle.statements.specs.NumberColumns.{columns-end, columns-stop}
-use Rattle.statements.specs.Different.{pairs-log, pairs-bools, different-log, different-out}
+use Rattle.statements.specs.Different.{different-bools, different-out}
 use Rattle.statements.specs.Saved.{saved-same}
 use Rattle.pairs.specs.Different.{Ready, SomeDifferent as SomePairs, PutDifferent}
 use Rattle.tabling.specs.Step.{Place, At}
@@ -42,13 +41,8 @@ module _ {set w : List ℤ} {q m : ℕ} {out : List ℤ} {o : ℕ} where
     inside : q + 2 ≤ 4608
     inside = omega (arith, h .at .inside, words es)
 
-    -- the log behind it
-    log-is : normalize-stmt ds (AllDifferent es) (x .before) .1 ≡ pairs-log es (x .before)
-    unfolding normalize-stmt
-    log-is = different-log ds es (x .before)
-
-    fit : Fit w (pairs-log es (x .before))
-    fit = subst (λ (s : Log). Fit w s) log-is (back (h .at .grows) (h .fit))
+    fit : Fit w (normalize-stmt ds (AllDifferent es) (x .before))
+    fit = back (h .at .grows) (h .fit)
 
     module _ {n : ℕ} (hn : n ≡ word (read-part w) (q + 1)) where
       ready : Ready set w (q + 2) n ds es
@@ -89,8 +83,8 @@ module _ {set w : List ℤ} {q m : ℕ} {out : List ℤ} {o : ℕ} where
   pub different-did : {n e k : ℕ} → n ≡ word (read-part w) (q + 1) → e ≡ columns-end (read-part w) n (q + 2) → {out' : List ℤ} {o' k' : ℕ} → PutDifferent set w (q + 2) n out o k out' o' k' → DifferentDid set w q m out o k out' e m o' k'
   unfolding normalize-stmt
   different-did hn he r x es triples h = record {
-    clauses = clauses-to (sym (different-out w (x .problem .domains) es (x .before) (fit h))) (r .clauses (x .problem .domains) es (ready h hn));
+    clauses = clauses-to (sym (different-out w (x .problem .domains) es (x .before) (unfold normalize-stmt in fit h))) (r .clauses (x .problem .domains) es (ready h hn));
     next = stop h hn he;
-    bools = h .number ∙ sym (ap next-bool (log-is h) ∙ pairs-bools es (x .before));
+    bools = h .number ∙ sym (different-bools (x .problem .domains) es (x .before));
     saved = saved-same _ w;
   }

@@ -12,22 +12,20 @@ use Rattle.syntax.specs.Syntax.{IntExpr, BoolExpr, Const, Var, NVar, And, Or, N
 use Rattle.syntax.specs.Codes.{stmt-code, stmt-code-word}
 use Rattle.limits.specs.Limits.{any-comparison, any-comparison-members}
 use Rattle.clauses.specs.Clause.{Clause, clause}
-use Rattle.clauses.specs.Log.{Log, next-bool}
-use Rattle.clauses.specs.Normalize.{normalize-conjunction}
-use Rattle.clauses.specs.Split.{normalize-and-register-expr, tseitin-transformation-bool as split}
+use Rattle.clauses.specs.Log.{next-bool}
+use Rattle.clauses.specs.Split.{normalize-and-register-expr}
 use Rattle.answer.specs.Answer.{lit-words, linear-words, clause-words, normalize-stmt}
-use Rattle.walk.specs.Tree.{splits, runs}
-use Rattle.walk.specs.Resolve.{rule-trees, rule-runs, split-sided}
+use Rattle.walk.specs.Tree.{splits}
 use Rattle.walk.specs.Item.{limit, State, nat}
+use Rattle.clauses.specs.Since.{clauses-since}
 use Rattle.walk.specs.Grow.{back}
-use Rattle.walk.specs.TwoWalks.{Low, low-back, runs-grow}
-use Rattle.walk.specs.Rule.{LegalRule, true-rule, legal-rule}
+use Rattle.walk.specs.TwoWalks.{Low, low-back}
+use Rattle.walk.specs.Rule.{rule-room}
 use Rattle.walk.specs.Decode.{word, read-part}
 use Rattle.writer.specs.Placed.{Placed, RuleWrote}
 use Rattle.writer.specs.Rules.{Writable, RuleIs, rule-written}
 use Rattle.rows.specs.Emit.{clauses-words, Behind}
 use Rattle.statements.specs.Columns.{ColumnRecord}
-use Rattle.statements.specs.Statements.{stmt-grows}
 use Rattle.statements.specs.Saved.{saved-same}
 use Rattle.tabling.specs.Step.{Place, At, SomeAt, SomeTable, Did}
 use Rattle.writing.specs.Writing.{RuleStep, SomeDifferent, DifferentDid}
@@ -54,17 +52,6 @@ module _ (f : IntExpr → IntExpr → Bool) (g h : IntExpr → Bool) where
     any-sames mnil = refl
     any-sames (more e ms) = rw (any-same e, any-sames ms) refl
 
--- ---- room for the splitting's numbers
-
-splits-low : (e : BoolExpr) (s : Log) → LegalRule e 64 → Low (normalize-and-register-expr e s .1) → next-bool s ≤ limit → next-bool s + splits e false ≤ limit
-unfolding splits normalize-conjunction
-splits-low e s (true-rule x) l k = omega arith
-splits-low e s (legal-rule x) l k =
-    let ts = rule-trees e 0 (next-bool s) in
-    let z : Log = split e false s .log in
-    let m : Low (runs ts z .1) = rw (rule-runs e 0 s) at l in
-    omega (arith, runs-grow ts z .bools, m .bools, split-sided e false s .bools)
-
 -- ---- a clause has two words at least
 
 clause-two : (c : Clause) → 2 ≤ length (clause-words c)
@@ -90,21 +77,20 @@ rule-length e = omega arith
 
 module _ {set w : List ℤ} {q triples m : ℕ} {out : List ℤ} {o : ℕ} where
   module _ {x : Place} {e : BoolExpr} (h : At x (Rule e) set w q triples m out o) where
-    rule-low : Low (normalize-and-register-expr e (x .before) .1)
+    rule-low : Low (normalize-and-register-expr (x .problem .domains) e (x .before))
     rule-low = unfold normalize-stmt in low-back (h .at .grows) (h .low)
 
-    rule-room : next-bool (x .before) + splits e false ≤ limit
-    unfolding normalize-stmt
-    rule-room = splits-low e (x .before) (h .at .legal) rule-low (omega (arith, stmt-grows (x .folded) (x .problem .domains) (Rule e) (x .before) (h .at .legal) .bools, rule-low .bools))
+    room : next-bool (x .before) + splits e false ≤ limit
+    room = rule-room (x .problem .domains) e (x .before) rule-low
 
-    pub rule-writable : Placed w (q + 1) m m × Writable w (q + 1) m
+    rule-writable : Placed w (q + 1) m m × Writable w (q + 1) m
     rule-writable = (
-      record { size = omega (arith, h .size); inside = omega (arith, h .at .inside, rule-length e); low = omega (arith, h .number, rule-room); low-base = omega (arith, h .number, rule-room) },
+      record { size = omega (arith, h .size); inside = omega (arith, h .at .inside, rule-length e); low = omega (arith, h .number, room); low-base = omega (arith, h .number, room) },
       record {
         rule = e;
         legal = h .at .legal;
         has = rule-has w q e (h .stands);
-        room = omega (arith, h .number, rule-room);
+        room = omega (arith, h .number, room);
         domains = x .problem .domains;
         light = sym (any-same _ _ _ e) ∙ h .at .facts .light;
         few = sym (any-same _ _ _ e) ∙ h .at .facts .few;
@@ -112,14 +98,14 @@ module _ {set w : List ℤ} {q triples m : ℕ} {out : List ℤ} {o : ℕ} where
     )
 
     -- k: the clauses before it
-    pub rule-did : {k : ℕ} → Behind out o k → {out' : List ℤ} {e' m' o' k' : ℕ} → RuleStep w q m out o k out' e' m' o' k' → Did x (Rule e) w q out o k w out' e' m' o' k'
+    rule-did : {k : ℕ} → Behind out o k → {out' : List ℤ} {e' m' o' k' : ℕ} → RuleStep w q m out o k out' e' m' o' k' → Did x (Rule e) w q out o k w out' e' m' o' k'
     unfolding normalize-stmt
     rule-did b {out'} {e'} {m'} {o'} r =
         let st : State = x .state in
         let n : m ≡ st .bools = h .number ∙ sym (h .at .numbered .bools) in
         let y : RuleWrote w (q + 1) (st .bools) out o out' e' m' (r .lines) o' = subst (λ (i : ℕ). RuleWrote w (q + 1) i out o out' e' m' (r .lines) o') n (r .wrote) in
-        let i : RuleIs e (x .before) (q + 1) out o out' e' m' (r .lines) o' = rule-written (ColumnRecord (x .folded) (x .problem .domains)) w (q + 1) out o out' e' m' (r .lines) o' st y e (x .before) (h .at .legal) (rule-has w q e (h .stands)) (omega (arith, h .at .numbered .bools, rule-room)) (h .at .numbered) rule-low (back (h .at .grows) (h .fit)) in
-        let two = clauses-two (normalize-and-register-expr e (x .before) .0) in
+        let i : RuleIs (x .problem .domains) e (x .before) (q + 1) out o out' e' m' (r .lines) o' = rule-written (ColumnRecord (x .folded) (x .problem .domains)) w (q + 1) out o out' e' m' (r .lines) o' st y (x .problem .domains) e (x .before) (h .at .legal) (rule-has w q e (h .stands)) (omega (arith, h .at .numbered .bools, room)) (h .at .numbered) rule-low (back (h .at .grows) (h .fit)) in
+        let two = clauses-two (clauses-since (x .before) (normalize-and-register-expr (x .problem .domains) e (x .before))) in
         record {
           clauses = record {
             words = i .wrote;
@@ -136,7 +122,7 @@ module _ {set w : List ℤ} {q triples m : ℕ} {out : List ℤ} {o : ℕ} where
   not-here t h c = absurd (c (code-is w q t (h .stands)))
 
   -- it is a rule's
-  pub is-rule : {X : Type 0} (x : Place) (t : Stmt) → At x t set w q triples m out o → word (read-part w) q ≡ 1 → ((e : BoolExpr) → At x (Rule e) set w q triples m out o → X) → X
+  is-rule : {X : Type 0} (x : Place) (t : Stmt) → At x t set w q triples m out o → word (read-part w) q ≡ 1 → ((e : BoolExpr) → At x (Rule e) set w q triples m out o → X) → X
   is-rule x (Rule e) h c f = f e h
   is-rule x (Table es rows) h c f = not-here (Table es rows) h (λ z. omega (arith, c, z))
   is-rule x (AllDifferent es) h c f = not-here (AllDifferent es) h (λ z. omega (arith, c, z))

@@ -1,7 +1,7 @@
 -- The loop over the statements: so far the clauses of those before q are written, and the words of the work slice from q on are as numbering left them.
-use mathlib.Core.Path.{_≡_, sym, _∙_, subst}
+use mathlib.Core.Path.{_≡_, sym, _∙_, subst, ap}
 use mathlib.Core.Bool.{Bool}
-use mathlib.Core.List.{List, [], _∷_, _++_, append-nil}
+use mathlib.Core.List.{List, [], _∷_, _++_}
 use Prim.Native.Nat.{ℕ, _+_, _*_, _≤_, _<_}
 use native.Mathlib.Omega.{arith}
 use lib.IntN.{ℤ}
@@ -10,7 +10,8 @@ use Rattle.laws.specs.Writes.{wrote-length, wrote-low}
 use Rattle.syntax.specs.Syntax.{Domain, Stmt, Rule, Table, AllDifferent, encode-stmt, Problem}
 use Rattle.fold.specs.Fold.{Fixed}
 use Rattle.clauses.specs.Clause.{Clause}
-use Rattle.clauses.specs.Log.{Log, next-bool, next-int}
+use Rattle.clauses.specs.Log.{Log, next-bool, next-int, clauses-of as clauses-in}
+use Rattle.clauses.specs.Since.{clauses-since}
 use Rattle.answer.specs.Answer.{start-log, normalize-stmts}
 use Rattle.walk.specs.Item.{State}
 use Rattle.walk.specs.Decode.{read-part}
@@ -129,10 +130,10 @@ module _ {set w₀ : List ℤ} {end from triples : ℕ} {out₀ : List ℤ} {o�
           let n : q + length (encode-stmt t) ≡ e = sym (d .next) in (
             record {
               rest = ts;
-              log = after place t .1;
+              log = after place t;
               state = meet-stmt q t (v .state);
-              done = v .done ++ after place t .0;
-              left = subst (λ (i : ℕ). Rest merge p ss F w₀ i ts (after place t .1) (meet-stmt q t (v .state)) (v .done ++ after place t .0)) n r';
+              done = v .done ++ clauses-since (v .log) (after place t);
+              left = subst (λ (i : ℕ). Rest merge p ss F w₀ i ts (after place t) (meet-stmt q t (v .state)) (v .done ++ clauses-since (v .log) (after place t))) n r';
               number = d .bools;
               wrote = clauses-then (h .room .room .room) (v .wrote) (d .clauses);
               saved = saved-then (omega (arith, stmt-words t)) (v .saved) (d .saved);
@@ -145,7 +146,7 @@ module _ {set w₀ : List ℤ} {end from triples : ℕ} {out₀ : List ℤ} {o�
 
     none-left : end ≤ q → (rest : List Stmt) → Rest merge p ss F w₀ q rest (v .log) (v .state) (v .done) → v .done ≡ clauses-of merge p ss
     unfolding normalize-stmts
-    none-left l [] r = sym (append-nil (v .done)) ∙ r .joins
+    none-left l [] r = r .done ∙ ap clauses-in (r .ends)
     none-left l (t ∷ ts) r = absurd (omega (arith, r .place, h .ends, stmt-words t, length-append (encode-stmt t) (stmts-words ts)))
 
     pub sofar-end : end ≤ q → Clauses out₀ o₀ 0 (clauses-of merge p ss) out o k

@@ -9,8 +9,7 @@ use Rattle.laws.specs.Lists.{flat}
 use Rattle.laws.specs.Slices.{Has}
 use Rattle.syntax.specs.Syntax.{IntExpr, Stmt, AllDifferent, Problem, encode}
 use Rattle.fold.specs.Fold.{Fixed}
-use Rattle.clauses.specs.Log.{next-bool}
-use Rattle.tables.specs.Tables.{emitted-domains}
+use Rattle.clauses.specs.Log.{next-bool, emitted-domains}
 use Rattle.answer.specs.Answer.{start-log, domain-words}
 use Rattle.walk.specs.Item.{bump}
 use Rattle.walk.specs.declared.Counters.{Counters}

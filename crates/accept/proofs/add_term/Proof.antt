@@ -1,10 +1,9 @@
 use mathlib.Core.Path.{_≡_, refl, _∙_}
-use mathlib.Core.Logic.{⊎-elim}
 use Prim.Native.Nat.{_+_, _*_, _≤_, min}
 use lib.IntN.{natAbs}
 use mir.Facts.{toZ-ofZ}
 use Rattle.limits.specs.Total.{cap}
-use Rattle.accept.proofs.Sizes.{small, product-small, add-stuck, add-light, add-width}
+use Rattle.accept.proofs.Sizes.{small, product-small, add-stuck, add-light}
 use borrow.Author.Needs.{needs}
 use Rattle.accept.proofs.add_term.Statement.{statement}
 use Rattle.accept.proofs.add_term.Tie as tie
@@ -17,7 +16,7 @@ size-is : (c : tie.After-size) → c .size .result ≡ natAbs (c .before .before
 size-is c = c .size .ensures ∙ rw (toZ-ofZ (c .before .before .fits .k)) refl
 
 returns : tie.Need-returns
-returns c = add-stuck (c .before .before .args .weigh) _ _ _ (c .before .if1 .taken) (c .if2 .taken)
+returns c = add-stuck _ _ _ (c .if1 .taken)
 
 size-requires : tie.Need-size-requires
 size-requires c κs = search needs
@@ -32,7 +31,10 @@ capped-requires : tie.Need-capped-requires
 capped-requires c κs = search needs
 
 returns-2 : tie.Need-returns-2
-returns-2 c = let e : c .capped .result ≡ min ((c .before .before .before .args .acc) + natAbs (c .before .before .before .args .k) * (c .before .before .before .args .t)) cap = c .capped .ensures ∙ rw (size-is (c .before)) refl in e ∙ ⊎-elim (λ w. add-light (c .before .before .before .args .weigh) (natAbs (c .before .before .before .args .k)) (c .before .before .before .args .t) (c .before .before .before .args .acc) (w .1 .left)) (λ w. add-width (c .before .before .before .args .weigh) (natAbs (c .before .before .before .args .k)) (c .before .before .before .args .t) (c .before .before .before .args .acc) (w .left)) (c .before .before .if1 .came)
+returns-2 c =
+    let s = c .before .before .before in
+    let e : c .capped .result ≡ min ((s .args .acc) + natAbs (s .args .k) * (s .args .t)) cap = c .capped .ensures ∙ rw (size-is (c .before)) refl in
+    e ∙ add-light (natAbs (s .args .k)) (s .args .t) (s .args .acc) (c .before .before .if1 .left)
 
 pub add-term-spec : {M : Type 1} → statement M
 add-term-spec =

@@ -9,7 +9,6 @@ use Rattle.accept.proofs.bounds_total.Tie as tie
 use Rattle.accept.proofs.bounds_total.Reads as reads
 use Rattle.accept.proofs.bounds_total.Lts as lts
 use Rattle.accept.proofs.capped.Reads as capped-reads
-use Rattle.accept.proofs.distance.Reads as distance-reads
 use Rattle.accept.proofs.larger.Reads as larger-reads
 use Rattle.accept.proofs.size.Reads as size-reads
 
@@ -30,28 +29,11 @@ capped-requires c κs = search needs
 
 returns : tie.Need-returns
 unfolding bounds-total
-returns c = let a : c .before .before .before .before .size .result ≡ natAbs (c .before .before .before .before .before .before .args .low) = c .before .before .before .before .size .ensures ∙ rw (toZ-ofZ (c .before .before .before .before .before .before .fits .low)) refl in let b : c .before .before .before .size2 .result ≡ natAbs (c .before .before .before .before .before .before .args .high) = c .before .before .before .size2 .ensures ∙ rw (toZ-ofZ (c .before .before .before .before .before .before .fits .high)) refl in rw (c .before .before .before .before .before .if1 .taken) (c .capped .ensures ∙ ap (λ n. min n cap) (c .before .larger2 .ensures ∙ ap (λ n. max 1 n) (c .before .before .larger .ensures ∙ rw (a, b) refl)))
-
-distance-requires : tie.Need-distance-requires
-distance-requires c κs = search needs
-
-capped-requires-2 : tie.Need-capped-requires-2
-capped-requires-2 c κs = search needs
-
-returns-2 : tie.Need-returns-2
-unfolding bounds-total
-returns-2 c = rw (c .before .before .if1 .left) (c .capped2 .ensures ∙ ap (λ n. min n cap) (c .before .distance .ensures ∙ rw (toZ-ofZ (c .before .before .before .fits .low), toZ-ofZ (c .before .before .before .fits .high)) refl))
+returns c =
+    let s = c .before .before .before .before .before in
+    let a : c .before .before .before .before .size .result ≡ natAbs (s .args .low) = c .before .before .before .before .size .ensures ∙ rw (toZ-ofZ (s .fits .low)) refl in
+    let b : c .before .before .before .size2 .result ≡ natAbs (s .args .high) = c .before .before .before .size2 .ensures ∙ rw (toZ-ofZ (s .fits .high)) refl in
+    c .capped .ensures ∙ ap (λ n. min n cap) (c .before .larger2 .ensures ∙ ap (λ n. max 1 n) (c .before .before .larger .ensures ∙ rw (a, b) refl))
 
 pub bounds-total-spec : {M : Type 1} → statement M
-bounds-total-spec =
-    tie.close
-    (tie.spec
-    size-requires
-    size-requires-2
-    larger-requires
-    larger-requires-2
-    capped-requires
-    returns
-    distance-requires
-    capped-requires-2
-    returns-2)
+bounds-total-spec = tie.close (tie.spec size-requires size-requires-2 larger-requires larger-requires-2 capped-requires returns)

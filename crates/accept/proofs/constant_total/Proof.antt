@@ -18,11 +18,7 @@ capped-requires c κs = search needs
 
 returns : tie.Need-returns
 unfolding constant-total
-returns c = rw (c .before .before .if1 .taken) (c .capped .ensures ∙ ap (λ n. min n cap) (c .before .size .ensures ∙ rw (toZ-ofZ (c .before .before .before .fits .w)) refl))
-
-returns-2 : tie.Need-returns-2
-unfolding constant-total
-returns-2 c = rw (c .if1 .left) refl
+returns c = c .capped .ensures ∙ ap (λ n. min n cap) (c .before .size .ensures ∙ rw (toZ-ofZ (c .before .before .fits .w)) refl)
 
 pub constant-total-spec : {M : Type 1} → statement M
-constant-total-spec = tie.close (tie.spec size-requires capped-requires returns returns-2)
+constant-total-spec = tie.close (tie.spec size-requires capped-requires returns)

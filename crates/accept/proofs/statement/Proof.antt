@@ -1,4 +1,4 @@
-use Rattle.accept.proofs.StatementLaws.{stmt-inside, stmt-plain, rule-ready, rule-post, stmt-second, different-inside, different-ready, different-post, table-inside, table-second, table-ready, table-hit, table-room, table-post}
+use Rattle.accept.proofs.StatementLaws.{stmt-inside, stmt-plain, rule-ready, rule-post, stmt-second, different-inside, different-ready, different-post, table-inside, table-second, table-ready, table-room, table-post}
 use borrow.Author.Needs.{needs}
 use Rattle.accept.proofs.statement.Statement.{statement}
 use Rattle.accept.proofs.statement.Tie as tie
@@ -10,55 +10,52 @@ use Rattle.accept.proofs.rules.Reads as rules-reads
 use Rattle.domains.proofs.number.Reads as number-reads
 
 number-requires : tie.Need-number-requires
-number-requires c κs = stmt-plain (c .args .set .now) (c .args .work .now) (c .args .at) (c .args .ni) (c .args .m) (c .pre .0)
+number-requires c κs = stmt-plain (c .args .set .now) (c .args .work .now) (c .args .at) (c .args .ni) (c .pre .0)
 
 add-rules : tie.Need-add-rules
-add-rules c = let q = stmt-inside (c .before .before .args .set .now) (c .before .before .args .work .now) (c .before .before .args .at) (c .before .before .args .ni) (c .before .before .args .m) (c .before .before .pre .0) in search needs
+add-rules c = let q = stmt-inside (c .before .before .args .set .now) (c .before .before .args .work .now) (c .before .before .args .at) (c .before .before .args .ni) (c .before .before .pre .0) in search needs
 
 rules-requires : tie.Need-rules-requires
-rules-requires c κs = (rule-ready (c .before .before .args .set .now) (c .before .before .args .work .now) (c .before .before .args .at) (c .before .before .args .ni) (c .before .before .args .m) _ (c .before .number .ensures .0) (c .if1 .taken) (c .before .before .pre .0), c .before .before .pre .1)
+rules-requires c κs = (rule-ready (c .before .before .args .set .now) (c .before .before .args .work .now) (c .before .before .args .at) (c .before .before .args .ni) _ (c .before .number .ensures .0) (c .if1 .taken) (c .before .before .pre .0), c .before .before .pre .1)
 
 returns : tie.Need-returns
-returns c = rule-post (c .before .before .before .args .set .now) (c .before .before .before .args .work .now) (c .before .before .before .args .at) (c .before .before .before .args .ni) (c .before .before .before .args .m) _ (c .before .before .number .ensures .0) (c .before .if1 .taken) _ (c .rules .ensures)
+returns c = rule-post (c .before .before .before .args .set .now) (c .before .before .before .args .work .now) (c .before .before .before .args .at) (c .before .before .before .args .ni) _ (c .before .before .number .ensures .0) (c .before .if1 .taken) _ _ (c .rules .ensures)
 
 add-number : tie.Need-add-number
-add-number c = let q = stmt-inside (c .before .before .args .set .now) (c .before .before .args .work .now) (c .before .before .args .at) (c .before .before .args .ni) (c .before .before .args .m) (c .before .before .pre .0) in search needs
+add-number c = let q = stmt-inside (c .before .before .args .set .now) (c .before .before .args .work .now) (c .before .before .args .at) (c .before .before .args .ni) (c .before .before .pre .0) in search needs
 
 number-requires-2 : tie.Need-number-requires-2
-number-requires-2 c κs = stmt-second (c .before .before .args .set .now) (c .before .before .args .work .now) (c .before .before .args .at) (c .before .before .args .ni) (c .before .before .args .m) _ (c .before .number .ensures .0) (c .if1 .left) (c .before .before .pre .0)
+number-requires-2 c κs = stmt-second (c .before .before .args .set .now) (c .before .before .args .work .now) (c .before .before .args .at) (c .before .before .args .ni) _ (c .before .number .ensures .0) (c .if1 .left) (c .before .before .pre .0)
 
 add-all-different : tie.Need-add-all-different
-add-all-different c = let q = different-inside (c .before .before .before .before .args .set .now) (c .before .before .before .before .args .work .now) (c .before .before .before .before .args .at) (c .before .before .before .before .args .ni) (c .before .before .before .before .args .m) _ (c .before .before .before .number .ensures .0) (c .if2 .taken) (c .before .before .before .before .pre .0) in search needs
+add-all-different c = let q = different-inside (c .before .before .before .before .args .set .now) (c .before .before .before .before .args .work .now) (c .before .before .before .before .args .at) (c .before .before .before .before .args .ni) _ (c .before .before .before .number .ensures .0) (c .if2 .taken) (c .before .before .before .before .pre .0) in search needs
 
 all-different-requires : tie.Need-all-different-requires
-all-different-requires c κs = (different-ready (c .before .before .before .before .args .set .now) (c .before .before .before .before .args .work .now) (c .before .before .before .before .args .at) (c .before .before .before .before .args .ni) (c .before .before .before .before .args .m) _ (c .before .before .before .number .ensures .0) (c .if2 .taken) _ (c .before .number2 .ensures .0) (c .before .before .before .before .pre .0), c .before .before .before .before .pre .1)
+all-different-requires c κs = (different-ready (c .before .before .before .before .args .set .now) (c .before .before .before .before .args .work .now) (c .before .before .before .before .args .at) (c .before .before .before .before .args .ni) _ (c .before .before .before .number .ensures .0) (c .if2 .taken) _ (c .before .number2 .ensures .0) (c .before .before .before .before .pre .0), c .before .before .before .before .pre .1)
 
 returns-2 : tie.Need-returns-2
-returns-2 c = different-post (c .before .before .before .before .before .args .set .now) (c .before .before .before .before .before .args .work .now) (c .before .before .before .before .before .args .at) (c .before .before .before .before .before .args .ni) (c .before .before .before .before .before .args .m) _ (c .before .before .before .before .number .ensures .0) (c .before .if2 .taken) _ (c .before .before .number2 .ensures .0) _ (c .all-different .ensures)
+returns-2 c = different-post (c .before .before .before .before .before .args .set .now) (c .before .before .before .before .before .args .work .now) (c .before .before .before .before .before .args .at) (c .before .before .before .before .before .args .ni) _ (c .before .before .before .before .number .ensures .0) (c .before .if2 .taken) _ (c .before .before .number2 .ensures .0) _ _ (c .all-different .ensures)
 
 add-number-2 : tie.Need-add-number-2
-add-number-2 c = let q = table-inside (c .before .before .before .before .args .set .now) (c .before .before .before .before .args .work .now) (c .before .before .before .before .args .at) (c .before .before .before .before .args .ni) (c .before .before .before .before .args .m) _ (c .before .before .before .number .ensures .0) (c .before .before .if1 .left) (c .if2 .left) (c .before .before .before .before .pre .0) in search needs
+add-number-2 c = let q = table-inside (c .before .before .before .before .args .set .now) (c .before .before .before .before .args .work .now) (c .before .before .before .before .args .at) (c .before .before .before .before .args .ni) _ (c .before .before .before .number .ensures .0) (c .before .before .if1 .left) (c .if2 .left) (c .before .before .before .before .pre .0) in search needs
 
 number-requires-3 : tie.Need-number-requires-3
-number-requires-3 c κs = table-second (c .before .before .before .before .args .set .now) (c .before .before .before .before .args .work .now) (c .before .before .before .before .args .at) (c .before .before .before .before .args .ni) (c .before .before .before .before .args .m) _ (c .before .before .before .number .ensures .0) (c .before .before .if1 .left) (c .if2 .left) (c .before .before .before .before .pre .0)
+number-requires-3 c κs = table-second (c .before .before .before .before .args .set .now) (c .before .before .before .before .args .work .now) (c .before .before .before .before .args .at) (c .before .before .before .before .args .ni) _ (c .before .before .before .number .ensures .0) (c .before .before .if1 .left) (c .if2 .left) (c .before .before .before .before .pre .0)
 
 add-columns : tie.Need-add-columns
-add-columns c = let q = table-inside (c .before .before .before .before .before .args .set .now) (c .before .before .before .before .before .args .work .now) (c .before .before .before .before .before .args .at) (c .before .before .before .before .before .args .ni) (c .before .before .before .before .before .args .m) _ (c .before .before .before .before .number .ensures .0) (c .before .before .before .if1 .left) (c .before .if2 .left) (c .before .before .before .before .before .pre .0) in search needs
+add-columns c = let q = table-inside (c .before .before .before .before .before .args .set .now) (c .before .before .before .before .before .args .work .now) (c .before .before .before .before .before .args .at) (c .before .before .before .before .before .args .ni) _ (c .before .before .before .before .number .ensures .0) (c .before .before .before .if1 .left) (c .before .if2 .left) (c .before .before .before .before .before .pre .0) in search needs
 
 columns-requires : tie.Need-columns-requires
-columns-requires c κs = (table-ready (c .before .before .before .before .before .args .set .now) (c .before .before .before .before .before .args .work .now) (c .before .before .before .before .before .args .at) (c .before .before .before .before .before .args .ni) (c .before .before .before .before .before .args .m) _ (c .before .before .before .before .number .ensures .0) (c .before .before .before .if1 .left) (c .before .if2 .left) _ (c .before .before .number2 .ensures .0) _ (c .number3 .ensures .0) (c .before .before .before .before .before .pre .0), c .before .before .before .before .before .pre .1)
+columns-requires c κs = (table-ready (c .before .before .before .before .before .args .set .now) (c .before .before .before .before .before .args .work .now) (c .before .before .before .before .before .args .at) (c .before .before .before .before .before .args .ni) _ (c .before .before .before .before .number .ensures .0) (c .before .before .before .if1 .left) (c .before .if2 .left) _ (c .before .before .number2 .ensures .0) _ (c .number3 .ensures .0) (c .before .before .before .before .before .pre .0), c .before .before .before .before .before .pre .1)
+
+mul-t11 : tie.Need-mul-t11
+mul-t11 c = let q = table-room (c .before .before .before .before .before .before .args .set .now) (c .before .before .before .before .before .before .args .work .now) (c .before .before .before .before .before .before .args .at) (c .before .before .before .before .before .before .args .ni) _ (c .before .before .before .before .before .number .ensures .0) (c .before .before .before .before .if1 .left) (c .before .before .if2 .left) _ (c .before .before .before .number2 .ensures .0) _ (c .before .number3 .ensures .0) _ _ (c .columns .ensures) (c .before .before .before .before .before .before .pre .0) in search needs
+
+add-t13 : tie.Need-add-t13
+add-t13 c = let q = table-room (c .before .before .before .before .before .before .before .args .set .now) (c .before .before .before .before .before .before .before .args .work .now) (c .before .before .before .before .before .before .before .args .at) (c .before .before .before .before .before .before .before .args .ni) _ (c .before .before .before .before .before .before .number .ensures .0) (c .before .before .before .before .before .if1 .left) (c .before .before .before .if2 .left) _ (c .before .before .before .before .number2 .ensures .0) _ (c .before .before .number3 .ensures .0) _ _ (c .before .columns .ensures) (c .before .before .before .before .before .before .before .pre .0) in search needs
 
 returns-3 : tie.Need-returns-3
-returns-3 c = table-hit (c .before .before .before .before .before .before .before .args .set .now) (c .before .before .before .before .before .before .before .args .work .now) (c .before .before .before .before .before .before .before .args .at) (c .before .before .before .before .before .before .before .args .ni) (c .before .before .before .before .before .before .before .args .m) _ (c .before .before .before .before .before .before .number .ensures .0) (c .before .before .before .before .before .if1 .left) (c .before .before .before .if2 .left) _ (c .before .before .before .before .number2 .ensures .0) _ (c .before .before .number3 .ensures .0) _ (c .before .columns .ensures) (c .if3 .taken)
-
-mul-result : tie.Need-mul-result
-mul-result c = let q = table-room (c .before .before .before .before .before .before .before .args .set .now) (c .before .before .before .before .before .before .before .args .work .now) (c .before .before .before .before .before .before .before .args .at) (c .before .before .before .before .before .before .before .args .ni) (c .before .before .before .before .before .before .before .args .m) _ (c .before .before .before .before .before .before .number .ensures .0) (c .before .before .before .before .before .if1 .left) (c .before .before .before .if2 .left) _ (c .before .before .before .before .number2 .ensures .0) _ (c .before .before .number3 .ensures .0) _ (c .before .columns .ensures) (c .if3 .left) (c .before .before .before .before .before .before .before .pre .0) in search needs
-
-add-result : tie.Need-add-result
-add-result c = let q = table-room (c .before .before .before .before .before .before .before .args .set .now) (c .before .before .before .before .before .before .before .args .work .now) (c .before .before .before .before .before .before .before .args .at) (c .before .before .before .before .before .before .before .args .ni) (c .before .before .before .before .before .before .before .args .m) _ (c .before .before .before .before .before .before .number .ensures .0) (c .before .before .before .before .before .if1 .left) (c .before .before .before .if2 .left) _ (c .before .before .before .before .number2 .ensures .0) _ (c .before .before .number3 .ensures .0) _ (c .before .columns .ensures) (c .if3 .left) (c .before .before .before .before .before .before .before .pre .0) in search needs
-
-returns-4 : tie.Need-returns-4
-returns-4 c = table-post (c .before .before .before .before .before .before .before .args .set .now) (c .before .before .before .before .before .before .before .args .work .now) (c .before .before .before .before .before .before .before .args .at) (c .before .before .before .before .before .before .before .args .ni) (c .before .before .before .before .before .before .before .args .m) _ (c .before .before .before .before .before .before .number .ensures .0) (c .before .before .before .before .before .if1 .left) (c .before .before .before .if2 .left) _ (c .before .before .before .before .number2 .ensures .0) _ (c .before .before .number3 .ensures .0) _ (c .before .columns .ensures) (c .if3 .left)
+returns-3 c = table-post (c .before .before .before .before .before .before .before .args .set .now) (c .before .before .before .before .before .before .before .args .work .now) (c .before .before .before .before .before .before .before .args .at) (c .before .before .before .before .before .before .before .args .ni) _ (c .before .before .before .before .before .before .number .ensures .0) (c .before .before .before .before .before .if1 .left) (c .before .before .before .if2 .left) _ (c .before .before .before .before .number2 .ensures .0) _ (c .before .before .number3 .ensures .0) _ _ (c .before .columns .ensures)
 
 pub statement-spec : {M : Type 1} → statement M
 statement-spec =
@@ -77,7 +74,6 @@ statement-spec =
     number-requires-3
     add-columns
     columns-requires
-    returns-3
-    mul-result
-    add-result
-    returns-4)
+    mul-t11
+    add-t13
+    returns-3)

@@ -45,7 +45,7 @@ bounds-total-requires : tie.Need-bounds-total-requires
 bounds-total-requires c κs = search needs
 
 returns : tie.Need-returns
-returns c = let f : SFits w32 (getD (c .before .before .before .args .work .now) (7936 + 2 * (c .before .before .before .args .v)) (pos 0)) = sfits-of (c .before .before .low .given) in let g : SFits w32 (getD (c .before .before .before .args .work .now) (7936 + (2 * (c .before .before .before .args .v) + 1)) (pos 0)) = sfits-of (c .before .high .given) in var-post (c .before .before .before .args .work .now) (c .before .before .before .args .weigh) (c .before .before .before .args .v) (c .bounds-total .result) (getD (c .before .before .before .args .work .now) (7936 + 2 * (c .before .before .before .args .v)) (pos 0)) (getD (c .before .before .before .args .work .now) (7936 + (2 * (c .before .before .before .args .v) + 1)) (pos 0)) refl refl (rw (toZ-ofZ f, toZ-ofZ g) at (c .bounds-total .ensures))
+returns c = let f : SFits w32 (getD (c .before .before .before .args .work .now) (7936 + 2 * (c .before .before .before .args .v)) (pos 0)) = sfits-of (c .before .before .low .given) in let g : SFits w32 (getD (c .before .before .before .args .work .now) (7936 + (2 * (c .before .before .before .args .v) + 1)) (pos 0)) = sfits-of (c .before .high .given) in var-post (c .before .before .before .args .work .now) (c .before .before .before .args .v) (c .bounds-total .result) (getD (c .before .before .before .args .work .now) (7936 + 2 * (c .before .before .before .args .v)) (pos 0)) (getD (c .before .before .before .args .work .now) (7936 + (2 * (c .before .before .before .args .v) + 1)) (pos 0)) refl refl (rw (toZ-ofZ f, toZ-ofZ g) at (c .bounds-total .ensures))
 
 pub variable-total-spec : {M : Type 1} → statement M
 variable-total-spec =

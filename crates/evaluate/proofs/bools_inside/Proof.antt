@@ -11,7 +11,7 @@ use mir.Val.{SFits}
 use mir.Facts.{toZ-ofZ}
 use borrow.Author.Needs.{needs, sfits-of}
 use Rattle.laws.specs.Lists.{all, from, below}
-use Rattle.evaluate.specs.Roster.{is-bit}
+use Rattle.verdict.specs.Roster.{is-bit}
 use Rattle.evaluate.proofs.ValueLaws.{bools-start, bools-none, bools-stop, bools-more}
 use Rattle.evaluate.proofs.BoolLaws.{not-true, not-false}
 

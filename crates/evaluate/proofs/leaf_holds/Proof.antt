@@ -8,14 +8,14 @@ use lib.ListN.{getD}
 use mir.Syntax.{w32}
 use mir.Val.{SFits}
 use borrow.Author.Needs.{needs, sfits-of}
-use Rattle.evaluate.proofs.SkipLaws.{some-inside, some-second}
+use Rattle.passes.proofs.SkipLaws.{bool-inside, bool-second}
 use Rattle.evaluate.proofs.BoolLaws.{ready-some, const-held, var-inside, var-held, eq-bits}
 
 add-number : tie.Need-add-number
-add-number c = let q = some-inside (c .args .set .now) (c .args .at) (ready-some (c .args .set .now) (c .args .values .now) (c .args .nb) (c .args .at) (c .pre .0)) in search needs
+add-number c = let q = bool-inside (c .args .set .now) (c .args .at) (ready-some (c .args .set .now) (c .args .values .now) (c .args .nb) (c .args .at) (c .pre .0)) in search needs
 
 number-requires : tie.Need-number-requires
-number-requires c κs = some-second (c .args .set .now) (c .args .at) (c .args .code) (c .pre .1) (ready-some (c .args .set .now) (c .args .values .now) (c .args .nb) (c .args .at) (c .pre .0)) (λ l. absurd (omega (arith, l, c .pre .2)))
+number-requires c κs = bool-second (c .args .set .now) (c .args .at) (c .args .code) (c .pre .1) (ready-some (c .args .set .now) (c .args .values .now) (c .args .nb) (c .args .at) (c .pre .0)) (λ l. absurd (omega (arith, l, c .pre .2)))
 
 returns : tie.Need-returns
 returns c = const-held (c .before .before .args .set .now) (c .before .before .args .values .now) (c .before .before .args .nb) (c .before .before .args .at) (c .before .before .args .code) (c .before .before .pre .1) (c .before .before .pre .2) _ (c .before .number .ensures .0) _ (c .if1 .taken) refl

@@ -28,7 +28,7 @@ loop-less : tie.Need-loop-less Inv-loop μ-loop
 loop-less c = search needs
 
 loop-again : tie.Need-loop-again Inv-loop μ-loop
-loop-again c = (nth-ready (c .before .before .before .args .set .now) (c .before .before .before .args .work .now) (c .before .before .loop .next) (c .before .before .before .args .ni) _ (c .statement .ensures) (c .before .before .loop .rest) (c .before .loop-test .taken) (c .before .before .loop .inv .0), λ r x. c .before .before .loop .inv .1 r (nth-rest (c .before .before .before .args .set .now) (c .before .before .before .args .work .now) (c .before .before .loop .next) (c .before .before .before .args .ni) _ (c .statement .ensures) (c .before .before .loop .rest) (c .before .loop-test .taken) r x))
+loop-again c = (nth-ready (c .before .before .before .args .set .now) (c .before .before .before .args .work .now) (c .before .before .loop .next) (c .before .before .before .args .ni) _ _ (c .statement .ensures) (c .before .before .loop .rest) (c .before .loop-test .taken) (c .before .before .loop .inv .0), λ r x. c .before .before .loop .inv .1 r (nth-rest (c .before .before .before .args .set .now) (c .before .before .before .args .work .now) (c .before .before .loop .next) (c .before .before .before .args .ni) _ _ (c .statement .ensures) (c .before .before .loop .rest) (c .before .loop-test .taken) r x))
 
 returns : tie.Need-returns Inv-loop μ-loop
 returns c = c .before .loop .inv .1 _ (nth-done (c .before .before .args .set .now) (c .before .before .args .work .now) (c .before .loop .next) (c .before .before .args .ni) (c .before .loop .rest) (c .loop-test .left))

@@ -16,7 +16,7 @@ statement-requires : tie.Need-statement-requires
 statement-requires c κs = (part-ready (c .before .args .set .now) (c .before .args .work .now) (c .before .args .at) (c .before .args .ni) (c .before .args .k) _ (c .nth .ensures) (c .before .pre .0), omega (arith, c .before .pre .1))
 
 returns : tie.Need-returns
-returns c = (part-post (c .before .before .args .set .now) (c .before .before .args .work .now) (c .before .before .args .at) (c .before .before .args .ni) (c .before .before .args .k) _ (c .before .nth .ensures) _ (c .statement .ensures), refl)
+returns c = (part-post (c .before .before .args .set .now) (c .before .before .args .work .now) (c .before .before .args .at) (c .before .before .args .ni) (c .before .before .args .k) _ (c .before .nth .ensures) _ _ (c .statement .ensures), refl)
 
 pub part-of-spec : {M : Type 1} → statement M
 part-of-spec = tie.close (tie.spec nth-requires statement-requires returns)

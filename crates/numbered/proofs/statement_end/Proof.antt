@@ -1,3 +1,4 @@
+use mathlib.Core.Bool.{false}
 use borrow.Author.Needs.{needs}
 use mathlib.Core.Path.{refl}
 use native.Mathlib.Omega.{arith}
@@ -23,7 +24,7 @@ skip-requires : tie.Need-skip-requires
 skip-requires c κs = let s = c .before .before in (s .pre .1, (stmt-inside _ _ _ (s .pre .0), omega arith))
 
 returns : tie.Need-returns
-returns c = rule-ends _ _ _ _ _ (c .before .before .word .ensures) (c .before .if1 .taken) (c .skip .ensures)
+returns c = rule-ends _ _ _ _ _ (c .before .before .word .ensures) (c .before .if1 .taken) (c .skip .ensures .end false)
 
 add-word : tie.Need-add-word
 add-word c = omega (arith, second-inside _ _ _ _ (c .before .word .ensures) (c .before .before .pre .0) (c .if1 .left))

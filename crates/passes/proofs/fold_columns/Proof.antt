@@ -31,7 +31,7 @@ loop-less : tie.Need-loop-less Inv-loop μ-loop
 loop-less c = search needs
 
 loop-again : tie.Need-loop-again Inv-loop μ-loop
-loop-again c = (c .before .constant-folding-int .kept .1 .1 .1 .0 ∙ c .before .before .before .before .loop .inv .0, columns-ready _ _ _ _ _ _ (c .before .before .before .loop-test .taken) _ _ _ (c .before .constant-folding-int .ensures) (c .before .before .before .before .loop .inv .1) (c .before .constant-folding-int .kept .1 .1 .1 .0), λ out' next' end' p. c .before .before .before .before .loop .inv .2 out' next' end' (columns-more _ _ _ _ _ _ (c .before .before .before .loop-test .taken) _ _ _ (c .before .constant-folding-int .ensures) _ _ _ p))
+loop-again c = (c .before .constant-folding-int .kept .1 .1 .1 .0 ∙ c .before .before .before .before .loop .inv .0, columns-ready _ _ _ _ _ _ (c .before .before .before .loop-test .taken) _ _ _ (c .before .constant-folding-int .ensures) (c .before .before .before .before .loop .inv .1) (c .before .constant-folding-int .kept .1 .1 .1 .0), λ out' next' end' p. c .before .before .before .before .loop .inv .2 out' next' end' (columns-more _ _ _ _ _ _ (c .before .before .before .loop-test .taken) _ _ _ (c .before .constant-folding-int .ensures) _ _ _ (c .before .before .before .before .loop .inv .1) p))
 
 same-length : tie.Need-same-length Inv-loop μ-loop
 same-length c = c .before .loop .inv .0

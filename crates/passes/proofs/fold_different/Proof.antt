@@ -28,7 +28,7 @@ same-length : tie.Need-same-length
 same-length c = c .before .fold-columns .kept .1 .1 .1 .1 .0 ∙ c .before .before .before .before .put-two .kept .0
 
 returns : tie.Need-returns
-returns c = different-folds _ _ _ _ _ (c .before .before .before .before .before .before .before .pre .1) _ (c .before .before .before .before .before .before .number .ensures .0) _ _ (c .before .before .before .before .put-two .ensures) _ _ _ (c .before .fold-columns .ensures)
+returns c = different-folds _ _ _ _ _ (c .before .before .before .before .before .before .before .pre .1) _ (c .before .before .before .before .before .before .number .ensures .0) _ _ (c .before .before .before .before .put-two .ensures) _ _ _ (c .before .before .before .before .before .before .before .pre .0) (c .before .fold-columns .ensures)
 
 pub fold-different-spec : {M : Type 1} → statement M
 fold-different-spec =

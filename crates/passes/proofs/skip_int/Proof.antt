@@ -1,24 +1,22 @@
-use borrow.Author.Needs.{needs}
 use Rattle.passes.proofs.skip_int.Statement.{statement}
 use Rattle.passes.proofs.skip_int.Tie as tie
-use Rattle.passes.proofs.skip_int.Reads as reads
-use Rattle.passes.proofs.skip_int.Lts as lts
-use Rattle.passes.proofs.skip_terms.Reads as skip-terms-reads
-use Rattle.passes.proofs.sum_count.Reads as sum-count-reads
 use native.Mathlib.Omega.{arith}
-use Rattle.passes.proofs.SkipLaws.{some-inside, body-stands, int-skips}
+use Rattle.passes.proofs.SkipLaws.{int-inside, int-first, two-words-skip}
 
-sum-count-requires : tie.Need-sum-count-requires
-sum-count-requires c κs = search needs
+number-requires : tie.Need-number-requires
+number-requires c κs = int-first _ _ (c .pre)
 
-add-skip-terms : tie.Need-add-skip-terms
-add-skip-terms c = let q = some-inside _ _ (c .before .pre) in omega (arith, c .before .good .0 .0)
-
-skip-terms-requires : tie.Need-skip-terms-requires
-skip-terms-requires c κs = body-stands _ _ _ (c .sum-count .ensures) (c .before .pre)
+add-result : tie.Need-add-result
+add-result c = let q = int-inside _ _ (c .before .before .pre) in omega (arith, c .before .before .good .0 .0)
 
 returns : tie.Need-returns
-returns c = int-skips _ _ _ (c .before .sum-count .ensures) _ (c .skip-terms .ensures)
+returns c = two-words-skip _ _ _ (c .before .number .ensures .0) (c .if1 .taken)
+
+int-end-requires : tie.Need-int-end-requires
+int-end-requires c κs = c .before .before .pre
+
+returns-2 : tie.Need-returns-2
+returns-2 c = c .int-end .ensures
 
 pub skip-int-spec : {M : Type 1} → statement M
-skip-int-spec = tie.close (tie.spec sum-count-requires add-skip-terms skip-terms-requires returns)
+skip-int-spec = tie.close (tie.spec number-requires add-result returns int-end-requires returns-2)

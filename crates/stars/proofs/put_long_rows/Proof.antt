@@ -2,8 +2,8 @@ use mathlib.Core.Path.{_≡_, sym, ap, _∙_}
 use Prim.Native.Nat.{_+_, _≤_}
 use native.Mathlib.Omega.{arith}
 use lib.ListN.{drop}
-use Rattle.rows.specs.Rows.{rows-of}
-use Rattle.rows.specs.Columns.{vars-of}
+use Rattle.sorting.specs.Rows.{rows-of}
+use Rattle.sorting.specs.Columns.{vars-of}
 use Rattle.rows.specs.Stars.{is-longer}
 use Rattle.rows.proofs.Counting.{longer-is}
 use Rattle.stars.specs.Lines.{long-lines}

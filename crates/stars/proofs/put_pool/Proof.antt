@@ -2,8 +2,8 @@ use native.Mathlib.Omega.{arith}
 use lib.ListN.{drop}
 use mir.Syntax.{w32}
 use mir.Facts.{toZ-pos}
-use Rattle.rows.specs.Rows.{rows-of}
-use Rattle.rows.specs.Columns.{vars-of}
+use Rattle.sorting.specs.Rows.{rows-of}
+use Rattle.sorting.specs.Columns.{vars-of}
 use Rattle.stars.specs.Lines.{single-linears}
 use Rattle.stars.proofs.Laws.{lines-stop, pool-one}
 use borrow.Author.Needs.{needs}

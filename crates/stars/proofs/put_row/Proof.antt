@@ -5,8 +5,8 @@ use lib.ListN.{drop}
 use mir.Facts.{toZ-ofZ}
 use borrow.Author.Needs.{sfits-of}
 use Rattle.walk.specs.Item.{extra}
-use Rattle.rows.specs.Rows.{row-at}
-use Rattle.rows.specs.Columns.{vars-of}
+use Rattle.sorting.specs.Rows.{row-at}
+use Rattle.sorting.specs.Columns.{vars-of}
 use Rattle.stars.specs.Lines.{row-lines, equality}
 use Rattle.stars.specs.Stars.{RowAt}
 use Rattle.stars.proofs.Laws.{Rest, rest-start, rest-next, rest-end, lines-step, cells-none, row-next, row-named}
@@ -14,7 +14,7 @@ use Rattle.stars.proofs.put_row.Statement.{statement}
 use Rattle.stars.proofs.put_row.Tie as tie
 use Rattle.stars.proofs.put_row.Reads as reads
 use Rattle.stars.proofs.put_row.Lts as lts
-use Rattle.rows.proofs.number_at.Reads as number-at-reads
+use Rattle.sorting.proofs.number_at.Reads as number-at-reads
 use Rattle.stars.proofs.put_equality.Reads as put-equality-reads
 
 abbrev Inv-loop : tie.InvT-loop

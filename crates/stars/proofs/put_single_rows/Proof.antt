@@ -1,8 +1,8 @@
 use mathlib.Core.Path.{_≡_, sym, ap, _∙_}
 use native.Mathlib.Omega.{arith}
 use lib.ListN.{drop}
-use Rattle.rows.specs.Rows.{rows-of}
-use Rattle.rows.specs.Columns.{vars-of}
+use Rattle.sorting.specs.Rows.{rows-of}
+use Rattle.sorting.specs.Columns.{vars-of}
 use Rattle.rows.specs.Emit.{linears-words}
 use Rattle.rows.specs.Stars.{is-single}
 use Rattle.rows.proofs.Counting.{single-not}

@@ -3,8 +3,8 @@ use native.Mathlib.Omega.{arith}
 use lib.ListN.{drop}
 use mir.Facts.{toZ-ofZ}
 use borrow.Author.Needs.{sfits-of}
-use Rattle.rows.specs.Rows.{row-at}
-use Rattle.rows.specs.Columns.{vars-of}
+use Rattle.sorting.specs.Rows.{row-at}
+use Rattle.sorting.specs.Columns.{vars-of}
 use Rattle.rows.specs.Emit.{linears-words}
 use Rattle.stars.specs.Lines.{row-linears}
 use Rattle.stars.specs.Stars.{RowAt}
@@ -13,7 +13,7 @@ use Rattle.stars.proofs.put_values.Statement.{statement}
 use Rattle.stars.proofs.put_values.Tie as tie
 use Rattle.stars.proofs.put_values.Reads as reads
 use Rattle.stars.proofs.put_values.Lts as lts
-use Rattle.rows.proofs.number_at.Reads as number-at-reads
+use Rattle.sorting.proofs.number_at.Reads as number-at-reads
 use Rattle.stars.proofs.put_value.Reads as put-value-reads
 
 abbrev Inv-loop : tie.InvT-loop

@@ -1,0 +1,3 @@
+pub mod Roster
+pub mod Cases
+pub mod Small
