@@ -12,22 +12,23 @@ use borrow.Author.Tests.{eqb-true, lt-ltb}
 use lib.ListN.{length, getD, length-map}
 use Rattle.laws.specs.Bools.{and-l, and-r, and-i, beq-eq, beq-same}
 use Rattle.laws.specs.Order.{eqZ-is, is-eqZ}
-use Rattle.laws.specs.Lists.{all, all-append, from, below, all-below, below-all, least}
+use Rattle.laws.specs.Lists.{all, all-append, from, below, all-below, below-all}
 use Rattle.syntax.specs.Syntax.{Domain, Range, lower-bound, upper-bound, in-domain, domain-of, Problem}
 use Rattle.syntax.specs.Satisfies.{Val, IVal}
 use Rattle.fold.specs.Fold.{Fixed}
-use Rattle.sums.specs.LinearSum.{Term, term, linear-sum}
+use Rattle.sums.specs.LinearSum.{Term, term, LinearSum, linear-sum, get-domain-linear-sum}
+use Rattle.clauses.specs.Normalize.{domain-of-sum}
 use Rattle.clauses.specs.Clause.{BoolLit, lit, LinearLit, linear, Clause, clause, clause-true, lit-true}
-use Rattle.clauses.specs.Log.{declared, aux, side, MadeInt, declared-int, column, chosen, binary, bool, merged, int, added, defined, known, Log, next-bool, next-int, number-of, get-bool-var, get-int-var, made-ints, domain-made, emitted-domains, clauses-of}
+use Rattle.clauses.specs.Log.{declared, aux, side, MadeInt, declared-int, column, chosen, binary, bool, merged, int, added, defined, known, Log, next-bool, next-int, number-of, get-bool-var, get-int-var, made-ints, emitted-domains, clauses-of}
 use Rattle.clauses.specs.Merge.{WellMerged, merged-agree, merged-no-clauses}
 use Rattle.clauses.specs.Bounds.{lits-bound, clauses-bound, terms-bound, linears-bound, ints-bound}
-use Rattle.clauses.specs.Valuation.{AgreesMade, Agrees, Added}
+use Rattle.clauses.specs.Valuation.{Agrees, Added}
 use Rattle.clauses.specs.Grow.{Extends, get-bool-below, get-int-below, agrees-bool, agrees-int, Held, agrees-of, clauses-added, added-clauses, clauses-named, clauses-numbered}
 use Rattle.clauses.specs.Emitted.{length-emitted, domain-at, domain-step, new-domain}
 use Rattle.answer.specs.Answer.{answer-of, fixed-word, map-word, bool-word}
 use Rattle.answer.specs.Passes.{word-of, fixed-agrees, carries-bool, carries-int, between, lit-emitted, term-emitted, linear-emitted, clause-emitted, passes-decoded}
 use Rattle.answer.specs.ReadBack.{hull, view-of}
-use Rattle.answer.specs.Declared.{DeclaredMade, Declared}
+use Rattle.answer.specs.Declared.{Declared}
 
 -- ---- lists over the numbers below a count
 
@@ -105,6 +106,10 @@ clauses-emitted j k (clause ls ks ∷ cs) h i = and-i (clause-emitted j k (claus
 range-between : (d : Domain) (x : ℤ) → d ≡ Range (lower-bound d) (upper-bound d) → between (hull d) x ≡ in-domain x d
 range-between d x e = sym (ap (in-domain x) e)
 
+sum-range : (ds : List Domain) (s : Log) (l : LinearSum) → domain-of-sum ds s l ≡ Range (lower-bound (domain-of-sum ds s l)) (upper-bound (domain-of-sum ds s l))
+unfolding domain-of-sum get-domain-linear-sum
+sum-range ds s (linear-sum c ts) = refl
+
 module _ (ds : List Domain) (b i : ℕ) (δ : Val) (ε : IVal) (ρ : Val) (ι : IVal) where
   abbrev pub Bounded : Log → Type 0
   Bounded s = (j : ℕ) → j < next-int s → between (hull (domain-at ds s j)) (ι j) ≡ true
@@ -113,41 +118,21 @@ module _ (ds : List Domain) (b i : ℕ) (δ : Val) (ε : IVal) (ρ : Val) (ι : 
   bounded-before m s h j k = rw (domain-step ds (int m) s j k) at (h j (omega arith))
 
   -- a column's range; an If's clauses
-  held : (s : Log) → Declared b i s → Bounded s → all (clause-true ρ ι) (clauses-of s) ≡ true → Held ρ ι s
+  held : (s : Log) → Declared ds b i s → Bounded s → all (clause-true ρ ι) (clauses-of s) ≡ true → Held ρ ι s
   unfolding emitted-domains made-ints clauses-of
   held [] d h c = tt
   held (bool m ∷ s) d h c = (tt, held s (d .1) h c)
   held (merged v w g ∷ s) d h c = (tt, held s (d .1) h c)
   held (int (declared-int w) ∷ s) d h c = (tt, held s (d .1) (bounded-before (declared-int w) s h) c)
   held (int (column l e) ∷ s) d h c = (
-    sym (range-between e (ι (next-int s)) (d .0)) ∙ (rw (new-domain ds (column l e) s) at (h (next-int s) (omega arith))),
+    sym (range-between e (ι (next-int s)) (rw (d .0) (sum-range ds s l))) ∙ (rw (new-domain ds (column l e) s) at (h (next-int s) (omega arith))),
     held s (d .1) (bounded-before (column l e) s h) c,
   )
-  held (int (chosen j x e) ∷ s) d h c = absurd j
+  held (int (chosen j x p q e) ∷ s) d h c = (tt, held s (d .1) (bounded-before (chosen j x p q e) s h) c)
   held (int (binary j l x y) ∷ s) d h c = absurd j
   held (added cs ∷ s) d h c = let k = sym (all-append (clause-true ρ ι) (clauses-of s) cs) ∙ c in (tt, held s (d .1) h (and-l (all (clause-true ρ ι) (clauses-of s)) _ k))
   held (defined cs ∷ s) d h c = let k = sym (all-append (clause-true ρ ι) (clauses-of s) cs) ∙ c in (and-r (all (clause-true ρ ι) (clauses-of s)) _ k, held s (d .1) h (and-l (all (clause-true ρ ι) (clauses-of s)) _ k))
   held (known e v ∷ s) d h c = (tt, held s (d .1) h c)
-
-  module _ (inside : (v : ℕ) → v < i → between (hull (domain-of ds v)) (ε v) ≡ true) where
-    made-bounded : (m : MadeInt) (s : Log) → DeclaredMade b i (int m) → AgreesMade δ ε ρ ι (int m) s → between (hull (domain-made ds m)) (ι (next-int s)) ≡ true
-    made-bounded (declared-int w) s d a = rw a (inside w d)
-    made-bounded (column l e) s d a = range-between e (ι (next-int s)) d ∙ a
-    made-bounded (chosen j x e) s d a = absurd j
-    made-bounded (binary j l x y) s d a = absurd j
-
-    pub agrees-bounded : (s : Log) → Declared b i s → Agrees δ ε ρ ι s → Bounded s
-    unfolding emitted-domains made-ints
-    agrees-bounded [] d a j k = absurd (omega arith)
-    agrees-bounded (bool m ∷ s) d a j k = agrees-bounded s (d .1) (a .1) j k
-    agrees-bounded (merged v w g ∷ s) d a j k = agrees-bounded s (d .1) (a .1) j k
-    agrees-bounded (int m ∷ s) d a j k =
-        least j (next-int s) (ltb j (next-int s)) refl (omega arith)
-        (λ l. rw (domain-step ds (int m) s j l) (agrees-bounded s (d .1) (a .1) j l))
-        (λ z. rw (z, new-domain ds m s) (made-bounded m s (d .0) (a .0)))
-    agrees-bounded (added cs ∷ s) d a j k = agrees-bounded s (d .1) (a .1) j k
-    agrees-bounded (defined cs ∷ s) d a j k = agrees-bounded s (d .1) (a .1) j k
-    agrees-bounded (known e v ∷ s) d a j k = agrees-bounded s (d .1) (a .1) j k
 
 -- ---- only declared variables have numbers
 
@@ -155,30 +140,30 @@ lookup-known : {X : Type 0} (n : X) (v w m : ℕ) (k o : Option X) → w < m →
 lookup-known n v w m k o h old true e q = let z : v ≡ w = eqb-true v w e in omega arith
 lookup-known n v w m k o h old false e q = old q
 
-bool-known : (b i : ℕ) (s : Log) → Declared b i s → (v : ℕ) (n : BoolLit) → get-bool-var v s ≡ some n → v < b
+bool-known : (ds : List Domain) (b i : ℕ) (s : Log) → Declared ds b i s → (v : ℕ) (n : BoolLit) → get-bool-var v s ≡ some n → v < b
 unfolding get-bool-var
-bool-known b i [] d v n h = let z : _≡_ {A = ℕ} 0 1 = cc in absurd (omega arith)
-bool-known b i (bool (declared w) ∷ s) d v n h = lookup-known n v w b _ (get-bool-var v s) (d .0) (bool-known b i s (d .1) v n) (eqb v w) refl h
-bool-known b i (bool (aux cs) ∷ s) d v n h = bool-known b i s (d .1) v n h
-bool-known b i (bool (side e) ∷ s) d v n h = bool-known b i s (d .1) v n h
-bool-known b i (merged q r z ∷ s) d v n h = lookup-known n v q b _ (get-bool-var v s) (d .0) (bool-known b i s (d .1) v n) (eqb v q) refl h
-bool-known b i (int m ∷ s) d v n h = bool-known b i s (d .1) v n h
-bool-known b i (added cs ∷ s) d v n h = bool-known b i s (d .1) v n h
-bool-known b i (defined cs ∷ s) d v n h = bool-known b i s (d .1) v n h
-bool-known b i (known e k ∷ s) d v n h = bool-known b i s (d .1) v n h
+bool-known ds b i [] d v n h = let z : _≡_ {A = ℕ} 0 1 = cc in absurd (omega arith)
+bool-known ds b i (bool (declared w) ∷ s) d v n h = lookup-known n v w b _ (get-bool-var v s) (d .0) (bool-known ds b i s (d .1) v n) (eqb v w) refl h
+bool-known ds b i (bool (aux cs) ∷ s) d v n h = bool-known ds b i s (d .1) v n h
+bool-known ds b i (bool (side e) ∷ s) d v n h = bool-known ds b i s (d .1) v n h
+bool-known ds b i (merged q r z ∷ s) d v n h = lookup-known n v q b _ (get-bool-var v s) (d .0) (bool-known ds b i s (d .1) v n) (eqb v q) refl h
+bool-known ds b i (int m ∷ s) d v n h = bool-known ds b i s (d .1) v n h
+bool-known ds b i (added cs ∷ s) d v n h = bool-known ds b i s (d .1) v n h
+bool-known ds b i (defined cs ∷ s) d v n h = bool-known ds b i s (d .1) v n h
+bool-known ds b i (known e k ∷ s) d v n h = bool-known ds b i s (d .1) v n h
 
-int-known : (b i : ℕ) (s : Log) → Declared b i s → (v n : ℕ) → get-int-var v s ≡ some n → v < i
+int-known : (ds : List Domain) (b i : ℕ) (s : Log) → Declared ds b i s → (v n : ℕ) → get-int-var v s ≡ some n → v < i
 unfolding get-int-var
-int-known b i [] d v n h = let z : _≡_ {A = ℕ} 0 1 = cc in absurd (omega arith)
-int-known b i (bool m ∷ s) d v n h = int-known b i s (d .1) v n h
-int-known b i (merged q r z ∷ s) d v n h = int-known b i s (d .1) v n h
-int-known b i (int (declared-int w) ∷ s) d v n h = lookup-known n v w i _ (get-int-var v s) (d .0) (int-known b i s (d .1) v n) (eqb v w) refl h
-int-known b i (int (column l e) ∷ s) d v n h = int-known b i s (d .1) v n h
-int-known b i (int (chosen j x e) ∷ s) d v n h = int-known b i s (d .1) v n h
-int-known b i (int (binary j l x y) ∷ s) d v n h = int-known b i s (d .1) v n h
-int-known b i (added cs ∷ s) d v n h = int-known b i s (d .1) v n h
-int-known b i (defined cs ∷ s) d v n h = int-known b i s (d .1) v n h
-int-known b i (known e k ∷ s) d v n h = int-known b i s (d .1) v n h
+int-known ds b i [] d v n h = let z : _≡_ {A = ℕ} 0 1 = cc in absurd (omega arith)
+int-known ds b i (bool m ∷ s) d v n h = int-known ds b i s (d .1) v n h
+int-known ds b i (merged q r z ∷ s) d v n h = int-known ds b i s (d .1) v n h
+int-known ds b i (int (declared-int w) ∷ s) d v n h = lookup-known n v w i _ (get-int-var v s) (d .0) (int-known ds b i s (d .1) v n) (eqb v w) refl h
+int-known ds b i (int (column l e) ∷ s) d v n h = int-known ds b i s (d .1) v n h
+int-known ds b i (int (chosen j x p q e) ∷ s) d v n h = int-known ds b i s (d .1) v n h
+int-known ds b i (int (binary j l x y) ∷ s) d v n h = int-known ds b i s (d .1) v n h
+int-known ds b i (added cs ∷ s) d v n h = int-known ds b i s (d .1) v n h
+int-known ds b i (defined cs ∷ s) d v n h = int-known ds b i s (d .1) v n h
+int-known ds b i (known e k ∷ s) d v n h = int-known ds b i s (d .1) v n h
 
 hull-at : (ds : List Domain) (j : ℕ) → j < length ds → getD (map hull ds) j (pos 0, pos 0) ≡ hull (domain-of ds j)
 hull-at [] j k = absurd (omega arith)
@@ -225,7 +210,7 @@ module _ (p : Problem) (f : Fixed) (s : Log) (δ : Val) (ε : IVal) (ρ : Val) (
   bounds-at-hull : (j : ℕ) → j < next-int s → getD bounds j (pos 0, pos 0) ≡ hull (domain-at (p .domains) s j)
   bounds-at-hull j k = hull-at (emitted-domains (p .domains) s) j (omega (arith, length-emitted (p .domains) s))
 
-  module _ (s0 : Log) (well : WellMerged s0) (grown : Extends δ ε s0 s) (known : Declared b i s) where
+  module _ (s0 : Log) (well : WellMerged s0) (grown : Extends δ ε s0 s) (known : Declared (p .domains) b i s) where
     bounded : all bounds-test (below (length bounds)) ≡ true → Bounded (p .domains) b i δ ε ρ ι s
     bounded h j k = rw (bounds-at-hull j k) at (all-below bounds-test (length bounds) j h (omega (arith, as-many)))
 
@@ -239,20 +224,19 @@ module _ (p : Problem) (f : Fixed) (s : Log) (δ : Val) (ε : IVal) (ρ : Val) (
         record {
           fixed = λ v x k e. fixed-is (f v) (δ v) x (rw (getD-below fixed-word f b v (pos 0) k) at (all-below fixed-test b v (and-l (all fixed-test (below b)) _ h) k)) e;
           agrees = agrees-of δ ε ρ ι grown (merged-agree δ ε ρ ι s0 well)
-              (λ v n e. let k : v < b = bool-known b i s known v n e in carries-is (next-bool s) (get-bool-var v s) (δ v) ρ n (rw (getD-below bool-word (λ v. get-bool-var v s) b v (pos 0) k) at (all-below bool-test b v (and-l (all bool-test (below b)) _ h2) k)) e)
-              (λ v n e. let k : v < i = int-known b i s known v n e in carries-int-is (length bounds) (get-int-var v s) (ε v) ι n (rw (getD-below map-word (λ v. get-int-var v s) i v (pos 0) k) at (all-below int-test i v (and-l (all int-test (below i)) _ h3) k)) e)
+              (λ v n e. let k : v < b = bool-known (p .domains) b i s known v n e in carries-is (next-bool s) (get-bool-var v s) (δ v) ρ n (rw (getD-below bool-word (λ v. get-bool-var v s) b v (pos 0) k) at (all-below bool-test b v (and-l (all bool-test (below b)) _ h2) k)) e)
+              (λ v n e. let k : v < i = int-known (p .domains) b i s known v n e in carries-int-is (length bounds) (get-int-var v s) (ε v) ι n (rw (getD-below map-word (λ v. get-int-var v s) i v (pos 0) k) at (all-below int-test i v (and-l (all int-test (below i)) _ h3) k)) e)
               (held (p .domains) b i δ ε ρ ι s known (bounded (and-l (all bounds-test (below (length bounds))) _ h4)) true-clauses);
           added = clauses-added ρ ι s true-clauses;
         }
 
-    -- the assignment lies within the declared domains' bounds
-    pub carries : ((v : ℕ) → v < i → between (hull (domain-of (p .domains) v)) (ε v) ≡ true)
-        → Carried b f s δ ε ρ ι → passes-decoded b i (view-of (answer-of p f s)) δ ε ρ ι ≡ true
+    -- the emitted integers lie between their bounds
+    pub carries : Bounded (p .domains) b i δ ε ρ ι s → Carried b f s δ ε ρ ι → passes-decoded b i (view-of (answer-of p f s)) δ ε ρ ι ≡ true
     unfolding passes-decoded answer-of
-    carries inside c =
+    carries within c =
         let t1 : all fixed-test (below b) ≡ true = below-all fixed-test b (λ v k. rw (getD-below fixed-word f b v (pos 0) k) (is-fixed (f v) (δ v) (λ x q. c .fixed v x k q))) in
         let t2 : all bool-test (below b) ≡ true = below-all bool-test b (λ v k. rw (getD-below bool-word (λ v. get-bool-var v s) b v (pos 0) k) (is-carried (next-bool s) (get-bool-var v s) (δ v) ρ (λ n q. (get-bool-below s v n q, agrees-bool δ ε ρ ι s (c .agrees) v n q)))) in
         let t3 : all int-test (below i) ≡ true = below-all int-test i (λ v k. rw (getD-below map-word (λ v. get-int-var v s) i v (pos 0) k) (is-carried-int (length bounds) (get-int-var v s) (ε v) ι (λ n q. (omega (arith, get-int-below s v n q, as-many), agrees-int δ ε ρ ι s (c .agrees) v n q)))) in
-        let t4 : all bounds-test (below (length bounds)) ≡ true = below-all bounds-test (length bounds) (λ j k. let l : j < next-int s = omega (arith, as-many) in rw (bounds-at-hull j l) (agrees-bounded (p .domains) b i δ ε ρ ι inside s known (c .agrees) j l)) in
+        let t4 : all bounds-test (below (length bounds)) ≡ true = below-all bounds-test (length bounds) (λ j k. let l : j < next-int s = omega (arith, as-many) in rw (bounds-at-hull j l) (within j l)) in
         let t5 : all emitted-test (clauses-of s) ≡ true = clauses-emitted (next-bool s) (length bounds) (clauses-of s) (clauses-named grown (merged-no-clauses s0 well)) (omega (arith, as-many, clauses-numbered grown (merged-no-clauses s0 well))) in
         and-i _ _ t1 (and-i _ _ t2 (and-i _ _ t3 (and-i _ _ t4 (and-i _ _ t5 (added-clauses ρ ι δ ε s (c .agrees) (c .added))))))

@@ -14,7 +14,7 @@ use Rattle.laws.specs.Lists.{all, any, any-cong, below, length-from}
 use Rattle.syntax.specs.Words.{min-work-words, max-set-words, max-answer-words}
 use Rattle.syntax.specs.Syntax.{Domain, Range, Enumerative, domain-of, IntExpr, Cell, Stmt, Rule, Table, AllDifferent, Problem}
 use Rattle.syntax.specs.Satisfies.{Val, IVal, row-holds, distinct, stmt-holds, in-domains, satisfies}
-use Rattle.syntax.specs.Written.{Any, EveryStmt, EveryStmts, Within, every-column-map, every-stmts-map, in-domains-within}
+use Rattle.syntax.specs.Written.{Any, EveryStmt, EveryStmts, Within, every-column-map, every-stmt-map, every-stmts-map, in-domains-within}
 use Rattle.words.specs.Parse.{Parsed, ok, refuse}
 use Rattle.words.specs.Exact.{Each}
 use Rattle.read.specs.Read.{read-set}
@@ -30,9 +30,11 @@ use Rattle.sums.specs.Domain.{rising-from, ordered, domain-between}
 use Rattle.clauses.specs.Log.{Log}
 use Rattle.clauses.specs.Valuation.{Fits, Added, fits-agrees}
 use Rattle.clauses.specs.Grow.{Extends, same, Lawful, lawful-over, clauses-added, added-of, added-on}
-use Rattle.clauses.specs.Merge.{merged-lawful, merged-no-clauses}
+use Rattle.clauses.specs.Merge.{merged-lawful, merged-no-clauses, merged-made}
 use Rattle.clauses.specs.Bounds.{NoNumbers, values-same}
 use Rattle.clauses.specs.RuleMeaning.{Says, says-none, says-then, says-to, read-rule-means}
+use Rattle.clauses.specs.Entries.{WellMade}
+use Rattle.clauses.specs.Ranges.{Inside, emitted-within}
 use Rattle.clauses.specs.Exist.{values-of, fitting-exists}
 use Rattle.tables.specs.Agree.{row-permits, row-holds-permits}
 use Rattle.tables.specs.ColumnMeaning.{WithinDomain}
@@ -40,10 +42,10 @@ use Rattle.tables.specs.TableMeaning.{table-means}
 use Rattle.different.specs.Meaning.{different-means}
 use Rattle.answer.specs.Answer.{Answer, layout, answer-of, normalize-stmt, normalize-stmts, normalize, start-log}
 use Rattle.answer.specs.Passes.{Decoded, decode, between, passes-decoded, passes-with, Passes}
-use Rattle.answer.specs.ReadBack.{hull, view-of, answer-back}
-use Rattle.answer.specs.Declared.{stmts-declared}
-use Rattle.answer.specs.Start.{start-well, start-declared, start-holds}
-use Rattle.answer.specs.Carried.{Carried, carried, carries}
+use Rattle.answer.specs.ReadBack.{view-of, answer-back}
+use Rattle.answer.specs.Declared.{Declared, stmt-well, stmts-well}
+use Rattle.answer.specs.Start.{start-well, start-made, start-holds}
+use Rattle.answer.specs.Carried.{Bounded, Carried, carried, carries}
 use Rattle.call.specs.Call.{Result, compiled, refused, measured, answered, checked, when-read, call-with}
 use Rattle.call.specs.Claim.{within, satisfied, Passed, NotRefused, Exact, Consequences}
 use Rattle.call.specs.declared.Choices.{Choices}
@@ -57,25 +59,31 @@ module _ (δ : Val) (ε : IVal) (ds : List Domain) where
   abbrev pub truth : Stmt → Bool
   truth = stmt-holds δ ε (λ n. false)
 
+  pub stmt-inside : (t : Stmt) → EveryStmt Any (WithinDomain ds ε) t → EveryStmt Any (Inside ds ε) t
+  stmt-inside t h = every-stmt-map Any (WithinDomain ds ε) Any (Inside ds ε) (λ v k. k) (λ v k. domain-between (domain-of ds v) (ε v) (k .0) (k .1)) t h
+
+  pub stmts-inside : (ts : List Stmt) → EveryStmts Any (WithinDomain ds ε) ts → EveryStmts Any (Inside ds ε) ts
+  stmts-inside ts h = every-stmts-map Any (WithinDomain ds ε) Any (Inside ds ε) (λ v k. k) (λ v k. domain-between (domain-of ds v) (ε v) (k .0) (k .1)) ts h
+
   -- a statement as it is read says the same whatever the emitted numbers' values
   table-same : (ρ ρ' : Val) (es : List IntExpr) (rows : List (List Cell)) → NoNumbers es → any (row-holds δ ε ρ es) rows ≡ any (row-holds δ ε ρ' es) rows
   table-same ρ ρ' es rows h =
       any-cong (row-holds δ ε ρ es) (row-holds δ ε ρ' es) rows (λ cs. row-holds-permits δ ε ρ es cs ∙ ap (row-permits cs) (values-same ρ ρ' δ ε es h) ∙ sym (row-holds-permits δ ε ρ' es cs))
 
-  pub stmt-means : (t : Stmt) (s : Log) → Plain t → EveryStmt Any (WithinDomain ds ε) t → Lawful δ ε s → Says δ ε s (normalize-stmt ds t s) (λ ρ ι. truth t)
+  pub stmt-means : (t : Stmt) (s : Log) → Plain t → EveryStmt Any (WithinDomain ds ε) t → Lawful δ ε s → WellMade ds Any (Inside ds ε) s → Says δ ε s (normalize-stmt ds t s) (λ ρ ι. truth t)
   unfolding normalize-stmt EveryStmt stmt-holds
-  stmt-means (Rule e) s h k l = read-rule-means δ ε ds e s (λ n. false) h l
-  stmt-means (Table es rows) s h k l = says-to δ ε s _ _ _ (λ ρ ι. table-same ρ (λ n. false) es rows (h .1)) (table-means δ ε ds es rows s (h .0) (h .1) k l)
-  stmt-means (AllDifferent es) s h k l =
+  stmt-means (Rule e) s h k l made = read-rule-means δ ε ds e s (λ n. false) h l
+  stmt-means (Table es rows) s h k l made = says-to δ ε s _ _ _ (λ ρ ι. table-same ρ (λ n. false) es rows (h .1)) (table-means δ ε ds es rows s (h .0) (h .1) k l made)
+  stmt-means (AllDifferent es) s h k l made =
       says-to δ ε s _ _ _ (λ ρ ι. ap distinct (values-same ρ (λ n. false) δ ε es h))
       (different-means δ ε ds es s h (every-column-map Any Any (WithinDomain ds ε) Any Any (Within ds ε) (λ n k. k) (λ v k. k) (λ v h. h .1) es k) l)
 
-  pub stmts-mean : (ts : List Stmt) (s : Log) → Each Plain ts → EveryStmts Any (WithinDomain ds ε) ts → Lawful δ ε s → Says δ ε s (normalize-stmts ds ts s) (λ ρ ι. all truth ts)
+  pub stmts-mean : (ts : List Stmt) (s : Log) → Each Plain ts → EveryStmts Any (WithinDomain ds ε) ts → Lawful δ ε s → WellMade ds Any (Inside ds ε) s → Says δ ε s (normalize-stmts ds ts s) (λ ρ ι. all truth ts)
   unfolding normalize-stmts EveryStmts
-  stmts-mean [] s h k l = says-none δ ε s
-  stmts-mean (t ∷ ts) s h k l =
-      let p = stmt-means t s (h .0) (k .0) l in
-      says-then δ ε s _ _ (λ ρ ι. truth t) (λ ρ ι. all truth ts) p (stmts-mean ts (normalize-stmt ds t s) (h .1) (k .1) (lawful-over l (p .grows)))
+  stmts-mean [] s h k l made = says-none δ ε s
+  stmts-mean (t ∷ ts) s h k l made =
+      let p = stmt-means t s (h .0) (k .0) l made in
+      says-then δ ε s _ _ (λ ρ ι. truth t) (λ ρ ι. all truth ts) p (stmts-mean ts (normalize-stmt ds t s) (h .1) (k .1) (lawful-over l (p .grows)) (stmt-well ds Any (Inside ds ε) t (stmt-inside t (k .0)) s made))
 
 -- ---- the domains of a set that was read
 
@@ -124,13 +132,19 @@ module _ (m : Bool) (p : Problem) (well : WellFormed p) (f : Fixed) (ss : List S
   ss-plain = rw folded (folded-plain (p .domains) f b i (p .stmts) (well .stmts-well))
 
   pub means : Says δ ε s0 end-log (λ ρ ι. all (truth δ ε (p .domains)) ss)
-  means = stmts-mean δ ε (p .domains) ss s0 ss-plain ss-standing (merged-lawful (start-well m ss) same)
+  means = stmts-mean δ ε (p .domains) ss s0 ss-plain ss-standing (merged-lawful (start-well m ss) same) (merged-made (p .domains) (Inside (p .domains) ε) s0 (start-well m ss))
 
   pub grown : Extends δ ε s0 end-log
   grown = means .grows
 
-  pub inside-bounds : (v : ℕ) → v < i → between (hull (domain-of (p .domains) v)) (ε v) ≡ true
-  inside-bounds v h = domain-between (domain-of (p .domains) v) (ε v) (domains-ordered (p .domains) (well .domains-well) v h) (in-domains-within p ε inside v h)
+  -- under fitting values every emitted integer lies between its bounds
+  pub within-bounds : (ρ : Val) (ι : IVal) → Fits δ ε ρ ι end-log → Bounded (p .domains) b i δ ε ρ ι end-log
+  within-bounds ρ ι f =
+      let k = stmts-inside δ ε (p .domains) ss ss-standing in
+      emitted-within δ ε (p .domains) ρ ι end-log (merged-lawful (start-well m ss) grown) (stmts-well (p .domains) Any (Inside (p .domains) ε) ss k s0 (merged-made (p .domains) (Inside (p .domains) ε) s0 (start-well m ss))) f
+
+  made-declared : Declared (p .domains) b i end-log
+  made-declared = stmts-well (p .domains) (λ v. v < b) (λ v. v < i) ss ss-declared s0 (start-made (p .domains) (λ v. v < b) (λ v. v < i) m ss ss-declared)
 
   -- ---- the answer's words, read back
 
@@ -154,7 +168,7 @@ module _ (m : Bool) (p : Problem) (well : WellFormed p) (f : Fixed) (ss : List S
 
   passing-satisfies : Passes b i words δ ε → satisfies p δ ε ≡ true
   passing-satisfies h =
-      let c = carried p f end-log δ ε (h .bools) (h .ints) s0 (start-well m ss) grown (stmts-declared b i (p .domains) ss ss-declared s0 (start-declared b i m ss ss-declared)) (sym (passes-is (h .bools) (h .ints)) ∙ h .passing) in
+      let c = carried p f end-log δ ε (h .bools) (h .ints) s0 (start-well m ss) grown made-declared (sym (passes-is (h .bools) (h .ints)) ∙ h .passing) in
       optimize-satisfies p declared δ ε inside f ss end .1 (
         λ v x e. c .fixed v x (optimize-known p (λ v. v < i) declared f ss end v x e) e,
         means .sound (h .bools) (h .ints) (c .agrees) (added-of (h .bools) (h .ints) (means .grows) (c .added)),
@@ -168,7 +182,7 @@ module _ (m : Bool) (p : Problem) (well : WellFormed p) (f : Fixed) (ss : List S
       let fits : Fits δ ε ρ ι end-log = fitting-exists δ ε (start-holds δ ε m ss (k .1)) grown in
       let before : Added ρ ι s0 = clauses-added ρ ι s0 (rw (merged-no-clauses s0 (start-well m ss)) refl) in
       let c : Carried b f end-log δ ε ρ ι = record { fixed = λ v x j e. k .0 v x e; agrees = fits-agrees δ ε ρ ι end-log fits; added = added-on ρ ι (means .grows) before (means .complete ρ ι fits (k .1)) } in
-      record { bools = ρ; ints = ι; passing = passes-is ρ ι ∙ carries p f end-log δ ε ρ ι s0 (start-well m ss) grown (stmts-declared b i (p .domains) ss ss-declared s0 (start-declared b i m ss ss-declared)) inside-bounds c }
+      record { bools = ρ; ints = ι; passing = passes-is ρ ι ∙ carries p f end-log δ ε ρ ι s0 (start-well m ss) grown made-declared (within-bounds ρ ι fits) c }
 
 -- ---- the call
 

@@ -50,7 +50,7 @@ module _ (ds : List Domain) where
   domain-step (defined cs) s n l = unfold emitted-domains made-ints in refl
   domain-step (known e v) s n l = unfold emitted-domains made-ints in refl
 
-  pub domain-stays : {loud : Bool} {δ : Val} {ε : IVal} {s t : Log} → GrowsBy loud δ ε s t → (n : ℕ) → n < next-int s → domain-at t n ≡ domain-at s n
+  pub domain-stays : {stated : Bool} {δ : Val} {ε : IVal} {s t : Log} → GrowsBy stated δ ε s t → (n : ℕ) → n < next-int s → domain-at t n ≡ domain-at s n
   domain-stays same n l = refl
   domain-stays (grow {t} m h g) n l = domain-step m t n (omega (arith, grows-int g)) ∙ domain-stays g n l
 
@@ -67,7 +67,7 @@ module _ (ds : List Domain) where
   int-var-domain (merged q r z ∷ s) v n h = domain-step (merged q r z) s n (get-int-below s v n h) ∙ int-var-domain s v n h
   int-var-domain (int (declared-int w) ∷ s) v n h = met s v n w (int-var-domain s v n) (eqb v w) refl h
   int-var-domain (int (column l d) ∷ s) v n h = domain-step (int (column l d)) s n (get-int-below s v n h) ∙ int-var-domain s v n h
-  int-var-domain (int (chosen i e d) ∷ s) v n h = domain-step (int (chosen i e d)) s n (get-int-below s v n h) ∙ int-var-domain s v n h
+  int-var-domain (int (chosen i e p q d) ∷ s) v n h = domain-step (int (chosen i e p q d)) s n (get-int-below s v n h) ∙ int-var-domain s v n h
   int-var-domain (int (binary i l a b) ∷ s) v n h = domain-step (int (binary i l a b)) s n (get-int-below s v n h) ∙ int-var-domain s v n h
   int-var-domain (added cs ∷ s) v n h = domain-step (added cs) s n (get-int-below s v n h) ∙ int-var-domain s v n h
   int-var-domain (defined cs ∷ s) v n h = domain-step (defined cs) s n (get-int-below s v n h) ∙ int-var-domain s v n h

@@ -50,7 +50,7 @@ module _ (δ : Val) (ε : IVal) where
   int-made : MadeInt → Val → IVal → ℤ
   int-made (declared-int v) ρ ι = ε v
   int-made (column l d) ρ ι = sum-value ι l
-  int-made (chosen i e d) ρ ι = int-value δ ε ρ e
+  int-made (chosen i e p q d) ρ ι = int-value δ ε ρ e
   int-made (binary i l a b) ρ ι = cond (lit-true ρ l) b a
 
   pub values-of : Log → Val × IVal
@@ -73,7 +73,7 @@ module _ (δ : Val) (ε : IVal) where
     unfolding int-made
     int-fits (declared-int v) s ρ' ι' l a b f e = e
     int-fits (column x d) s ρ' ι' l a b f e = let q : ι (next-int s) ≡ sum-value ι x = e ∙ sum-same (next-int s) ι' ι b x (l .0) in (q, rw q (l .1 ρ ι f))
-    int-fits (chosen i x d) s ρ' ι' l a b f e = e ∙ int-same (next-bool s) ρ' ρ a δ ε x l
+    int-fits (chosen i x p q d) s ρ' ι' l a b f e = e ∙ int-same (next-bool s) ρ' ρ a δ ε x (l .0)
     int-fits (binary i (lit n g) x y) s ρ' ι' l a b f e = e ∙ ap (λ (z : Bool). cond (negate-if g z) y x) (a n l)
 
     log-fits : {s0 s : Log} → Extends δ ε s0 s → (Same (next-bool s0) (values-of s0 .0) ρ → Fits δ ε ρ ι s0) → Same (next-bool s) (values-of s .0) ρ → Same (next-int s) (values-of s .1) ι → Fits δ ε ρ ι s

@@ -6,6 +6,7 @@ use mathlib.Core.List.{[], _∷_}
 use Prim.Native.Nat.{ℕ, suc, _≤_, _<_}
 use native.Mathlib.Omega.{arith}
 use lib.Dec.{eqb}
+use lib.IntN.{ℤ}
 use borrow.Author.Tests.{eqb-true, eq-eqb}
 use Rattle.laws.specs.Bools.{never, and-l, and-r, and-i}
 use Rattle.laws.specs.Lists.{all, all-append}
@@ -19,8 +20,13 @@ use Rattle.clauses.specs.Log.{MadeBool, declared, aux, side, declared-in
 use Rattle.clauses.specs.Bounds.{clauses-bound, clauses-bound-append, ints-bound, ints-bound-append, expr-bound, int-bound, sum-bound}
 use Rattle.clauses.specs.Valuation.{AgreesMade, Agrees, Fits, AddedMade, Added}
 
--- loud: whether a statement's clauses may be added
-module _ (loud : Bool) (δ : Val) (ε : IVal) where
+-- x is one of both
+pub record OneOf (x a b : ℤ) : Type 0 where
+  pub which : Bool
+  pub is : x ≡ cond which a b
+
+-- stated: whether clauses of statements may be added
+module _ (stated : Bool) (δ : Val) (ε : IVal) where
   -- what may be made after s; a known If has its value wherever values agree with the log
   abbrev pub Legal : Made → Log → Type 0
   Legal (bool (declared v)) s = get-bool-var v s ≡ none
@@ -30,9 +36,11 @@ module _ (loud : Bool) (δ : Val) (ε : IVal) where
   Legal (merged v w g) s = ⊥
   Legal (int (declared-int v)) s = get-int-var v s ≡ none
   Legal (int (column l d)) s = (sum-bound l ≤ next-int s) × ((ρ : Val) (ι : IVal) → Fits δ ε ρ ι s → in-domain (sum-value ι l) d ≡ true)
-  Legal (int (chosen i e d)) s = int-bound e ≤ next-bool s
+  -- its value is one of the two sums'
+  Legal (int (chosen i e p q d)) s =
+      (int-bound e ≤ next-bool s) × (sum-bound p ≤ next-int s) × (sum-bound q ≤ next-int s) × ((ρ : Val) (ι : IVal) → Agrees δ ε ρ ι s → OneOf (int-value δ ε ρ e) (sum-value ι p) (sum-value ι q))
   Legal (int (binary i l a b)) s = number-of l < next-bool s
-  Legal (added cs) s = (loud ≡ true) × (clauses-bound cs ≤ next-bool s) × (ints-bound cs ≤ next-int s)
+  Legal (added cs) s = (stated ≡ true) × (clauses-bound cs ≤ next-bool s) × (ints-bound cs ≤ next-int s)
   -- clauses that hold wherever the numbers have the values they were made for
   Legal (defined cs) s = (clauses-bound cs ≤ next-bool s) × (ints-bound cs ≤ next-int s) × ((ρ : Val) (ι : IVal) → Fits δ ε ρ ι s → all (clause-true ρ ι) cs ≡ true)
   Legal (known e v) s = (v < next-int s) × ((ρ : Val) (ι : IVal) → Agrees δ ε ρ ι s → ι v ≡ int-value δ ε ρ e)
@@ -48,9 +56,10 @@ Grows δ ε s t = GrowsBy false δ ε s t
 abbrev pub Extends : Val → IVal → Log → Log → Type 0
 Extends δ ε s t = GrowsBy true δ ε s t
 
--- s grew from a log without Ifs
+-- s grew from a log without integers and Ifs
 pub record Lawful (δ : Val) (ε : IVal) (s : Log) : Type 0 where
   pub start : Log
+  pub empty : next-int start ≡ 0
   pub fresh : (e : IntExpr) → get-if e start ≡ none
   pub grows : Extends δ ε start s
 
@@ -102,12 +111,12 @@ get-int-below (added cs ∷ s) v n h = get-int-below s v n h
 get-int-below (defined cs ∷ s) v n h = get-int-below s v n h
 get-int-below (known e w ∷ s) v n h = get-int-below s v n h
 
-module _ {loud : Bool} {δ : Val} {ε : IVal} where
-  unfoldable pub grows-trans : {s t u : Log} → GrowsBy loud δ ε s t → GrowsBy loud δ ε t u → GrowsBy loud δ ε s u
+module _ {stated : Bool} {δ : Val} {ε : IVal} where
+  unfoldable pub grows-trans : {s t u : Log} → GrowsBy stated δ ε s t → GrowsBy stated δ ε t u → GrowsBy stated δ ε s u
   grows-trans g same = g
   grows-trans g (grow m l h) = grow m l (grows-trans g h)
 
-  pub grows-bool : {s t : Log} → GrowsBy loud δ ε s t → next-bool s ≤ next-bool t
+  pub grows-bool : {s t : Log} → GrowsBy stated δ ε s t → next-bool s ≤ next-bool t
   grows-bool same = omega arith
   grows-bool (grow (bool m) l g) = omega (arith, grows-bool g)
   grows-bool (grow (merged v w h) l g) = absurd l
@@ -116,7 +125,7 @@ module _ {loud : Bool} {δ : Val} {ε : IVal} where
   grows-bool (grow (defined cs) l g) = grows-bool g
   grows-bool (grow (known e v) l g) = grows-bool g
 
-  pub grows-int : {s t : Log} → GrowsBy loud δ ε s t → next-int s ≤ next-int t
+  pub grows-int : {s t : Log} → GrowsBy stated δ ε s t → next-int s ≤ next-int t
   grows-int same = omega arith
   grows-int (grow (bool m) l g) = grows-int g
   grows-int (grow (merged v w h) l g) = absurd l
@@ -125,61 +134,61 @@ module _ {loud : Bool} {δ : Val} {ε : IVal} where
   grows-int (grow (defined cs) l g) = grows-int g
   grows-int (grow (known e v) l g) = grows-int g
 
-  pub agrees-back : (ρ : Val) (ι : IVal) {s t : Log} → GrowsBy loud δ ε s t → Agrees δ ε ρ ι t → Agrees δ ε ρ ι s
+  pub agrees-back : (ρ : Val) (ι : IVal) {s t : Log} → GrowsBy stated δ ε s t → Agrees δ ε ρ ι t → Agrees δ ε ρ ι s
   agrees-back ρ ι same a = a
   agrees-back ρ ι (grow m l g) a = agrees-back ρ ι g (a .1)
 
-  pub fits-back : (ρ : Val) (ι : IVal) {s t : Log} → GrowsBy loud δ ε s t → Fits δ ε ρ ι t → Fits δ ε ρ ι s
+  pub fits-back : (ρ : Val) (ι : IVal) {s t : Log} → GrowsBy stated δ ε s t → Fits δ ε ρ ι t → Fits δ ε ρ ι s
   fits-back ρ ι same f = f
   fits-back ρ ι (grow m l g) f = fits-back ρ ι g (f .1)
 
 -- ---- the clauses of statements among what a log grew by
 
-module _ {loud : Bool} {δ : Val} {ε : IVal} (ρ : Val) (ι : IVal) where
-  abbrev pub AddedBy : {s t : Log} → GrowsBy loud δ ε s t → Type 0
+module _ {stated : Bool} {δ : Val} {ε : IVal} (ρ : Val) (ι : IVal) where
+  abbrev pub AddedBy : {s t : Log} → GrowsBy stated δ ε s t → Type 0
   AddedBy same = Unit {0}
   AddedBy (grow m l g) = AddedMade ρ ι m × AddedBy g
 
-  pub added-then : {s t u : Log} (g : GrowsBy loud δ ε s t) (h : GrowsBy loud δ ε t u) → AddedBy g → AddedBy h → AddedBy (grows-trans g h)
+  pub added-then : {s t u : Log} (g : GrowsBy stated δ ε s t) (h : GrowsBy stated δ ε t u) → AddedBy g → AddedBy h → AddedBy (grows-trans g h)
   unfolding grows-trans
   added-then g same a b = a
   added-then g (grow m l h) a b = (b .0, added-then g h a (b .1))
 
-  pub added-first : {s t u : Log} (g : GrowsBy loud δ ε s t) (h : GrowsBy loud δ ε t u) → AddedBy (grows-trans g h) → AddedBy g
+  pub added-first : {s t u : Log} (g : GrowsBy stated δ ε s t) (h : GrowsBy stated δ ε t u) → AddedBy (grows-trans g h) → AddedBy g
   unfolding grows-trans
   added-first g same a = a
   added-first g (grow m l h) a = added-first g h (a .1)
 
-  pub added-second : {s t u : Log} (g : GrowsBy loud δ ε s t) (h : GrowsBy loud δ ε t u) → AddedBy (grows-trans g h) → AddedBy h
+  pub added-second : {s t u : Log} (g : GrowsBy stated δ ε s t) (h : GrowsBy stated δ ε t u) → AddedBy (grows-trans g h) → AddedBy h
   unfolding grows-trans
   added-second g same a = tt
   added-second g (grow m l h) a = (a .0, added-second g h (a .1))
 
-  pub added-of : {s t : Log} (g : GrowsBy loud δ ε s t) → Added ρ ι t → AddedBy g
+  pub added-of : {s t : Log} (g : GrowsBy stated δ ε s t) → Added ρ ι t → AddedBy g
   added-of same a = tt
   added-of (grow m l g) a = (a .0, added-of g (a .1))
 
-  pub added-on : {s t : Log} (g : GrowsBy loud δ ε s t) → Added ρ ι s → AddedBy g → Added ρ ι t
+  pub added-on : {s t : Log} (g : GrowsBy stated δ ε s t) → Added ρ ι s → AddedBy g → Added ρ ι t
   added-on same a b = a
   added-on (grow m l g) a b = (b .0, added-on g a (b .1))
 
 -- what grows within a statement grows
-legal-loud : (δ : Val) (ε : IVal) (m : Made) (s : Log) → Legal false δ ε m s → Legal true δ ε m s
-legal-loud δ ε (bool (declared v)) s l = l
-legal-loud δ ε (bool (aux cs)) s l = l
-legal-loud δ ε (bool (side e)) s l = l
-legal-loud δ ε (merged v w h) s l = l
-legal-loud δ ε (int (declared-int v)) s l = l
-legal-loud δ ε (int (column x d)) s l = l
-legal-loud δ ε (int (chosen i e d)) s l = l
-legal-loud δ ε (int (binary i x a b)) s l = l
-legal-loud δ ε (added cs) s l = (refl, l .1, l .2)
-legal-loud δ ε (defined cs) s l = l
-legal-loud δ ε (known e v) s l = l
+legal-stated : (δ : Val) (ε : IVal) (m : Made) (s : Log) → Legal false δ ε m s → Legal true δ ε m s
+legal-stated δ ε (bool (declared v)) s l = l
+legal-stated δ ε (bool (aux cs)) s l = l
+legal-stated δ ε (bool (side e)) s l = l
+legal-stated δ ε (merged v w h) s l = l
+legal-stated δ ε (int (declared-int v)) s l = l
+legal-stated δ ε (int (column x d)) s l = l
+legal-stated δ ε (int (chosen i e p q d)) s l = l
+legal-stated δ ε (int (binary i x a b)) s l = l
+legal-stated δ ε (added cs) s l = (refl, l .1, l .2)
+legal-stated δ ε (defined cs) s l = l
+legal-stated δ ε (known e v) s l = l
 
 pub extends : {δ : Val} {ε : IVal} {s t : Log} → Grows δ ε s t → Extends δ ε s t
 extends same = same
-extends {δ} {ε} (grow {t} m l g) = grow m (legal-loud δ ε m t l) (extends g)
+extends {δ} {ε} (grow {t} m l g) = grow m (legal-stated δ ε m t l) (extends g)
 
 -- and has no clauses of statements
 pub added-none : {δ : Val} {ε : IVal} (ρ : Val) (ι : IVal) {s t : Log} (g : Grows δ ε s t) → AddedBy ρ ι (extends g)
@@ -194,8 +203,8 @@ added-none ρ ι (grow (known e v) l g) = (tt, added-none ρ ι g)
 
 -- ---- the clauses name numbers given
 
-module _ {loud : Bool} {δ : Val} {ε : IVal} where
-  pub clauses-named : {s0 s : Log} → GrowsBy loud δ ε s0 s → clauses-of s0 ≡ [] → clauses-bound (clauses-of s) ≤ next-bool s
+module _ {stated : Bool} {δ : Val} {ε : IVal} where
+  pub clauses-named : {s0 s : Log} → GrowsBy stated δ ε s0 s → clauses-of s0 ≡ [] → clauses-bound (clauses-of s) ≤ next-bool s
   unfolding clauses-of
   clauses-named same z = rw z (omega arith)
   clauses-named (grow (bool m) l g) z = omega (arith, clauses-named g z)
@@ -205,7 +214,7 @@ module _ {loud : Bool} {δ : Val} {ε : IVal} where
   clauses-named (grow {t} (defined cs) l g) z = omega (arith, clauses-bound-append (clauses-of t) cs, clauses-named g z, l .0)
   clauses-named (grow (known e v) l g) z = clauses-named g z
 
-  pub clauses-numbered : {s0 s : Log} → GrowsBy loud δ ε s0 s → clauses-of s0 ≡ [] → ints-bound (clauses-of s) ≤ next-int s
+  pub clauses-numbered : {s0 s : Log} → GrowsBy stated δ ε s0 s → clauses-of s0 ≡ [] → ints-bound (clauses-of s) ≤ next-int s
   unfolding clauses-of
   clauses-numbered same z = rw z (omega arith)
   clauses-numbered (grow (bool m) l g) z = clauses-numbered g z
@@ -221,8 +230,8 @@ get-stays : {A : Type 0} (k n : A) (v w : ℕ) (o p : Option A) → (v ≡ w →
 get-stays k n v w o p f l h false e = h
 get-stays k n v w o p f l h true e = let q : o ≡ p = f (eqb-true v w e) in cc
 
-module _ (loud : Bool) (δ : Val) (ε : IVal) where
-  bool-stays : (m : Made) (t : Log) (v : ℕ) (l : BoolLit) → Legal loud δ ε m t → get-bool-var v t ≡ some l → get-bool-var v (m ∷ t) ≡ some l
+module _ (stated : Bool) (δ : Val) (ε : IVal) where
+  bool-stays : (m : Made) (t : Log) (v : ℕ) (l : BoolLit) → Legal stated δ ε m t → get-bool-var v t ≡ some l → get-bool-var v (m ∷ t) ≡ some l
   unfolding get-bool-var
   bool-stays (bool (declared w)) t v n l h = get-stays (lit (next-bool t) false) n v w (get-bool-var v t) (get-bool-var w t) (λ q. rw q refl) l h (eqb v w) refl
   bool-stays (bool (aux cs)) t v n l h = h
@@ -233,26 +242,26 @@ module _ (loud : Bool) (δ : Val) (ε : IVal) where
   bool-stays (defined cs) t v n l h = h
   bool-stays (known e k) t v n l h = h
 
-  int-stays : (m : Made) (t : Log) (v n : ℕ) → Legal loud δ ε m t → get-int-var v t ≡ some n → get-int-var v (m ∷ t) ≡ some n
+  int-stays : (m : Made) (t : Log) (v n : ℕ) → Legal stated δ ε m t → get-int-var v t ≡ some n → get-int-var v (m ∷ t) ≡ some n
   unfolding get-int-var
   int-stays (bool m) t v n l h = h
   int-stays (merged w u g) t v n l h = absurd l
   int-stays (int (declared-int w)) t v n l h = get-stays (next-int t) n v w (get-int-var v t) (get-int-var w t) (λ q. rw q refl) l h (eqb v w) refl
   int-stays (int (column x d)) t v n l h = h
-  int-stays (int (chosen i e d)) t v n l h = h
+  int-stays (int (chosen i e p q d)) t v n l h = h
   int-stays (int (binary i x a b)) t v n l h = h
   int-stays (added cs) t v n l h = h
   int-stays (defined cs) t v n l h = h
   int-stays (known e k) t v n l h = h
 
-module _ {loud : Bool} {δ : Val} {ε : IVal} where
-  pub grows-get-bool : {s t : Log} → GrowsBy loud δ ε s t → (v : ℕ) (l : BoolLit) → get-bool-var v s ≡ some l → get-bool-var v t ≡ some l
+module _ {stated : Bool} {δ : Val} {ε : IVal} where
+  pub grows-get-bool : {s t : Log} → GrowsBy stated δ ε s t → (v : ℕ) (l : BoolLit) → get-bool-var v s ≡ some l → get-bool-var v t ≡ some l
   grows-get-bool same v n h = h
-  grows-get-bool (grow {t} m l g) v n h = bool-stays loud δ ε m t v n l (grows-get-bool g v n h)
+  grows-get-bool (grow {t} m l g) v n h = bool-stays stated δ ε m t v n l (grows-get-bool g v n h)
 
-  pub grows-get-int : {s t : Log} → GrowsBy loud δ ε s t → (v n : ℕ) → get-int-var v s ≡ some n → get-int-var v t ≡ some n
+  pub grows-get-int : {s t : Log} → GrowsBy stated δ ε s t → (v n : ℕ) → get-int-var v s ≡ some n → get-int-var v t ≡ some n
   grows-get-int same v n h = h
-  grows-get-int (grow {t} m l g) v n h = int-stays loud δ ε m t v n l (grows-get-int g v n h)
+  grows-get-int (grow {t} m l g) v n h = int-stays stated δ ε m t v n l (grows-get-int g v n h)
 
 -- ---- values
 
@@ -298,7 +307,7 @@ module _ (δ : Val) (ε : IVal) (ρ : Val) (ι : IVal) where
   agrees-int (merged w u g ∷ s) a v n h = agrees-int s (a .1) v n h
   agrees-int (int (declared-int w) ∷ s) a v n h = agrees-at ι ε (next-int s) v n w (get-int-var v s) (a .0) (agrees-int s (a .1) v n) (eqb v w) refl h
   agrees-int (int (column l d) ∷ s) a v n h = agrees-int s (a .1) v n h
-  agrees-int (int (chosen i e d) ∷ s) a v n h = agrees-int s (a .1) v n h
+  agrees-int (int (chosen i e p q d) ∷ s) a v n h = agrees-int s (a .1) v n h
   agrees-int (int (binary i l x y) ∷ s) a v n h = agrees-int s (a .1) v n h
   agrees-int (added cs ∷ s) a v n h = agrees-int s (a .1) v n h
   agrees-int (defined cs ∷ s) a v n h = agrees-int s (a .1) v n h
@@ -312,7 +321,7 @@ module _ (ρ : Val) (ι : IVal) where
   HeldMade (merged v w g) s = Unit {0}
   HeldMade (int (declared-int v)) s = Unit {0}
   HeldMade (int (column l d)) s = in-domain (ι (next-int s)) d ≡ true
-  HeldMade (int (chosen i e d)) s = Unit {0}
+  HeldMade (int (chosen i e p q d)) s = Unit {0}
   HeldMade (int (binary i l a b)) s = ι (next-int s) ≡ cond (lit-true ρ l) b a
   HeldMade (added cs) s = Unit {0}
   HeldMade (defined cs) s = all (clause-true ρ ι) cs ≡ true
@@ -329,25 +338,25 @@ module _ (δ : Val) (ε : IVal) (ρ : Val) (ι : IVal) where
   abbrev pub IntsMapped : Log → Type 0
   IntsMapped s = (v n : ℕ) → get-int-var v s ≡ some n → ι n ≡ ε v
 
-  held-agrees : (loud : Bool) (m : Made) (t : Log) → Legal loud δ ε m t → BoolsMapped (m ∷ t) → IntsMapped (m ∷ t) → HeldMade ρ ι m t → AgreesMade δ ε ρ ι m t
+  held-agrees : (stated : Bool) (m : Made) (t : Log) → Legal stated δ ε m t → BoolsMapped (m ∷ t) → IntsMapped (m ∷ t) → HeldMade ρ ι m t → AgreesMade δ ε ρ ι m t
   unfolding get-bool-var get-int-var
-  held-agrees loud (bool (declared w)) t l f g h = f w (lit (next-bool t) false) (rw (eq-eqb w w refl) refl)
-  held-agrees loud (bool (aux cs)) t l f g h = tt
-  held-agrees loud (bool (side e)) t l f g h = tt
-  held-agrees loud (merged w u k) t l f g h = absurd l
-  held-agrees loud (int (declared-int w)) t l f g h = g w (next-int t) (rw (eq-eqb w w refl) refl)
-  held-agrees loud (int (column x d)) t l f g h = h
-  held-agrees loud (int (chosen i e d)) t l f g h = tt
-  held-agrees loud (int (binary i x a b)) t l f g h = h
-  held-agrees loud (added cs) t l f g h = tt
-  held-agrees loud (defined cs) t l f g h = h
-  held-agrees loud (known e v) t l f g h = tt
+  held-agrees stated (bool (declared w)) t l f g h = f w (lit (next-bool t) false) (rw (eq-eqb w w refl) refl)
+  held-agrees stated (bool (aux cs)) t l f g h = tt
+  held-agrees stated (bool (side e)) t l f g h = tt
+  held-agrees stated (merged w u k) t l f g h = absurd l
+  held-agrees stated (int (declared-int w)) t l f g h = g w (next-int t) (rw (eq-eqb w w refl) refl)
+  held-agrees stated (int (column x d)) t l f g h = h
+  held-agrees stated (int (chosen i e p q d)) t l f g h = tt
+  held-agrees stated (int (binary i x a b)) t l f g h = h
+  held-agrees stated (added cs) t l f g h = tt
+  held-agrees stated (defined cs) t l f g h = h
+  held-agrees stated (known e v) t l f g h = tt
 
   -- s grew from s0
-  pub agrees-of : {loud : Bool} {s0 s : Log} → GrowsBy loud δ ε s0 s → (BoolsMapped s0 → Agrees δ ε ρ ι s0) → BoolsMapped s → IntsMapped s → Held ρ ι s → Agrees δ ε ρ ι s
+  pub agrees-of : {stated : Bool} {s0 s : Log} → GrowsBy stated δ ε s0 s → (BoolsMapped s0 → Agrees δ ε ρ ι s0) → BoolsMapped s → IntsMapped s → Held ρ ι s → Agrees δ ε ρ ι s
   agrees-of same base f g h = base f
-  agrees-of {loud} (grow {t} m l k) base f g h =
-      (held-agrees loud m t l f g (h .0), agrees-of k base (λ v n e. f v n (bool-stays loud δ ε m t v n l e)) (λ v n e. g v n (int-stays loud δ ε m t v n l e)) (h .1))
+  agrees-of {stated} (grow {t} m l k) base f g h =
+      (held-agrees stated m t l f g (h .0), agrees-of k base (λ v n e. f v n (bool-stays stated δ ε m t v n l e)) (λ v n e. g v n (int-stays stated δ ε m t v n l e)) (h .1))
 
 -- ---- the clauses of the log: of statements and of Ifs
 
@@ -403,7 +412,7 @@ module _ (δ : Val) (ε : IVal) where
   known-again l e v h = known-from (l .fresh) (l .grows) e v h
 
 pub lawful-over : {δ : Val} {ε : IVal} {s t : Log} → Lawful δ ε s → Extends δ ε s t → Lawful δ ε t
-lawful-over l g = record { start = l .start; fresh = l .fresh; grows = grows-trans (l .grows) g }
+lawful-over l g = record { start = l .start; empty = l .empty; fresh = l .fresh; grows = grows-trans (l .grows) g }
 
 pub lawful-then : {δ : Val} {ε : IVal} {s t : Log} → Lawful δ ε s → Grows δ ε s t → Lawful δ ε t
 lawful-then l g = lawful-over l (extends g)

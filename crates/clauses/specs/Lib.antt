@@ -14,6 +14,7 @@ pub mod SplitMeaning
 pub mod RuleMeaning
 pub mod Emitted
 pub mod Since
+pub mod Entries
 pub mod Once
 pub mod Ranges
 pub mod Exist

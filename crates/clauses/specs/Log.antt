@@ -18,10 +18,10 @@ pub data MadeBool : Type 0 where
   side : BoolExpr → MadeBool
 
 pub data MadeInt : Type 0 where
-  -- a declared variable; a column, equal to a sum; an If; a value that follows a literal: where it is false, where it is true
+  -- a declared variable; a column, equal to a sum; an If, equal to one of two sums; a value that follows a literal: where it is false, where it is true
   declared-int : ℕ → MadeInt
   column : LinearSum → Domain → MadeInt
-  chosen : IfIsRead → IntExpr → Domain → MadeInt
+  chosen : IfIsRead → IntExpr → LinearSum → LinearSum → Domain → MadeInt
   binary : IfIsRead → BoolLit → ℤ → ℤ → MadeInt
 
 -- a Boolean gets the next number; merging: a declared variable has another's literal, negated if so; an integer gets the next number;
@@ -67,7 +67,7 @@ is-declared v (side e) = false
 abbrev pub is-declared-int : ℕ → MadeInt → Bool
 is-declared-int v (declared-int w) = eqb v w
 is-declared-int v (column l d) = false
-is-declared-int v (chosen i e d) = false
+is-declared-int v (chosen i e p q d) = false
 is-declared-int v (binary i l a b) = false
 
 abbrev pub number-of : BoolLit → ℕ
@@ -138,7 +138,7 @@ made-ints (known e v ∷ s) = made-ints s
 abbrev pub domain-made : List Domain → MadeInt → Domain
 domain-made ds (declared-int v) = domain-of ds v
 domain-made ds (column l d) = d
-domain-made ds (chosen i e d) = d
+domain-made ds (chosen i e p q d) = d
 domain-made ds (binary i l a b) = Range a b
 
 -- their domains

@@ -8,7 +8,9 @@ use lib.Dec.{eqb}
 use borrow.Author.Tests.{eqb-true, eq-eqb}
 use Rattle.laws.specs.Bools.{and-l, and-r, beq-eq, never}
 use Rattle.laws.specs.Lists.{all}
-use Rattle.syntax.specs.Syntax.{IntExpr, BoolExpr, Const, Var, NVar, And, Or, Not, Xor, Iff, Imp, Cmp, Stmt, Rule, Table, AllDifferent}
+use Rattle.syntax.specs.Written.{Any}
+use Rattle.clauses.specs.Entries.{WellMade}
+use Rattle.syntax.specs.Syntax.{Domain, IntExpr, BoolExpr, Const, Var, NVar, And, Or, Not, Xor, Iff, Imp, Cmp, Stmt, Rule, Table, AllDifferent}
 use Rattle.syntax.specs.Satisfies.{Val, IVal, holds, stmt-holds}
 use Rattle.clauses.specs.Clause.{negate-if, BoolLit, lit, lit-true}
 use Rattle.clauses.specs.Log.{declared, aux, side, bool, merged, int, added, defined, known, Log, next-bool, next-int, negate-lit, get-bool-var, get-if, clauses-of}
@@ -254,4 +256,16 @@ merged-no-ifs (known e n ∷ s) w x = absurd w
 
 -- whatever grows from it is lawful
 pub merged-lawful : {δ : Val} {ε : IVal} {s0 s : Log} → WellMerged s0 → Extends δ ε s0 s → Lawful δ ε s
-merged-lawful {s0 = s0} w g = record { start = s0; fresh = merged-no-ifs s0 w; grows = g }
+merged-lawful {s0 = s0} w g = record { start = s0; empty = merged-no-ints s0 w; fresh = merged-no-ifs s0 w; grows = g }
+
+-- and well made, whatever is asked of integers
+pub merged-made : (ds : List Domain) (Q : ℕ → Type 0) (s : Log) → WellMerged s → WellMade ds Any Q s
+merged-made ds Q [] w = tt
+merged-made ds Q (bool (declared v) ∷ s) w = (tt, merged-made ds Q s (w .1))
+merged-made ds Q (bool (aux cs) ∷ s) w = absurd w
+merged-made ds Q (bool (side e) ∷ s) w = absurd w
+merged-made ds Q (merged v u g ∷ s) w = (tt, merged-made ds Q s (w .1 .1))
+merged-made ds Q (int m ∷ s) w = absurd w
+merged-made ds Q (added cs ∷ s) w = absurd w
+merged-made ds Q (defined cs ∷ s) w = absurd w
+merged-made ds Q (known e n ∷ s) w = absurd w

@@ -149,7 +149,7 @@ module _ (ds : List Domain) where
   unfoldable pub if-open : IfIsRead → IntExpr → (Bool → Run) → LinearSum → LinearSum → IntRun
   if-open i e p t f s =
       let v = next-int s in
-      let a = p false (int (chosen i e (hull (domain-of-sum s t) (domain-of-sum s f))) ∷ s) in
+      let a = p false (int (chosen i e t f (hull (domain-of-sum s t) (domain-of-sum s f))) ∷ s) in
       let b = p true (a .1) in
       (singleton v, known e v ∷ define (normalize-disjunction ((a .0 ++ (equals t v ∷ [])) ∷ (b .0 ++ (equals f v ∷ [])) ∷ []) (b .1)))
 

@@ -347,15 +347,15 @@ module _ (δ : Val) (ε : IVal) (ds : List Domain) where
         e ρ ι = one-comparison _ ∙ compare-sum ι Eq l (singleton v) ∙ ap (eqZ (sum-value ι l)) (singleton-value ι v)
 
     -- the If e, chosen by x between the sums t and f of the log s; the clauses r of its disjunction come behind its number
-    open-means : (i : IfIsRead) (e : IntExpr) (d : Domain) (s : Log) (t f : LinearSum) (X : Truth) (T F : Val → IVal → ℤ) (r : Out) → int-bound e ≤ next-bool s
+    open-means : (i : IfIsRead) (e : IntExpr) (d : Domain) (s : Log) (t f : LinearSum) (X : Truth) (T F : Val → IVal → ℤ) (r : Out) → int-bound e ≤ next-bool s → sum-bound t ≤ next-int s → sum-bound f ≤ next-int s
         → ((ρ : Val) (ι : IVal) → int-value δ ε ρ e ≡ cond (X ρ ι) (T ρ ι) (F ρ ι))
         → ((ρ : Val) (ι : IVal) → A ρ ι s → sum-value ι t ≡ T ρ ι) → ((ρ : Val) (ι : IVal) → A ρ ι s → sum-value ι f ≡ F ρ ι)
-        → M (int (chosen i e d) ∷ s) r (λ ρ ι. chosen-truth (X ρ ι) (eqZ (sum-value ι t) (ι (next-int s))) (eqZ (sum-value ι f) (ι (next-int s))))
+        → M (int (chosen i e t f d) ∷ s) r (λ ρ ι. chosen-truth (X ρ ι) (eqZ (sum-value ι t) (ι (next-int s))) (eqZ (sum-value ι f) (ι (next-int s))))
         → MI s (singleton (next-int s), known e (next-int s) ∷ define r) (I e)
     unfolding define
-    open-means i e d s t f X T F r hb is vt vf p = record {
+    open-means i e d s t f X T F r hb bt bf is vt vf p = record {
       grows = grow {t = defined (r .0) ∷ r .1} (known e v) (omega (arith, grows-int (p .grows)), val)
-          (grow (defined (r .0)) (p .bounded, p .numbered, λ ρ ι z. p .complete ρ ι z (right ρ ι (fits-back ρ ι (p .grows) z))) (grows-trans (grow (int (chosen i e d)) hb same) (p .grows)));
+          (grow (defined (r .0)) (p .bounded, p .numbered, λ ρ ι z. p .complete ρ ι z (right ρ ι (fits-back ρ ι (p .grows) z))) (grows-trans made (p .grows)));
       bounded = omega (arith, grows-int (p .grows));
       value = λ ρ ι a. singleton-value ι v ∙ val ρ ι (a .1);
     }
@@ -363,13 +363,16 @@ module _ (δ : Val) (ε : IVal) (ds : List Domain) where
         v : ℕ
         v = next-int s
 
+        made : G s (int (chosen i e t f d) ∷ s)
+        made = grow {t = s} (int (chosen i e t f d)) (hb, bt, bf, λ ρ ι a. record { which = X ρ ι; is = rw (vt ρ ι a, vf ρ ι a) (is ρ ι) }) same
+
         val : (ρ : Val) (ι : IVal) → A ρ ι (defined (r .0) ∷ r .1) → ι v ≡ int-value δ ε ρ e
         val ρ ι a =
             let b : A ρ ι s = agrees-back ρ ι (p .grows) (a .1) .1 in
             chosen-at (X ρ ι) (eqZ (sum-value ι t) (ι v)) (eqZ (sum-value ι f) (ι v)) (T ρ ι) (F ρ ι) (ι v)
             (λ q. sym (vt ρ ι b) ∙ eqZ-is (sum-value ι t) (ι v) q) (λ q. sym (vf ρ ι b) ∙ eqZ-is (sum-value ι f) (ι v) q) (p .sound ρ ι (a .1) (a .0)) ∙ sym (is ρ ι)
 
-        right : (ρ : Val) (ι : IVal) → Fits δ ε ρ ι (int (chosen i e d) ∷ s) → chosen-truth (X ρ ι) (eqZ (sum-value ι t) (ι v)) (eqZ (sum-value ι f) (ι v)) ≡ true
+        right : (ρ : Val) (ι : IVal) → Fits δ ε ρ ι (int (chosen i e t f d) ∷ s) → chosen-truth (X ρ ι) (eqZ (sum-value ι t) (ι v)) (eqZ (sum-value ι f) (ι v)) ≡ true
         right ρ ι z =
             let b : A ρ ι s = fits-agrees δ ε ρ ι s (z .1) in
             let w : ι v ≡ cond (X ρ ι) (T ρ ι) (F ρ ι) = z .0 ∙ is ρ ι in
@@ -384,8 +387,8 @@ module _ (δ : Val) (ε : IVal) (ds : List Domain) where
     if-open-means i c x y p s t f hb bt bf q vt vf h l =
         let v : ℕ = next-int s in
         let d : Domain = hull (domain-of-sum ds s t) (domain-of-sum ds s f) in
-        let s₁ : Log = int (chosen i (If i c x y) d) ∷ s in
-        let l₁ : L s₁ = lawful-then l (grow {t = s} (int (chosen i (If i c x y) d)) (omega arith) same) in
+        let s₁ : Log = int (chosen i (If i c x y) t f d) ∷ s in
+        let l₁ : L s₁ = lawful-then l (grow {t = s} (int (chosen i (If i c x y) t f d)) (omega arith, bt, bf, λ ρ ι a. record { which = holds δ ε ρ c; is = rw (vt ρ ι a, vf ρ ι a) refl }) same) in
         let a : M s₁ (p false s₁) (H c) = q false s₁ h l₁ in
         let t₁ : Log = p false s₁ .1 in
         let b : M t₁ (p true t₁) (λ ρ ι. not (holds δ ε ρ c)) = q true t₁ (omega (arith, grows-bool (a .grows))) (lawful-then l₁ (a .grows)) in
@@ -395,7 +398,7 @@ module _ (δ : Val) (ε : IVal) (ds : List Domain) where
         let both = each-more δ ε s₁ (p false s₁ .0 ++ (equals t v ∷ []), t₁) ((p true t₁ .0 ++ (equals f v ∷ [])) ∷ [], u₁) _ _ _ one (each-more δ ε t₁ (p true t₁ .0 ++ (equals f v ∷ []), u₁) ([], u₁) _ _ _ two' (each-none δ ε u₁)) in
         let r = each-disjunction-means δ ε s₁ u₁ _ _ _ both same in
         let m = means-after δ ε s₁ u₁ _ _ (both .grows) r in
-        open-means i (If i c x y) d s t f (H c) (I x) (I y) _ (omega arith) (λ ρ ι. refl) vt vf m
+        open-means i (If i c x y) d s t f (H c) (I x) (I y) _ (omega arith) bt bf (λ ρ ι. refl) vt vf m
 
     -- a known If, or a new one behind its branches
     if-means : (i : IfIsRead) (c : BoolExpr) (x y : IntExpr) (p : Bool → Run) (t f : IntRun) → int-bound (If i c x y) ≤ k → Either p (H c) → IntMeans t (I x) → IntMeans f (I y)

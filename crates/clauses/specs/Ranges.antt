@@ -9,20 +9,22 @@ use lib.Signed.{leZ, ltZ}
 use lib.Dec.{eqb}
 use borrow.Author.Tests.{eqb-true, eqb-false}
 use Rattle.laws.specs.Bools.{and-l, and-r, and-i}
-use Rattle.laws.specs.Ints.{eqZ, lower, higher}
-use Rattle.laws.specs.Order.{leZ-refl, leZ-trans, leZ-lt, leZ-not, ltZ-tri}
-use Rattle.syntax.specs.Syntax.{IfIsRead, Domain, Range, lower-bound, upper-bound, domain-of, IntExpr, If, BoolExpr}
-use Rattle.syntax.specs.Satisfies.{Val, IVal, int-value, holds}
-use Rattle.sums.specs.LinearSum.{Term, term, LinearSum, linear-sum, constant, sum-value, get-domain-linear-sum}
+use Rattle.laws.specs.Ints.{lower, higher}
+use Rattle.laws.specs.Order.{leZ-refl, leZ-trans, leZ-lt, leZ-not}
+use Rattle.syntax.specs.Syntax.{Domain, Range, lower-bound, upper-bound, domain-of, in-domain}
+use Rattle.syntax.specs.Satisfies.{Val, IVal}
+use Rattle.sums.specs.LinearSum.{Term, term, LinearSum, linear-sum, sum-value, get-domain-linear-sum}
 use Rattle.sums.specs.Rising.{Each}
 use Rattle.sums.specs.Domain.{between, domain-holds}
-use Rattle.sums.specs.Value.{constant-value}
-use Rattle.clauses.specs.Clause.{BoolLit, lit-true}
-use Rattle.clauses.specs.Log.{MadeInt, declared-int, column, chosen, binary, Made, bool, merged, int, added, defined, known, Log, next-int, made-ints, domain-made, emitted-domains, negate-lit}
+use Rattle.clauses.specs.Clause.{lit-true}
+use Rattle.clauses.specs.Log.{MadeInt, declared-int, column, chosen, binary, bool, merged, int, added, defined, known, Log, next-int, made-ints, domain-made, emitted-domains}
 use Rattle.clauses.specs.Bounds.{terms-bound, sum-bound}
-use Rattle.clauses.specs.Normalize.{two-valued, hull, domain-of-sum}
+use Rattle.clauses.specs.Normalize.{hull, domain-of-sum}
+use Rattle.syntax.specs.Written.{Any}
+use Rattle.clauses.specs.Grow.{OneOf, Legal, Extends, same, grow, Lawful}
+use Rattle.clauses.specs.Entries.{MadeWell, WellMade}
 use Rattle.clauses.specs.Emitted.{domain-at, new-domain, domain-step}
-use Rattle.clauses.specs.Valuation.{Agrees, Fits, fits-agrees}
+use Rattle.clauses.specs.Valuation.{Fits, fits-agrees}
 
 -- ---- the domains of the log
 
@@ -44,9 +46,13 @@ module _ (ds : List Domain) where
   terms-within k P f (term v a ∷ ts) h = (f v (omega arith), terms-within k P f ts (omega arith))
 
   -- a sum over numbers given lies in its domain
-  sum-within : (ι : IVal) (s : Log) (l : LinearSum) → sum-bound l ≤ next-int s → Within ι s → between (domain-of-sum ds s l) (sum-value ι l) ≡ true
+  pub sum-within : (ι : IVal) (s : Log) (l : LinearSum) → sum-bound l ≤ next-int s → Within ι s → between (domain-of-sum ds s l) (sum-value ι l) ≡ true
   unfolding domain-of-sum get-domain-linear-sum
   sum-within ι s (linear-sum c ts) h w = domain-holds (domain-at ds s) ι (linear-sum c ts) (terms-within (next-int s) (λ v. between (domain-at ds s v) (ι v) ≡ true) w ts h)
+
+  pub sum-in : (ι : IVal) (s : Log) (l : LinearSum) → sum-bound l ≤ next-int s → Within ι s → in-domain (sum-value ι l) (domain-of-sum ds s l) ≡ true
+  unfolding domain-of-sum
+  sum-in ι s (linear-sum c ts) h w = domain-holds (domain-at ds s) ι (linear-sum c ts) (terms-within (next-int s) (λ v. between (domain-at ds s v) (ι v) ≡ true) w ts h)
 
 -- ---- hulls
 
@@ -88,67 +94,44 @@ hull-right a b x h =
     and-i _ _ (leZ-trans (lower (lower-bound a) (lower-bound b)) (lower-bound b) x (pick-low (lower-bound a) (lower-bound b) .1) (and-l (leZ (lower-bound b) x) (leZ x (upper-bound b)) h))
     (leZ-trans x (upper-bound b) (higher (upper-bound a) (upper-bound b)) (and-r (leZ (lower-bound b) x) (leZ x (upper-bound b)) h) (pick-high (upper-bound a) (upper-bound b) .1))
 
-module _ (δ : Val) (ε : IVal) (ds : List Domain) where
-  -- where the domain of a new integer comes from
-  abbrev pub RangedMade : Made → Log → Type 0
-  RangedMade (bool m) s = Unit {0}
-  RangedMade (merged v w g) s = Unit {0}
-  RangedMade (int (declared-int v)) s = Unit {0}
-  RangedMade (int (column l d)) s = (ι : IVal) → Within ds ι s → between d (sum-value ι l) ≡ true
-  RangedMade (int (chosen i e d)) s = (ρ : Val) (ι : IVal) → Fits δ ε ρ ι s → Within ds ι s → between d (int-value δ ε ρ e) ≡ true
-  RangedMade (int (binary i l a b)) s = leZ a b ≡ true
-  RangedMade (added cs) s = Unit {0}
-  RangedMade (defined cs) s = Unit {0}
-  RangedMade (known e v) s = Unit {0}
+-- the declared integers of the log have values between their bounds
+abbrev pub Inside : List Domain → IVal → ℕ → Type 0
+Inside ds ε v = between (domain-of ds v) (ε v) ≡ true
 
-  abbrev pub Ranged : Log → Type 0
-  Ranged [] = Unit {0}
-  Ranged (m ∷ s) = RangedMade m s × Ranged s
+module _ (δ : Val) (ε : IVal) (ds : List Domain) (ρ : Val) (ι : IVal) where
+  abbrev Well : Log → Type 0
+  Well s = WellMade ds Any (Inside ds ε) s
 
   two-within : (g : Bool) (a b : ℤ) → leZ a b ≡ true → between (Range a b) (cond g b a) ≡ true
   two-within true a b h = and-i (leZ a b) (leZ b b) h (leZ-refl b)
   two-within false a b h = and-i (leZ a a) (leZ a b) (leZ-refl a) h
 
-  -- the declared integers have values between their bounds
-  module _ (inside : (v : ℕ) → between (domain-of ds v) (ε v) ≡ true) (ρ : Val) (ι : IVal) where
-    made-within : (m : MadeInt) (s : Log) → RangedMade (int m) s → Fits δ ε ρ ι (int m ∷ s) → Within ds ι s → between (domain-made ds m) (ι (next-int s)) ≡ true
-    made-within (declared-int v) s r f w = rw (f .0) (inside v)
-    made-within (column l d) s r f w = rw (f .0 .0) (r ι w)
-    made-within (chosen i e d) s r f w = rw (f .0) (r ρ ι (f .1) w)
-    made-within (binary i l x y) s r f w = rw (f .0) (two-within (lit-true ρ l) x y r)
-
-    pub emitted-within : (s : Log) → Ranged s → Fits δ ε ρ ι s → Within ds ι s
-    unfolding made-ints emitted-domains
-    emitted-within [] r f n h = absurd (omega arith)
-    emitted-within (bool m ∷ s) r f n h = emitted-within s (r .1) (f .1) n h
-    emitted-within (merged v w g ∷ s) r f n h = emitted-within s (r .1) (f .1) n h
-    emitted-within (int m ∷ s) r f n h =
-        let w : Within ds ι s = emitted-within s (r .1) (f .1) in
-        within-more ds ι m s w (made-within m s (r .0) f w) n h
-    emitted-within (added cs ∷ s) r f n h = emitted-within s (r .1) (f .1) n h
-    emitted-within (defined cs ∷ s) r f n h = emitted-within s (r .1) (f .1) n h
-    emitted-within (known e v ∷ s) r f n h = emitted-within s (r .1) (f .1) n h
-
-  -- ---- what makes new integers keeps this
-
-  two-valued-ranged : (i : IfIsRead) (s : Log) (l : BoolLit) (x y : ℤ) → RangedMade (int (two-valued i l x y)) s
-  two-valued-ranged i s l x y = go (ltZ x y) refl (eqZ x y) refl
+  one-within : (x a b : ℤ) (c d : Domain) → OneOf x a b → between c a ≡ true → between d b ≡ true → between (hull c d) x ≡ true
+  one-within x a b c d o h k = go (o .which) (o .is)
     where
-      go : (a : Bool) → ltZ x y ≡ a → (b : Bool) → eqZ x y ≡ b → RangedMade (int (cond a (binary i (negate-lit true l) x y) (cond b (column (constant x) (Range x x)) (binary i l y x)))) s
-      go true p b q = leZ-lt x y p
-      go false p true q = λ ι w. rw (constant-value ι x) (and-i (leZ x x) (leZ x x) (leZ-refl x) (leZ-refl x))
-      go false p false q = leZ-lt y x (ltZ-tri x y p q)
+      go : (w : Bool) → x ≡ cond w a b → between (hull c d) x ≡ true
+      go true e = rw e (hull-left c d a h)
+      go false e = rw e (hull-right c d b k)
 
-  -- an open If between the sums t and f
-  chosen-ranged : (s : Log) (i : IfIsRead) (c : BoolExpr) (x y : IntExpr) (t f : LinearSum) → sum-bound t ≤ next-int s → sum-bound f ≤ next-int s
-      → ((ρ : Val) (ι : IVal) → Agrees δ ε ρ ι s → sum-value ι t ≡ int-value δ ε ρ x) → ((ρ : Val) (ι : IVal) → Agrees δ ε ρ ι s → sum-value ι f ≡ int-value δ ε ρ y)
-      → RangedMade (int (chosen i (If i c x y) (hull (domain-of-sum ds s t) (domain-of-sum ds s f)))) s
-  unfolding int-value
-  chosen-ranged s i c x y t f ht hf vt vf ρ ι z w = go (holds δ ε ρ c)
-    where
-      r : Agrees δ ε ρ ι s
-      r = fits-agrees δ ε ρ ι s z
+  made-within : (m : MadeInt) (s : Log) → Legal true δ ε (int m) s → MadeWell ds Any (Inside ds ε) (int m) s → Fits δ ε ρ ι (int m ∷ s) → Within ds ι s → between (domain-made ds m) (ι (next-int s)) ≡ true
+  made-within (declared-int v) s l r f w = rw (f .0) r
+  made-within (column x d) s l r f w = rw (r, f .0 .0) (sum-within ds ι s x (l .0) w)
+  made-within (chosen i e p q d) s l r f w =
+      rw (r, f .0) (one-within _ _ _ (domain-of-sum ds s p) (domain-of-sum ds s q) (l .3 ρ ι (fits-agrees δ ε ρ ι s (f .1))) (sum-within ds ι s p (l .1) w) (sum-within ds ι s q (l .2) w))
+  made-within (binary i x a b) s l r f w = rw (f .0) (two-within (lit-true ρ x) a b r)
 
-      go : (b : Bool) → between (hull (domain-of-sum ds s t) (domain-of-sum ds s f)) (cond b (int-value δ ε ρ x) (int-value δ ε ρ y)) ≡ true
-      go true = hull-left (domain-of-sum ds s t) (domain-of-sum ds s f) (int-value δ ε ρ x) (rw (← (vt ρ ι r)) (sum-within ds ι s t ht w))
-      go false = hull-right (domain-of-sum ds s t) (domain-of-sum ds s f) (int-value δ ε ρ y) (rw (← (vf ρ ι r)) (sum-within ds ι s f hf w))
+  log-within : {s0 s : Log} → Extends δ ε s0 s → next-int s0 ≡ 0 → Well s → Fits δ ε ρ ι s → Within ds ι s
+  unfolding made-ints emitted-domains
+  log-within same z r f n h = absurd (omega arith)
+  log-within (grow (bool m) l g) z r f n h = log-within g z (r .1) (f .1) n h
+  log-within (grow (merged v w q) l g) z r f n h = absurd l
+  log-within (grow {t} (int m) l g) z r f n h =
+      let w : Within ds ι t = log-within g z (r .1) (f .1) in
+      within-more ds ι m t w (made-within m t l (r .0) f w) n h
+  log-within (grow (added cs) l g) z r f n h = log-within g z (r .1) (f .1) n h
+  log-within (grow (defined cs) l g) z r f n h = log-within g z (r .1) (f .1) n h
+  log-within (grow (known e v) l g) z r f n h = log-within g z (r .1) (f .1) n h
+
+  -- under fitting values every emitted integer lies between its bounds
+  pub emitted-within : (s : Log) → Lawful δ ε s → Well s → Fits δ ε ρ ι s → Within ds ι s
+  emitted-within s l r f = log-within (l .grows) (l .empty) r f

@@ -47,7 +47,7 @@ pub top-then : {s t u : Log} → OnTop s t → OnTop t u → OnTop s u
 top-then a here = a
 top-then a (over m b) = over m (top-then a b)
 
-grown-top : {loud : Bool} {δ : Val} {ε : IVal} {s t : Log} → GrowsBy loud δ ε s t → OnTop s t
+grown-top : {stated : Bool} {δ : Val} {ε : IVal} {s t : Log} → GrowsBy stated δ ε s t → OnTop s t
 grown-top same = here
 grown-top (grow m l g) = over m (grown-top g)
 
@@ -99,17 +99,17 @@ module _ (ρ : Val) (ι : IVal) where
   added-made δ ε (defined cs) s a d = a
   added-made δ ε (known e n) s a d = refl
 
-  module _ {loud : Bool} {δ : Val} {ε : IVal} where
-    all-since : {s t : Log} (m : Made) → GrowsBy loud δ ε s t → all (clause-true ρ ι) (clauses-since s (m ∷ t)) ≡ all (clause-true ρ ι) (clauses-since s t) && all (clause-true ρ ι) (clauses-made m)
+  module _ {stated : Bool} {δ : Val} {ε : IVal} where
+    all-since : {s t : Log} (m : Made) → GrowsBy stated δ ε s t → all (clause-true ρ ι) (clauses-since s (m ∷ t)) ≡ all (clause-true ρ ι) (clauses-since s t) && all (clause-true ρ ι) (clauses-made m)
     all-since {s} {t} m g = ap (all (clause-true ρ ι)) (since-more m (grown-top g)) ∙ all-append (clause-true ρ ι) (clauses-since s t) (clauses-made m)
 
-    pub since-added : {s t : Log} (g : GrowsBy loud δ ε s t) → all (clause-true ρ ι) (clauses-since s t) ≡ true → AddedBy ρ ι g
+    pub since-added : {s t : Log} (g : GrowsBy stated δ ε s t) → all (clause-true ρ ι) (clauses-since s t) ≡ true → AddedBy ρ ι g
     since-added same h = tt
     since-added {s} (grow {t} m l g) h =
         let k = sym (all-since m g) ∙ h in
         (made-added m (and-r (all (clause-true ρ ι) (clauses-since s t)) _ k), since-added g (and-l (all (clause-true ρ ι) (clauses-since s t)) _ k))
 
-    pub added-since : {s t : Log} (g : GrowsBy loud δ ε s t) → Agrees δ ε ρ ι t → AddedBy ρ ι g → all (clause-true ρ ι) (clauses-since s t) ≡ true
+    pub added-since : {s t : Log} (g : GrowsBy stated δ ε s t) → Agrees δ ε ρ ι t → AddedBy ρ ι g → all (clause-true ρ ι) (clauses-since s t) ≡ true
     added-since {s} same a d = rw (since-same s) refl
     added-since {s} (grow {t} m l g) a d = all-since m g ∙ and-i (all (clause-true ρ ι) (clauses-since s t)) _ (added-since g (a .1) (d .1)) (added-made δ ε m t (a .0) (d .0))
 

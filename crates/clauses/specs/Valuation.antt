@@ -50,7 +50,7 @@ module _ (δ : Val) (ε : IVal) (ρ : Val) (ι : IVal) where
   AgreesMade (merged v w g) s = δ v ≡ negate-if g (δ w)
   AgreesMade (int (declared-int v)) s = ι (next-int s) ≡ ε v
   AgreesMade (int (column l d)) s = in-domain (ι (next-int s)) d ≡ true
-  AgreesMade (int (chosen i e d)) s = Unit {0}
+  AgreesMade (int (chosen i e p q d)) s = Unit {0}
   AgreesMade (int (binary i l a b)) s = ι (next-int s) ≡ cond (lit-true ρ l) b a
   AgreesMade (added cs) s = Unit {0}
   AgreesMade (defined cs) s = all (clause-true ρ ι) cs ≡ true
@@ -67,7 +67,7 @@ module _ (δ : Val) (ε : IVal) (ρ : Val) (ι : IVal) where
   FitsMade (merged v w g) s = δ v ≡ negate-if g (δ w)
   FitsMade (int (declared-int v)) s = ι (next-int s) ≡ ε v
   FitsMade (int (column l d)) s = (ι (next-int s) ≡ sum-value ι l) × (in-domain (ι (next-int s)) d ≡ true)
-  FitsMade (int (chosen i e d)) s = ι (next-int s) ≡ int-value δ ε ρ e
+  FitsMade (int (chosen i e p q d)) s = ι (next-int s) ≡ int-value δ ε ρ e
   FitsMade (int (binary i l a b)) s = ι (next-int s) ≡ cond (lit-true ρ l) b a
   FitsMade (added cs) s = Unit {0}
   FitsMade (defined cs) s = all (clause-true ρ ι) cs ≡ true
@@ -84,7 +84,7 @@ module _ (δ : Val) (ε : IVal) (ρ : Val) (ι : IVal) where
   fits-agrees-made (merged v w g) s f = f
   fits-agrees-made (int (declared-int v)) s f = f
   fits-agrees-made (int (column l d)) s f = f .1
-  fits-agrees-made (int (chosen i e d)) s f = tt
+  fits-agrees-made (int (chosen i e p q d)) s f = tt
   fits-agrees-made (int (binary i l x y)) s f = f
   fits-agrees-made (added cs) s f = tt
   fits-agrees-made (defined cs) s f = f

@@ -14,12 +14,15 @@ use Rattle.clauses.specs.Log.{Log, clauses-of}
 use Rattle.clauses.specs.Valuation.{Agrees, Fits, fits-agrees}
 use Rattle.clauses.specs.Grow.{Extends, same, Lawful, lawful-over, agrees-back, fits-back}
 use Rattle.clauses.specs.Since.{clauses-since, top-adds, since-added, added-since}
-use Rattle.clauses.specs.Merge.{WellMerged, merged-lawful}
+use Rattle.clauses.specs.Merge.{WellMerged, merged-lawful, merged-made}
 use Rattle.clauses.specs.Exist.{TiesHold, values-of, fitting-exists}
 use Rattle.tables.specs.ColumnMeaning.{WithinDomain}
+use Rattle.clauses.specs.Entries.{WellMade}
+use Rattle.clauses.specs.Ranges.{Inside}
 use Rattle.answer.specs.Answer.{normalize-stmt, normalize-stmts}
+use Rattle.answer.specs.Declared.{stmt-well}
 use Rattle.call.specs.WellRead.{Plain}
-use Rattle.call.specs.Demand.{stmt-means, stmts-mean}
+use Rattle.call.specs.Demand.{stmt-inside, stmt-means, stmts-mean}
 use Rattle.facts.specs.Proper.{proper-top, stmt-proper}
 
 -- the clauses made for each statement, from the log s on: its own, and those of its Ifs that are met first in it
@@ -55,25 +58,27 @@ EachExact δ ε s (t ∷ ts) (cs ∷ css) = ((stmt-holds δ ε (λ n. false) t �
 
 module _ (δ : Val) (ε : IVal) (ds : List Domain) where
   -- from a statement on; whole: the log behind the last one, and values that fit it
-  from-here : (ts : List Stmt) (s whole : Log) (ρ : Val) (ι : IVal) → Each Plain ts → EveryStmts Any (WithinDomain ds ε) ts → Lawful δ ε s → whole ≡ normalize-stmts ds ts s → Fits δ ε ρ ι whole → EachExact δ ε whole ts (clauses-each ds ts s)
+  from-here : (ts : List Stmt) (s whole : Log) (ρ : Val) (ι : IVal) → Each Plain ts → EveryStmts Any (WithinDomain ds ε) ts → Lawful δ ε s → WellMade ds Any (Inside ds ε) s → whole ≡ normalize-stmts ds ts s → Fits δ ε ρ ι whole → EachExact δ ε whole ts (clauses-each ds ts s)
   unfolding clauses-each normalize-stmts EveryStmts
-  from-here [] s whole ρ ι p k l e f = tt
-  from-here (t ∷ ts) s whole ρ ι p k l e f =
+  from-here [] s whole ρ ι p k l w e f = tt
+  from-here (t ∷ ts) s whole ρ ι p k l made e f =
       let a : Log = normalize-stmt ds t s in
-      let here = stmt-means δ ε ds t s (p .0) (k .0) l in
+      let here = stmt-means δ ε ds t s (p .0) (k .0) l made in
       let lawful = lawful-over l (here .grows) in
-      let later : Extends δ ε a whole = rw e (stmts-mean δ ε ds ts a (p .1) (k .1) lawful .grows) in
+      let after = stmt-well ds Any (Inside ds ε) t (stmt-inside δ ε ds t (k .0)) s made in
+      let later : Extends δ ε a whole = rw e (stmts-mean δ ε ds ts a (p .1) (k .1) lawful after .grows) in
       let fa : Fits δ ε ρ ι a = fits-back ρ ι later f in (
         (
           λ h. record { bools = ρ; ints = ι; agrees = fits-agrees δ ε ρ ι whole f; clauses = added-since ρ ι (here .grows) (fits-agrees δ ε ρ ι a fa) (here .complete ρ ι fa h) },
           λ w. here .sound (w .bools) (w .ints) (agrees-back (w .bools) (w .ints) later (w .agrees)) (since-added (w .bools) (w .ints) (here .grows) (w .clauses)),
         ),
-        from-here ts a whole ρ ι (p .1) (k .1) lawful e f,
+        from-here ts a whole ρ ι (p .1) (k .1) lawful after e f,
       )
 
   -- s: the log from which clauses are made; the assignment keeps its ties
   pub each-exact : (ts : List Stmt) (s : Log) → Each Plain ts → EveryStmts Any (WithinDomain ds ε) ts → WellMerged s → TiesHold δ s → EachExact δ ε (normalize-stmts ds ts s) ts (clauses-each ds ts s)
   each-exact ts s p k w t =
       let lawful = merged-lawful w same in
+      let made = merged-made ds (Inside ds ε) s w in
       let whole : Log = normalize-stmts ds ts s in
-      from-here ts s whole (values-of δ ε whole .0) (values-of δ ε whole .1) p k lawful refl (fitting-exists δ ε t (stmts-mean δ ε ds ts s p k lawful .grows))
+      from-here ts s whole (values-of δ ε whole .0) (values-of δ ε whole .1) p k lawful made refl (fitting-exists δ ε t (stmts-mean δ ε ds ts s p k lawful made .grows))

@@ -30,19 +30,17 @@ use Rattle.sums.specs.Domain.{ordered}
 use Rattle.clauses.specs.Clause.{BoolLit, lit, LinearLit, linear, Clause, clause, lit-true}
 use Rattle.clauses.specs.Log.{declared, aux, side, bool, merged, int, added, defined, known, Log, next-bool, number-of, get-bool-var, get-int-var, emitted-domains, clauses-of}
 use Rattle.clauses.specs.Bounds.{lits-bound, clauses-bound, terms-bound, linears-bound, ints-bound}
-use Rattle.clauses.specs.Valuation.{Agrees, fits-agrees}
+use Rattle.clauses.specs.Valuation.{Agrees}
 use Rattle.clauses.specs.Grow.{Extends, get-bool-below, get-int-below, clauses-named, clauses-numbered}
 use Rattle.clauses.specs.Emitted.{length-emitted}
 use Rattle.clauses.specs.Exist.{TiesHold, values-of, fitting-exists}
 use Rattle.clauses.specs.Merge.{WellMerged, merged-agree, merged-no-clauses}
 use Rattle.answer.specs.Answer.{answer-of, bool-word, start-log, normalize, normalize-stmts, layout, fixed-word, map-word, domain-words, lit-words, term-words, linear-words, clause-words}
-use Rattle.answer.specs.Declared.{stmts-declared}
-use Rattle.answer.specs.Start.{start-well, start-declared}
-use Rattle.answer.specs.Carried.{agrees-bounded}
+use Rattle.answer.specs.Start.{start-well}
 use Rattle.call.specs.Call.{Result, compiled, refused, measured, answered, checked, when-read, call-with}
 use Rattle.call.specs.declared.Choices.{Choices}
 use Rattle.call.specs.Claim.{of-set}
-use Rattle.call.specs.Demand.{domains-ordered, ss-declared, grown, inside-bounds}
+use Rattle.call.specs.Demand.{domains-ordered, grown, within-bounds}
 use Rattle.facts.specs.Proper.{ProperLinears, ProperClauses, proper-clauses, stmts-proper}
 use Rattle.facts.specs.Loads.{take-word, take-times, take-counted, from-to, take-record, take-literal, take-terms, take-comparison, take-clause, loads-with, loads}
 
@@ -206,9 +204,7 @@ module _ (m : Bool) (p : Problem) (well : WellFormed p) (f : Fixed) (ss : List S
   records-sound : all sound-bounds (emitted-domains (p .domains) s) ≡ true
   records-sound = all-at (emitted-domains (p .domains) s) (λ j k.
       let d : Domain = domain-of (emitted-domains (p .domains) s) j in
-      let known = ss-declared m p well f ss end δ ε inside in
-      let agrees = fits-agrees δ ε ρ ι s (fitting-exists δ ε ties grows) in
-      let x = agrees-bounded (p .domains) b i δ ε ρ ι (inside-bounds m p well f ss end δ ε inside) s (stmts-declared b i (p .domains) ss known s0 (start-declared b i m ss known)) agrees j (omega (arith, length-emitted (p .domains) s)) in
+      let x = within-bounds m p well f ss end δ ε inside ρ ι (fitting-exists δ ε ties grows) j (omega (arith, length-emitted (p .domains) s)) in
       leZ-trans (lower-bound d) (ι j) (upper-bound d) (and-l (leZ (lower-bound d) (ι j)) _ x) (and-r (leZ (lower-bound d) (ι j)) _ x))
 
   abbrev fixed-part : List ℤ

@@ -254,7 +254,7 @@ module _ (p : Bool → Run) (hp : (g : Bool) → ProperRun (p g)) where
     unfolding if-open define
     if-open-proper e t f ht hf s =
         let v : ℕ = next-int s in
-        let m : Made = int (chosen i e (hull (domain-of-sum ds s t) (domain-of-sum ds s f))) in
+        let m : Made = int (chosen i e t f (hull (domain-of-sum ds s t) (domain-of-sum ds s f))) in
         let a : Out = p false (m ∷ s) in
         let b : Out = p true (a .1) in
         let x = hp false (m ∷ s) in

@@ -75,7 +75,7 @@ columns (bool m ∷ s) = columns s
 columns (merged v w g ∷ s) = columns s
 columns (int (declared-int v) ∷ s) = columns s
 columns (int (column l d) ∷ s) = suc (columns s)
-columns (int (chosen i e d) ∷ s) = suc (columns s)
+columns (int (chosen i e p q d) ∷ s) = suc (columns s)
 columns (int (binary i l a b) ∷ s) = suc (columns s)
 columns (added cs ∷ s) = columns s
 columns (defined cs ∷ s) = columns s
@@ -87,7 +87,7 @@ columns-few (bool m ∷ s) = columns-few s
 columns-few (merged v w g ∷ s) = columns-few s
 columns-few (int (declared-int v) ∷ s) = omega (arith, columns-few s)
 columns-few (int (column l d) ∷ s) = omega (arith, columns-few s)
-columns-few (int (chosen i e d) ∷ s) = omega (arith, columns-few s)
+columns-few (int (chosen i e p q d) ∷ s) = omega (arith, columns-few s)
 columns-few (int (binary i l a b) ∷ s) = omega (arith, columns-few s)
 columns-few (added cs ∷ s) = columns-few s
 columns-few (defined cs ∷ s) = columns-few s
@@ -98,18 +98,18 @@ same-opens zero s t h = refl
 same-opens (suc i) s t h = rw (h i, same-opens i s t h) refl
 
 -- every emitted integer is a declared variable's or one of those; s0: a log without integers
-emitted-is : (b i : ℕ) {δ : Val} {ε : IVal} {s0 s : Log} → next-int s0 ≡ 0 → Extends δ ε s0 s → Declared b i s → next-int s + opens i s ≤ i + columns s
+emitted-is : (ds : List Domain) (b i : ℕ) {δ : Val} {ε : IVal} {s0 s : Log} → next-int s0 ≡ 0 → Extends δ ε s0 s → Declared ds b i s → next-int s + opens i s ≤ i + columns s
 unfolding get-int-var
-emitted-is b i {s0 = s0} z same d = omega (arith, z, opens-most i s0)
-emitted-is b i z (grow {t} (bool m) l g) d = omega (arith, emitted-is b i z g (d .1), same-opens i (bool m ∷ t) t (λ w. refl))
-emitted-is b i z (grow {t} (merged v w h) l g) d = absurd l
-emitted-is b i z (grow {t} (int (declared-int v)) l g) d = omega (arith, emitted-is b i z g (d .1), opens-drop i v t (d .0) l)
-emitted-is b i z (grow {t} (int (column x e)) l g) d = omega (arith, emitted-is b i z g (d .1), same-opens i (int (column x e) ∷ t) t (λ w. refl))
-emitted-is b i z (grow {t} (int (chosen j e x)) l g) d = omega (arith, emitted-is b i z g (d .1), same-opens i (int (chosen j e x) ∷ t) t (λ w. refl))
-emitted-is b i z (grow {t} (int (binary j x p q)) l g) d = omega (arith, emitted-is b i z g (d .1), same-opens i (int (binary j x p q) ∷ t) t (λ w. refl))
-emitted-is b i z (grow {t} (added cs) l g) d = omega (arith, emitted-is b i z g (d .1), same-opens i (added cs ∷ t) t (λ w. refl))
-emitted-is b i z (grow {t} (defined cs) l g) d = omega (arith, emitted-is b i z g (d .1), same-opens i (defined cs ∷ t) t (λ w. refl))
-emitted-is b i z (grow {t} (known e n) l g) d = omega (arith, emitted-is b i z g (d .1), same-opens i (known e n ∷ t) t (λ w. refl))
+emitted-is ds b i {s0 = s0} z same d = omega (arith, z, opens-most i s0)
+emitted-is ds b i z (grow {t} (bool m) l g) d = omega (arith, emitted-is ds b i z g (d .1), same-opens i (bool m ∷ t) t (λ w. refl))
+emitted-is ds b i z (grow {t} (merged v w h) l g) d = absurd l
+emitted-is ds b i z (grow {t} (int (declared-int v)) l g) d = omega (arith, emitted-is ds b i z g (d .1), opens-drop i v t (d .0) l)
+emitted-is ds b i z (grow {t} (int (column x e)) l g) d = omega (arith, emitted-is ds b i z g (d .1), same-opens i (int (column x e) ∷ t) t (λ w. refl))
+emitted-is ds b i z (grow {t} (int (chosen j e p q x)) l g) d = omega (arith, emitted-is ds b i z g (d .1), same-opens i (int (chosen j e p q x) ∷ t) t (λ w. refl))
+emitted-is ds b i z (grow {t} (int (binary j x p q)) l g) d = omega (arith, emitted-is ds b i z g (d .1), same-opens i (int (binary j x p q) ∷ t) t (λ w. refl))
+emitted-is ds b i z (grow {t} (added cs) l g) d = omega (arith, emitted-is ds b i z g (d .1), same-opens i (added cs ∷ t) t (λ w. refl))
+emitted-is ds b i z (grow {t} (defined cs) l g) d = omega (arith, emitted-is ds b i z g (d .1), same-opens i (defined cs ∷ t) t (λ w. refl))
+emitted-is ds b i z (grow {t} (known e n) l g) d = omega (arith, emitted-is ds b i z g (d .1), same-opens i (known e n ∷ t) t (λ w. refl))
 
 -- ---- of these, only columns of tables
 
@@ -242,5 +242,5 @@ module _ (ds : List Domain) where
   stmts-columns (t ∷ ts) s = omega (arith, stmt-columns t s, stmts-columns ts (normalize-stmt ds t s), length-append (encode-stmt t) (flat (map encode-stmt ts)))
 
   -- at most half as many as there are words, besides the declared ones
-  pub emitted-few : (b i : ℕ) (δ : Val) (ε : IVal) (ts : List Stmt) (s : Log) → next-int s ≡ 0 → Extends δ ε s (normalize-stmts ds ts s) → Declared b i (normalize-stmts ds ts s) → 2 * next-int (normalize-stmts ds ts s) ≤ 2 * i + length (flat (map encode-stmt ts))
-  emitted-few b i δ ε ts s z g d = omega (arith, z, columns-few s, emitted-is b i z g d, stmts-columns ts s)
+  pub emitted-few : (b i : ℕ) (δ : Val) (ε : IVal) (ts : List Stmt) (s : Log) → next-int s ≡ 0 → Extends δ ε s (normalize-stmts ds ts s) → Declared ds b i (normalize-stmts ds ts s) → 2 * next-int (normalize-stmts ds ts s) ≤ 2 * i + length (flat (map encode-stmt ts))
+  emitted-few b i δ ε ts s z g d = omega (arith, z, columns-few s, emitted-is ds b i z g d, stmts-columns ts s)

@@ -48,7 +48,7 @@ module _ {w w' : List ℤ} (same : Saved 0 w w') where
   recorded-same C (merged u v g ∷ s) h r = recorded-same C s h r
   recorded-same C (int (declared-int v) ∷ s) h r = (word-same (emitted-ints + next-int s) (omega arith) ∙ r .0, recorded-same C s (omega arith) (r .1))
   recorded-same C (int (column l d) ∷ s) h r = (rw (word-same (emitted-ints + next-int s) (omega arith)) (r .0), recorded-same C s (omega arith) (r .1))
-  recorded-same C (int (chosen i e d) ∷ s) h r = absurd i
+  recorded-same C (int (chosen i e p q d) ∷ s) h r = absurd i
   recorded-same C (int (binary i l a b) ∷ s) h r = absurd i
   recorded-same C (added cs ∷ s) h r = recorded-same C s h r
   recorded-same C (defined cs ∷ s) h r = recorded-same C s h r

@@ -149,7 +149,7 @@ module _ (F : List ℤ) (ds : List Domain) (b i : ℕ) (w : List ℤ) (L : Log) 
         })
 
     -- s0: a log without integers
-    pub entry-at : {s0 s : Log} → next-int s0 ≡ 0 → Extends δ ε s0 s → Extends δ ε s L → Recorded (ColumnRecord F ds) w s → Declared b i s → Fit w L → (n : ℕ) → n < next-int s → Entry n
+    pub entry-at : {s0 s : Log} → next-int s0 ≡ 0 → Extends δ ε s0 s → Extends δ ε s L → Recorded (ColumnRecord F ds) w s → Declared ds b i s → Fit w L → (n : ℕ) → n < next-int s → Entry n
     unfolding Recorded
     entry-at y same g r d f n h = absurd (omega arith)
     entry-at y (grow {t} (bool m) l k) g r d f n h = entry-at y k (grows-trans (grow (bool m) l same) g) r (d .1) f n h
@@ -162,7 +162,7 @@ module _ (F : List ℤ) (ds : List Domain) (b i : ℕ) (w : List ℤ) (L : Log) 
         least n (next-int t) (ltb n (next-int t)) refl (omega arith)
         (λ m. entry-at y k (grows-trans (grow (int (column x e)) l same) g) (r .1) (d .1) f n m)
         (λ z. rw z (column-entry x e t (r .0) (l .0) g (grows-trans (grow (int (column x e)) l same) g) f))
-    entry-at y (grow {t} (int (chosen j x e)) l k) g r d f n h = absurd j
+    entry-at y (grow {t} (int (chosen j x p q e)) l k) g r d f n h = absurd j
     entry-at y (grow {t} (int (binary j x p q)) l k) g r d f n h = absurd j
     entry-at y (grow {t} (added cs) l k) g r d f n h = entry-at y k (grows-trans (grow (added cs) l same) g) r (d .1) f n h
     entry-at y (grow {t} (defined cs) l k) g r d f n h = entry-at y k (grows-trans (grow (defined cs) l same) g) r (d .1) f n h

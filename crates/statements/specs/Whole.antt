@@ -23,11 +23,11 @@ use Rattle.sums.specs.Domain.{ordered}
 use Rattle.clauses.specs.Clause.{BoolLit, Clause}
 use Rattle.clauses.specs.Log.{Log, next-int, get-bool-var, get-int-var, emitted-domains, clauses-of}
 use Rattle.clauses.specs.Grow.{Extends, same}
-use Rattle.clauses.specs.Merge.{merged-lawful, merged-no-clauses}
+use Rattle.clauses.specs.Merge.{merged-lawful, merged-no-clauses, merged-made}
 use Rattle.tables.specs.ColumnMeaning.{WithinDomain}
 use Rattle.answer.specs.Answer.{fixed-word, map-word, bool-word, start-log, domain-words, clause-words, layout, answer-of, normalize, normalize-stmts}
-use Rattle.answer.specs.Declared.{Declared, stmts-declared}
-use Rattle.answer.specs.Start.{start-well, start-ints, start-declared}
+use Rattle.answer.specs.Declared.{Declared, stmts-well}
+use Rattle.answer.specs.Start.{start-well, start-ints, start-made}
 use Rattle.call.specs.Demand.{stmts-mean, domains-ordered}
 use Rattle.walk.specs.Item.{bool-at, int-entry, State}
 use Rattle.clauses.specs.Since.{clauses-since}
@@ -117,10 +117,10 @@ module _ (m : Bool) (p : Problem) (well : WellFormed p) (f : Fixed) (ss : List S
       (λ v h. let o = domains-ordered ds (well .domains-well) v h in (o, lowest-in (domain-of ds v) o)) ss (settled-declared p well f ss end)
 
   pub grown : Extends falses (lowest ds) s0 log
-  grown = stmts-mean falses (lowest ds) ds ss s0 (settled-plain p well f ss end) log-standing (merged-lawful (start-well m ss) same) .grows
+  grown = stmts-mean falses (lowest ds) ds ss s0 (settled-plain p well f ss end) log-standing (merged-lawful (start-well m ss) same) (merged-made ds _ s0 (start-well m ss)) .grows
 
-  pub declared : Declared (p .bools) (length ds) log
-  declared = let d = settled-declared p well f ss end in stmts-declared (p .bools) (length ds) ds ss d s0 (start-declared (p .bools) (length ds) m ss d)
+  pub declared : Declared ds (p .bools) (length ds) log
+  declared = let d = settled-declared p well f ss end in stmts-well ds (λ v. v < p .bools) (λ v. v < length ds) ss d s0 (start-made ds (λ v. v < p .bools) (λ v. v < length ds) m ss d)
 
   pub emitted : 2 * next-int log ≤ 2 * length ds + length (flat (map encode-stmt ss))
   emitted = emitted-few ds (p .bools) (length ds) falses (lowest ds) ss s0 (start-ints m ss) grown declared

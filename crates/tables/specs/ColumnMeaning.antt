@@ -6,7 +6,7 @@ use mathlib.Core.Option.{Option, none, some}
 use mathlib.Core.List.{List, [], _∷_, _++_, map, map-append}
 use Prim.Native.Nat.{ℕ, suc, _≤_, _<_}
 use native.Mathlib.Omega.{arith}
-use lib.IntN.{ℤ, pos}
+use lib.IntN.{ℤ}
 use lib.ListN.{length, length-append}
 use lib.Dec.{eqb, ltb}
 use borrow.Author.Tests.{ltb-true, lt-ltb, eq-eqb, ne-eqb}
@@ -14,19 +14,21 @@ use Rattle.laws.specs.Bools.{and-l, and-r, and-i, eq1}
 use Rattle.laws.specs.Ints.{eqZ}
 use Rattle.laws.specs.Order.{eqZ-is, eqZ-sym, is-eqZ}
 use Rattle.laws.specs.Lists.{all, all-append}
-use Rattle.syntax.specs.Syntax.{Domain, in-domain, domain-of, Eq, IntExpr, IConst, IVar, Linear, If, Terms, tnil, tmore}
+use Rattle.syntax.specs.Syntax.{Domain, in-domain, domain-of, Eq, IntExpr, IConst, IVar, Linear, If}
 use Rattle.syntax.specs.Satisfies.{Val, IVal, int-value}
-use Rattle.syntax.specs.Written.{EveryInt, EveryTerm, EveryColumn, Within, EveryIntOf, EveryColumnOf}
-use Rattle.sums.specs.LinearSum.{LinearSum, constant, singleton, add-sum, mul-sum, sum-value}
+use Rattle.clauses.specs.Ranges.{Inside, sum-in, emitted-within}
+use Rattle.clauses.specs.Entries.{WellMade, int-well}
+use Rattle.tables.specs.ColumnEntries.{column-well}
+use Rattle.syntax.specs.Written.{Any, every-int-map, EveryInt, EveryColumn, Within, EveryIntOf, EveryColumnOf}
+use Rattle.sums.specs.LinearSum.{LinearSum, singleton, sum-value}
 use Rattle.sums.specs.Value.{singleton-value, compare-sum}
-use Rattle.sums.specs.Rising.{terms-of, Each, constant-each, singleton-each, add-sum-each, mul-sum-each}
-use Rattle.sums.specs.Domain.{ordered, between, domain-between, domain-holds}
+use Rattle.sums.specs.Domain.{ordered, domain-between}
 use Rattle.clauses.specs.Log.{declared-int, column, int, added, Log, next-int, get-int-var, int-var-at, convert-int-var}
-use Rattle.clauses.specs.Normalize.{IntOut, equals, domain-of-sum, normalize-int-var, normalize-term, normalize-int-expr, normalize-terms}
+use Rattle.clauses.specs.Normalize.{IntOut, equals, domain-of-sum, normalize-int-expr}
 use Rattle.clauses.specs.Bounds.{int-bound, NoNumbers, sum-same, sub-sum-bound}
 use Rattle.clauses.specs.Valuation.{Agrees, Fits, fits-agrees, all-true}
 use Rattle.clauses.specs.Emitted.{domain-at, new-domain, domain-step, domain-stays, int-var-domain}
-use Rattle.clauses.specs.Grow.{Legal, Grows, Extends, extends, same, grow, Lawful, lawful-over, grows-trans, grows-int, get-int-below, grows-get-int, agrees-int, agrees-back, fits-back, AddedBy, added-then, added-first, added-second, added-none}
+use Rattle.clauses.specs.Grow.{Legal, Grows, Extends, extends, same, grow, Lawful, lawful-over, lawful-then, grows-trans, grows-int, get-int-below, agrees-int, agrees-back, fits-back, AddedBy, added-then, added-first, added-second, added-none}
 use Rattle.clauses.specs.Means.{MeansInt}
 use Rattle.clauses.specs.NormalizeMeaning.{int-expr-means}
 use Rattle.tables.specs.Tables.{Columns, new-column, old-column, equivalent-int-var, equivalent-int-vars}
@@ -50,48 +52,16 @@ module _ {δ : Val} {ε : IVal} (ds : List Domain) where
   unfolding convert-int-var
   convert-grows v s = int-var-grows v s (get-int-var v s) refl
 
-  mutual
-    unfolding normalize-int-expr normalize-int-var normalize-term
-
-    int-grows : (e : IntExpr) (s : Log) → Grows δ ε s (normalize-int-expr ds e s .1)
-    int-grows (IConst c) = λ s. same
-    int-grows (IVar v) = λ s. convert-grows v s
-    int-grows (Linear ts) = λ s. terms-grow ts (constant (pos 0)) s
-    int-grows (If i c t f) = absurd i
-
-    terms-grow : (ts : Terms) (sum : LinearSum) (s : Log) → Grows δ ε s (normalize-terms ds ts sum s .1)
-    terms-grow tnil = λ sum s. same
-    terms-grow (tmore k e ts) = λ sum s. grows-trans (int-grows e s) (terms-grow ts (add-sum sum (mul-sum k (normalize-int-expr ds e s .0))) (normalize-int-expr ds e s .1))
-
 module _ (ds : List Domain) (ε : IVal) where
   -- what reading and the assignment give of a declared variable
   abbrev pub WithinDomain : ℕ → Type 0
   WithinDomain v = (ordered (domain-of ds v) ≡ true) × Within ds ε v
 
-  -- ---- the variables of a column's sum lie within their domains
+  inside-of : (v : ℕ) → WithinDomain v → Inside ds ε v
+  inside-of v h = domain-between (domain-of ds v) (ε v) (h .0) (h .1)
 
-  module _ (δ : Val) (ρ : Val) (ι : IVal) (t : Log) (a : Agrees δ ε ρ ι t) where
-    abbrev Bounded : ℕ → Type 0
-    Bounded n = between (domain-at ds t n) (ι n) ≡ true
-
-    declared-bounded : (v n : ℕ) → WithinDomain v → get-int-var v t ≡ some n → Bounded n
-    declared-bounded v n h e = rw (int-var-domain ds t v n e, agrees-int δ ε ρ ι t a v n e) (domain-between (domain-of ds v) (ε v) (h .0) (h .1))
-
-    mutual
-      unfolding normalize-int-expr normalize-int-var normalize-term EveryIntOf
-
-      int-bounded : (e : IntExpr) → EveryInt WithinDomain e → (s : Log) → Grows δ ε (normalize-int-expr ds e s .1) t → Each Bounded (terms-of (normalize-int-expr ds e s .0))
-      int-bounded (IConst c) h = λ s g. constant-each Bounded c
-      int-bounded (IVar v) h = λ s g. singleton-each Bounded (convert-int-var v s .0) (declared-bounded v (convert-int-var v s .0) h (grows-get-int g v (convert-int-var v s .0) (convert-gets v s)))
-      int-bounded (Linear ts) h = λ s g. terms-bounded ts h (constant (pos 0)) s g (constant-each Bounded (pos 0))
-      int-bounded (If i c x y) h = absurd i
-
-      terms-bounded : (ts : Terms) → EveryTerm WithinDomain ts → (sum : LinearSum) (s : Log) → Grows δ ε (normalize-terms ds ts sum s .1) t → Each Bounded (terms-of sum) → Each Bounded (terms-of (normalize-terms ds ts sum s .0))
-      terms-bounded tnil h = λ sum s g b. b
-      terms-bounded (tmore k e ts) h = λ sum s g b.
-          let x = normalize-int-expr ds e s in
-          let y = add-sum sum (mul-sum k (x .0)) in
-          terms-bounded ts (h .1) y (x .1) g (add-sum-each Bounded sum (mul-sum k (x .0)) b (mul-sum-each Bounded k (x .0) (int-bounded e (h .0) s (grows-trans (terms-grow ds ts y (x .1)) g))))
+  pub ints-inside : (e : IntExpr) → EveryInt WithinDomain e → EveryInt (Inside ds ε) e
+  ints-inside e h = every-int-map Any Any WithinDomain Any Any (Inside ds ε) (λ n k. k) (λ v k. k) inside-of e h
 
   -- ---- a new variable
 
@@ -112,7 +82,7 @@ module _ (ds : List Domain) (ε : IVal) where
   with-value-new : (ι : IVal) (n : ℕ) (z : ℤ) → with-value ι n z n ≡ z
   with-value-new ι n z = rw (eq-eqb n n refl) refl
 
-  module _ (δ : Val) (e : IntExpr) (low : int-bound e ≤ 0) (h : EveryInt WithinDomain e) (s : Log) (lawful : Lawful δ ε s) where
+  module _ (δ : Val) (e : IntExpr) (low : int-bound e ≤ 0) (h : EveryInt WithinDomain e) (s : Log) (lawful : Lawful δ ε s) (made : WellMade ds Any (Inside ds ε) s) where
     abbrev x : IntOut
     x = normalize-int-expr ds e s
 
@@ -121,8 +91,7 @@ module _ (ds : List Domain) (ε : IVal) where
 
     -- what a column may be made of: a sum over numbers given, within its domain
     column-legal : Legal true δ ε (int (column (x .0) (domain-of-sum ds (x .1) (x .0)))) (x .1)
-    unfolding domain-of-sum
-    column-legal = (m .bounded, λ ρ ι f. domain-holds (domain-at ds (x .1)) ι (x .0) (int-bounded δ ρ ι (x .1) (fits-agrees δ ε ρ ι (x .1) f) e h s same))
+    column-legal = (m .bounded, λ ρ ι f. sum-in ds ι (x .1) (x .0) (m .bounded) (emitted-within δ ε ds ρ ι (x .1) (lawful-then lawful (m .grows)) (int-well ds Any (Inside ds ε) e (ints-inside e h) s made) f))
 
     -- of all values z of a column's new variable, its clause admits exactly one, the expression's, and that lies within the variable's domain
     pub record OneValue (ρ : Val) (ι : IVal) : Type 0 where
@@ -165,9 +134,9 @@ module _ (ds : List Domain) (ε : IVal) where
           inside = λ ρ ι a. rw (int-var-domain ds t v n e, agrees-int δ ε ρ ι t a v n e, h .1) refl;
         }
 
-    new-column-means : (e : IntExpr) → int-bound e ≤ 0 → EveryInt WithinDomain e → (s : Log) → Lawful δ ε s → ColumnsMean s (new-column ds (normalize-int-expr ds e s)) (λ ρ. int-value δ ε ρ e ∷ [])
+    new-column-means : (e : IntExpr) → int-bound e ≤ 0 → EveryInt WithinDomain e → (s : Log) → Lawful δ ε s → WellMade ds Any (Inside ds ε) s → ColumnsMean s (new-column ds (normalize-int-expr ds e s)) (λ ρ. int-value δ ε ρ e ∷ [])
     unfolding new-column
-    new-column-means e low h s lawful = record {
+    new-column-means e low h s lawful made = record {
       grows = grow {t = int (column l d) ∷ t} (added (equals l v ∷ [])) (refl, omega arith, omega (arith, sub-sum-bound l (singleton v), p .bounded)) (grow (int (column l d)) legal (extends (p .grows)));
       below = rw (lt-ltb v (suc v) (omega arith)) refl;
       as-many = λ ρ. refl;
@@ -177,7 +146,7 @@ module _ (ds : List Domain) (ε : IVal) where
     }
       where
         p : MeansInt δ ε s (normalize-int-expr ds e s) (λ ρ ι. int-value δ ε ρ e)
-        p = m δ e low h s lawful
+        p = m δ e low h s lawful made
 
         l : LinearSum
         l = normalize-int-expr ds e s .0
@@ -192,14 +161,14 @@ module _ (ds : List Domain) (ε : IVal) where
         d = domain-of-sum ds t l
 
         legal : Legal true δ ε (int (column l d)) t
-        legal = column-legal δ e low h s lawful
+        legal = column-legal δ e low h s lawful made
 
-    column-means : (e : IntExpr) → int-bound e ≤ 0 → EveryInt WithinDomain e → (s : Log) → Lawful δ ε s → ColumnsMean s (equivalent-int-var ds e s) (λ ρ. int-value δ ε ρ e ∷ [])
+    column-means : (e : IntExpr) → int-bound e ≤ 0 → EveryInt WithinDomain e → (s : Log) → Lawful δ ε s → WellMade ds Any (Inside ds ε) s → ColumnsMean s (equivalent-int-var ds e s) (λ ρ. int-value δ ε ρ e ∷ [])
     unfolding equivalent-int-var
-    column-means (IVar v) low h s l = unfold int-value EveryIntOf in old-column-means v h s
-    column-means (IConst c) low h s l = new-column-means (IConst c) low h s l
-    column-means (Linear ts) low h s l = new-column-means (Linear ts) low h s l
-    column-means (If i c x y) low h s l = new-column-means (If i c x y) low h s l
+    column-means (IVar v) low h s l k = unfold int-value EveryIntOf in old-column-means v h s
+    column-means (IConst c) low h s l k = new-column-means (IConst c) low h s l k
+    column-means (Linear ts) low h s l k = new-column-means (Linear ts) low h s l k
+    column-means (If i c x y) low h s l k = new-column-means (If i c x y) low h s l k
 
     -- numbers keep their domains
     inside-stays : (ι : IVal) {s t : Log} → Extends δ ε s t → (vs : List ℕ) → all (λ v. ltb v (next-int s)) vs ≡ true → all (λ v. in-domain (ι v) (domain-at ds s v)) vs ≡ true → all (λ v. in-domain (ι v) (domain-at ds t v)) vs ≡ true
@@ -226,10 +195,10 @@ module _ (ds : List Domain) (ε : IVal) where
         both : {us vs xs' ys' : List ℤ} → us ≡ xs' → vs ≡ ys' → us ++ vs ≡ xs' ++ ys'
         both e f = cc
 
-    pub columns-mean : (es : List IntExpr) → NoNumbers es → EveryColumn WithinDomain es → (s : Log) → Lawful δ ε s → ColumnsMean s (equivalent-int-vars ds es s) (λ ρ. map (int-value δ ε ρ) es)
+    pub columns-mean : (es : List IntExpr) → NoNumbers es → EveryColumn WithinDomain es → (s : Log) → Lawful δ ε s → WellMade ds Any (Inside ds ε) s → ColumnsMean s (equivalent-int-vars ds es s) (λ ρ. map (int-value δ ε ρ) es)
     unfolding equivalent-int-vars EveryColumnOf
-    columns-mean [] low h s l = record { grows = same; below = refl; as-many = λ ρ. refl; sound = λ ρ ι a k. refl; complete = λ ρ ι f. tt; inside = λ ρ ι a. refl }
-    columns-mean (e ∷ es) low h s l =
+    columns-mean [] low h s l k = record { grows = same; below = refl; as-many = λ ρ. refl; sound = λ ρ ι a k. refl; complete = λ ρ ι f. tt; inside = λ ρ ι a. refl }
+    columns-mean (e ∷ es) low h s l k =
         let a : Columns = equivalent-int-var ds e s in
-        let p = column-means e (low .0) (h .0) s l in
-        columns-append s a (equivalent-int-vars ds es (a .log)) (λ ρ. int-value δ ε ρ e ∷ []) (λ ρ. map (int-value δ ε ρ) es) p (columns-mean es (low .1) (h .1) (a .log) (lawful-over l (p .grows)))
+        let p = column-means e (low .0) (h .0) s l k in
+        columns-append s a (equivalent-int-vars ds es (a .log)) (λ ρ. int-value δ ε ρ e ∷ []) (λ ρ. map (int-value δ ε ρ) es) p (columns-mean es (low .1) (h .1) (a .log) (lawful-over l (p .grows)) (column-well ds Any (Inside ds ε) e (ints-inside e (h .0)) s k))

@@ -5,6 +5,7 @@ pub mod Domains
 pub mod Agree
 pub mod PlainMeaning
 pub mod StarMeaning
+pub mod ColumnEntries
 pub mod ColumnMeaning
 pub mod TableMeaning
 pub mod Values

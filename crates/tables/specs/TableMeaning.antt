@@ -12,7 +12,9 @@ use Rattle.laws.specs.Bools.{and-l, and-r, and-i}
 use Rattle.laws.specs.Lists.{any, all, keep-if, select, flat, any-cong}
 use Rattle.syntax.specs.Syntax.{Domain, in-domain, domain-of, enumerate, IntExpr, Cell, Table}
 use Rattle.syntax.specs.Satisfies.{Val, IVal, int-value, row-holds, stmt-holds}
-use Rattle.syntax.specs.Written.{EveryColumn}
+use Rattle.syntax.specs.Written.{Any, EveryColumn}
+use Rattle.clauses.specs.Entries.{WellMade}
+use Rattle.clauses.specs.Ranges.{Inside}
 use Rattle.clauses.specs.Log.{added, Log, next-int}
 use Rattle.clauses.specs.Bounds.{NoNumbers, clauses-bound, clauses-bound-append, linears-bound, linears-bound-append, ints-bound, ints-bound-append}
 use Rattle.clauses.specs.Valuation.{Agrees, Fits, fits-agrees, all-true}
@@ -118,10 +120,10 @@ module _ (δ : Val) (ε : IVal) (ds : List Domain) where
   abbrev permitted : List ℕ → List (List Cell) → Val → IVal → Bool
   permitted vs rows ρ ι = any (λ cs. row-permits cs (map ι vs)) rows
 
-  abbrev Inside : List ℕ → Log → Type 0
-  Inside vs s = (ρ : Val) (ι : IVal) → Agrees δ ε ρ ι s → all (λ v. in-domain (ι v) (domain-at ds s v)) vs ≡ true
+  abbrev InDomains : List ℕ → Log → Type 0
+  InDomains vs s = (ρ : Val) (ι : IVal) → Agrees δ ε ρ ι s → all (λ v. in-domain (ι v) (domain-at ds s v)) vs ≡ true
 
-  plain-means : (vs : List ℕ) (rows : List (List Cell)) (s : Log) → all (wide (length vs)) rows ≡ true → any (any is-star) rows ≡ false → all (λ v. ltb v (next-int s)) vs ≡ true → Inside vs s
+  plain-means : (vs : List ℕ) (rows : List (List Cell)) (s : Log) → all (wide (length vs)) rows ≡ true → any (any is-star) rows ≡ false → all (λ v. ltb v (next-int s)) vs ≡ true → InDomains vs s
       → Means δ ε s (plain-table vs (map (domain-at ds s) vs) rows, s) (permitted vs rows)
   plain-means vs rows s w h low inside =
       let f : ℕ → Domain = domain-at ds s in
@@ -135,7 +137,7 @@ module _ (δ : Val) (ε : IVal) (ds : List Domain) where
         complete = λ ρ ι g k. e ρ ι (fits-agrees δ ε ρ ι s g) ∙ k;
       }
 
-  supports-mean : (vs : List ℕ) (rows : List (List Cell)) (s : Log) → all (wide (length vs)) rows ≡ true → all (λ v. ltb v (next-int s)) vs ≡ true → Inside vs s
+  supports-mean : (vs : List ℕ) (rows : List (List Cell)) (s : Log) → all (wide (length vs)) rows ≡ true → all (λ v. ltb v (next-int s)) vs ≡ true → InDomains vs s
       → Means δ ε s (normalize-extension-supports ds vs rows s) (permitted vs rows)
   unfolding normalize-extension-supports
   supports-mean vs rows s w low inside = go (any (any is-star) rows) refl
@@ -150,10 +152,10 @@ module _ (δ : Val) (ε : IVal) (ds : List Domain) where
   held-permitted ρ ι es vs rows e = any-cong (row-holds δ ε ρ es) (λ cs. row-permits cs (map ι vs)) rows (λ cs. row-holds-permits δ ε ρ es cs ∙ ap (row-permits cs) (sym e))
 
   -- a table's rows have as many cells as it has columns (reading); its columns write variables whose domains are ordered and hold their values
-  pub table-means : (es : List IntExpr) (rows : List (List Cell)) (s : Log) → all (wide (length es)) rows ≡ true → NoNumbers es → EveryColumn (WithinDomain ds ε) es → Lawful δ ε s
+  pub table-means : (es : List IntExpr) (rows : List (List Cell)) (s : Log) → all (wide (length es)) rows ≡ true → NoNumbers es → EveryColumn (WithinDomain ds ε) es → Lawful δ ε s → WellMade ds Any (Inside ds ε) s
       → Says δ ε s (normalize-table ds es rows s) (λ ρ ι. stmt-holds δ ε ρ (Table es rows))
   unfolding normalize-table stmt-holds register
-  table-means es rows s w low h l = record {
+  table-means es rows s w low h l made = record {
     grows = grow (added (o .0)) (refl, r .bounded, r .numbered) (grows-trans (m .grows) (extends (r .grows)));
     sound = λ ρ ι a d.
         let z : Agrees δ ε ρ ι (c .log) = agrees-back ρ ι (r .grows) (a .1) in
@@ -169,7 +171,7 @@ module _ (δ : Val) (ε : IVal) (ds : List Domain) where
       c = equivalent-int-vars ds es s
 
       m : ColumnsMean ds ε δ s c (λ ρ. map (int-value δ ε ρ) es)
-      m = columns-mean ds ε δ es low h s l
+      m = columns-mean ds ε δ es low h s l made
 
       o : Out
       o = normalize-extension-supports ds (c .vars) rows (c .log)

@@ -38,7 +38,7 @@ module _ (Column : Log → ℤ → LinearSum → Domain → Type 0) where
   Recorded w (merged q r z ∷ s) = Recorded w s
   Recorded w (int (declared-int v) ∷ s) = (getD w (emitted-ints + next-int s) (pos 0) ≡ pos v) × Recorded w s
   Recorded w (int (column l d) ∷ s) = Column s (getD w (emitted-ints + next-int s) (pos 0)) l d × Recorded w s
-  Recorded w (int (chosen i e d) ∷ s) = absurd i
+  Recorded w (int (chosen i e p q d) ∷ s) = absurd i
   Recorded w (int (binary i l a b) ∷ s) = absurd i
   Recorded w (added cs ∷ s) = Recorded w s
   Recorded w (defined cs ∷ s) = Recorded w s
@@ -82,7 +82,7 @@ module _ (Column : Log → ℤ → LinearSum → Domain → Type 0) where
       (getD-set-other w p (emitted-ints + next-int s) x (pos 0) (f (next-int s) (omega arith)) ∙ h .0, recorded-set w p x s (λ k l. f k (omega arith)) (h .1))
   recorded-set w p x (int (column l d) ∷ s) f h =
       (rw (getD-set-other w p (emitted-ints + next-int s) x (pos 0) (f (next-int s) (omega arith))) (h .0), recorded-set w p x s (λ k l. f k (omega arith)) (h .1))
-  recorded-set w p x (int (chosen i e d) ∷ s) f h = absurd i
+  recorded-set w p x (int (chosen i e t q d) ∷ s) f h = absurd i
   recorded-set w p x (int (binary i l a b) ∷ s) f h = absurd i
   recorded-set w p x (added cs ∷ s) f h = recorded-set w p x s f h
   recorded-set w p x (defined cs ∷ s) f h = recorded-set w p x s f h
