@@ -2,7 +2,9 @@
 """Compares the proved programs' listings with tools/reference's, byte for byte, on generated texts, malformed ones included.
 The line `total=` is not the reference's: it is counted anew from the printed clauses (recount.py).
 
-    python3 tools/cases/compare.py SEED COUNT
+    python3 tools/cases/compare.py SEED COUNT [FAMILY]
+
+FAMILY is text, or iftext for sets with Ifs, which wait until the programs read code 23.
 
 Run at the repository's root, after `rt check cases listing` (target/bin) and the reference's build. Texts go to the
 program `cases` in pieces that its buffer holds; a longer one goes to `listing` by itself."""
@@ -33,12 +35,12 @@ def replay(piece):
     return int(found.group(1)), int(found.group(2))
 
 
-def main(seed, count):
+def main(seed, count, family="text"):
     agree = differ = 0
     piece = b""
     kinds = {}
     counted = Counter()
-    source = subprocess.Popen([REFERENCE, "record", seed, "text", count], stdout=subprocess.PIPE)
+    source = subprocess.Popen([REFERENCE, "record", seed, family, count], stdout=subprocess.PIPE)
     for index, line in enumerate(source.stdout):
         given, expected = map(unescape, re.fullmatch(r"text=(.*) listing=(.*)\n", line.decode()).groups())
         listed, literals, comparisons = recounted(expected)
@@ -61,4 +63,4 @@ def main(seed, count):
     print("recounted: {literals} literals, {comparisons} comparisons; {listings} listings have comparisons; the reference's total differs in {others}".format(**counted))
 
 
-main(sys.argv[1], sys.argv[2])
+main(*sys.argv[1:])

@@ -53,7 +53,7 @@ def pair_of(count):
 def listed(ints, domains, *clauses):
     """The listing of an answer without Booleans."""
     lines = ["answer=compiled", "fixed=", "bools=", "ints=" + ints, f"emitted=0,{len(domains)}"]
-    lines += ["domain=" + d for d in domains] + ["clause=" + c for c in clauses]
+    lines += ["domain=0," + d for d in domains] + ["clause=" + c for c in clauses]
     return "\n".join(lines + [f"clauses={len(clauses)}", f"total={sum(c.count(';') for c in clauses)}"]) + "\n"
 
 
@@ -90,7 +90,7 @@ NAMED = [
     ("P6", NONE, "answer=compiled"),
     ("P7", rules(0, "13,0"), "answer=contradiction\n"),
     ("P8", rules(0, "12,0"), "answer=compiled"),
-    ("P9", column(2, "0,2"), "answer=compiled\nfixed=\nbools=\nints=1\nemitted=0,1\ndomain=0,2,3\nclause=;0:0:0,1;0:-2:0,1\nclauses=1\ntotal=2\n"),
+    ("P9", column(2, "0,2"), "answer=compiled\nfixed=\nbools=\nints=1\nemitted=0,1\ndomain=0,0,2,3\nclause=;0:0:0,1;0:-2:0,1\nclauses=1\ntotal=2\n"),
     ("P10", column(3, "0,1,2"), "answer=compiled"),
     ("P11", column(1, "5"), "answer=compiled"),
     ("P12", text(0, 2, ["0,0,1", "0,0,1"], ["2,2,2,21,0,21,1,0,0,1,1"]), "answer=compiled"),

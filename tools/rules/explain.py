@@ -1,5 +1,6 @@
 """An answer's clauses by names."""
 
+from solve.listing import FOLLOWING
 from solve.sets import OPERATORS
 
 
@@ -20,15 +21,19 @@ class Explainer:
                 yield "%s   (fixed)" % (name if value else "not " + name)
 
     def new(self):
-        """The new integers with their ranges, which the solver must know too."""
-        for number, (low, high) in enumerate(self.listing.domains):
+        """The new integers with what their records say, which the solver must know too."""
+        for number, record in enumerate(self.listing.records):
             if number not in self.ints:
-                yield "%s from %d to %d   (new)" % (self.integer(number), low, high)
+                yield "%s %s   (new)" % (self.integer(number), self.record(*record))
+
+    def record(self, kind, first, second, third):
+        if kind == FOLLOWING:
+            return "is %d if %s, else %d" % (third, self.literal(first), second)
+        return "from %d to %d" % (first, second)
 
     def clause(self, clause):
         literals, comparisons = clause
-        parts = [("" if literal > 0 else "not ") + self.boolean(abs(literal)) for literal in literals]
-        return " or ".join(parts + [self.comparison(*found) for found in comparisons]) or "false"
+        return " or ".join([self.literal(word) for word in literals] + [self.comparison(*found) for found in comparisons]) or "false"
 
     def comparison(self, operator, constant, terms):
         total = ""
@@ -37,6 +42,9 @@ class Explainer:
             total += (" %s " % sign) if total else sign.replace("+", "")
             total += ("" if abs(factor) == 1 else "%d " % abs(factor)) + self.integer(variable)
         return "%s %s %d" % (total or "0", OPERATORS[operator], -constant)
+
+    def literal(self, word):
+        return ("" if word > 0 else "not ") + self.boolean(abs(word))
 
     def boolean(self, number):
         return self.bools.get(number, "[b%d]" % number)

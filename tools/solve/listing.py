@@ -12,9 +12,12 @@ PROGRAM = os.path.join(ROOT, "target", "bin", "listing")
 
 # answer: compiled, contradiction, unread or a refusal's number. fixed, bools, ints: a word for each declared variable, in bools
 # negative for the negation of an emitted one (of merged answers; several variables may then have the same number).
-# emitted: how many Booleans are emitted. domains: (lowest, highest) of each emitted integer.
+# emitted: how many Booleans are emitted. records: of each emitted integer its kind and three numbers, (RANGING, lowest, highest,
+# number of values) or (FOLLOWING, literal, value where it is false, value where it is true).
 # clauses: (literals, comparisons), a comparison being (operator, constant, [(variable, coefficient), ..]).
-Listing = namedtuple("Listing", "answer fixed bools ints emitted domains clauses")
+Listing = namedtuple("Listing", "answer fixed bools ints emitted records clauses")
+
+RANGING, FOLLOWING = 0, 1
 
 REFUSALS = {
     1: "the work slice has fewer than 16384 words",
@@ -108,12 +111,12 @@ def read(text):
 def compiled(lines):
     fixed, bools, ints = (numbers(lines.one(key)) for key in ("fixed", "bools", "ints"))
     emitted = numbers(lines.one("emitted"))
-    domains = [numbers(line) for line in lines.all_of("domain")]
+    records = [tuple(numbers(line)) for line in lines.all_of("domain")]
     clauses = [clause(line) for line in lines.all_of("clause")]
     count = numbers(lines.one("clauses"))
     total = numbers(lines.one("total"))  # the last line: without it the listing is cut off
     lines.end()
-    if len(emitted) != 2 or len(domains) != emitted[1] or any(len(domain) != 3 for domain in domains):
+    if len(emitted) != 2 or len(records) != emitted[1] or not all(sound(record, emitted[0]) for record in records):
         raise cut_off("its domains are not those that emitted= counts")
     if any(abs(word) > emitted[0] for word in bools) or any(not 0 <= word <= emitted[1] for word in ints):
         raise cut_off("its maps name variables that emitted= does not count")
@@ -122,7 +125,15 @@ def compiled(lines):
     parts = sum(len(literals) + len(comparisons) for literals, comparisons in clauses)
     if total != [parts]:
         raise cut_off("its clauses have %d literals and comparisons, and total= says %s" % (parts, total))
-    return Listing("compiled", fixed, bools, ints, emitted[0], [tuple(d[:2]) for d in domains], clauses)
+    return Listing("compiled", fixed, bools, ints, emitted[0], records, clauses)
+
+
+def sound(record, bools):
+    """Whether a record is of one of the two kinds: lowest not above highest; an emitted literal and two values that rise."""
+    if len(record) != 4 or record[0] not in (RANGING, FOLLOWING):
+        return False
+    kind, first, second, third = record
+    return first <= second and third >= 1 if kind == RANGING else 1 <= abs(first) <= bools and second < third
 
 
 def explain_answer(listing):

@@ -6,6 +6,7 @@ The emitted Boolean that the listing calls n is b<n> (from 1), the emitted integ
 import re
 
 from .errors import Failed
+from .listing import FOLLOWING
 from .sets import RANGE
 
 OPERATORS = ["=", "distinct", "<=", "<", ">=", ">"]
@@ -33,29 +34,39 @@ def comparison(operator, constant, terms):
     return "(%s %s %s)" % (OPERATORS[operator], total, number(-constant))
 
 
+def literal(word):
+    return "b%d" % word if word > 0 else "(not b%d)" % -word
+
+
 def clause(literals, comparisons):
-    parts = ["b%d" % literal if literal > 0 else "(not b%d)" % -literal for literal in literals]
-    return joined("or", parts + [comparison(*found) for found in comparisons], "false")
+    return joined("or", [literal(word) for word in literals] + [comparison(*found) for found in comparisons], "false")
 
 
-def emitted_domains(listing, problem):
-    """The domain of each emitted integer: of a declared one its declared values, of a new one lowest to highest."""
-    domains = [(RANGE, low, high) for low, high in listing.domains]
+def record(name, kind, first, second, third):
+    """What an emitted integer's record says: from lowest to highest, or the value that its literal gives."""
+    if kind == FOLLOWING:
+        return "(= %s (ite %s %s %s))" % (name, literal(first), number(third), number(second))
+    return within(name, (RANGE, first, second))
+
+
+def held(listing, problem):
+    """What holds of each emitted integer: a declared one has its declared values, a new one those of its record."""
+    parts = [record("x%d" % i, *found) for i, found in enumerate(listing.records)]
     for mapped, declared in zip(listing.ints, problem.domains):
         if mapped:
-            domains[mapped - 1] = declared
-    return domains
+            parts[mapped - 1] = within("x%d" % (mapped - 1), declared)
+    return parts
 
 
 def names(listing):
-    return ["b%d" % (i + 1) for i in range(listing.emitted)] + ["x%d" % i for i in range(len(listing.domains))]
+    return ["b%d" % (i + 1) for i in range(listing.emitted)] + ["x%d" % i for i in range(len(listing.records))]
 
 
 def script(listing, problem):
     lines = ["(set-option :produce-models true)", "(set-logic QF_LIA)"]
     lines += ["(declare-const b%d Bool)" % (i + 1) for i in range(listing.emitted)]
-    for i, domain in enumerate(emitted_domains(listing, problem)):
-        lines += ["(declare-const x%d Int)" % i, "(assert %s)" % within("x%d" % i, domain)]
+    for i, said in enumerate(held(listing, problem)):
+        lines += ["(declare-const x%d Int)" % i, "(assert %s)" % said]
     lines += ["(assert %s)" % clause(*found) for found in listing.clauses]
     lines.append("(check-sat)")
     if names(listing):

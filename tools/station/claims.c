@@ -98,12 +98,12 @@ static void choices(void) {
 /* AllDifferent: a clause for the pair, then one for each value where the values are used up. */
 static void different(void) {
     const int32_t used_up[] = {0, 2, 0, 0, 1, 1, 2, 0, 1, 1, 3, 2, 21, 0, 21, 1};
-    const int32_t clauses[] = {1, 2, 0, 2, 0, 1, 2, 0, 1, 2, 3, 0, 1, 1, 0, 2, 0, 1, 1, -1,
+    const int32_t clauses[] = {1, 2, 0, 2, 0, 0, 1, 2, 0, 0, 1, 2, 3, 0, 1, 1, 0, 2, 0, 1, 1, -1,
                                0, 2, 0, 0, 1, 0, 1, 0, 0, 1, 1, 1, 0, 2, 0, -1, 1, 0, 1, 0, -1, 1, 1, 1};
     answers(0, COUNTED(used_up), COUNTED(clauses), "values used up by two variables");
     answers(PLANNER_MERGE, COUNTED(used_up), COUNTED(clauses), "AllDifferent with merging");
     const int32_t three_values[] = {0, 2, 0, 0, 2, 0, 0, 2, 1, 3, 2, 21, 0, 21, 1};
-    const int32_t pair[] = {1, 2, 0, 2, 0, 2, 3, 0, 2, 3, 1, 0, 1, 1, 0, 2, 0, 1, 1, -1};
+    const int32_t pair[] = {1, 2, 0, 2, 0, 0, 2, 3, 0, 0, 2, 3, 1, 0, 1, 1, 0, 2, 0, 1, 1, -1};
     answers(0, COUNTED(three_values), COUNTED(pair), "two variables of three values");
     const int32_t apart[] = {0, 1}, equal[] = {1, 1}, outside[] = {2, 0};
     const size_t all = PLANNER_WORK_WORDS;

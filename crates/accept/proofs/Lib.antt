@@ -1,5 +1,7 @@
 pub mod Sizes
+pub mod FirstLaws
 pub mod Laws
+pub mod SkipLaws
 pub mod RangeLaws
 pub mod CountLaws
 pub mod TestLaws

@@ -11,12 +11,12 @@ use Rattle.laws.specs.Lists.{any, any-append, flat}
 use Rattle.laws.specs.Slices.{Has, has-fits, has-front, has-back, has-word, has-rest}
 use Rattle.laws.specs.Ints.{pos-eq}
 use Rattle.syntax.specs.Syntax.{Domain, IntExpr, encode-int, CmpOp, BoolExpr, Const, Var, NVar, And, Or, Not, Xor, Iff, Imp, Cmp, Members, mnil, more, count-members, encode-bit, encode-op, encode-bool, encode-members}
-use Rattle.syntax.specs.Written.{EveryOf, None, Any, ints-of}
+use Rattle.syntax.specs.Written.{EveryOf}
 use Rattle.syntax.specs.Codes.{bool-code}
 use Rattle.domains.specs.Declared.{Plain}
-use Rattle.limits.specs.Limits.{any-comparison, any-comparison-members}
-use Rattle.accept.specs.Walk.{Int-at, first-of, test-comparison, test-column, Ready-pair, Pair-post, Usable, Usable-members, Usable-all, listed, parts, head-length, own-test, Bool-at, Bools-at, Ready-bool, Ready-bools, Step-post, Bools-post}
-use Rattle.accept.proofs.TestLaws.{first-cong, first-join}
+use Rattle.limits.specs.Limits.{any-comparison, any-comparison-members, any-inside}
+use Rattle.accept.specs.Walk.{Int-at, first-of, test-comparison, test-branch, test-bool, test-pair, Ready-pair, Pair-post, Usable, Usable-members, Usable-all, listed, parts, head-length, own-test, Bool-at, Bools-at, Ready-bool, Ready-bools, Step-post, Bools-post}
+use Rattle.accept.proofs.FirstLaws.{first-cong, first-join}
 
 -- ---- an expression's own words, and those of its parts
 
@@ -87,7 +87,11 @@ module _ (f : IntExpr → IntExpr → Bool) (g : IntExpr → Bool) where
   listed-test mnil = refl
   listed-test (more e ms) = ap (λ b. any-comparison f g e || b) (listed-test ms)
 
-  split-test : (e : BoolExpr) → any-comparison f g e ≡ own-test f e || any (any-comparison f g) (parts e)
+  -- a comparison with what stands inside
+  abbrev whole : IntExpr → IntExpr → Bool
+  whole a b = f a b || (any-inside f g a || any-inside f g b)
+
+  split-test : (e : BoolExpr) → any-comparison f g e ≡ own-test whole e || any (any-comparison f g) (parts e)
   unfolding any-comparison
   split-test (Const b) = refl
   split-test (Var v) = refl
@@ -98,7 +102,7 @@ module _ (f : IntExpr → IntExpr → Bool) (g : IntExpr → Bool) where
   split-test (Xor a b) = ap (λ t. any-comparison f g a || t) (sym (or-false (any-comparison f g b)))
   split-test (Iff a b) = ap (λ t. any-comparison f g a || t) (sym (or-false (any-comparison f g b)))
   split-test (Imp a b) = ap (λ t. any-comparison f g a || t) (sym (or-false (any-comparison f g b)))
-  split-test (Cmp o a b) = sym (or-false (f a b))
+  split-test (Cmp o a b) = sym (or-false (whole a b))
 
 module _ (ni : ℕ) where
   listed-usable : (ms : Members) → Usable-members ni ms → Usable-all ni (listed ms)
@@ -135,11 +139,11 @@ flat-map (e ∷ es) us = ap (λ l. encode-bool e ++ l) (flat-map es us) ∙ sym 
 
 -- its own test, then those of its parts and of the rest
 own-first : (m : ℕ) (ds : List Domain) (e : BoolExpr) (us : List BoolExpr)
-    → own-test (test-comparison m ds) e || any (any-comparison (test-comparison m ds) (test-column m ds)) (parts e ++ us) ≡ any (any-comparison (test-comparison m ds) (test-column m ds)) (e ∷ us)
+    → own-test (test-pair m ds) e || any (test-bool m ds) (parts e ++ us) ≡ any (test-bool m ds) (e ∷ us)
 own-first m ds e us =
-    let test = any-comparison (test-comparison m ds) (test-column m ds) in
-    let own = own-test (test-comparison m ds) e in
-    ap (λ b. own || b) (any-append test (parts e) us) ∙ sym (or-assoc own (any test (parts e)) (any test us)) ∙ ap (λ b. b || any test us) (sym (split-test (test-comparison m ds) (test-column m ds) e))
+    let test = test-bool m ds in
+    let own = own-test (test-pair m ds) e in
+    ap (λ b. own || b) (any-append test (parts e) us) ∙ sym (or-assoc own (any test (parts e)) (any test us)) ∙ ap (λ b. b || any test us) (sym (split-test (test-comparison m ds) (test-branch m) e))
 
 -- ---- `rule_step`
 
@@ -175,7 +179,7 @@ module _ (ws work : List ℤ) (at ni : ℕ) where
     unfolding EveryOf first-of test-comparison
     step-leaf l ds e b q r = go e (code-is e r) r
       where
-        go : (e : BoolExpr) → bool-code e ≡ w → Bool-at ni ws at e → (at + 2 ≡ at + head-length e) × (0 ≡ length (parts e)) × (12 ≡ first-of (λ m. own-test (test-comparison m ds) e))
+        go : (e : BoolExpr) → bool-code e ≡ w → Bool-at ni ws at e → (at + 2 ≡ at + head-length e) × (0 ≡ length (parts e)) × (12 ≡ first-of (λ m. own-test (test-pair m ds) e))
         go (Const b) t r = (refl, refl, refl)
         go (Var v) t r = (refl, refl, refl)
         go (NVar n) t r = absurd (r .usable)
@@ -207,7 +211,7 @@ module _ (ws work : List ℤ) (at ni : ℕ) where
     unfolding encode-bool EveryOf first-of test-comparison
     step-list l k n hn ds e b q r = go e (code-is e r) r
       where
-        go : (e : BoolExpr) → bool-code e ≡ w → Bool-at ni ws at e → (at + 2 ≡ at + head-length e) × (n ≡ length (parts e)) × (12 ≡ first-of (λ m. own-test (test-comparison m ds) e))
+        go : (e : BoolExpr) → bool-code e ≡ w → Bool-at ni ws at e → (at + 2 ≡ at + head-length e) × (n ≡ length (parts e)) × (12 ≡ first-of (λ m. own-test (test-pair m ds) e))
         go (Const b) t r = absurd (omega arith)
         go (Var v) t r = absurd (omega arith)
         go (NVar n) t r = absurd (r .usable)
@@ -223,7 +227,7 @@ module _ (ws work : List ℤ) (at ni : ℕ) where
     unfolding EveryOf first-of test-comparison
     step-not z ds e b q r = go e (code-is e r) r
       where
-        go : (e : BoolExpr) → bool-code e ≡ w → Bool-at ni ws at e → (at + 1 ≡ at + head-length e) × (1 ≡ length (parts e)) × (12 ≡ first-of (λ m. own-test (test-comparison m ds) e))
+        go : (e : BoolExpr) → bool-code e ≡ w → Bool-at ni ws at e → (at + 1 ≡ at + head-length e) × (1 ≡ length (parts e)) × (12 ≡ first-of (λ m. own-test (test-pair m ds) e))
         go (Const b) t r = absurd (omega arith)
         go (Var v) t r = absurd (omega arith)
         go (NVar n) t r = absurd (r .usable)
@@ -239,7 +243,7 @@ module _ (ws work : List ℤ) (at ni : ℕ) where
     unfolding EveryOf first-of test-comparison
     step-two l z k ds e b q r = go e (code-is e r) r
       where
-        go : (e : BoolExpr) → bool-code e ≡ w → Bool-at ni ws at e → (at + 1 ≡ at + head-length e) × (2 ≡ length (parts e)) × (12 ≡ first-of (λ m. own-test (test-comparison m ds) e))
+        go : (e : BoolExpr) → bool-code e ≡ w → Bool-at ni ws at e → (at + 1 ≡ at + head-length e) × (2 ≡ length (parts e)) × (12 ≡ first-of (λ m. own-test (test-pair m ds) e))
         go (Const b) t r = absurd (omega arith)
         go (Var v) t r = absurd (omega arith)
         go (NVar n) t r = absurd (r .usable)
@@ -257,7 +261,7 @@ module _ (ws work : List ℤ) (at ni : ℕ) where
     sides o a b r =
         let k : at + 2 ≡ at + 1 + 1 = omega arith in
         let h : Has ws (at + 2) (encode-int a ++ encode-int b) = rw k (has-rest ws (at + 1) _ _ (has-rest ws at _ _ (r .words))) in
-        (record { words = has-front ws (at + 2) (encode-int a) (encode-int b) h; vars = ints-of None Any (λ v. v < ni) a (r .usable .0) }, record { words = has-back ws (at + 2) (encode-int a) (encode-int b) h; vars = ints-of None Any (λ v. v < ni) b (r .usable .1) })
+        (record { words = has-front ws (at + 2) (encode-int a) (encode-int b) h; vars = r .usable .0 }, record { words = has-back ws (at + 2) (encode-int a) (encode-int b) h; vars = r .usable .1 })
 
     pub cmp-ready : (w < 18 → ⊥) → Ready-bool ws work at ni → Ready-pair ws work (at + 2) ni
     unfolding EveryOf
@@ -279,7 +283,7 @@ module _ (ws work : List ℤ) (at ni : ℕ) where
     unfolding EveryOf
     step-cmp l x k p ds e bs q r = go e (code-is e r) r
       where
-        go : (e : BoolExpr) → bool-code e ≡ w → Bool-at ni ws at e → (x ≡ at + head-length e) × (0 ≡ length (parts e)) × (k ≡ first-of (λ m. own-test (test-comparison m ds) e))
+        go : (e : BoolExpr) → bool-code e ≡ w → Bool-at ni ws at e → (x ≡ at + head-length e) × (0 ≡ length (parts e)) × (k ≡ first-of (λ m. own-test (test-pair m ds) e))
         go (Const b) t r = absurd (omega arith)
         go (Var v) t r = absurd (omega arith)
         go (NVar n) t r = absurd (r .usable)
@@ -329,12 +333,12 @@ module _ (ws work : List ℤ) (at n ni : ℕ) (z : n ≡ 0 → ⊥) where
         let a = s .0 in
         let c = o ds (parts e ++ us) b q (record { words = rw a h; usable = u; size = omega (arith, length-append (parts e) us, s .1) }) in
         let c0 : y ≡ x + length (flat (map encode-bool (parts e ++ us))) = c .0 in
-        let test : ℕ → BoolExpr → Bool = λ m. any-comparison (test-comparison m ds) (test-column m ds) in
-        let d : first-of (λ m. own-test (test-comparison m ds) e || any (test m) (parts e ++ us)) ≡ first-of (λ m. any (test m) (e ∷ us)) =
-        first-cong (λ m. own-test (test-comparison m ds) e || any (test m) (parts e ++ us)) (λ m. any (test m) (e ∷ us)) (λ m. own-first m ds e us) in
+        let test : ℕ → BoolExpr → Bool = λ m. test-bool m ds in
+        let d : first-of (λ m. own-test (test-pair m ds) e || any (test m) (parts e ++ us)) ≡ first-of (λ m. any (test m) (e ∷ us)) =
+        first-cong (λ m. own-test (test-pair m ds) e || any (test m) (parts e ++ us)) (λ m. any (test m) (e ∷ us)) (λ m. own-first m ds e us) in
         rw t (
           omega (arith, ap length (flat-map (parts e) us), length-append (flat (map encode-bool (parts e))) (flat (map encode-bool us)), length-append (encode-bool e) (flat (map encode-bool us)), ap length (split-words e), length-append (own-words e) (flat (map encode-bool (parts e))), own-length e),
-          first-join (λ m. own-test (test-comparison m ds) e) (λ m. any (test m) (parts e ++ us)) k' k₀ k₁ w g (s .2) (c .1) ∙ ap (λ v. min k₀ v) d,
+          first-join (λ m. own-test (test-pair m ds) e) (λ m. any (test m) (parts e ++ us)) k' k₀ k₁ w g (s .2) (c .1) ∙ ap (λ v. min k₀ v) d,
         )
 
 pub rules-room : (ws work : List ℤ) (at n ni : ℕ) → Ready-bools ws work at n ni → n ≤ length ws

@@ -1,16 +1,16 @@
--- The signed leaves: the size of a word and the distance of two. Assumes nothing.
-use mathlib.Core.Path.{_≡_, ap}
-use mathlib.Core.Bool.{true}
+-- The signed leaves: the size of a word, the distance of two, the lower and the higher. Assumes nothing.
+use mathlib.Core.Path.{_≡_, refl, ap}
+use mathlib.Core.Bool.{true, false}
 use Prim.Native.Nat.{ℕ, _+_, _*_, _<_, _≤_, min}
 use native.Mathlib.Omega.{arith}
 use native.Mathlib.Nat.{mul-le-mul}
 use lib.IntN.{ℤ, pos, negsuc, negℤ, natAbs, _-ℤ_}
-use lib.Signed.{ltZ}
+use lib.Signed.{ltZ, leZ}
 use mir.Syntax.{w32, w64}
 use borrow.Author.Tests.{ne-eqb, ltb-true}
 use Rattle.limits.specs.Total.{cap, joined, product}
 use mir.Val.{Fits, SFits}
-use Rattle.laws.specs.Ints.{natAbs-add, sfits-natAbs, natAbs-negℤ}
+use Rattle.laws.specs.Ints.{lower, higher, natAbs-add, sfits-natAbs, natAbs-negℤ}
 
 -- a negative number taken from 0
 pub minus-is : (z : ℤ) → ltZ z (pos 0) ≡ true → pos 0 -ℤ z ≡ pos (natAbs z)
@@ -46,3 +46,16 @@ add-stuck k t acc e = rw e (omega arith)
 pub add-light : (k t acc : ℕ) → (t ≡ cap → ⊥) → min (acc + k * t) cap ≡ joined acc (product k t)
 unfolding joined product
 add-light k t acc h = rw (ne-eqb t cap h) (omega arith)
+
+-- the lower and the higher of two, by their order
+pub lower-first : (x y : ℤ) → leZ x y ≡ true → x ≡ lower x y
+lower-first x y h = rw h refl
+
+pub lower-second : (x y : ℤ) → leZ x y ≡ false → y ≡ lower x y
+lower-second x y h = rw h refl
+
+pub higher-second : (x y : ℤ) → leZ x y ≡ true → y ≡ higher x y
+higher-second x y h = rw h refl
+
+pub higher-first : (x y : ℤ) → leZ x y ≡ false → x ≡ higher x y
+higher-first x y h = rw h refl

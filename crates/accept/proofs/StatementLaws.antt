@@ -1,8 +1,8 @@
 -- What the walk over the statements asks and gives at each step, over variables. Assumes nothing.
 use Prim.Native.Nat.{ℕ, suc, _+_, _-_, _*_, _≤_, _<_, min}
-use mathlib.Core.Path.{_≡_, refl, sym, ap, _∙_, subst}
+use mathlib.Core.Path.{_≡_, refl, sym, _∙_, subst}
 use mathlib.Core.Bool.{Bool, true, false, _||_, cond, or-false}
-use mathlib.Core.List.{List, [], _∷_, _++_, map, append-nil}
+use mathlib.Core.List.{List, [], _∷_, map, append-nil}
 use native.Mathlib.Omega.{arith}
 use lib.IntN.{ℤ, pos}
 use lib.ListN.{length, getD, length-append}
@@ -13,9 +13,9 @@ use Rattle.syntax.specs.Syntax.{Domain, IntExpr, encode-int, BoolExpr, encode-b
 use Rattle.syntax.specs.Lengths.{stmt-some, TableWords, table-words, DifferentWords, different-words}
 use Rattle.syntax.specs.Codes.{stmt-code, stmt-code-word}
 use Rattle.domains.specs.Declared.{Plain}
-use Rattle.limits.specs.Limits.{any-comparison, any-part}
-use Rattle.accept.specs.Walk.{Bounds, first-of, test-comparison, test-column, Columns-at, Ready-columns, Columns-post, Different-post, Usable-all, Bools-at, Ready-bools, Bools-post, Usable-stmt, Usable-stmts, Stmt-at, Stmts-at, Ready-stmt, Ready-stmts, test-stmt, Stmt-post, Stmts-post, check-stmts, Check-post}
-use Rattle.accept.proofs.TestLaws.{first-cong, first-join, none-before}
+use Rattle.limits.specs.Limits.{any-part}
+use Rattle.accept.specs.Walk.{Bounds, first-of, test-column, test-bool, inside, Columns-at, Ready-columns, Columns-post, Different-post, Usable-all, Bools-at, Ready-bools, Bools-post, Usable-stmt, Usable-stmts, Stmt-at, Stmts-at, Ready-stmt, Ready-stmts, test-stmt, Stmt-post, Stmts-post, check-stmts, Check-post}
+use Rattle.accept.proofs.FirstLaws.{first-cong, first-join, none-before}
 
 -- ---- `statement`
 
@@ -50,7 +50,7 @@ module _ (ws work : List ℤ) (at ni : ℕ) where
         go (Rule e) t r =
             let y = p ds (e ∷ []) b q (one-rule e r) in
             let v = y .0 in
-            let test : ℕ → Bool = λ m. any-comparison (test-comparison m ds) (test-column m ds) e in
+            let test : ℕ → Bool = λ m. test-bool m ds e in
             (omega (arith, length-append (encode-bool e) []), none-before (λ m. test m || false) k (y .1) ∙ first-cong (λ m. test m || false) test (λ m. or-false (test m)))
         go (Table es rows) t r = absurd (omega arith)
         go (AllDifferent es) t r = absurd (omega arith)
@@ -110,8 +110,8 @@ module _ (ws work : List ℤ) (at ni : ℕ) where
 
         module _ (x c : ℕ) (p : Columns-post ws work (at + 3) n ni 12 x c) where
           columns-end : (ds : List Domain) (es : List IntExpr) → Bounds work ds → ni ≡ length ds → Columns-at ni ws (at + 3) (length es) es → length es ≡ n
-              → (x ≡ at + 3 + length (flat (map encode-int es))) × (c ≡ first-of (λ m. any (test-column m ds) es))
-          columns-end ds es b q d e = let y = p ds es b q (subst (λ i. Columns-at ni ws (at + 3) i es) e d) in (y .0, none-before (λ m. any (test-column m ds) es) c (y .1))
+              → (x ≡ at + 3 + length (flat (map encode-int es))) × (c ≡ first-of (λ m. any (λ x. test-column m ds x || inside m ds x) es))
+          columns-end ds es b q d e = let y = p ds es b q (subst (λ i. Columns-at ni ws (at + 3) i es) e d) in (y .0, none-before (λ m. any (λ x. test-column m ds x || inside m ds x) es) c (y .1))
 
           pub table-room : Ready-stmt ws work at ni → x + n * k ≤ length ws
           table-room r =

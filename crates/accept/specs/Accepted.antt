@@ -29,7 +29,7 @@ use Rattle.read.specs.Vars.{columns-vars, bool-vars, rows-wide}
 use Rattle.domains.specs.Declared.{Domains, bounds-words, bounds-length}
 use Rattle.limits.specs.Limits.{largest, domain-weight, check}
 use Rattle.limits.specs.Total.{Bounded}
-use Rattle.accept.specs.Walk.{bounds-place, Bounds, Usable-stmt, Usable-stmts, Stmts-at, test-comparison, test-column, test-one, check-stmts}
+use Rattle.accept.specs.Walk.{bounds-place, Bounds, Usable-stmt, Usable-stmts, Stmts-at, test-comparison, test-branch, test-column, test-one, check-stmts}
 
 -- ---- domains
 
@@ -70,8 +70,8 @@ module _ (nb ni : ℕ) where
   stmt-usable : (s : Stmt) → WellStmt nb ni s → Usable-stmt ni s
   unfolding Usable-stmt
   stmt-usable (Rule e) h = every-map None (λ v. v < nb) (λ v. v < ni) None Any (λ v. v < ni) (λ n k. k) (λ v k. tt) (λ v k. k) e (bool-vars nb ni 64 e h)
-  stmt-usable (Table es rows) h = (columns-vars Any Any ni 64 es (h .2), rows-wide (length es) rows (h .3))
-  stmt-usable (AllDifferent es) h = columns-vars Any Any ni 64 es (h .1)
+  stmt-usable (Table es rows) h = (columns-vars None Any ni 64 es (h .2), rows-wide (length es) rows (h .3))
+  stmt-usable (AllDifferent es) h = columns-vars None Any ni 64 es (h .1)
 
   stmts-usable : (ss : List Stmt) → Each (WellStmt nb ni) ss → Usable-stmts ni ss
   unfolding Usable-stmts
@@ -81,7 +81,7 @@ module _ (nb ni : ℕ) where
 -- ---- the refusal that the walks test
 
 pub check-is : (p : Problem) → check-stmts (p .domains) (p .stmts) ≡ check p
-unfolding check-stmts check test-comparison test-column test-one
+unfolding check-stmts check test-comparison test-branch test-column test-one
 check-is p = refl
 
 -- ---- a set's words

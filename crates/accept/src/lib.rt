@@ -6,10 +6,11 @@ ghost use mathlib.Core.Bool.{false, _||_};
 ghost use Prim.Native.Nat.{_<_, _≤_, min, max};
 ghost use lib.Dec.{eqb};
 ghost use lib.IntN.{pos, natAbs, _-ℤ_};
+ghost use Rattle.laws.specs.Ints.{lower, higher};
 ghost use lib.ListN.{length};
 ghost use Rattle.limits.specs.Total.{cap, joined, product, constant-total, bounds-total};
 ghost use Rattle.accept.specs.Accepted.{Ready-set, Limits-post, accepted, table-after};
-ghost use Rattle.accept.specs.Walk.{Ready-var, Var-post, Ready-int, Ready-terms, Int-post, Terms-post, Ready-range, Range-post, Ready-ranges, Ranges-post, Behind, Head-post, Marks, Written-post, Marked-post, Many-one-post, Many-post, Ready-pair, Pair-post, Ready-column, Column-post, Ready-columns, Columns-post, Ready-totals, Over-post, Ready-among, Among-post, Crowded-post, Different-post, Ready-bool, Ready-bools, Step-post, Bools-post, Ready-stmt, Stmt-post, Ready-stmts, Stmts-post, Check-post};
+ghost use Rattle.accept.specs.Walk.{Ready-var, Var-post, Ready-int, Ready-terms, Ready-if, Ready-leaf, Ready-deep, Int-post, Leaf-post, If-post, Terms-post, Ready-range, Range-post, Ready-if-range, If-range-post, Ready-ranges, Ranges-post, Behind, Head-post, Marks, Written-post, Many-one-post, Many-post, Ready-branches, Branches-post, Compared-post, Ready-pair, Pair-post, Ready-column, Ready-root, Root-post, Column-post, Ready-columns, Columns-post, Over-post, Ready-among, Among-post, Ready-beside, Beside-post, Ready-split, Crowded-post, Differ-post, Different-post, Ready-bool, Ready-bools, Step-post, Bools-post, Ready-stmt, Stmt-post, Ready-stmts, Stmts-post, Check-post};
 
 // ---- sizes
 
@@ -64,6 +65,24 @@ fn smaller(a: usize, b: usize) -> usize
     b
 }
 
+fn lower(a: i32, b: i32) -> i32
+    ensures { λ r. ⌜ r ≡ lower a b ⌝ }
+{
+    if a <= b {
+        return a;
+    }
+    b
+}
+
+fn higher(a: i32, b: i32) -> i32
+    ensures { λ r. ⌜ r ≡ higher a b ⌝ }
+{
+    if a <= b {
+        return b;
+    }
+    a
+}
+
 // ---- weights, stopped at 1073741824
 
 fn constant_total(w: i32) -> usize
@@ -104,141 +123,12 @@ fn add_term(k: i32, t: usize, acc: usize) -> usize
     capped(acc + n * t)
 }
 
-pub struct Total {
-    pub next: usize,
-    pub total: usize,
-}
-
-// As many terms as `n` says.
-fn terms_total(set: &[i32], work: &[i32], at: usize, n: usize) -> Total
-    requires { ⌜ Ready-terms (now set) (now work) at n ⌝ }
-    ensures { λ r. ⌜ Terms-post (now (set .entry)) (now (work .entry)) at n 0 (r .next) (r .total) ⌝ }
-{
-    let mut next = at;
-    let mut total = 0;
-    let mut left = n;
-    while left != 0 {
-        let t = int_total(set, work, next + 1);
-        let k = set[next];
-        total = add_term(k, t.total, total);
-        next = t.next;
-        left = left - 1;
-    }
-    Total { next, total }
-}
-
-fn int_total(set: &[i32], work: &[i32], at: usize) -> Total
-    requires { ⌜ Ready-int (now set) (now work) at ⌝ }
-    ensures { λ r. ⌜ Int-post (now (set .entry)) (now (work .entry)) at (r .next) (r .total) ⌝ }
-{
-    let code = domains::number(set, at);
-    if code == 20 {
-        let c = set[at + 1];
-        let total = constant_total(c);
-        return Total {
-            next: at + 2,
-            total,
-        };
-    }
-    let v = domains::number(set, at + 1);
-    if code == 21 {
-        let total = variable_total(work, v);
-        return Total {
-            next: at + 2,
-            total,
-        };
-    }
-    terms_total(set, work, at + 2, v)
-}
-
-// ---- lowest and highest value, of what 9 lets through
-
-pub struct Range {
-    pub next: usize,
-    pub low: i32,
-    pub high: i32,
-}
-
-fn terms_range(set: &[i32], work: &[i32], at: usize, n: usize) -> Range
-    requires { ⌜ Ready-ranges (now set) (now work) at n (pos 0) (pos 0) ⌝ }
-    ensures { λ r. ⌜ Ranges-post (now (set .entry)) (now (work .entry)) at n (pos 0) (pos 0) (r .next) (r .low) (r .high) ⌝ }
-{
-    let mut next = at;
-    let mut low = 0;
-    let mut high = 0;
-    let mut rest = n;
-    while rest != 0 {
-        let r = int_range(set, work, next + 1);
-        let k = set[next];
-        let a = domains::times_low(k, r.low, r.high);
-        let b = domains::times_low(k, r.high, r.low);
-        low = low + a;
-        high = high + b;
-        next = r.next;
-        rest = rest - 1;
-    }
-    Range { next, low, high }
-}
-
-fn int_range(set: &[i32], work: &[i32], at: usize) -> Range
-    requires { ⌜ Ready-range (now set) (now work) at ⌝ }
-    ensures { λ r. ⌜ Range-post (now (set .entry)) (now (work .entry)) at (r .next) (r .low) (r .high) ⌝ }
-{
-    let code = domains::number(set, at);
-    if code == 20 {
-        let c = set[at + 1];
-        return Range {
-            next: at + 2,
-            low: c,
-            high: c,
-        };
-    }
-    let v = domains::number(set, at + 1);
-    if code == 21 {
-        let low = work[7936 + 2 * v];
-        let high = work[7936 + (2 * v + 1)];
-        return Range {
-            next: at + 2,
-            low,
-            high,
-        };
-    }
-    terms_range(set, work, at + 2, v)
-}
-
 // ---- variables written
-
-pub struct Head {
-    pub var: usize,
-    pub terms: usize,
-}
-
-// The variable that the integer expression is, or `none`; and how many terms it has.
-fn int_head(set: &[i32], at: usize, none: usize) -> Head
-    requires { ⌜ Behind (now set) at ⌝ }
-    ensures { λ r. ⌜ Head-post (now (set .entry)) at none (r .var) (r .terms) ⌝ }
-{
-    let code = domains::number(set, at);
-    if code == 20 {
-        return Head {
-            var: none,
-            terms: 0,
-        };
-    }
-    let n = domains::number(set, at + 1);
-    if code == 21 {
-        return Head { var: n, terms: 0 };
-    }
-    Head {
-        var: none,
-        terms: n,
-    }
-}
 
 // Marks variable v if it is below n: 1 where it had no mark, else 0.
 fn mark(marks: &mut [bool; 256], v: usize, n: usize) -> usize
     requires { ⌜ (n ≤ 256) × (length (now marks) ≡ 256) ⌝ }
-    ensures { λ r. ⌜ Marks (now (marks .entry)) (λ u. eqb u v) n (now (marks .exit)) r ⌝ }
+    ensures { λ r. ⌜ Marks (now (marks .entry)) (λ u. eqb u v) 0 n (now (marks .exit)) r ⌝ }
 {
     if v >= n {
         return 0;
@@ -250,235 +140,250 @@ fn mark(marks: &mut [bool; 256], v: usize, n: usize) -> usize
     1
 }
 
-// Marks the variables below n that the integer expression writes: how many had no mark.
-// Every expression's two words are followed by a coefficient or by the end.
-fn mark_written(set: &[i32], at: usize, n: usize, marks: &mut [bool; 256]) -> usize
-    requires { ⌜ Behind (now set) at × (n ≤ 256) × (length (now marks) ≡ 256) ⌝ }
-    ensures { λ r. ⌜ Written-post (now (set .entry)) at n (now (marks .entry)) (now (marks .exit)) r ⌝ }
+pub struct Head {
+    pub next: usize,
+    pub terms: usize,
+    pub count: usize,
+}
+
+// Over all of an If's words, of any other integer expression's own two: how many terms follow.
+// Marks the variables below n written there: how many had no mark, and the Ifs.
+fn mark_head(set: &[i32], at: usize, n: usize, marks: &mut [bool; 256]) -> Head
+    requires { ⌜ Behind (now set) at n × (n ≤ 256) × (length (now marks) ≡ 256) ⌝ }
+    ensures { λ r. ⌜ Head-post (now (set .entry)) at n (now (marks .entry)) (now (marks .exit)) (r .next) (r .terms) (r .count) ⌝ }
 {
-    let mut q = at - 1;
+    let code = domains::number(set, at);
+    if code == 20 {
+        return Head {
+            next: at + 2,
+            terms: 0,
+            count: 0,
+        };
+    }
+    if code == 23 {
+        let t = passes::skip_members(set, at + 1, 1);
+        let x = mark_written(set, t, n, marks);
+        let y = mark_written(set, x.next, n, marks);
+        return Head {
+            next: y.next,
+            terms: 0,
+            count: x.count + y.count + 1,
+        };
+    }
+    let v = domains::number(set, at + 1);
+    if code == 21 {
+        let count = mark(marks, v, n);
+        return Head {
+            next: at + 2,
+            terms: 0,
+            count,
+        };
+    }
+    Head {
+        next: at + 2,
+        terms: v,
+        count: 0,
+    }
+}
+
+pub struct Marked {
+    pub next: usize,
+    pub count: usize,
+}
+
+// Marks the variables below n that the integer expression writes: how many had no mark, and the Ifs.
+// Each head is followed by a coefficient or by the end.
+fn mark_written(set: &[i32], at: usize, n: usize, marks: &mut [bool; 256]) -> Marked
+    requires { ⌜ Behind (now set) at n × (n ≤ 256) × (length (now marks) ≡ 256) ⌝ }
+    ensures { λ r. ⌜ Written-post (now (set .entry)) at n (now (marks .entry)) (now (marks .exit)) (r .next) (r .count) ⌝ }
+{
+    let mut next = at - 1;
     let mut rest = 1;
     let mut count = 0;
     while rest != 0 {
-        let h = int_head(set, q + 1, n);
-        let k = mark(marks, h.var, n);
-        count = count + k;
+        let h = mark_head(set, next + 1, n, marks);
+        count = count + h.count;
         rest = rest - 1 + h.terms;
-        q = q + 3;
+        next = h.next;
     }
-    count
+    Marked { next, count }
 }
 
-// How many of the first n variables two integer expressions write.
-fn different(set: &[i32], a: usize, b: usize, n: usize) -> usize
-    requires { ⌜ Behind (now set) a × Behind (now set) b × (n ≤ 256) ⌝ }
-    ensures { λ r. ⌜ Marked-post (now (set .entry)) a b n r ⌝ }
+// ---- the tests of refusal 10: each variable and each If has two words at least
+
+// Whether two integer expressions of so many words write over 64 variables; below 128 words they cannot.
+fn many_comparison(set: &[i32], a: usize, b: usize, words: usize, ni: usize) -> bool
+    requires { ⌜ Behind (now set) a ni × Behind (now set) b ni × (ni ≤ 256) ⌝ }
+    ensures { λ r. ⌜ Many-post (now (set .entry)) a b words ni r ⌝ }
 {
+    if words < 128 {
+        return false;
+    }
     let mut marks: [bool; 256] = [false; 256];
-    let x = mark_written(set, a, n, &mut marks);
-    let y = mark_written(set, b, n, &mut marks);
-    x + y
+    let x = mark_written(set, a, ni, &mut marks);
+    let y = mark_written(set, b, ni, &mut marks);
+    x.count + y.count > 64
 }
 
-// ---- the tests of a comparison and of a column
+// Whether a column or a branch of so many words writes over 63 variables; below 128 words it cannot.
+fn many_column(set: &[i32], at: usize, words: usize, ni: usize) -> bool
+    requires { ⌜ Behind (now set) at ni × (ni ≤ 256) ⌝ }
+    ensures { λ r. ⌜ Many-one-post (now (set .entry)) at words ni r ⌝ }
+{
+    if words < 128 {
+        return false;
+    }
+    let mut marks: [bool; 256] = [false; 256];
+    let x = mark_written(set, at, ni, &mut marks);
+    x.count > 63
+}
+
+// 10 or 12: an If's branches, from t to f and from f to `end`.
+fn branches(set: &[i32], t: usize, f: usize, end: usize, ni: usize) -> usize
+    requires { ⌜ Ready-branches (now set) t f end ni × (ni ≤ 256) ⌝ }
+    ensures { λ r. ⌜ Branches-post (now (set .entry)) t f end ni r ⌝ }
+{
+    if many_column(set, t, f - t, ni) {
+        return 10;
+    }
+    if many_column(set, f, end - f, ni) {
+        return 10;
+    }
+    12
+}
+
+// 9, 10 or 12: two integer expressions of so many words, whose totals are added.
+fn compared(set: &[i32], a: usize, b: usize, words: usize, sum: usize, ni: usize) -> usize
+    requires { ⌜ Behind (now set) a ni × Behind (now set) b ni × (ni ≤ 256) ⌝ }
+    ensures { λ r. ⌜ Compared-post (now (set .entry)) a b words sum ni r ⌝ }
+{
+    if sum > 1073741823 {
+        return 9;
+    }
+    if many_comparison(set, a, b, words, ni) {
+        return 10;
+    }
+    12
+}
+
+// ---- integer expressions: their weights, and the tests of what stands inside; a rule's expressions, `rest` of them pending
+
+pub struct Total {
+    pub next: usize,
+    pub total: usize,
+    pub refusal: usize,
+}
 
 pub struct Tested {
     pub next: usize,
     pub refusal: usize,
 }
 
-// Whether two integer expressions of so many words write over 64 variables; below 128 words they cannot.
-fn many_comparison(set: &[i32], a: usize, b: usize, words: usize, ni: usize) -> bool
-    requires { ⌜ Behind (now set) a × Behind (now set) b × (ni ≤ 256) ⌝ }
-    ensures { λ r. ⌜ Many-post (now (set .entry)) a b words ni r ⌝ }
+pub struct Step {
+    pub next: usize,
+    pub members: usize,
+    pub refusal: usize,
+}
+
+// As many terms as `n` says.
+fn terms_total(set: &[i32], work: &[i32], at: usize, n: usize, ni: usize) -> Total
+    requires { ⌜ Ready-terms (now set) (now work) at n ni × (ni ≤ 256) ⌝ }
+    ensures { λ r. ⌜ Terms-post (now (set .entry)) (now (work .entry)) at n ni 0 12 (r .next) (r .total) (r .refusal) ⌝ }
 {
-    if words < 128 {
-        return false;
+    let mut next = at;
+    let mut total = 0;
+    let mut refusal = 12;
+    let mut left = n;
+    while left != 0 {
+        let t = int_total(set, work, next + 1, ni);
+        let k = set[next];
+        total = add_term(k, t.total, total);
+        refusal = smaller(refusal, t.refusal);
+        next = t.next;
+        left = left - 1;
     }
-    let n = different(set, a, b, ni);
-    n > 64
+    Total {
+        next,
+        total,
+        refusal,
+    }
+}
+
+// An If: the condition's comparisons, the heavier branch, the tests of both.
+fn if_total(set: &[i32], work: &[i32], at: usize, ni: usize) -> Total
+    requires { ⌜ Ready-if (now set) (now work) at ni × (ni ≤ 256) ⌝ }
+    ensures { λ r. ⌜ If-post (now (set .entry)) (now (work .entry)) at ni (r .next) (r .total) (r .refusal) ⌝ }
+{
+    let c = rules(set, work, at + 1, 1, ni);
+    let t = int_total(set, work, c.next, ni);
+    let f = int_total(set, work, t.next, ni);
+    let b = branches(set, c.next, t.next, f.next, ni);
+    let x = larger(t.total, f.total);
+    let total = larger(1, x);
+    let y = smaller(t.refusal, f.refusal);
+    let z = smaller(b, y);
+    let refusal = smaller(c.refusal, z);
+    Total {
+        next: f.next,
+        total,
+        refusal,
+    }
+}
+
+// A constant or a variable, whose code is given.
+fn leaf_total(set: &[i32], work: &[i32], at: usize, code: usize) -> usize
+    requires { ⌜ Ready-leaf (now set) (now work) at code ⌝ }
+    ensures { λ r. ⌜ Leaf-post (now (set .entry)) (now (work .entry)) at r ⌝ }
+{
+    if code == 20 {
+        let c = set[at + 1];
+        return constant_total(c);
+    }
+    let v = domains::number(set, at + 1);
+    variable_total(work, v)
+}
+
+// An If or a sum, whose code is given.
+fn deep_total(set: &[i32], work: &[i32], at: usize, code: usize, ni: usize) -> Total
+    requires { ⌜ Ready-deep (now set) (now work) at code ni × (ni ≤ 256) ⌝ }
+    ensures { λ r. ⌜ Int-post (now (set .entry)) (now (work .entry)) at ni (r .next) (r .total) (r .refusal) ⌝ }
+{
+    if code == 23 {
+        return if_total(set, work, at, ni);
+    }
+    let n = domains::number(set, at + 1);
+    terms_total(set, work, at + 2, n, ni)
+}
+
+fn int_total(set: &[i32], work: &[i32], at: usize, ni: usize) -> Total
+    requires { ⌜ Ready-int (now set) (now work) at ni × (ni ≤ 256) ⌝ }
+    ensures { λ r. ⌜ Int-post (now (set .entry)) (now (work .entry)) at ni (r .next) (r .total) (r .refusal) ⌝ }
+{
+    let code = domains::number(set, at);
+    if code < 22 {
+        let total = leaf_total(set, work, at, code);
+        return Total {
+            next: at + 2,
+            total,
+            refusal: 12,
+        };
+    }
+    deep_total(set, work, at, code, ni)
 }
 
 fn comparison(set: &[i32], work: &[i32], at: usize, ni: usize) -> Tested
     requires { ⌜ Ready-pair (now set) (now work) at ni × (ni ≤ 256) ⌝ }
     ensures { λ r. ⌜ Pair-post (now (set .entry)) (now (work .entry)) at ni (r .next) (r .refusal) ⌝ }
 {
-    let a = int_total(set, work, at);
-    let b = int_total(set, work, a.next);
-    if a.total + b.total > 1073741823 {
-        return Tested {
-            next: b.next,
-            refusal: 9,
-        };
-    }
-    if many_comparison(set, at, a.next, b.next - at, ni) {
-        return Tested {
-            next: b.next,
-            refusal: 10,
-        };
-    }
+    let a = int_total(set, work, at, ni);
+    let b = int_total(set, work, a.next, ni);
+    let own = compared(set, at, a.next, b.next - at, a.total + b.total, ni);
+    let inside = smaller(a.refusal, b.refusal);
+    let refusal = smaller(own, inside);
     Tested {
         next: b.next,
-        refusal: 12,
+        refusal,
     }
-}
-
-// Whether a column of so many words writes over 63 variables; below 128 words it cannot.
-fn many_column(set: &[i32], at: usize, words: usize, ni: usize) -> bool
-    requires { ⌜ Behind (now set) at × (ni ≤ 256) ⌝ }
-    ensures { λ r. ⌜ Many-one-post (now (set .entry)) at words ni r ⌝ }
-{
-    if words < 128 {
-        return false;
-    }
-    let n = different(set, at, at, ni);
-    n > 63
-}
-
-fn column(set: &[i32], work: &[i32], at: usize, ni: usize) -> Tested
-    requires { ⌜ Ready-column (now set) (now work) at ni × (ni ≤ 256) ⌝ }
-    ensures { λ r. ⌜ Column-post (now (set .entry)) (now (work .entry)) at ni (r .next) (r .refusal) ⌝ }
-{
-    let a = int_total(set, work, at);
-    let next = a.next;
-    if a.total > 1073741823 {
-        return Tested { next, refusal: 9 };
-    }
-    if many_column(set, at, next - at, ni) {
-        return Tested { next, refusal: 10 };
-    }
-    let r = int_range(set, work, at);
-    let d = distance(r.low, r.high);
-    if d > 4095 {
-        return Tested { next, refusal: 11 };
-    }
-    Tested { next, refusal: 12 }
-}
-
-fn columns(set: &[i32], work: &[i32], at: usize, n: usize, ni: usize) -> Tested
-    requires { ⌜ Ready-columns (now set) (now work) at n ni × (ni ≤ 256) ⌝ }
-    ensures { λ r. ⌜ Columns-post (now (set .entry)) (now (work .entry)) at n ni 12 (r .next) (r .refusal) ⌝ }
-{
-    let mut next = at;
-    let mut refusal = 12;
-    let mut rest = n;
-    while rest != 0 {
-        let t = column(set, work, next, ni);
-        refusal = smaller(refusal, t.refusal);
-        next = t.next;
-        rest = rest - 1;
-    }
-    Tested { next, refusal }
-}
-
-// ---- expressions that differ: each pair is tested as a comparison
-
-fn either(a: bool, b: bool) -> bool
-    ensures { λ r. ⌜ r ≡ (a || b) ⌝ }
-{
-    if a {
-        return true;
-    }
-    b
-}
-
-pub struct Weighed {
-    pub next: usize,
-    pub hit: bool,
-}
-
-// 9: the largest total so far with the next one; the first comes beside 0.
-fn heavy_pairs(set: &[i32], work: &[i32], at: usize, n: usize) -> Weighed
-    requires { ⌜ Ready-totals (now set) (now work) at n ⌝ }
-    ensures { λ r. ⌜ Over-post (now (set .entry)) (now (work .entry)) at n 0 false (r .next) (r .hit) ⌝ }
-{
-    let mut next = at;
-    let mut top = 0;
-    let mut hit = false;
-    let mut rest = n;
-    while rest != 0 {
-        let t = int_total(set, work, next);
-        hit = either(hit, top + t.total > 1073741823);
-        top = larger(top, t.total);
-        next = t.next;
-        rest = rest - 1;
-    }
-    Weighed { next, hit }
-}
-
-// 10: whether the expression at `a`, of so many words, writes over 64 variables with one of the n. Of two with 128 words one has 64, and asks;
-// it asks itself too, which hits only if asking any other does.
-fn many_among(
-    set: &[i32],
-    work: &[i32],
-    a: usize,
-    words: usize,
-    at: usize,
-    n: usize,
-    ni: usize,
-) -> bool
-    requires { ⌜ Ready-among (now set) (now work) a words at n ni × (ni ≤ 256) ⌝ }
-    ensures { λ r. ⌜ Among-post (now (set .entry)) (now (work .entry)) a words at n ni r ⌝ }
-{
-    if n < 2 {
-        return false;
-    }
-    if words < 64 {
-        return false;
-    }
-    let mut next = at;
-    let mut rest = n;
-    while rest != 0 {
-        let t = int_total(set, work, next);
-        let both = words + (t.next - next);
-        if many_comparison(set, a, next, both, ni) {
-            return true;
-        }
-        next = t.next;
-        rest = rest - 1;
-    }
-    false
-}
-
-// 10.
-fn many_pairs(set: &[i32], work: &[i32], at: usize, n: usize, ni: usize) -> bool
-    requires { ⌜ Ready-columns (now set) (now work) at n ni × (ni ≤ 256) ⌝ }
-    ensures { λ r. ⌜ Crowded-post (now (set .entry)) (now (work .entry)) at n ni at n r ⌝ }
-{
-    let mut next = at;
-    let mut rest = n;
-    while rest != 0 {
-        let t = int_total(set, work, next);
-        if many_among(set, work, next, t.next - next, at, n, ni) {
-            return true;
-        }
-        next = t.next;
-        rest = rest - 1;
-    }
-    false
-}
-
-fn all_different(set: &[i32], work: &[i32], at: usize, n: usize, ni: usize) -> Tested
-    requires { ⌜ Ready-columns (now set) (now work) at n ni × (ni ≤ 256) ⌝ }
-    ensures { λ r. ⌜ Different-post (now (set .entry)) (now (work .entry)) at n ni (r .next) (r .refusal) ⌝ }
-{
-    let w = heavy_pairs(set, work, at, n);
-    let next = w.next;
-    if w.hit {
-        return Tested { next, refusal: 9 };
-    }
-    if many_pairs(set, work, at, n, ni) {
-        return Tested { next, refusal: 10 };
-    }
-    Tested { next, refusal: 12 }
-}
-
-// ---- a rule: its expressions one after another, `rest` of them pending
-
-pub struct Step {
-    pub next: usize,
-    pub members: usize,
-    pub refusal: usize,
 }
 
 fn rule_step(set: &[i32], work: &[i32], at: usize, ni: usize) -> Step
@@ -537,6 +442,248 @@ fn rules(set: &[i32], work: &[i32], at: usize, n: usize, ni: usize) -> Tested
         rest = rest - 1 + s.members;
     }
     Tested { next, refusal }
+}
+
+// ---- lowest and highest value, of what 9 lets through
+
+pub struct Range {
+    pub next: usize,
+    pub low: i32,
+    pub high: i32,
+}
+
+fn terms_range(set: &[i32], work: &[i32], at: usize, n: usize) -> Range
+    requires { ⌜ Ready-ranges (now set) (now work) at n (pos 0) (pos 0) ⌝ }
+    ensures { λ r. ⌜ Ranges-post (now (set .entry)) (now (work .entry)) at n (pos 0) (pos 0) (r .next) (r .low) (r .high) ⌝ }
+{
+    let mut next = at;
+    let mut low = 0;
+    let mut high = 0;
+    let mut rest = n;
+    while rest != 0 {
+        let r = int_range(set, work, next + 1);
+        let k = set[next];
+        let a = domains::times_low(k, r.low, r.high);
+        let b = domains::times_low(k, r.high, r.low);
+        low = low + a;
+        high = high + b;
+        next = r.next;
+        rest = rest - 1;
+    }
+    Range { next, low, high }
+}
+
+// An If: the lower and the higher end of both branches.
+fn if_range(set: &[i32], work: &[i32], at: usize) -> Range
+    requires { ⌜ Ready-if-range (now set) (now work) at ⌝ }
+    ensures { λ r. ⌜ If-range-post (now (set .entry)) (now (work .entry)) at (r .next) (r .low) (r .high) ⌝ }
+{
+    let c = passes::skip_members(set, at + 1, 1);
+    let t = int_range(set, work, c);
+    let f = int_range(set, work, t.next);
+    let low = lower(t.low, f.low);
+    let high = higher(t.high, f.high);
+    Range {
+        next: f.next,
+        low,
+        high,
+    }
+}
+
+fn int_range(set: &[i32], work: &[i32], at: usize) -> Range
+    requires { ⌜ Ready-range (now set) (now work) at ⌝ }
+    ensures { λ r. ⌜ Range-post (now (set .entry)) (now (work .entry)) at (r .next) (r .low) (r .high) ⌝ }
+{
+    let code = domains::number(set, at);
+    if code == 20 {
+        let c = set[at + 1];
+        return Range {
+            next: at + 2,
+            low: c,
+            high: c,
+        };
+    }
+    if code == 23 {
+        return if_range(set, work, at);
+    }
+    let v = domains::number(set, at + 1);
+    if code == 21 {
+        let low = work[7936 + 2 * v];
+        let high = work[7936 + (2 * v + 1)];
+        return Range {
+            next: at + 2,
+            low,
+            high,
+        };
+    }
+    terms_range(set, work, at + 2, v)
+}
+
+// ---- columns
+
+// 9, 10, 11 or 12: a column of so many words with this total, but for what stands inside.
+fn root(set: &[i32], work: &[i32], at: usize, words: usize, total: usize, ni: usize) -> usize
+    requires { ⌜ Ready-root (now set) (now work) at total ni × (ni ≤ 256) ⌝ }
+    ensures { λ r. ⌜ Root-post (now (set .entry)) (now (work .entry)) at words total ni r ⌝ }
+{
+    if total > 1073741823 {
+        return 9;
+    }
+    if many_column(set, at, words, ni) {
+        return 10;
+    }
+    let r = int_range(set, work, at);
+    let d = distance(r.low, r.high);
+    if d > 4095 {
+        return 11;
+    }
+    12
+}
+
+fn column(set: &[i32], work: &[i32], at: usize, ni: usize) -> Tested
+    requires { ⌜ Ready-column (now set) (now work) at ni × (ni ≤ 256) ⌝ }
+    ensures { λ r. ⌜ Column-post (now (set .entry)) (now (work .entry)) at ni (r .next) (r .refusal) ⌝ }
+{
+    let a = int_total(set, work, at, ni);
+    let own = root(set, work, at, a.next - at, a.total, ni);
+    let refusal = smaller(own, a.refusal);
+    Tested {
+        next: a.next,
+        refusal,
+    }
+}
+
+fn columns(set: &[i32], work: &[i32], at: usize, n: usize, ni: usize) -> Tested
+    requires { ⌜ Ready-columns (now set) (now work) at n ni × (ni ≤ 256) ⌝ }
+    ensures { λ r. ⌜ Columns-post (now (set .entry)) (now (work .entry)) at n ni 12 (r .next) (r .refusal) ⌝ }
+{
+    let mut next = at;
+    let mut refusal = 12;
+    let mut rest = n;
+    while rest != 0 {
+        let t = column(set, work, next, ni);
+        refusal = smaller(refusal, t.refusal);
+        next = t.next;
+        rest = rest - 1;
+    }
+    Tested { next, refusal }
+}
+
+// ---- expressions that differ: each pair is tested as a comparison
+
+fn either(a: bool, b: bool) -> bool
+    ensures { λ r. ⌜ r ≡ (a || b) ⌝ }
+{
+    if a {
+        return true;
+    }
+    b
+}
+
+pub struct Weighed {
+    pub next: usize,
+    pub hit: bool,
+    pub refusal: usize,
+}
+
+// 9: the largest total so far with the next one; the first comes beside 0. And what stands inside each.
+fn heavy_pairs(set: &[i32], work: &[i32], at: usize, n: usize, ni: usize) -> Weighed
+    requires { ⌜ Ready-columns (now set) (now work) at n ni × (ni ≤ 256) ⌝ }
+    ensures { λ r. ⌜ Over-post (now (set .entry)) (now (work .entry)) at n ni 0 false 12 (r .next) (r .hit) (r .refusal) ⌝ }
+{
+    let mut next = at;
+    let mut top = 0;
+    let mut hit = false;
+    let mut refusal = 12;
+    let mut rest = n;
+    while rest != 0 {
+        let t = int_total(set, work, next, ni);
+        hit = either(hit, top + t.total > 1073741823);
+        top = larger(top, t.total);
+        refusal = smaller(refusal, t.refusal);
+        next = t.next;
+        rest = rest - 1;
+    }
+    Weighed { next, hit, refusal }
+}
+
+// 10: whether the expression at `a`, of so many words, writes over 64 variables with one of the n.
+fn many_among(set: &[i32], a: usize, words: usize, at: usize, n: usize, ni: usize) -> bool
+    requires { ⌜ Ready-among (now set) a words at n ni × (ni ≤ 256) ⌝ }
+    ensures { λ r. ⌜ Among-post (now (set .entry)) a words at n ni r ⌝ }
+{
+    let mut next = at;
+    let mut rest = n;
+    while rest != 0 {
+        let end = passes::skip_int(set, next);
+        let both = words + (end - next);
+        if many_comparison(set, a, next, both, ni) {
+            return true;
+        }
+        next = end;
+        rest = rest - 1;
+    }
+    false
+}
+
+// 10: the expression from `a` to `end` with the k from `at` on before it and the n behind it. Of two with 128 words one has 64, and asks.
+fn many_beside(set: &[i32], a: usize, end: usize, at: usize, k: usize, n: usize, ni: usize) -> bool
+    requires { ⌜ Ready-beside (now set) a end at k n ni × (ni ≤ 256) ⌝ }
+    ensures { λ r. ⌜ Beside-post (now (set .entry)) a end at k n ni r ⌝ }
+{
+    let words = end - a;
+    if words < 64 {
+        return false;
+    }
+    if many_among(set, a, words, at, k, ni) {
+        return true;
+    }
+    many_among(set, a, words, end, n, ni)
+}
+
+// 10.
+fn many_pairs(set: &[i32], at: usize, n: usize, ni: usize) -> bool
+    requires { ⌜ Ready-split (now set) at n at n ni × (ni ≤ 256) ⌝ }
+    ensures { λ r. ⌜ Crowded-post (now (set .entry)) at n at n ni r ⌝ }
+{
+    let mut next = at;
+    let mut rest = n;
+    while rest != 0 {
+        let end = passes::skip_int(set, next);
+        if many_beside(set, next, end, at, n - rest, rest - 1, ni) {
+            return true;
+        }
+        next = end;
+        rest = rest - 1;
+    }
+    false
+}
+
+// 9, 10 or 12, but for what stands inside.
+fn differ(set: &[i32], at: usize, n: usize, hit: bool, ni: usize) -> usize
+    requires { ⌜ Ready-split (now set) at n at n ni × (ni ≤ 256) ⌝ }
+    ensures { λ r. ⌜ Differ-post (now (set .entry)) at n hit ni r ⌝ }
+{
+    if hit {
+        return 9;
+    }
+    if many_pairs(set, at, n, ni) {
+        return 10;
+    }
+    12
+}
+
+fn all_different(set: &[i32], work: &[i32], at: usize, n: usize, ni: usize) -> Tested
+    requires { ⌜ Ready-columns (now set) (now work) at n ni × (ni ≤ 256) ⌝ }
+    ensures { λ r. ⌜ Different-post (now (set .entry)) (now (work .entry)) at n ni (r .next) (r .refusal) ⌝ }
+{
+    let w = heavy_pairs(set, work, at, n, ni);
+    let own = differ(set, at, n, w.hit, ni);
+    let refusal = smaller(own, w.refusal);
+    Tested {
+        next: w.next,
+        refusal,
+    }
 }
 
 // ---- statements

@@ -6,12 +6,12 @@ use Prim.Native.Nat.{ℕ, suc}
 use lib.IntN.{ℤ, pos, negsuc}
 use lib.ListN.{length}
 use Rattle.laws.specs.Lists.{below, counted}
-use Rattle.syntax.specs.Syntax.{Domain, lower-bound, upper-bound, num-candidates, encode-op, Stmt, Rule, Table, AllDifferent, Problem}
+use Rattle.syntax.specs.Syntax.{Domain, lower-bound, upper-bound, num-candidates, domain-of, encode-op, Stmt, Rule, Table, AllDifferent, Problem}
 use Rattle.fold.specs.Fold.{Fixed}
 use Rattle.sums.specs.LinearSum.{Term, term, linear-sum}
 use Rattle.clauses.specs.Clause.{BoolLit, lit, LinearLit, linear, Clause, clause}
 use Rattle.clauses.specs.Merge.{merge-stmts}
-use Rattle.clauses.specs.Log.{Log, next-bool, get-bool-var, get-int-var, emitted-domains, clauses-of}
+use Rattle.clauses.specs.Log.{MadeInt, declared-int, column, chosen, binary, Log, next-bool, get-bool-var, get-int-var, made-ints, clauses-of}
 use Rattle.clauses.specs.Split.{normalize-and-register-expr}
 use Rattle.tables.specs.Tables.{normalize-table}
 use Rattle.different.specs.Different.{different-rules, normalize-rules}
@@ -27,6 +27,23 @@ unfoldable pub normalize-stmts : List Domain → List Stmt → Log → Log
 normalize-stmts ds [] s = s
 normalize-stmts ds (t ∷ ts) s = normalize-stmts ds ts (normalize-stmt ds t s)
 
+-- ---- the answer
+
+-- an emitted integer: any value of a domain; or one that follows a literal, the first where it is false, the second where it is true
+pub data Emitted : Type 0 where
+  ranging : Domain → Emitted
+  following : BoolLit → ℤ → ℤ → Emitted
+
+abbrev pub emitted-of : List Domain → MadeInt → Emitted
+emitted-of ds (declared-int v) = ranging (domain-of ds v)
+emitted-of ds (column l d) = ranging d
+emitted-of ds (chosen i e p q d) = ranging d
+emitted-of ds (binary i l a b) = following l a b
+
+-- by rising number; ds: the declared domains
+unfoldable pub emitted : List Domain → Log → List Emitted
+emitted ds s = map (emitted-of ds) (made-ints s)
+
 pub record Answer : Type 0 where
   -- of each declared Boolean: its value if fixed; its literal if any
   pub fixed : List (Option Bool)
@@ -34,7 +51,7 @@ pub record Answer : Type 0 where
   -- of each declared integer
   pub int-map : List (Option ℕ)
   pub emitted-bools : ℕ
-  pub emitted-ints : List Domain
+  pub emitted-ints : List Emitted
   pub clauses : List Clause
 
 unfoldable pub answer-of : Problem → Fixed → Log → Answer
@@ -43,7 +60,7 @@ answer-of p f s = record {
   bool-map = map (λ v. get-bool-var v s) (below (p .bools));
   int-map = map (λ v. get-int-var v s) (below (length (p .domains)));
   emitted-bools = next-bool s;
-  emitted-ints = emitted-domains (p .domains) s;
+  emitted-ints = emitted (p .domains) s;
   clauses = clauses-of s;
 }
 
@@ -72,13 +89,19 @@ bool-word (some (lit n false)) = pos (suc n)
 bool-word (some (lit n true)) = negsuc n
 bool-word none = pos 0
 
-abbrev pub domain-words : Domain → List ℤ
-domain-words d = lower-bound d ∷ upper-bound d ∷ num-candidates d ∷ []
-
 -- number plus 1, negative if negated: negsuc n is -(n + 1)
 abbrev pub lit-words : BoolLit → List ℤ
 lit-words (lit n false) = pos (suc n) ∷ []
 lit-words (lit n true) = negsuc n ∷ []
+
+-- kind 0: lowest, highest, number of values
+abbrev pub domain-words : Domain → List ℤ
+domain-words d = pos 0 ∷ lower-bound d ∷ upper-bound d ∷ num-candidates d ∷ []
+
+-- kind 1: the literal, the value where it is false, the value where it is true
+abbrev pub emitted-words : Emitted → List ℤ
+emitted-words (ranging d) = domain-words d
+emitted-words (following l a b) = pos 1 ∷ lit-words l ++ (a ∷ b ∷ [])
 
 abbrev pub term-words : Term → List ℤ
 term-words (term v a) = pos v ∷ a ∷ []
@@ -94,4 +117,4 @@ layout a =
     map fixed-word (a .fixed)
     ++ (map bool-word (a .bool-map)
     ++ (map map-word (a .int-map)
-    ++ (pos (a .emitted-bools) ∷ (counted domain-words (a .emitted-ints) ++ counted clause-words (a .clauses)))))
+    ++ (pos (a .emitted-bools) ∷ (counted emitted-words (a .emitted-ints) ++ counted clause-words (a .clauses)))))

@@ -13,21 +13,22 @@ use lib.ListN.{length, getD, length-map}
 use Rattle.laws.specs.Bools.{and-l, and-r, and-i, beq-eq, beq-same}
 use Rattle.laws.specs.Order.{eqZ-is, is-eqZ}
 use Rattle.laws.specs.Lists.{all, all-append, from, below, all-below, below-all}
-use Rattle.syntax.specs.Syntax.{Domain, Range, lower-bound, upper-bound, in-domain, domain-of, Problem}
+use Rattle.syntax.specs.Syntax.{Domain, Range, lower-bound, upper-bound, in-domain, Problem}
 use Rattle.syntax.specs.Satisfies.{Val, IVal}
 use Rattle.fold.specs.Fold.{Fixed}
 use Rattle.sums.specs.LinearSum.{Term, term, LinearSum, linear-sum, get-domain-linear-sum}
 use Rattle.clauses.specs.Normalize.{domain-of-sum}
 use Rattle.clauses.specs.Clause.{BoolLit, lit, LinearLit, linear, Clause, clause, clause-true, lit-true}
-use Rattle.clauses.specs.Log.{declared, aux, side, MadeInt, declared-int, column, chosen, binary, bool, merged, int, added, defined, known, Log, next-bool, next-int, number-of, get-bool-var, get-int-var, made-ints, emitted-domains, clauses-of}
-use Rattle.clauses.specs.Merge.{WellMerged, merged-agree, merged-no-clauses}
+use Rattle.clauses.specs.Log.{declared, aux, side, MadeInt, declared-int, column, chosen, binary, bool, merged, int, added, defined, known, Log, next-bool, next-int, number-of, get-bool-var, get-int-var, made-ints, clauses-of}
+use Rattle.clauses.specs.Merge.{WellMerged, merged-agree, merged-no-clauses, merged-no-ints}
 use Rattle.clauses.specs.Bounds.{lits-bound, clauses-bound, terms-bound, linears-bound, ints-bound}
 use Rattle.clauses.specs.Valuation.{Agrees, Added}
 use Rattle.clauses.specs.Grow.{Extends, get-bool-below, get-int-below, agrees-bool, agrees-int, Held, agrees-of, clauses-added, added-clauses, clauses-named, clauses-numbered}
-use Rattle.clauses.specs.Emitted.{length-emitted, domain-at, domain-step, new-domain}
-use Rattle.answer.specs.Answer.{answer-of, fixed-word, map-word, bool-word}
-use Rattle.answer.specs.Passes.{word-of, fixed-agrees, carries-bool, carries-int, between, lit-emitted, term-emitted, linear-emitted, clause-emitted, passes-decoded}
-use Rattle.answer.specs.ReadBack.{hull, view-of}
+use Rattle.clauses.specs.Ranges.{Within}
+use Rattle.answer.specs.Answer.{Emitted, ranging, emitted, answer-of, fixed-word, map-word, bool-word, emitted-words}
+use Rattle.answer.specs.Passes.{word-of, fixed-agrees, carries-bool, carries-int, between, admits, lit-emitted, term-emitted, linear-emitted, clause-emitted, passes-decoded}
+use Rattle.answer.specs.ReadBack.{view-of}
+use Rattle.answer.specs.Records.{length-records, emitted-at, new-emitted, follows-is, Admitted, admitted-before, agreeing-admitted}
 use Rattle.answer.specs.Declared.{Declared}
 
 -- ---- lists over the numbers below a count
@@ -101,9 +102,9 @@ pub clauses-emitted : (j k : ℕ) (cs : List Clause) → clauses-bound cs ≤ j 
 clauses-emitted j k [] h i = refl
 clauses-emitted j k (clause ls ks ∷ cs) h i = and-i (clause-emitted j k (clause ls ks)) _ (and-i (all (lit-emitted j) ls) _ (lits-emitted j ls (omega arith)) (linears-emitted k ks (omega arith))) (clauses-emitted j k cs (omega arith) (omega arith))
 
--- ---- every emitted integer is within its record: a column's by passing, a declared one's by the assignment
+-- ---- what records give: a column lies in its range, what follows a literal has the value that the literal gives
 
-range-between : (d : Domain) (x : ℤ) → d ≡ Range (lower-bound d) (upper-bound d) → between (hull d) x ≡ in-domain x d
+range-between : (d : Domain) (x : ℤ) → d ≡ Range (lower-bound d) (upper-bound d) → between (lower-bound d) (upper-bound d) x ≡ in-domain x d
 range-between d x e = sym (ap (in-domain x) e)
 
 sum-range : (ds : List Domain) (s : Log) (l : LinearSum) → domain-of-sum ds s l ≡ Range (lower-bound (domain-of-sum ds s l)) (upper-bound (domain-of-sum ds s l))
@@ -111,28 +112,29 @@ unfolding domain-of-sum get-domain-linear-sum
 sum-range ds s (linear-sum c ts) = refl
 
 module _ (ds : List Domain) (b i : ℕ) (δ : Val) (ε : IVal) (ρ : Val) (ι : IVal) where
-  abbrev pub Bounded : Log → Type 0
-  Bounded s = (j : ℕ) → j < next-int s → between (hull (domain-at ds s j)) (ι j) ≡ true
+  -- k: how many Booleans are emitted
+  abbrev before : (k : ℕ) (m : MadeInt) (s : Log) → Admitted ds ρ ι k (int m ∷ s) → Admitted ds ρ ι k s
+  before = admitted-before ds ρ ι
 
-  bounded-before : (m : MadeInt) (s : Log) → Bounded (int m ∷ s) → Bounded s
-  bounded-before m s h j k = rw (domain-step ds (int m) s j k) at (h j (omega arith))
-
-  -- a column's range; an If's clauses
-  held : (s : Log) → Declared ds b i s → Bounded s → all (clause-true ρ ι) (clauses-of s) ≡ true → Held ρ ι s
-  unfolding emitted-domains made-ints clauses-of
-  held [] d h c = tt
-  held (bool m ∷ s) d h c = (tt, held s (d .1) h c)
-  held (merged v w g ∷ s) d h c = (tt, held s (d .1) h c)
-  held (int (declared-int w) ∷ s) d h c = (tt, held s (d .1) (bounded-before (declared-int w) s h) c)
-  held (int (column l e) ∷ s) d h c = (
-    sym (range-between e (ι (next-int s)) (rw (d .0) (sum-range ds s l))) ∙ (rw (new-domain ds (column l e) s) at (h (next-int s) (omega arith))),
-    held s (d .1) (bounded-before (column l e) s h) c,
+  -- a column's range, a literal's value; an If's clauses
+  held : (k : ℕ) (s : Log) → Declared ds b i s → Admitted ds ρ ι k s → all (clause-true ρ ι) (clauses-of s) ≡ true → Held ρ ι s
+  unfolding emitted made-ints clauses-of
+  held k [] d h c = tt
+  held k (bool m ∷ s) d h c = (tt, held k s (d .1) h c)
+  held k (merged v w g ∷ s) d h c = (tt, held k s (d .1) h c)
+  held k (int (declared-int w) ∷ s) d h c = (tt, held k s (d .1) (before k (declared-int w) s h) c)
+  held k (int (column l e) ∷ s) d h c = (
+    sym (range-between e (ι (next-int s)) (rw (d .0) (sum-range ds s l))) ∙ (rw (new-emitted ds (column l e) s) at (h (next-int s) (omega arith))),
+    held k s (d .1) (before k (column l e) s h) c,
   )
-  held (int (chosen j x p q e) ∷ s) d h c = (tt, held s (d .1) (bounded-before (chosen j x p q e) s h) c)
-  held (int (binary j l x y) ∷ s) d h c = absurd j
-  held (added cs ∷ s) d h c = let k = sym (all-append (clause-true ρ ι) (clauses-of s) cs) ∙ c in (tt, held s (d .1) h (and-l (all (clause-true ρ ι) (clauses-of s)) _ k))
-  held (defined cs ∷ s) d h c = let k = sym (all-append (clause-true ρ ι) (clauses-of s) cs) ∙ c in (and-r (all (clause-true ρ ι) (clauses-of s)) _ k, held s (d .1) h (and-l (all (clause-true ρ ι) (clauses-of s)) _ k))
-  held (known e v ∷ s) d h c = (tt, held s (d .1) h c)
+  held k (int (chosen j x p q e) ∷ s) d h c = (tt, held k s (d .1) (before k (chosen j x p q e) s h) c)
+  held k (int (binary j l x y) ∷ s) d h c = (
+    follows-is k ρ l x y (ι (next-int s)) (rw (new-emitted ds (binary j l x y) s) at (h (next-int s) (omega arith))),
+    held k s (d .1) (before k (binary j l x y) s h) c,
+  )
+  held k (added cs ∷ s) d h c = let t = sym (all-append (clause-true ρ ι) (clauses-of s) cs) ∙ c in (tt, held k s (d .1) h (and-l (all (clause-true ρ ι) (clauses-of s)) _ t))
+  held k (defined cs ∷ s) d h c = let t = sym (all-append (clause-true ρ ι) (clauses-of s) cs) ∙ c in (and-r (all (clause-true ρ ι) (clauses-of s)) _ t, held k s (d .1) h (and-l (all (clause-true ρ ι) (clauses-of s)) _ t))
+  held k (known e v ∷ s) d h c = (tt, held k s (d .1) h c)
 
 -- ---- only declared variables have numbers
 
@@ -165,10 +167,10 @@ int-known ds b i (added cs ∷ s) d v n h = int-known ds b i s (d .1) v n h
 int-known ds b i (defined cs ∷ s) d v n h = int-known ds b i s (d .1) v n h
 int-known ds b i (known e k ∷ s) d v n h = int-known ds b i s (d .1) v n h
 
-hull-at : (ds : List Domain) (j : ℕ) → j < length ds → getD (map hull ds) j (pos 0, pos 0) ≡ hull (domain-of ds j)
-hull-at [] j k = absurd (omega arith)
-hull-at (d ∷ ds) zero k = refl
-hull-at (d ∷ ds) (suc j) k = hull-at ds j (omega arith)
+words-at : (es : List Emitted) (j : ℕ) → j < length es → getD (map emitted-words es) j [] ≡ emitted-words (getD es j (ranging (Range (pos 0) (pos 0))))
+words-at [] j k = absurd (omega arith)
+words-at (e ∷ es) zero k = refl
+words-at (e ∷ es) (suc j) k = words-at es j (omega arith)
 
 -- ---- the answer
 
@@ -189,30 +191,30 @@ module _ (p : Problem) (f : Fixed) (s : Log) (δ : Val) (ε : IVal) (ρ : Val) (
   abbrev fixed-test : ℕ → Bool
   fixed-test v = fixed-agrees (word-of (map fixed-word (map f (below b))) v) (δ v)
 
-  abbrev bounds : List (ℤ × ℤ)
-  bounds = map hull (emitted-domains (p .domains) s)
+  abbrev records : List (List ℤ)
+  records = map emitted-words (emitted (p .domains) s)
 
   abbrev bool-test : ℕ → Bool
   bool-test v = carries-bool (next-bool s) (word-of (map bool-word (map (λ v. get-bool-var v s) (below b))) v) (δ v) ρ
 
   abbrev int-test : ℕ → Bool
-  int-test v = carries-int (length bounds) (word-of (map map-word (map (λ v. get-int-var v s) (below i))) v) (ε v) ι
+  int-test v = carries-int (length records) (word-of (map map-word (map (λ v. get-int-var v s) (below i))) v) (ε v) ι
 
-  abbrev bounds-test : ℕ → Bool
-  bounds-test j = between (getD bounds j (pos 0, pos 0)) (ι j)
+  abbrev record-test : ℕ → Bool
+  record-test j = admits (next-bool s) (getD records j []) ρ (ι j)
 
   abbrev emitted-test : Clause → Bool
-  emitted-test = clause-emitted (next-bool s) (length bounds)
+  emitted-test = clause-emitted (next-bool s) (length records)
 
-  as-many : length bounds ≡ next-int s
-  as-many = length-map (emitted-domains (p .domains) s) hull ∙ length-emitted (p .domains) s
+  as-many : length records ≡ next-int s
+  as-many = length-map (emitted (p .domains) s) emitted-words ∙ length-records (p .domains) s
 
-  bounds-at-hull : (j : ℕ) → j < next-int s → getD bounds j (pos 0, pos 0) ≡ hull (domain-at (p .domains) s j)
-  bounds-at-hull j k = hull-at (emitted-domains (p .domains) s) j (omega (arith, length-emitted (p .domains) s))
+  record-is : (j : ℕ) → j < next-int s → getD records j [] ≡ emitted-words (emitted-at (p .domains) s j)
+  record-is j k = words-at (emitted (p .domains) s) j (omega (arith, length-records (p .domains) s))
 
   module _ (s0 : Log) (well : WellMerged s0) (grown : Extends δ ε s0 s) (known : Declared (p .domains) b i s) where
-    bounded : all bounds-test (below (length bounds)) ≡ true → Bounded (p .domains) b i δ ε ρ ι s
-    bounded h j k = rw (bounds-at-hull j k) at (all-below bounds-test (length bounds) j h (omega (arith, as-many)))
+    all-admitted : all record-test (below (length records)) ≡ true → Admitted (p .domains) ρ ι (next-bool s) s
+    all-admitted h j k = rw (record-is j k) at (all-below record-test (length records) j h (omega (arith, as-many)))
 
     pub carried : passes-decoded b i (view-of (answer-of p f s)) δ ε ρ ι ≡ true → Carried b f s δ ε ρ ι
     unfolding passes-decoded answer-of
@@ -220,23 +222,24 @@ module _ (p : Problem) (f : Fixed) (s : Log) (δ : Val) (ε : IVal) (ρ : Val) (
         let h2 = and-r (all fixed-test (below b)) _ h in
         let h3 = and-r (all bool-test (below b)) _ h2 in
         let h4 = and-r (all int-test (below i)) _ h3 in
-        let true-clauses = and-r (all emitted-test (clauses-of s)) _ (and-r (all bounds-test (below (length bounds))) _ h4) in
+        let true-clauses = and-r (all emitted-test (clauses-of s)) _ (and-r (all record-test (below (length records))) _ h4) in
         record {
           fixed = λ v x k e. fixed-is (f v) (δ v) x (rw (getD-below fixed-word f b v (pos 0) k) at (all-below fixed-test b v (and-l (all fixed-test (below b)) _ h) k)) e;
           agrees = agrees-of δ ε ρ ι grown (merged-agree δ ε ρ ι s0 well)
               (λ v n e. let k : v < b = bool-known (p .domains) b i s known v n e in carries-is (next-bool s) (get-bool-var v s) (δ v) ρ n (rw (getD-below bool-word (λ v. get-bool-var v s) b v (pos 0) k) at (all-below bool-test b v (and-l (all bool-test (below b)) _ h2) k)) e)
-              (λ v n e. let k : v < i = int-known (p .domains) b i s known v n e in carries-int-is (length bounds) (get-int-var v s) (ε v) ι n (rw (getD-below map-word (λ v. get-int-var v s) i v (pos 0) k) at (all-below int-test i v (and-l (all int-test (below i)) _ h3) k)) e)
-              (held (p .domains) b i δ ε ρ ι s known (bounded (and-l (all bounds-test (below (length bounds))) _ h4)) true-clauses);
+              (λ v n e. let k : v < i = int-known (p .domains) b i s known v n e in carries-int-is (length records) (get-int-var v s) (ε v) ι n (rw (getD-below map-word (λ v. get-int-var v s) i v (pos 0) k) at (all-below int-test i v (and-l (all int-test (below i)) _ h3) k)) e)
+              (held (p .domains) b i δ ε ρ ι (next-bool s) s known (all-admitted (and-l (all record-test (below (length records))) _ h4)) true-clauses);
           added = clauses-added ρ ι s true-clauses;
         }
 
     -- the emitted integers lie between their bounds
-    pub carries : Bounded (p .domains) b i δ ε ρ ι s → Carried b f s δ ε ρ ι → passes-decoded b i (view-of (answer-of p f s)) δ ε ρ ι ≡ true
+    pub carries : Within (p .domains) ι s → Carried b f s δ ε ρ ι → passes-decoded b i (view-of (answer-of p f s)) δ ε ρ ι ≡ true
     unfolding passes-decoded answer-of
     carries within c =
         let t1 : all fixed-test (below b) ≡ true = below-all fixed-test b (λ v k. rw (getD-below fixed-word f b v (pos 0) k) (is-fixed (f v) (δ v) (λ x q. c .fixed v x k q))) in
         let t2 : all bool-test (below b) ≡ true = below-all bool-test b (λ v k. rw (getD-below bool-word (λ v. get-bool-var v s) b v (pos 0) k) (is-carried (next-bool s) (get-bool-var v s) (δ v) ρ (λ n q. (get-bool-below s v n q, agrees-bool δ ε ρ ι s (c .agrees) v n q)))) in
-        let t3 : all int-test (below i) ≡ true = below-all int-test i (λ v k. rw (getD-below map-word (λ v. get-int-var v s) i v (pos 0) k) (is-carried-int (length bounds) (get-int-var v s) (ε v) ι (λ n q. (omega (arith, get-int-below s v n q, as-many), agrees-int δ ε ρ ι s (c .agrees) v n q)))) in
-        let t4 : all bounds-test (below (length bounds)) ≡ true = below-all bounds-test (length bounds) (λ j k. let l : j < next-int s = omega (arith, as-many) in rw (bounds-at-hull j l) (within j l)) in
-        let t5 : all emitted-test (clauses-of s) ≡ true = clauses-emitted (next-bool s) (length bounds) (clauses-of s) (clauses-named grown (merged-no-clauses s0 well)) (omega (arith, as-many, clauses-numbered grown (merged-no-clauses s0 well))) in
+        let t3 : all int-test (below i) ≡ true = below-all int-test i (λ v k. rw (getD-below map-word (λ v. get-int-var v s) i v (pos 0) k) (is-carried-int (length records) (get-int-var v s) (ε v) ι (λ n q. (omega (arith, get-int-below s v n q, as-many), agrees-int δ ε ρ ι s (c .agrees) v n q)))) in
+        let admitted : Admitted (p .domains) ρ ι (next-bool s) s = agreeing-admitted (p .domains) ρ ι δ ε (next-bool s) grown (merged-no-ints s0 well) (omega arith) (c .agrees) within in
+        let t4 : all record-test (below (length records)) ≡ true = below-all record-test (length records) (λ j k. let l : j < next-int s = omega (arith, as-many) in rw (record-is j l) (admitted j l)) in
+        let t5 : all emitted-test (clauses-of s) ≡ true = clauses-emitted (next-bool s) (length records) (clauses-of s) (clauses-named grown (merged-no-clauses s0 well)) (omega (arith, as-many, clauses-numbered grown (merged-no-clauses s0 well))) in
         and-i _ _ t1 (and-i _ _ t2 (and-i _ _ t3 (and-i _ _ t4 (and-i _ _ t5 (added-clauses ρ ι δ ε s (c .agrees) (c .added))))))

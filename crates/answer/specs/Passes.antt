@@ -13,7 +13,7 @@ use Rattle.laws.specs.Lists.{all, below}
 use Rattle.syntax.specs.Syntax.{op-at}
 use Rattle.syntax.specs.Satisfies.{Val, IVal}
 use Rattle.sums.specs.LinearSum.{Term, term, linear-sum}
-use Rattle.clauses.specs.Clause.{BoolLit, lit, LinearLit, linear, Clause, clause, clause-true}
+use Rattle.clauses.specs.Clause.{BoolLit, lit, LinearLit, linear, Clause, clause, clause-true, lit-true}
 
 -- ---- the clauses of words. Each function gives what it read and the words after it
 
@@ -62,16 +62,16 @@ pub record Decoded : Type 0 where
   pub fixed : List ℤ
   pub bool-map : List ℤ
   pub int-map : List ℤ
-  -- how many Booleans are emitted; of each emitted integer the lowest and the highest value
+  -- how many Booleans are emitted; of each emitted integer the four words of its record
   pub emitted-bools : ℕ
-  pub bounds : List (ℤ × ℤ)
+  pub records : List (List ℤ)
   pub clauses : List Clause
 
 unfoldable pub decode-word : List ℤ → ℤ × List ℤ
 decode-word ws = (head-word ws, tail-words ws)
 
-unfoldable pub decode-bounds : List ℤ → (ℤ × ℤ) × List ℤ
-decode-bounds ws = ((head-word ws, head-word (tail-words ws)), drop 3 ws)
+unfoldable pub decode-record : List ℤ → List ℤ × List ℤ
+decode-record ws = decode-times decode-word 4 ws
 
 unfoldable pub decode : ℕ → ℕ → List ℤ → Decoded
 decode b i ws =
@@ -79,9 +79,9 @@ decode b i ws =
     let m = decode-times decode-word b (f .1) in
     let n = decode-times decode-word i (m .1) in
     let e = decode-word (n .1) in
-    let d = decode-counted decode-bounds (e .1) in
+    let d = decode-counted decode-record (e .1) in
     let c = decode-counted decode-clause (d .1) in
-    record { fixed = f .0; bool-map = m .0; int-map = n .0; emitted-bools = natAbs (e .0); bounds = d .0; clauses = c .0 }
+    record { fixed = f .0; bool-map = m .0; int-map = n .0; emitted-bools = natAbs (e .0); records = d .0; clauses = c .0 }
 
 -- ---- passing
 
@@ -103,17 +103,28 @@ carries-int ints (pos zero) x ι = true
 carries-int ints (pos (suc n)) x ι = ltb n ints && eqZ (ι n) x
 carries-int ints (negsuc n) x ι = true
 
--- every emitted integer, declared or not, lies between its lowest and highest value
-abbrev pub between : ℤ × ℤ → ℤ → Bool
-between lh x = leZ (lh .0) x && leZ x (lh .1)
-
-abbrev pub bounds-at : Decoded → ℕ → ℤ × ℤ
-bounds-at a j = getD (a .bounds) j (pos 0, pos 0)
-
--- a clause names emitted numbers only
+-- a literal of an emitted number
 abbrev pub lit-emitted : ℕ → BoolLit → Bool
 lit-emitted bools (lit n g) = ltb n bools
 
+-- kind 0: the value x lies between the lowest and the highest
+abbrev pub between : ℤ → ℤ → ℤ → Bool
+between low high x = leZ low x && leZ x high
+
+-- kind 1: it follows a literal, a where that is false, b where it is true
+abbrev pub follows : ℕ → BoolLit → ℤ → ℤ → Val → ℤ → Bool
+follows bools l a b ρ x = lit-emitted bools l && eqZ x (cond (lit-true ρ l) b a)
+
+-- every emitted integer, declared or not, has a value that its record admits; no other kind admits any
+abbrev pub admits : ℕ → List ℤ → Val → ℤ → Bool
+admits bools r ρ x =
+    cond (eqZ (word-of r 0) (pos 0)) (between (word-of r 1) (word-of r 2) x)
+    (eqZ (word-of r 0) (pos 1) && follows bools (lit-of (word-of r 1)) (word-of r 2) (word-of r 3) ρ x)
+
+abbrev pub record-at : Decoded → ℕ → List ℤ
+record-at a j = getD (a .records) j []
+
+-- a clause names emitted numbers only
 abbrev pub term-emitted : ℕ → Term → Bool
 term-emitted ints (term n a) = ltb n ints
 
@@ -128,9 +139,9 @@ unfoldable pub passes-decoded : ℕ → ℕ → Decoded → Val → IVal → Val
 passes-decoded b i a δ ε ρ ι =
     all (λ v. fixed-agrees (word-of (a .fixed) v) (δ v)) (below b)
     && (all (λ v. carries-bool (a .emitted-bools) (word-of (a .bool-map) v) (δ v) ρ) (below b)
-    && (all (λ v. carries-int (length (a .bounds)) (word-of (a .int-map) v) (ε v) ι) (below i)
-    && (all (λ j. between (bounds-at a j) (ι j)) (below (length (a .bounds)))
-    && (all (clause-emitted (a .emitted-bools) (length (a .bounds))) (a .clauses)
+    && (all (λ v. carries-int (length (a .records)) (word-of (a .int-map) v) (ε v) ι) (below i)
+    && (all (λ j. admits (a .emitted-bools) (record-at a j) ρ (ι j)) (below (length (a .records)))
+    && (all (clause-emitted (a .emitted-bools) (length (a .records))) (a .clauses)
     && all (clause-true ρ ι) (a .clauses)))))
 
 unfoldable pub passes-with : ℕ → ℕ → List ℤ → Val → IVal → Val → IVal → Bool

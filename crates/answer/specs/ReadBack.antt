@@ -1,15 +1,15 @@
--- Reading an answer's words back gives what was laid out: the fixed values, the maps, the bounds and the clauses.
+-- Reading an answer's words back gives what was laid out: the fixed values, the maps, the records and the clauses.
 use mathlib.Core.Path.{_≡_, refl}
 use mathlib.Core.Bool.{true, false}
 use mathlib.Core.List.{List, [], _∷_, _++_, map, append-assoc, append-nil}
 use lib.IntN.{ℤ, pos}
 use lib.ListN.{length}
 use Rattle.laws.specs.Lists.{flat, counted}
-use Rattle.syntax.specs.Syntax.{Domain, lower-bound, upper-bound, Eq, Ne, Le, Lt, Ge, Gt}
+use Rattle.syntax.specs.Syntax.{Eq, Ne, Le, Lt, Ge, Gt}
 use Rattle.sums.specs.LinearSum.{Term, term, linear-sum}
 use Rattle.clauses.specs.Clause.{BoolLit, lit, LinearLit, linear, Clause, clause}
-use Rattle.answer.specs.Answer.{Answer, layout, fixed-word, map-word, bool-word, domain-words, lit-words, term-words, linear-words, clause-words}
-use Rattle.answer.specs.Passes.{Decoded, decode, decode-word, decode-bounds, decode-times, decode-counted, decode-lit, decode-term, decode-linear, decode-clause}
+use Rattle.answer.specs.Answer.{Emitted, ranging, following, Answer, layout, fixed-word, map-word, bool-word, emitted-words, lit-words, term-words, linear-words, clause-words}
+use Rattle.answer.specs.Passes.{Decoded, decode, decode-word, decode-record, decode-times, decode-counted, decode-lit, decode-term, decode-linear, decode-clause}
 
 module _ {A : Type 0} (f : List ℤ → A × List ℤ) (code : A → List ℤ) (h : (a : A) (r : List ℤ) → f (code a ++ r) ≡ (a, r)) where
   times-back : (ys : List A) (r : List ℤ) → decode-times f (length ys) (flat (map code ys) ++ r) ≡ (ys, r)
@@ -56,25 +56,27 @@ unfolding decode-times decode-word
 words-back f [] r = refl
 words-back f (y ∷ ys) r = rw (words-back f ys r) refl
 
--- lowest and highest value
-abbrev pub hull : Domain → ℤ × ℤ
-hull d = (lower-bound d, upper-bound d)
+record-back : (e : Emitted) (r : List ℤ) → decode-record (emitted-words e ++ r) ≡ (emitted-words e, r)
+unfolding decode-record decode-times decode-word
+record-back (ranging d) r = refl
+record-back (following (lit n false) a b) r = refl
+record-back (following (lit n true) a b) r = refl
 
-bounds-times : (ds : List Domain) (r : List ℤ) → decode-times decode-bounds (length ds) (flat (map domain-words ds) ++ r) ≡ (map hull ds, r)
-unfolding decode-times decode-bounds
-bounds-times [] r = refl
-bounds-times (d ∷ ds) r = rw (bounds-times ds r) refl
+records-times : (es : List Emitted) (r : List ℤ) → decode-times decode-record (length es) (flat (map emitted-words es) ++ r) ≡ (map emitted-words es, r)
+unfolding decode-times
+records-times [] r = refl
+records-times (e ∷ es) r = rw (append-assoc (emitted-words e) (flat (map emitted-words es)) r, record-back e (flat (map emitted-words es) ++ r), records-times es r) refl
 
-bounds-back : (ds : List Domain) (r : List ℤ) → decode-counted decode-bounds (counted domain-words ds ++ r) ≡ (map hull ds, r)
+records-back : (es : List Emitted) (r : List ℤ) → decode-counted decode-record (counted emitted-words es ++ r) ≡ (map emitted-words es, r)
 unfolding decode-counted
-bounds-back ds r = bounds-times ds r
+records-back es r = records-times es r
 
 -- what an answer says, as its words are decoded
 abbrev pub view-of : Answer → Decoded
-view-of a = record { fixed = map fixed-word (a .fixed); bool-map = map bool-word (a .bool-map); int-map = map map-word (a .int-map); emitted-bools = a .emitted-bools; bounds = map hull (a .emitted-ints); clauses = a .clauses }
+view-of a = record { fixed = map fixed-word (a .fixed); bool-map = map bool-word (a .bool-map); int-map = map map-word (a .int-map); emitted-bools = a .emitted-bools; records = map emitted-words (a .emitted-ints); clauses = a .clauses }
 
 abbrev tail-of : Answer → List ℤ
-tail-of a = counted domain-words (a .emitted-ints) ++ counted clause-words (a .clauses)
+tail-of a = counted emitted-words (a .emitted-ints) ++ counted clause-words (a .clauses)
 
 pub answer-back : (a : Answer) → length (a .bool-map) ≡ length (a .fixed) → decode (length (a .fixed)) (length (a .int-map)) (layout a) ≡ view-of a
 unfolding decode layout
@@ -84,6 +86,6 @@ answer-back a h =
     let e2 : decode-times decode-word (length (a .fixed)) (map bool-word (a .bool-map) ++ (map map-word (a .int-map) ++ rest)) ≡ (map bool-word (a .bool-map), map map-word (a .int-map) ++ rest) = rw (← h) (words-back bool-word (a .bool-map) (map map-word (a .int-map) ++ rest)) in
     let e3 = words-back map-word (a .int-map) rest in
     let e4 = one-word (pos (a .emitted-bools)) (tail-of a) in
-    let e5 = bounds-back (a .emitted-ints) (counted clause-words (a .clauses)) in
+    let e5 = records-back (a .emitted-ints) (counted clause-words (a .clauses)) in
     let e6 : decode-counted decode-clause (counted clause-words (a .clauses)) ≡ (a .clauses, []) = rw (append-nil (counted clause-words (a .clauses))) at (clauses-back (a .clauses) []) in
     rw (e1, e2, e3, e4, e5, e6) refl

@@ -1,4 +1,4 @@
--- Cases P1 to P12 of document 01: one table, with the words that the document gives, and one theorem. Then the same for slices that are
+-- Cases P1 to P12 of document 01: one table, with the words that the document gives (each record with its kind, document 02, 2.5), and one theorem. Then the same for slices that are
 -- too short, or as long as the answer.
 use mathlib.Core.Path.{_≡_, refl}
 use mathlib.Core.Bool.{true}
@@ -64,14 +64,14 @@ P1-to-P12 =
     ∷ given (0 ∷ 0 ∷ 1 ∷ 1 ∷ 12 ∷ 0 ∷ []) (answers (0 ∷ 0 ∷ []) [])
     -- P9: a column over 0 to 2, rows 0 and 2
     ∷ given (0 ∷ 1 ∷ 0 ∷ 0 ∷ 2 ∷ 1 ∷ 2 ∷ 1 ∷ 2 ∷ 21 ∷ 0 ∷ 0 ∷ 2 ∷ [])
-    (answers (1 ∷ 0 ∷ 1 ∷ 0 ∷ 2 ∷ 3 ∷ []) (comparisons (unit-term 0 (pos 0) 0 ∷ unit-term 0 (minus 2) 0 ∷ []) ∷ []))
+    (answers (1 ∷ 0 ∷ 1 ∷ 0 ∷ 0 ∷ 2 ∷ 3 ∷ []) (comparisons (unit-term 0 (pos 0) 0 ∷ unit-term 0 (minus 2) 0 ∷ []) ∷ []))
     -- P10: the same, rows 0, 1 and 2
-    ∷ given (0 ∷ 1 ∷ 0 ∷ 0 ∷ 2 ∷ 1 ∷ 2 ∷ 1 ∷ 3 ∷ 21 ∷ 0 ∷ 0 ∷ 1 ∷ 2 ∷ []) (answers (1 ∷ 0 ∷ 1 ∷ 0 ∷ 2 ∷ 3 ∷ []) [])
+    ∷ given (0 ∷ 1 ∷ 0 ∷ 0 ∷ 2 ∷ 1 ∷ 2 ∷ 1 ∷ 3 ∷ 21 ∷ 0 ∷ 0 ∷ 1 ∷ 2 ∷ []) (answers (1 ∷ 0 ∷ 1 ∷ 0 ∷ 0 ∷ 2 ∷ 3 ∷ []) [])
     -- P11: the same, row 5: one empty clause
-    ∷ given (0 ∷ 1 ∷ 0 ∷ 0 ∷ 2 ∷ 1 ∷ 2 ∷ 1 ∷ 1 ∷ 21 ∷ 0 ∷ 5 ∷ []) (answers (1 ∷ 0 ∷ 1 ∷ 0 ∷ 2 ∷ 3 ∷ []) (literals [] ∷ []))
+    ∷ given (0 ∷ 1 ∷ 0 ∷ 0 ∷ 2 ∷ 1 ∷ 2 ∷ 1 ∷ 1 ∷ 21 ∷ 0 ∷ 5 ∷ []) (answers (1 ∷ 0 ∷ 1 ∷ 0 ∷ 0 ∷ 2 ∷ 3 ∷ []) (literals [] ∷ []))
     -- P12: two columns over 0 and 1, rows (0,0) and (1,1)
     ∷ given (0 ∷ 2 ∷ 0 ∷ 0 ∷ 1 ∷ 0 ∷ 0 ∷ 1 ∷ 1 ∷ 2 ∷ 2 ∷ 2 ∷ 21 ∷ 0 ∷ 21 ∷ 1 ∷ 0 ∷ 0 ∷ 1 ∷ 1 ∷ [])
-    (answers (1 ∷ 2 ∷ 0 ∷ 2 ∷ 0 ∷ 1 ∷ 2 ∷ 0 ∷ 1 ∷ 2 ∷ [])
+    (answers (1 ∷ 2 ∷ 0 ∷ 2 ∷ 0 ∷ 0 ∷ 1 ∷ 2 ∷ 0 ∷ 0 ∷ 1 ∷ 2 ∷ [])
     (comparisons (unit-term 1 (pos 0) 0 ∷ unit-term 0 (pos 0) 1 ∷ []) ∷ comparisons (unit-term 1 (minus 1) 0 ∷ unit-term 0 (minus 1) 1 ∷ []) ∷ []))
     ∷ []
 

@@ -34,18 +34,18 @@ use Rattle.clauses.specs.Merge.{merged-lawful, merged-no-clauses, merged-made}
 use Rattle.clauses.specs.Bounds.{NoNumbers, values-same}
 use Rattle.clauses.specs.RuleMeaning.{Says, says-none, says-then, says-to, read-rule-means}
 use Rattle.clauses.specs.Entries.{WellMade}
-use Rattle.clauses.specs.Ranges.{Inside, emitted-within}
+use Rattle.clauses.specs.Ranges.{Inside, Within as WithinBounds, emitted-within}
 use Rattle.clauses.specs.Exist.{values-of, fitting-exists}
 use Rattle.tables.specs.Agree.{row-permits, row-holds-permits}
 use Rattle.tables.specs.ColumnMeaning.{WithinDomain}
 use Rattle.tables.specs.TableMeaning.{table-means}
 use Rattle.different.specs.Meaning.{different-means}
 use Rattle.answer.specs.Answer.{Answer, layout, answer-of, normalize-stmt, normalize-stmts, normalize, start-log}
-use Rattle.answer.specs.Passes.{Decoded, decode, between, passes-decoded, passes-with, Passes}
+use Rattle.answer.specs.Passes.{Decoded, decode, passes-decoded, passes-with, Passes}
 use Rattle.answer.specs.ReadBack.{view-of, answer-back}
 use Rattle.answer.specs.Declared.{Declared, stmt-well, stmts-well}
 use Rattle.answer.specs.Start.{start-well, start-made, start-holds}
-use Rattle.answer.specs.Carried.{Bounded, Carried, carried, carries}
+use Rattle.answer.specs.Carried.{Carried, carried, carries}
 use Rattle.call.specs.Call.{Result, compiled, refused, measured, answered, checked, when-read, call-with}
 use Rattle.call.specs.Claim.{within, satisfied, Passed, NotRefused, Exact, Consequences}
 use Rattle.call.specs.declared.Choices.{Choices}
@@ -138,12 +138,12 @@ module _ (m : Bool) (p : Problem) (well : WellFormed p) (f : Fixed) (ss : List S
   grown = means .grows
 
   -- under fitting values every emitted integer lies between its bounds
-  pub within-bounds : (ρ : Val) (ι : IVal) → Fits δ ε ρ ι end-log → Bounded (p .domains) b i δ ε ρ ι end-log
+  pub within-bounds : (ρ : Val) (ι : IVal) → Fits δ ε ρ ι end-log → WithinBounds (p .domains) ι end-log
   within-bounds ρ ι f =
       let k = stmts-inside δ ε (p .domains) ss ss-standing in
       emitted-within δ ε (p .domains) ρ ι end-log (merged-lawful (start-well m ss) grown) (stmts-well (p .domains) Any (Inside (p .domains) ε) ss k s0 (merged-made (p .domains) (Inside (p .domains) ε) s0 (start-well m ss))) f
 
-  made-declared : Declared (p .domains) b i end-log
+  pub made-declared : Declared (p .domains) b i end-log
   made-declared = stmts-well (p .domains) (λ v. v < b) (λ v. v < i) ss ss-declared s0 (start-made (p .domains) (λ v. v < b) (λ v. v < i) m ss ss-declared)
 
   -- ---- the answer's words, read back

@@ -5,9 +5,9 @@ use mathlib.Core.Option.{Option, none, some}
 use mathlib.Core.List.{List, [], _∷_, _++_}
 use Prim.Native.Nat.{ℕ, suc}
 use lib.IntN.{ℤ}
-use lib.Signed.{ltZ, leZ}
+use lib.Signed.{ltZ}
 use Rattle.laws.specs.Ints.{eqZ}
-use Rattle.laws.specs.Order.{leZ-lt, ltZ-tri}
+use Rattle.laws.specs.Order.{ltZ-tri}
 use Rattle.syntax.specs.Syntax.{IfIsRead, Domain, Range, IntExpr, IConst, IVar, Linear, If, Terms, tnil, tmore, BoolExpr, Const, Var, NVar, And, Or, Not, Xor, Iff, Imp, Cmp, Members, mnil, more}
 use Rattle.syntax.specs.Written.{Any, EveryIntOf, EveryTermOf, EveryColumnOf, EveryOf, Every, EveryMember}
 use Rattle.sums.specs.LinearSum.{LinearSum, constant, is-constant, lowest, highest, get-domain-linear-sum}
@@ -20,7 +20,7 @@ use Rattle.clauses.specs.Split.{Split, Splitter, unsplit, split-one, spl
 
 -- P, Q: of each declared Boolean and integer that the log has; ds: the declared domains
 module _ (ds : List Domain) (P Q : ℕ → Type 0) where
-  -- a column has its sum's domain, an If that of either sum
+  -- a column has its sum's domain, an If that of either sum; a literal's two values rise
   abbrev pub MadeWell : Made → Log → Type 0
   MadeWell (bool (declared v)) s = P v
   MadeWell (bool (aux cs)) s = Unit {0}
@@ -29,7 +29,7 @@ module _ (ds : List Domain) (P Q : ℕ → Type 0) where
   MadeWell (int (declared-int v)) s = Q v
   MadeWell (int (column l d)) s = d ≡ domain-of-sum ds s l
   MadeWell (int (chosen i e p q d)) s = d ≡ hull (domain-of-sum ds s p) (domain-of-sum ds s q)
-  MadeWell (int (binary i l x y)) s = leZ x y ≡ true
+  MadeWell (int (binary i l x y)) s = ltZ x y ≡ true
   MadeWell (added cs) s = Unit {0}
   MadeWell (defined cs) s = Unit {0}
   MadeWell (known e v) s = Unit {0}
@@ -156,9 +156,9 @@ module _ (ds : List Domain) (P Q : ℕ → Type 0) where
   two-valued-well j l x y s = go (ltZ x y) refl (eqZ x y) refl
     where
       go : (u : Bool) → ltZ x y ≡ u → (v : Bool) → eqZ x y ≡ v → MadeWell (int (cond u (binary j (negate-lit true l) x y) (cond v (column (constant x) (Range x x)) (binary j l y x)))) s
-      go true p v q = leZ-lt x y p
+      go true p v q = p
       go false p true q = refl
-      go false p false q = leZ-lt y x (ltZ-tri x y p q)
+      go false p false q = ltZ-tri x y p q
 
   constant-well : (j : IfIsRead) (c : BoolExpr) (p : Bool → Run) (x y : ℤ) → WellExpr c → ((g : Bool) → Keeps (p g)) → Keeps (if-constant ds j c p x y)
   unfolding if-constant

@@ -118,7 +118,7 @@ module _ (δ : Val) (ε : IVal) (ds : List Domain) (ρ : Val) (ι : IVal) where
   made-within (column x d) s l r f w = rw (r, f .0 .0) (sum-within ds ι s x (l .0) w)
   made-within (chosen i e p q d) s l r f w =
       rw (r, f .0) (one-within _ _ _ (domain-of-sum ds s p) (domain-of-sum ds s q) (l .3 ρ ι (fits-agrees δ ε ρ ι s (f .1))) (sum-within ds ι s p (l .1) w) (sum-within ds ι s q (l .2) w))
-  made-within (binary i x a b) s l r f w = rw (f .0) (two-within (lit-true ρ x) a b r)
+  made-within (binary i x a b) s l r f w = rw (f .0) (two-within (lit-true ρ x) a b (leZ-lt a b r))
 
   log-within : {s0 s : Log} → Extends δ ε s0 s → next-int s0 ≡ 0 → Well s → Fits δ ε ρ ι s → Within ds ι s
   unfolding made-ints emitted-domains

@@ -15,7 +15,7 @@ use Rattle.laws.specs.Ints.{natAbs-add, sfits-natAbs, natAbs-negℤ}
 use Rattle.laws.specs.Slices.{Has, has-fits, has-back, has-word, has-rest, has-nth}
 use Rattle.syntax.specs.Words.{max-value, max-set-words}
 use Rattle.syntax.specs.Lengths.{int-long, int-fits}
-use Rattle.syntax.specs.Syntax.{Domain, Range, Enumerative, lower-bound, upper-bound, num-candidates, domain-of, encode-domain, IntExpr, IConst, IVar, Linear, If, encode-int}
+use Rattle.syntax.specs.Syntax.{unread, Domain, Range, Enumerative, lower-bound, upper-bound, num-candidates, domain-of, encode-domain, IntExpr, IConst, IVar, Linear, If, encode-int}
 use Rattle.words.specs.Exact.{Each}
 use Rattle.read.specs.WellFormed.{WellDomain}
 use Rattle.domains.specs.Declared.{Domain-at, Sized-at, Domain-below, Domain-post}
@@ -158,7 +158,7 @@ module _ (w : List ℤ) (p : ℕ) where
   unfolding encode-int LegalInt word nat
   variable-inv (IConst c) a k go = absurd (omega (arith, code-is w p (IConst c) (a .words), k))
   variable-inv (IVar v) a k go = go v refl (a .legal .1) (rw (has-word (read-part w) (p + 1) (pos v) [] (pos 0) (has-rest (read-part w) p (pos 21) (pos v ∷ []) (a .words))) refl)
-  variable-inv (If i c t f) a k go = absurd i
+  variable-inv (If i c t f) a k go = absurd (unread i)
   variable-inv (Linear ts) a k go = absurd (omega (arith, code-is w p (Linear ts) (a .words), k))
 
   module _ {m : ℕ} (code : m ≡ word (read-part w) p) where
@@ -172,18 +172,18 @@ module _ (w : List ℤ) (p : ℕ) where
           let y : x ≡ v = index ∙ j in
           s ∙ ap (λ (u : ℕ). nat (getD w (5120 + u) (pos 0)) - 1) y ∙ ap (column-number w p) (sym i)
 
-      module _ {set out : List ℤ} {n triples : ℕ} where
-        pub told-declared : SomeTold set w p n out triples → SomeDeclared set x
+      module _ {set out : List ℤ} {n records : ℕ} where
+        pub told-declared : SomeTold set w p n out records → SomeDeclared set x
         told-declared t = variable-inv (t .expr) (t .it .stands) (sym code ∙ k) λ v i h j.
             let y : x ≡ v = index ∙ j in
-            let g : Known (t .domains) (t .dom) out triples n (IVar v) = subst (λ (e : IntExpr). Known (t .domains) (t .dom) out triples n e) i (t .it .known) in
+            let g : Known (t .domains) (t .dom) out records n (IVar v) = subst (λ (e : IntExpr). Known (t .domains) (t .dom) out records n e) i (t .it .known) in
             record { domains = t .domains; it = t .it .declared; below = rw y (g .0) }
 
         pub told-variable : {c f : ℤ} → ((ds : List Domain) → Declared set ds → x < length ds → Describes set (domain-of ds x) c f)
-            → (ds : List Domain) (dom : ℕ → Domain) (e : IntExpr) → Told set w p n out triples ds dom e → Describes set (dom n) c f
+            → (ds : List Domain) (dom : ℕ → Domain) (e : IntExpr) → Told set w p n out records ds dom e → Describes set (dom n) c f
         told-variable {c} {f} told ds dom e t = variable-inv e (t .stands) (sym code ∙ k) λ v i h j.
             let y : x ≡ v = index ∙ j in
-            let g : Known ds dom out triples n (IVar v) = subst (λ (e : IntExpr). Known ds dom out triples n e) i (t .known) in
+            let g : Known ds dom out records n (IVar v) = subst (λ (e : IntExpr). Known ds dom out records n e) i (t .known) in
             let z : Describes set (domain-of ds x) c f = told ds (t .declared) (rw y (g .0)) in
             rw (g .1) (subst (λ (u : ℕ). Describes set (domain-of ds u) c f) y z)
 
@@ -192,26 +192,26 @@ module _ (w : List ℤ) (p : ℕ) where
       unfolding column-number encode-int
       other-number s (IConst c) a = s
       other-number s (IVar v) a = absurd (k (code ∙ code-is w p (IVar v) (a .words)))
-      other-number s (If i c t f) a = absurd i
+      other-number s (If i c t f) a = absurd (unread i)
       other-number s (Linear ts) a = s
 
-      pub told-range : {set out : List ℤ} {n triples : ℕ} (ds : List Domain) (dom : ℕ → Domain) (e : IntExpr) → Told set w p n out triples ds dom e → Ranged dom out triples n
+      pub told-range : {set out : List ℤ} {n records : ℕ} (ds : List Domain) (dom : ℕ → Domain) (e : IntExpr) → Told set w p n out records ds dom e → Ranged dom out records n
       unfolding encode-int
       told-range ds dom (IConst c) t = t .known
       told-range ds dom (IVar v) t = absurd (k (code ∙ code-is w p (IVar v) (t .stands .words)))
-      told-range ds dom (If j c x y) t = absurd j
+      told-range ds dom (If j c x y) t = absurd (unread j)
       told-range ds dom (Linear ts) t = t .known
 
--- the three words of an emitted integer
-module _ {dom : ℕ → Domain} {out : List ℤ} {triples n : ℕ} (r : Ranged dom out triples n) where
-  pub triple-inside : triples + 3 * n + 3 ≤ length out
-  triple-inside = has-fits out (triples + 3 * n) (domain-words (dom n)) (r .words) (omega arith)
+-- the record of an emitted integer
+module _ {dom : ℕ → Domain} {out : List ℤ} {records n : ℕ} (r : Ranged dom out records n) where
+  pub record-inside : records + 4 * n + 4 ≤ length out
+  record-inside = has-fits out (records + 4 * n) (domain-words (dom n)) (r .words) (omega arith)
 
-  triple : Has out (triples + 3 * n) (domain-words (Range (r .low) (r .high)))
-  triple = subst (λ (d : Domain). Has out (triples + 3 * n) (domain-words d)) (r .is) (r .words)
+  the-record : Has out (records + 4 * n) (domain-words (Range (r .low) (r .high)))
+  the-record = subst (λ (d : Domain). Has out (records + 4 * n) (domain-words d)) (r .is) (r .words)
 
-  pub triple-describes : (set : List ℤ) (c x : ℤ) → x ≡ getD out (triples + 3 * n) (pos 0) → c ≡ getD out (triples + 3 * n + 2) (pos 0) → Describes set (dom n) c x
-  triple-describes set c x e f =
-      let l : x ≡ r .low = e ∙ has-word out (triples + 3 * n) (r .low) _ (pos 0) triple in
-      let m : c ≡ num-candidates (Range (r .low) (r .high)) = f ∙ has-nth out (triples + 3 * n) (domain-words (Range (r .low) (r .high))) 2 (pos 0) triple (omega arith) in
+  pub record-describes : (set : List ℤ) (c x : ℤ) → x ≡ getD out (records + 4 * n + 1) (pos 0) → c ≡ getD out (records + 4 * n + 3) (pos 0) → Describes set (dom n) c x
+  record-describes set c x e f =
+      let l : x ≡ r .low = e ∙ has-nth out (records + 4 * n) (domain-words (Range (r .low) (r .high))) 1 (pos 0) the-record (omega arith) in
+      let m : c ≡ num-candidates (Range (r .low) (r .high)) = f ∙ has-nth out (records + 4 * n) (domain-words (Range (r .low) (r .high))) 3 (pos 0) the-record (omega arith) in
       rw (r .is, l, m) (range-describes set (r .low) (r .high) (r .small-low) (r .small-high) (r .order))

@@ -6,15 +6,14 @@ use Prim.Native.Nat.{ℕ, _+_, _-_, _≤_, _<_, _^_}
 use native.Mathlib.Omega.{arith}
 use lib.IntN.{ℤ, pos, negsuc}
 use lib.ListN.{length, getD}
-use borrow.Author.Tests.{ltb-false}
 use Rattle.laws.specs.Bools.{or-no-l, or-no-r}
-use Rattle.laws.specs.Lists.{any, different}
+use Rattle.laws.specs.Lists.{any}
 use Rattle.laws.specs.Slices.{Has}
 use Rattle.laws.specs.Writes.{cap, Wrote, wrote-length, wrote-then, wrote-to, Open}
-use Rattle.syntax.specs.Words.{max-column-vars}
 use Rattle.syntax.specs.Lengths.{int-tag, int-tag-word, int-long, int-fits}
-use Rattle.syntax.specs.Syntax.{Domain, op-at, IntExpr, IConst, IVar, Linear, If, encode-int}
+use Rattle.syntax.specs.Syntax.{unread, Domain, op-at, IntExpr, IConst, IVar, Linear, If, encode-int}
 use Rattle.limits.specs.Limits.{heavy, written, many-column}
+use Rattle.limits.specs.Light.{few-in-column}
 use Rattle.sums.specs.LinearSum.{LinearSum, singleton, mul-sum, sub-sum}
 use Rattle.sums.specs.Linear.{linear-of, linear-of-same}
 use Rattle.sums.specs.Rising.{terms-of, Each, singleton-each, sub-sum-each}
@@ -47,14 +46,13 @@ module _ (w : List ℤ) (p : ℕ) (c : Column w p) where
   has = has-part w p (encode-int (c .expr)) (c .words)
 
   pub ready : Ready w p
-  unfolding many-column
   ready = record {
     tree = c .expr;
     has = has;
     domains = c .domains;
     light = c .light;
     vars = written (c .expr);
-    few = omega (arith, ltb-false max-column-vars (different (written (c .expr))) (c .few));
+    few = omega (arith, few-in-column (c .expr) (c .few));
     among = λ v m. m;
   }
 
@@ -96,14 +94,14 @@ module _ (w : List ℤ) (p : ℕ) where
   unfolding column-clause encode-int
   variable (IConst c) h k = absurd (omega (arith, code-is (IConst c) h))
   variable (IVar v) h k = (refl, refl)
-  variable (If i c t f) h k = absurd i
+  variable (If i c t f) h k = absurd (unread i)
   variable (Linear ts) h k = absurd (omega (arith, code-is (Linear ts) h))
 
   other : (e : IntExpr) → Has (read-part w) p (encode-int e) → (word (read-part w) p ≡ 21 → ⊥) → column-clause w p e ≡ equality w e (nat (getD w (column-map + p) (pos 0)) - 1) ∷ []
   unfolding column-clause
   other (IConst c) h k = unfold column-number in refl
   other (IVar v) h k = absurd (k (code-is (IVar v) h))
-  other (If i c t f) h k = absurd i
+  other (If i c t f) h k = absurd (unread i)
   other (Linear ts) h k = unfold column-number in refl
 
   pub variable-behind : {out : List ℤ} {o k n : ℕ} → Behind out o k → n ≡ word (read-part w) p → n ≡ 21 → EquatedOne w p (p + 2) out o k out o k

@@ -9,7 +9,7 @@ use lib.ListN.{length, getD, take, drop, length-append}
 use lib.ListN.{set as store}
 use lib.Seq.{sets, sets-eq, length-sets, take-at, drop-at, take-take, getD-take, length-take-le}
 use Rattle.laws.specs.Writes.{sets-append}
-use Rattle.syntax.specs.Syntax.{Domain, IntExpr, IConst, IVar, Linear, If, encode-int}
+use Rattle.syntax.specs.Syntax.{unread, Domain, IntExpr, IConst, IVar, Linear, If, encode-int}
 use Rattle.words.specs.Exact.{Each}
 use Rattle.walk.specs.Item.{nat, int-entry}
 use Rattle.walk.specs.Decode.{int-end, read-part}
@@ -24,21 +24,21 @@ use Rattle.columns.proofs.Triples.{Triple, triple-words, triples-words,
 
 -- ---- one column
 
-module _ {set w : List ℤ} {p to : ℕ} {out : List ℤ} {triples : ℕ} (s : Storable set w p to out triples) where
+module _ {set w : List ℤ} {p to : ℕ} {out : List ℤ} {records : ℕ} (s : Storable set w p to out records) where
   pub some-at : SomeAt w p
   some-at = record { expr = s .expr; it = s .told .stands }
 
   module _ (n : ℕ) (number-is : (e : IntExpr) → At w p e → n ≡ column-number w p e) where
-    pub some-told : SomeTold set w p n out triples
+    pub some-told : SomeTold set w p n out records
     some-told = record {
       domains = s .domains;
       dom = s .dom;
       expr = s .expr;
-      it = subst (λ (m : ℕ). Told set w p m out triples (s .domains) (s .dom) (s .expr)) (sym (number-is (s .expr) (s .told .stands))) (s .told);
+      it = subst (λ (m : ℕ). Told set w p m out records (s .domains) (s .dom) (s .expr)) (sym (number-is (s .expr) (s .told .stands))) (s .told);
     }
 
-    pub stored-column : (c x : ℤ) (next : ℕ) → ((ds : List Domain) (dom : ℕ → Domain) (e : IntExpr) → Told set w p n out triples ds dom e → Describes set (dom n) c x)
-        → next ≡ int-end (read-part w) 64 p → StoredColumn set w p to out triples (store (store (store w to (pos n)) (to + 1) c) (to + 2) x) next
+    pub stored-column : (c x : ℤ) (next : ℕ) → ((ds : List Domain) (dom : ℕ → Domain) (e : IntExpr) → Told set w p n out records ds dom e → Describes set (dom n) c x)
+        → next ≡ int-end (read-part w) 64 p → StoredColumn set w p to out records (store (store (store w to (pos n)) (to + 1) c) (to + 2) x) next
     stored-column c x next told ends =
         let two : to + 2 ≡ suc (suc to) = omega arith in
         record {
@@ -49,7 +49,7 @@ module _ {set w : List ℤ} {p to : ℕ} {out : List ℤ} {triples : ℕ} (s : S
           is = λ e a. (number-is e a, ends ∙ ap (λ (r : IntExpr × ℕ). r .1) (int-is e 64 (read-part w) p (a .legal) (a .words)));
           domain = λ ds dom e t.
               let i : n ≡ column-number w p e = number-is e (t .stands) in
-              told ds dom e (subst (λ (m : ℕ). Told set w p m out triples ds dom e) (sym i) t) .is ∙ ap dom i;
+              told ds dom e (subst (λ (m : ℕ). Told set w p m out records ds dom e) (sym i) t) .is ∙ ap dom i;
           placed = told (some-told .domains) (some-told .dom) (some-told .expr) (some-told .it) .placed;
         }
 
@@ -91,21 +91,21 @@ module _ (w v : List ℤ) (same : take column-words v ≡ take column-words w) w
   unfolding column-number int-entry LegalInt
   same-number p (IConst c) a = ap (λ (z : ℤ). nat z - 1) (same-word (column-map + p) (omega (arith, place-inside w p a)))
   same-number p (IVar v) a = ap (λ (z : ℤ). nat z - 1) (same-word (5120 + v) (omega (arith, a .legal .1)))
-  same-number p (If i c t f) a = absurd i
+  same-number p (If i c t f) a = absurd (unread i)
   same-number p (Linear ts) a = ap (λ (z : ℤ). nat z - 1) (same-word (column-map + p) (omega (arith, place-inside w p a)))
 
   -- what is known of a column is known of it in the other slice too
-  same-told : {set out : List ℤ} {p triples : ℕ} {ds : List Domain} {dom : ℕ → Domain} {e : IntExpr} → At w p e → Declared set ds → Known ds dom out triples (column-number w p e) e
-      → Told set v p (column-number v p e) out triples ds dom e
-  same-told {set} {out} {p} {triples} {ds} {dom} {e} a d k = record {
+  same-told : {set out : List ℤ} {p records : ℕ} {ds : List Domain} {dom : ℕ → Domain} {e : IntExpr} → At w p e → Declared set ds → Known ds dom out records (column-number w p e) e
+      → Told set v p (column-number v p e) out records ds dom e
+  same-told {set} {out} {p} {records} {ds} {dom} {e} a d k = record {
     stands = same-at a;
     declared = d;
-    known = subst (λ (n : ℕ). Known ds dom out triples n e) (sym (same-number p e a)) k;
+    known = subst (λ (n : ℕ). Known ds dom out records n e) (sym (same-number p e a)) k;
   }
 
 -- ---- one column after the other
 
-pub record Storing (set w : List ℤ) (at count : ℕ) (out : List ℤ) (triples : ℕ) (v : List ℤ) (p to rest : ℕ) : Type 0 where
+pub record Storing (set w : List ℤ) (at count : ℕ) (out : List ℤ) (records : ℕ) (v : List ℤ) (p to rest : ℕ) : Type 0 where
   pub whole : List IntExpr
   pub standing : Standing w at count whole
   pub left : List IntExpr
@@ -113,19 +113,19 @@ pub record Storing (set w : List ℤ) (at count : ℕ) (out : List ℤ) (triples
   pub domains : List Domain
   pub dom : ℕ → Domain
   pub declared : Declared set domains
-  pub known : AllKnown domains dom out triples w p left
+  pub known : AllKnown domains dom out records w p left
   pub done : List Triple
   pub stored : v ≡ sets w column-words (triples-words done)
   pub place : to ≡ column-words + 3 * length done
   pub counted : length done + rest ≡ count
   pub room : column-words + 3 * count ≤ length w
   pub numbers : map (λ t. t .number) done ++ column-numbers w p left ≡ column-numbers w at whole
-  pub told : (ds : List Domain) (dom : ℕ → Domain) → Declared set ds → AllKnown ds dom out triples w at whole
-      → AllKnown ds dom out triples w p left × (map (domain-by set) done ++ map dom (column-numbers w p left) ≡ map dom (column-numbers w at whole))
+  pub told : (ds : List Domain) (dom : ℕ → Domain) → Declared set ds → AllKnown ds dom out records w at whole
+      → AllKnown ds dom out records w p left × (map (domain-by set) done ++ map dom (column-numbers w p left) ≡ map dom (column-numbers w at whole))
   pub placed : Each (Lies set) done
 
-module _ (set w : List ℤ) (at count : ℕ) (out : List ℤ) (triples : ℕ) where
-  pub storing-start : SomeDescribable set w at count out triples → Storing set w at count out triples w at column-words count
+module _ (set w : List ℤ) (at count : ℕ) (out : List ℤ) (records : ℕ) where
+  pub storing-start : SomeDescribable set w at count out records → Storing set w at count out records w at column-words count
   storing-start s = record {
     whole = s .exprs;
     standing = s .it .standing;
@@ -145,7 +145,7 @@ module _ (set w : List ℤ) (at count : ℕ) (out : List ℤ) (triples : ℕ) wh
     placed = tt;
   }
 
-  module _ (v : List ℤ) (p to rest : ℕ) (s : Storing set w at count out triples v p to rest) where
+  module _ (v : List ℤ) (p to rest : ℕ) (s : Storing set w at count out records v p to rest) where
     used : column-words + length (triples-words (s .done)) ≤ length w
     used = omega (arith, words-length (s .done), s .counted, s .room)
 
@@ -155,7 +155,7 @@ module _ (set w : List ℤ) (at count : ℕ) (out : List ℤ) (triples : ℕ) wh
     pub storing-size : length v ≡ length w
     storing-size = ap length (s .stored) ∙ length-sets w column-words (triples-words (s .done))
 
-    first : (es : List IntExpr) → Standing w p rest es → AllKnown (s .domains) (s .dom) out triples w p es → (rest ≡ 0 → ⊥) → Storable set v p to out triples
+    first : (es : List IntExpr) → Standing w p rest es → AllKnown (s .domains) (s .dom) out records w p es → (rest ≡ 0 → ⊥) → Storable set v p to out records
     first [] st k z = absurd (z (st .counted))
     first (e ∷ es) st k z =
         let a : At w p e = record { words = first-stands w p rest e es st; legal = st .legal .0 } in
@@ -168,10 +168,10 @@ module _ (set w : List ℤ) (at count : ℕ) (out : List ℤ) (triples : ℕ) wh
           room = omega (arith, storing-size, s .room, s .place, s .counted, z);
         }
 
-    pub storing-column : (rest ≡ 0 → ⊥) → Storable set v p to out triples
+    pub storing-column : (rest ≡ 0 → ⊥) → Storable set v p to out records
     storing-column z = first (s .left) (s .stands) (s .known) z
 
-    module _ (u : List ℤ) (next : ℕ) (x : StoredColumn set v p to out triples u next) where
+    module _ (u : List ℤ) (next : ℕ) (x : StoredColumn set v p to out records u next) where
       abbrev last : Triple
       last = record { number = x .number; count = x .count; from = x .from }
 
@@ -182,11 +182,11 @@ module _ (set w : List ℤ) (at count : ℕ) (out : List ℤ) (triples : ℕ) wh
           x .words ∙ ap (λ (n : ℕ). sets v n (triple-words last)) e ∙ ap (λ (l : List ℤ). sets l (column-words + length us) (triple-words last)) (s .stored)
           ∙ sym (sets-append w column-words us (triple-words last)) ∙ ap (sets w column-words) (sym (words-more (s .done) last))
 
-      next-of : (es : List IntExpr) → Standing w p rest es → AllKnown (s .domains) (s .dom) out triples w p es
+      next-of : (es : List IntExpr) → Standing w p rest es → AllKnown (s .domains) (s .dom) out records w p es
           → map (λ t. t .number) (s .done) ++ column-numbers w p es ≡ column-numbers w at (s .whole)
-          → ((ds : List Domain) (dom : ℕ → Domain) → Declared set ds → AllKnown ds dom out triples w at (s .whole)
-          → AllKnown ds dom out triples w p es × (map (domain-by set) (s .done) ++ map dom (column-numbers w p es) ≡ map dom (column-numbers w at (s .whole))))
-          → (rest ≡ 0 → ⊥) → Storing set w at count out triples u next (to + 3) (rest - 1)
+          → ((ds : List Domain) (dom : ℕ → Domain) → Declared set ds → AllKnown ds dom out records w at (s .whole)
+          → AllKnown ds dom out records w p es × (map (domain-by set) (s .done) ++ map dom (column-numbers w p es) ≡ map dom (column-numbers w at (s .whole))))
+          → (rest ≡ 0 → ⊥) → Storing set w at count out records u next (to + 3) (rest - 1)
       unfolding column-numbers
       next-of [] st k ns ts z = absurd (z (st .counted))
       next-of (e ∷ es) st k ns ts z =
@@ -204,7 +204,7 @@ module _ (set w : List ℤ) (at count : ℕ) (out : List ℤ) (triples : ℕ) wh
             domains = s .domains;
             dom = s .dom;
             declared = s .declared;
-            known = subst (λ (m : ℕ). AllKnown (s .domains) (s .dom) out triples w m es) j (k .1);
+            known = subst (λ (m : ℕ). AllKnown (s .domains) (s .dom) out records w m es) j (k .1);
             done = s .done ++ (last ∷ []);
             stored = more;
             place = omega (arith, l, s .place);
@@ -219,7 +219,7 @@ module _ (set w : List ℤ) (at count : ℕ) (out : List ℤ) (triples : ℕ) wh
                 let y = ts ds dom d g in
                 let t = same-told w v below a d (y .0 .0) in
                 let i : domain-by set last ≡ dom (column-number w p e) = x .domain ds dom e t ∙ ap dom (same-number w v below p e a) in (
-                  subst (λ (m : ℕ). AllKnown ds dom out triples w m es) j (y .0 .1),
+                  subst (λ (m : ℕ). AllKnown ds dom out records w m es) j (y .0 .1),
                   map-more (domain-by set) (s .done) last (map dom (column-numbers w next es))
                       ∙ ap (λ (c : Domain). map (domain-by set) (s .done) ++ (c ∷ map dom (column-numbers w next es))) i
                       ∙ ap (λ (m : ℕ). map (domain-by set) (s .done) ++ (dom (column-number w p e) ∷ map dom (column-numbers w m es))) (sym j)
@@ -228,7 +228,7 @@ module _ (set w : List ℤ) (at count : ℕ) (out : List ℤ) (triples : ℕ) wh
             placed = each-more (Lies set) (s .done) last (s .placed) (x .placed);
           }
 
-      pub storing-next : (rest ≡ 0 → ⊥) → Storing set w at count out triples u next (to + 3) (rest - 1)
+      pub storing-next : (rest ≡ 0 → ⊥) → Storing set w at count out records u next (to + 3) (rest - 1)
       storing-next z = next-of (s .left) (s .stands) (s .known) (s .numbers) (s .told) z
 
     none-left : (es : List IntExpr) → rest ≡ length es → rest ≡ 0 → column-numbers w p es ≡ []
@@ -255,7 +255,7 @@ module _ (set w : List ℤ) (at count : ℕ) (out : List ℤ) (triples : ℕ) wh
       words-are : drop column-words v ≡ triples-words (s .done) ++ behind
       words-are = ap (drop column-words) (s .stored) ∙ new-words w (triples-words (s .done)) used
 
-      pub storing-end : Described set w at count out triples v
+      pub storing-end : Described set w at count out records v
       storing-end = record {
         numbers = λ es st.
             let e = same-columns w at count (s .whole) es (s .standing) st in
@@ -265,7 +265,7 @@ module _ (set w : List ℤ) (at count : ℕ) (out : List ℤ) (triples : ℕ) wh
         domains = λ ds dom es d.
             let e = same-columns w at count (s .whole) es (s .standing) (d .standing) in
             let g : Declared set ds = record { words = d .declared; well = d .well; short = d .short } in
-            let y = s .told ds dom g (subst (λ (fs : List IntExpr). AllKnown ds dom out triples w at fs) (sym e) (d .known)) in
+            let y = s .told ds dom g (subst (λ (fs : List IntExpr). AllKnown ds dom out records w at fs) (sym e) (d .known)) in
             rw (words-are, ← all-done) (domains-read set behind (s .done))
             ∙ (sym (append-nil all-domains) ∙ ap (λ (l : List ℕ). all-domains ++ map dom l) no-numbers ∙ y .1)
             ∙ ap (λ (fs : List IntExpr). map dom (column-numbers w at fs)) e;

@@ -158,17 +158,17 @@ fn describe(
     p: usize,
     n: usize,
     out: &[i32],
-    triples: usize,
+    records: usize,
 ) -> Description
-    requires { ⌜ SomeTold (now set) (now work) p n (now out) triples ⌝ }
-    ensures { λ r. ⌜ ((ds : List Domain) (dom : ℕ → Domain) (e : IntExpr) → Told (now (set .entry)) (now (work .entry)) p n (now (out .entry)) triples ds dom e → Describes (now (set .entry)) (dom n) (r .count) (r .from)) ⌝ }
+    requires { ⌜ SomeTold (now set) (now work) p n (now out) records ⌝ }
+    ensures { λ r. ⌜ ((ds : List Domain) (dom : ℕ → Domain) (e : IntExpr) → Told (now (set .entry)) (now (work .entry)) p n (now (out .entry)) records ds dom e → Describes (now (set .entry)) (dom n) (r .count) (r .from)) ⌝ }
 {
     if survey::word(work, p) == 21 {
         return describe_declared(set, survey::word(work, p + 1));
     }
-    let i = triples + 3 * n;
-    let low = out[i];
-    let c = out[i + 2];
+    let i = records + 4 * n;
+    let low = out[i + 1];
+    let c = out[i + 3];
     Description {
         count: c,
         from: low,
@@ -182,13 +182,13 @@ fn describe_column(
     p: usize,
     to: usize,
     out: &[i32],
-    triples: usize,
+    records: usize,
 ) -> usize
-    requires { ⌜ Storable (now set) (now work) p to (now out) triples ⌝ }
-    ensures { λ r. ⌜ StoredColumn (now (set .entry)) (now (work .entry)) p to (now (out .entry)) triples (now (work .exit)) r ⌝ }
+    requires { ⌜ Storable (now set) (now work) p to (now out) records ⌝ }
+    ensures { λ r. ⌜ StoredColumn (now (set .entry)) (now (work .entry)) p to (now (out .entry)) records (now (work .exit)) r ⌝ }
 {
     let n = column_number(work, p);
-    let d = describe(set, work, p, n, out, triples);
+    let d = describe(set, work, p, n, out, records);
     let next = survey::int_end(work, p, 64);
     let c = d.count;
     let from = d.from;
@@ -198,23 +198,23 @@ fn describe_column(
     next
 }
 
-// The words of so many columns from `at` on, stored from 12032 on; `triples`: where the words of the emitted integers begin in the answer.
+// The words of so many columns from `at` on, stored from 12032 on; `records`: where the words of the emitted integers begin in the answer.
 pub fn describe_columns(
     set: &[i32],
     work: &mut [i32],
     at: usize,
     count: usize,
     out: &[i32],
-    triples: usize,
+    records: usize,
 )
-    requires { ⌜ SomeDescribable (now set) (now work) at count (now out) triples ⌝ }
-    ensures { λ _. ⌜ Described (now (set .entry)) (now (work .entry)) at count (now (out .entry)) triples (now (work .exit)) ⌝ }
+    requires { ⌜ SomeDescribable (now set) (now work) at count (now out) records ⌝ }
+    ensures { λ _. ⌜ Described (now (set .entry)) (now (work .entry)) at count (now (out .entry)) records (now (work .exit)) ⌝ }
 {
     let mut p = at;
     let mut to = 12032;
     let mut rest = count;
     while rest != 0 {
-        p = describe_column(set, work, p, to, out, triples);
+        p = describe_column(set, work, p, to, out, records);
         to += 3;
         rest -= 1;
     }

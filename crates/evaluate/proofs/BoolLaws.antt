@@ -22,11 +22,10 @@ use Rattle.fold.specs.Fold.{Op, op-xor, op-iff, op-imp, expr-of}
 use Rattle.fold.specs.Table.{op-num, bit}
 use Rattle.fold.specs.Forms.{list-of, list-words, binary-words, op-word, declared-list, declared-binary, bool-long}
 use Rattle.folding.proofs.BoolLaws.{not-inv, binary-inv, second, code-low}
-use Rattle.limits.specs.Limits.{heavy, heavy-comparison}
+use Rattle.limits.specs.Limits.{any-comparison, heavy, heavy-comparison}
 use Rattle.passes.specs.Skip.{Bool-at as Bool-stands, Some-bool, Some-members, Skip-members-post}
 use Rattle.passes.proofs.SkipLaws.{leaf-inv, bool-code-is, second-is, the-list, sides, first-inv}
-use Rattle.evaluate.specs.Inside.{heavy-inside, heavy-bool, heavy-members}
-use Rattle.evaluate.specs.Contracts.{Int-at, Ready-int, Int-post, Bool-at, Members-at, Ready-bool, Ready-members, held, decided, side-value, Bool-post, Members-post}
+use Rattle.evaluate.specs.Contracts.{heavy-inside, heavy-bool, heavy-members, Int-at, Ready-int, Int-post, Bool-at, Members-at, Ready-bool, Ready-members, held, decided, side-value, Bool-post, Members-post}
 
 -- ---- tests of words
 
@@ -120,7 +119,7 @@ module _ (ws values : List ℤ) (nb at : ℕ) where
     module _ (h18 : w ≡ 18) where
       the-sides : {X : Type 0} (ds : List Domain) (e : BoolExpr) → Bool-at nb ds ws at e
           → ((o : CmpOp) (a b : IntExpr) → e ≡ Cmp o a b → Int-at nb ds ws (at + 2) a → Int-at nb ds ws (at + 2 + length (encode-int a)) b → X) → X
-      unfolding heavy-bool heavy-comparison
+      unfolding any-comparison heavy-comparison
       the-sides ds e r go =
           sides ws at w hw h18 nb (length ds) e (r .stands) λ o a b q h g.
           let y = rw q at (r .light) in
@@ -173,8 +172,8 @@ module _ (ws values : List ℤ) (nb at : ℕ) where
               rw k (has-rest ws (at + 1) _ _ (has-rest ws at _ _ g))
 
           light-list : (s : Bool) (ms : Members) → heavy-bool ds (list-of s ms) ≡ false → heavy-members ds ms ≡ false
-          light-list true ms h = unfold heavy-bool in h
-          light-list false ms h = unfold heavy-bool in h
+          light-list true ms h = unfold any-comparison in h
+          light-list false ms h = unfold any-comparison in h
 
       pub list-ready : Ready-bool ws values nb at → Ready-members ws values nb (at + 2) n
       list-ready r = the-members (r .ds) (r .it) (r .reads) λ s ms q t g. record { ds = r .ds; roster = r .roster; them = ms; reads = g }
@@ -196,7 +195,7 @@ module _ (ws values : List ℤ) (nb at : ℕ) where
 
     module _ (h14 : w ≡ 14) where
       the-member : {X : Type 0} (ds : List Domain) (e : BoolExpr) → Bool-at nb ds ws at e → ((x : BoolExpr) → e ≡ Not x → Bool-at nb ds ws (at + 1) x → X) → X
-      unfolding encode-bool EveryOf heavy-bool
+      unfolding encode-bool EveryOf any-comparison
       the-member ds e r go =
           not-inv e (bool-code-is ws at w hw nb (length ds) e (r .stands) ∙ h14) λ x q.
           let g = subst (λ x. Bool-at nb ds ws at x) q (r) in
@@ -231,9 +230,9 @@ module _ (ws values : List ℤ) (nb at : ℕ) where
         where
           light-two : (o : Op) (a b : BoolExpr) → heavy-bool ds (expr-of o a b) ≡ false
               → heavy-bool ds a || heavy-bool ds b ≡ false
-          light-two op-xor a b h = unfold heavy-bool in h
-          light-two op-iff a b h = unfold heavy-bool in h
-          light-two op-imp a b h = unfold heavy-bool in h
+          light-two op-xor a b h = unfold any-comparison in h
+          light-two op-iff a b h = unfold any-comparison in h
+          light-two op-imp a b h = unfold any-comparison in h
 
       pub first-ready : Ready-bool ws values nb at → Ready-bool ws values nb (at + 1)
       first-ready r = the-two (r .ds) (r .it) (r .reads) λ o a b q t g k. record { ds = r .ds; roster = r .roster; it = a; reads = g }
@@ -273,7 +272,7 @@ members-none ws values nb at n stop z ds (more e ms) b r = absurd (let s : n ≡
 module _ (ws values : List ℤ) (nb at n : ℕ) (z : n ≡ 0 → ⊥) where
   the-first : {X : Type 0} (ds : List Domain) (ms : Members) → Members-at nb ds ws at n ms
       → ((e : BoolExpr) (us : Members) → ms ≡ more e us → Bool-at nb ds ws at e → Members-at nb ds ws (at + length (encode-bool e)) (n - 1) us → X) → X
-  unfolding heavy-bool
+  unfolding any-comparison
   the-first ds ms r go =
       first-inv ws at n z nb (length ds) ms (r .stand) λ e us q h g.
       let l = rw q at (r .light) in

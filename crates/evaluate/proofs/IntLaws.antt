@@ -21,14 +21,13 @@ use Rattle.syntax.specs.Satisfies.{int-value}
 use Rattle.syntax.specs.Written.{every-int-map, EveryIntOf, Any, None}
 use Rattle.syntax.specs.Lengths.{int-tag-word, int-long, int-fits}
 use Rattle.domains.specs.Declared.{Plain}
-use Rattle.limits.specs.Limits.{weight, terms-weight, heavy, heavy-terms}
+use Rattle.limits.specs.Limits.{any-comparison, weight, terms-weight, heavy, heavy-terms}
 use Rattle.accept.proofs.Laws.{int-plain, const-inv, second-plain, var-inv, sum-inv}
 use Rattle.folding.proofs.IntLaws.{if-inv}
 use Rattle.passes.specs.Skip.{Some-int, Skip-post}
 use Rattle.verdict.specs.Roster.{bool-of, int-of}
 use Rattle.verdict.specs.Small.{Light, value-small}
-use Rattle.evaluate.specs.Inside.{heavy-inside, heavy-inside-terms, heavy-bool}
-use Rattle.evaluate.specs.Contracts.{Roster, Int-at, Terms-at, Ready-int, Ready-terms, valued, added, Int-post, Terms-post, Bool-at, Ready-bool, held, Bool-post}
+use Rattle.evaluate.specs.Contracts.{heavy-inside, heavy-inside-terms, heavy-bool, Roster, Int-at, Terms-at, Ready-int, Ready-terms, valued, added, Int-post, Terms-post, Bool-at, Ready-bool, held, Bool-post}
 
 -- ---- `int_value`
 
@@ -48,14 +47,14 @@ module _ (ws values : List ℤ) (nb at : ℕ) where
     const-value x hx z ds e b r = const-inv ws at w hw e (r .stands .words) z λ c q g. rw q (refl, hx ∙ g)
 
     pub int-second : Ready-int ws values nb at → (w ≡ 20 → ⊥) → (w ≡ 23 → ⊥) → Plain ws (at + 1)
-    int-second r z y = second-plain ws at w hw (r .it) (r .reads .stands .words) z
+    int-second r z y = second-plain ws at w hw (r .it) (r .reads .stands .words) z y
 
     -- ---- an If
 
     module _ (h23 : w ≡ 23) where
       the-if : {X : Type 0} (ds : List Domain) (e : IntExpr) → Int-at nb ds ws at e
           → ((i : IfIsRead) (c : BoolExpr) (t f : IntExpr) → e ≡ If i c t f → Bool-at nb ds ws (at + 1) c → Int-at nb ds ws (at + 1 + length (encode-bool c)) t → Int-at nb ds ws (at + 1 + length (encode-bool c) + length (encode-int t)) f → X) → X
-      unfolding encode-int EveryIntOf heavy heavy-inside
+      unfolding encode-int EveryIntOf heavy any-comparison
       the-if ds e r go =
           if-inv e (pos-eq _ _ _ (int-tag-word ws at e (r .stands .words)) hw ∙ h23) λ i c t f q.
           let g = subst (λ x. Int-at nb ds ws at x) q r in
@@ -141,9 +140,9 @@ module _ (ws values : List ℤ) (nb at : ℕ) where
       module _ (a : w ≡ 20 → ⊥) (b : w ≡ 21 → ⊥) (d : w ≡ 23 → ⊥) where
         -- the terms of a sum, none of them added up yet
         sum-terms : {X : Type 0} (ds : List Domain) (e : IntExpr) → Int-at nb ds ws at e → ((ts : Terms) → e ≡ Linear ts → Terms-at nb ds ws (at + 2) v (pos 0) ts → X) → X
-        unfolding EveryIntOf heavy weight heavy-inside
+        unfolding EveryIntOf heavy weight any-comparison
         sum-terms ds e r go =
-            sum-inv ws at w hw v hv e (r .stands .words) a b λ ts q n h.
+            sum-inv ws at w hw v hv e (r .stands .words) a b d λ ts q n h.
             let g = rw q at (r .stands .vars) in
             let l = rw q at (r .light) in
             let i = rw q at (r .inside) in
@@ -191,7 +190,7 @@ module _ (ws values : List ℤ) (nb at n : ℕ) (acc : ℤ) (z : n ≡ 0 → ⊥
   more-inv : {X : Type 0} (ds : List Domain) (ts : Terms) → Terms-at nb ds ws at n acc ts
       → ((k : ℤ) (e : IntExpr) (us : Terms) → ts ≡ tmore k e us → getD ws at (pos 0) ≡ k → Int-at nb ds ws (at + 1) e → natAbs acc + (natAbs k * weight ds e + terms-weight ds us) ≤ max-weight
       → ((acc' : ℤ) → natAbs acc' + terms-weight ds us ≤ max-weight → Terms-at nb ds ws (at + 1 + length (encode-int e)) (n - 1) acc' us) → X) → X
-  unfolding encode-terms EveryIntOf heavy weight heavy-inside
+  unfolding encode-terms EveryIntOf heavy weight any-comparison
   more-inv ds tnil r go = absurd (z (r .stand .size))
   more-inv ds (tmore k e us) r go =
       let y = r .stand in

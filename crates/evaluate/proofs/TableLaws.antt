@@ -17,8 +17,7 @@ use Rattle.syntax.specs.Satisfies.{permits}
 use Rattle.syntax.specs.Written.{EveryColumnOf}
 use Rattle.read.specs.WellFormed.{WellCell}
 use Rattle.limits.specs.Limits.{heavy}
-use Rattle.evaluate.specs.Inside.{heavy-inside}
-use Rattle.evaluate.specs.Contracts.{Int-at, Ready-int, Int-post, Columns-at, Ready-columns, Columns-post, Values-at, Row-at, Rows-at, Ready-row, Ready-rows, word-permits, row-permits, Row-post, Rows-post}
+use Rattle.evaluate.specs.Contracts.{heavy-inside, Int-at, Ready-int, Int-post, Columns-at, Ready-columns, Columns-post, Values-at, Row-at, Rows-at, Ready-row, Ready-rows, word-permits, row-permits, Row-post, Rows-post}
 
 -- ---- `column_values`
 

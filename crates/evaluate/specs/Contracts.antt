@@ -15,12 +15,11 @@ use Rattle.syntax.specs.Syntax.{Domain, domain-of, in-domain, encode-domain, In
 use Rattle.syntax.specs.Satisfies.{int-value, terms-value, permits, holds, holds-all, holds-any, distinct}
 use Rattle.words.specs.Exact.{Each}
 use Rattle.read.specs.WellFormed.{WellCell, WellRow, WellStmt}
-use Rattle.limits.specs.Limits.{domain-weight, terms-weight, heavy, heavy-terms, heavy-stmt}
+use Rattle.limits.specs.Limits.{any-comparison, any-comparison-members, any-inside, any-inside-terms, domain-weight, terms-weight, heavy, heavy-terms, heavy-comparison, heavy-stmt}
 use Rattle.domains.specs.Declared.{Domains}
 use Rattle.passes.specs.Skip.{Int-at as Int-stands, Terms-at as Terms-stand, Bool-at as Bool-stands, Members-at as Members-stand}
 use Rattle.passes.specs.Statements.{Declared-columns}
 use Rattle.verdict.specs.Roster.{bool-of, int-of, Verdict, satisfied, broken, refused, truth, first-broken, check-roster}
-use Rattle.evaluate.specs.Inside.{heavy-inside, heavy-inside-terms, heavy-bool, heavy-members}
 use Rattle.evaluate.specs.declared.Checked.{Checked}
 use Rattle.evaluate.specs.declared.Checked.the-variants.{Yes, Broken, Refused}
 
@@ -28,6 +27,20 @@ use Rattle.evaluate.specs.declared.Checked.the-variants.{Yes, Broken, Re
 pub record Roster (nb : ℕ) (ds : List Domain) (values : List ℤ) : Type 0 where
   pub size : length values ≡ nb + length ds
   pub light : (v : ℕ) → v < length ds → natAbs (int-of nb values v) ≤ domain-weight (domain-of ds v)
+
+-- ---- a comparison weighs too much, wherever it stands
+
+abbrev pub heavy-inside : List Domain → IntExpr → Bool
+heavy-inside ds = any-inside (heavy-comparison ds) (λ e. false)
+
+abbrev pub heavy-inside-terms : List Domain → Terms → Bool
+heavy-inside-terms ds = any-inside-terms (heavy-comparison ds) (λ e. false)
+
+abbrev pub heavy-bool : List Domain → BoolExpr → Bool
+heavy-bool ds = any-comparison (heavy-comparison ds) (λ e. false)
+
+abbrev pub heavy-members : List Domain → Members → Bool
+heavy-members ds = any-comparison-members (heavy-comparison ds) (λ e. false)
 
 -- ---- integer expressions, none of whose parts weighs too much
 

@@ -6,7 +6,7 @@ use lib.IntN.{ℤ, pos, negsuc}
 use Rattle.laws.specs.Same.{same-words}
 use Rattle.laws.specs.Lists.{counted, below}
 use Rattle.syntax.specs.Syntax.{Domain, Range, Enumerative, IntExpr, IConst, IVar, Linear, Terms, tnil, tmore, Stmt, AllDifferent, Problem}
-use Rattle.limits.specs.Limits.{any-pair, any-part, weight, heavy, heavy-comparison, written, many-comparison, check}
+use Rattle.limits.specs.Limits.{any-comparison, any-pair, any-part, weight, heavy, heavy-comparison, written, ifs, many-comparison, check}
 use Rattle.sums.specs.LinearSum.{insert-coef, add-coef, add-terms, add-sum, mul-terms, mul-sum, sub-sum}
 use Rattle.clauses.specs.Log.{get-bool-var, get-int-var, convert-bool-var, convert-int-var, clauses-of}
 use Rattle.clauses.specs.Disjunction.{sorted, each-longer, finish-disjunction, finish-sorted, normalize-disjunction}
@@ -56,30 +56,30 @@ refusal ni es = check (one-statement ni es)
 
 -- one expression by itself, two together, the first and the last
 pub heavy-alone : refusal 0 (Linear (tmore (pos 2) (IConst (pos 1073741823)) tnil) ∷ []) ≡ 9
-unfolding any-pair any-part weight heavy heavy-comparison written many-comparison check
+unfolding any-comparison any-pair any-part weight heavy heavy-comparison written ifs many-comparison check
 heavy-alone = refl
 
 pub heavy-pair : refusal 0 (IConst (pos 1073741823) ∷ IConst (pos 1) ∷ []) ≡ 9
-unfolding any-pair any-part weight heavy heavy-comparison written many-comparison check
+unfolding any-comparison any-pair any-part weight heavy heavy-comparison written ifs many-comparison check
 heavy-pair = refl
 
 pub light-pair : refusal 0 (IConst (pos 1073741823) ∷ IConst (pos 0) ∷ []) ≡ 0
-unfolding any-pair any-part weight heavy heavy-comparison written many-comparison check
+unfolding any-comparison any-pair any-part weight heavy heavy-comparison written ifs many-comparison check
 light-pair = refl
 
 pub heavy-ends : refusal 0 (IConst (pos 1073741823) ∷ IConst (pos 0) ∷ IConst (negsuc 0) ∷ []) ≡ 9
-unfolding any-pair any-part weight heavy heavy-comparison written many-comparison check
+unfolding any-comparison any-pair any-part weight heavy heavy-comparison written ifs many-comparison check
 heavy-ends = refl
 
 -- 65 variables in two expressions, 64, and 65 in one alone, whose span is no matter
 pub many-pair : refusal 65 (Linear (sum-from 0 33) ∷ Linear (sum-from 33 32) ∷ []) ≡ 10
-unfolding any-pair any-part weight heavy heavy-comparison written many-comparison check
+unfolding any-comparison any-pair any-part weight heavy heavy-comparison written ifs many-comparison check
 many-pair = refl
 
 pub few-pair : refusal 65 (Linear (sum-from 0 32) ∷ Linear (sum-from 32 32) ∷ []) ≡ 0
-unfolding any-pair any-part weight heavy heavy-comparison written many-comparison check
+unfolding any-comparison any-pair any-part weight heavy heavy-comparison written ifs many-comparison check
 few-pair = refl
 
 pub many-alone : refusal 65 (Linear (sum-from 0 65) ∷ []) ≡ 0
-unfolding any-pair any-part weight heavy heavy-comparison written many-comparison check
+unfolding any-comparison any-pair any-part weight heavy heavy-comparison written ifs many-comparison check
 many-alone = refl

@@ -6,16 +6,16 @@ use mathlib.Core.List.{List, [], _∷_, _++_, map, append-assoc, append-nil}
 use Prim.Native.Nat.{ℕ, zero, suc, _+_, _≤_, _<_, zero-le}
 use native.Mathlib.Omega.{arith}
 use lib.IntN.{ℤ, pos, negℤ, _-ℤ_, +ℤ-invr, natAbs}
-use lib.Signed.{leZ}
+use lib.Signed.{leZ, ltZ}
 use lib.Dec.{leb, ltb, eqb·suc-zero}
 use lib.ListN.{length, getD, length-map}
-use borrow.Author.Tests.{le-leb, lt-ltb}
+use borrow.Author.Tests.{le-leb, lt-ltb, ltb-true}
 use Rattle.laws.specs.Bools.{never, and-l, and-r, and-i, or-l}
 use Rattle.laws.specs.Ints.{eqZ, is-zero}
-use Rattle.laws.specs.Order.{leZ-refl, leZ-trans, leZ-shift, eqZ-refl}
+use Rattle.laws.specs.Order.{leZ-refl, leZ-shift, eqZ-refl}
 use Rattle.laws.specs.Lists.{any, all, flat, counted, below, below-all, length-from}
 use Rattle.syntax.specs.Words.{max-set-words, min-work-words, max-answer-words}
-use Rattle.syntax.specs.Syntax.{Domain, Range, Enumerative, lower-bound, upper-bound, num-candidates, in-domain, domain-of, CmpOp, Eq, Ne, Le, Lt, Ge, Gt, encode-op, Stmt, Problem}
+use Rattle.syntax.specs.Syntax.{Domain, Range, Enumerative, lower-bound, num-candidates, in-domain, domain-of, CmpOp, Eq, Ne, Le, Lt, Ge, Gt, encode-op, Stmt, Problem}
 use Rattle.syntax.specs.Satisfies.{Val, IVal, in-domains}
 use Rattle.words.specs.Parse.{Parsed, ok, refuse}
 use Rattle.read.specs.Read.{read-set}
@@ -28,21 +28,23 @@ use Rattle.sums.specs.LinearSum.{Term, term, linear-sum}
 use Rattle.sums.specs.Rising.{Rises}
 use Rattle.sums.specs.Domain.{ordered}
 use Rattle.clauses.specs.Clause.{BoolLit, lit, LinearLit, linear, Clause, clause, lit-true}
-use Rattle.clauses.specs.Log.{declared, aux, side, bool, merged, int, added, defined, known, Log, next-bool, number-of, get-bool-var, get-int-var, emitted-domains, clauses-of}
+use Rattle.clauses.specs.Log.{declared, aux, side, bool, merged, int, added, defined, known, Log, next-bool, number-of, get-bool-var, get-int-var, clauses-of}
 use Rattle.clauses.specs.Bounds.{lits-bound, clauses-bound, terms-bound, linears-bound, ints-bound}
 use Rattle.clauses.specs.Valuation.{Agrees}
 use Rattle.clauses.specs.Grow.{Extends, get-bool-below, get-int-below, clauses-named, clauses-numbered}
-use Rattle.clauses.specs.Emitted.{length-emitted}
 use Rattle.clauses.specs.Exist.{TiesHold, values-of, fitting-exists}
 use Rattle.clauses.specs.Merge.{WellMerged, merged-agree, merged-no-clauses}
-use Rattle.answer.specs.Answer.{answer-of, bool-word, start-log, normalize, normalize-stmts, layout, fixed-word, map-word, domain-words, lit-words, term-words, linear-words, clause-words}
+use Rattle.answer.specs.Answer.{Emitted, ranging, following, emitted, answer-of, bool-word, start-log, normalize, normalize-stmts, layout, fixed-word, map-word, emitted-words, lit-words, term-words, linear-words, clause-words}
+use Rattle.answer.specs.Passes.{lit-emitted}
+use Rattle.answer.specs.Records.{length-records}
 use Rattle.answer.specs.Start.{start-well}
 use Rattle.call.specs.Call.{Result, compiled, refused, measured, answered, checked, when-read, call-with}
 use Rattle.call.specs.declared.Choices.{Choices}
 use Rattle.call.specs.Claim.{of-set}
-use Rattle.call.specs.Demand.{domains-ordered, grown, within-bounds}
+use Rattle.call.specs.Demand.{domains-ordered, grown, within-bounds, made-declared}
 use Rattle.facts.specs.Proper.{ProperLinears, ProperClauses, proper-clauses, stmts-proper}
-use Rattle.facts.specs.Loads.{take-word, take-times, take-counted, from-to, take-record, take-literal, take-terms, take-comparison, take-clause, loads-with, loads}
+use Rattle.facts.specs.Sound.{sound-bounds, sound-record, log-sound, merged-no-records}
+use Rattle.facts.specs.Loads.{take-word, take-times, take-counted, from-to, take-record, take-range, take-following, take-literal, take-terms, take-comparison, take-clause, loads-with, loads}
 
 -- ---- words, one for each number of a list
 
@@ -71,31 +73,42 @@ map-literal-fine k none h = le-leb 0 k zero-le
 
 -- ---- records
 
--- lowest is not above highest
-abbrev sound-bounds : Domain → Bool
-sound-bounds d = leZ (lower-bound d) (upper-bound d)
-
 some-values : (d : Domain) → sound-bounds d ≡ true → leZ (pos 1) (num-candidates d) ≡ true
 some-values (Range low high) h = leZ-shift (pos 0) (high -ℤ low) (pos 1) ∙ ap (λ (z : ℤ). leZ z (high -ℤ low)) (sym (+ℤ-invr low)) ∙ leZ-shift low high (negℤ low) ∙ h
 some-values (Enumerative []) h = never h
 some-values (Enumerative (x ∷ xs)) h = le-leb 1 (suc (length xs)) (omega arith)
 
-records-take : (ds : List Domain) (r : List ℤ) → all sound-bounds ds ≡ true → take-times take-record (length ds) (flat (map domain-words ds) ++ r) ≡ some r
-unfolding take-times take-record take-word
-records-take [] r h = refl
-records-take (d ∷ ds) r h = rw (and-l (sound-bounds d) _ h, some-values d (and-l (sound-bounds d) _ h)) (records-take ds r (and-r (sound-bounds d) _ h))
+literal-fine : (n bools : ℕ) → not (is-zero (pos (suc n))) && leb (suc n) bools ≡ leb (suc n) bools
+literal-fine n bools = rw (eqb·suc-zero n) refl
+
+-- an emitted literal's word
+lit-take : (bools : ℕ) (l : BoolLit) (r : List ℤ) → number-of l < bools → take-literal bools (lit-words l ++ r) ≡ some r
+unfolding take-literal take-word
+lit-take bools (lit n false) r h = rw (literal-fine n bools, le-leb (suc n) bools (omega arith)) refl
+lit-take bools (lit n true) r h = rw (le-leb (suc n) bools (omega arith)) refl
+
+lit-below : (bools : ℕ) (l : BoolLit) → lit-emitted bools l ≡ true → number-of l < bools
+lit-below bools (lit n g) h = ltb-true n bools h
+
+record-take : (bools : ℕ) (e : Emitted) (r : List ℤ) → sound-record bools e ≡ true → take-record bools (emitted-words e ++ r) ≡ some r
+unfolding take-record take-range take-following take-word
+record-take bools (ranging d) r h = rw (h, some-values d h) refl
+record-take bools (following l a b) r h =
+    rw (append-assoc (lit-words l) (a ∷ b ∷ []) r, lit-take bools l (a ∷ b ∷ r) (lit-below bools l (and-l (lit-emitted bools l) (ltZ a b) h)), and-r (lit-emitted bools l) (ltZ a b) h) refl
+
+records-take : (bools : ℕ) (es : List Emitted) (r : List ℤ) → all (sound-record bools) es ≡ true → take-times (take-record bools) (length es) (flat (map emitted-words es) ++ r) ≡ some r
+unfolding take-times
+records-take bools [] r h = refl
+records-take bools (e ∷ es) r h =
+    rw (append-assoc (emitted-words e) (flat (map emitted-words es)) r, record-take bools e (flat (map emitted-words es) ++ r) (and-l (sound-record bools e) _ h)) (records-take bools es r (and-r (sound-record bools e) _ h))
 
 -- ---- clauses
 
 module _ (bools ints : ℕ) where
-  literal-fine : (n : ℕ) → not (is-zero (pos (suc n))) && leb (suc n) bools ≡ leb (suc n) bools
-  literal-fine n = rw (eqb·suc-zero n) refl
-
   lits-take : (ls : List BoolLit) (r : List ℤ) → lits-bound ls ≤ bools → take-times (take-literal bools) (length ls) (flat (map lit-words ls) ++ r) ≡ some r
-  unfolding take-times take-literal take-word
+  unfolding take-times
   lits-take [] r h = refl
-  lits-take (lit n false ∷ ls) r h = rw (literal-fine n, le-leb (suc n) bools (omega arith)) (lits-take ls r (omega arith))
-  lits-take (lit n true ∷ ls) r h = rw (le-leb (suc n) bools (omega arith)) (lits-take ls r (omega arith))
+  lits-take (lit n g ∷ ls) r h = rw (append-assoc (lit-words (lit n g)) (flat (map lit-words ls)) r, lit-take bools (lit n g) (flat (map lit-words ls) ++ r) (omega arith)) (lits-take ls r (omega arith))
 
   terms-take : (low : ℕ) (ts : List Term) (r : List ℤ) → Rises low ts → terms-bound ts ≤ ints → take-terms ints low (length ts) (flat (map term-words ts) ++ r) ≡ some r
   unfolding take-terms take-word Rises
@@ -137,10 +150,6 @@ word-behind : (xs ys : List ℤ) (k n : ℕ) → n ≡ length xs + k → getD (x
 word-behind [] ys k n e = ap (λ (m : ℕ). getD ys m (pos 0)) (omega arith)
 word-behind (x ∷ xs) ys k zero e = absurd (omega arith)
 word-behind (x ∷ xs) ys k (suc n) e = word-behind xs ys k n (omega arith)
-
-all-at : (ds : List Domain) → ((j : ℕ) → j < length ds → sound-bounds (domain-of ds j) ≡ true) → all sound-bounds ds ≡ true
-all-at [] h = refl
-all-at (d ∷ ds) h = and-i (sound-bounds d) _ (h 0 (omega arith)) (all-at ds (λ j k. h (suc j) (omega arith)))
 
 -- an assignment within the domains: each variable its lowest value
 lowest-in : (d : Domain) → ordered d ≡ true → in-domain (lower-bound d) d ≡ true
@@ -201,11 +210,10 @@ module _ (m : Bool) (p : Problem) (well : WellFormed p) (f : Fixed) (ss : List S
   ties = ties-kept δ ε (λ n. false) ε s0 (start-well m ss) (merged-agree δ ε (λ n. false) ε s0 (start-well m ss) (λ v l h. rw h refl))
 
   -- every emitted integer has a value within its record
-  records-sound : all sound-bounds (emitted-domains (p .domains) s) ≡ true
-  records-sound = all-at (emitted-domains (p .domains) s) (λ j k.
-      let d : Domain = domain-of (emitted-domains (p .domains) s) j in
-      let x = within-bounds m p well f ss end δ ε inside ρ ι (fitting-exists δ ε ties grows) j (omega (arith, length-emitted (p .domains) s)) in
-      leZ-trans (lower-bound d) (ι j) (upper-bound d) (and-l (leZ (lower-bound d) (ι j)) _ x) (and-r (leZ (lower-bound d) (ι j)) _ x))
+  records-sound : all (sound-record (next-bool s)) (emitted (p .domains) s) ≡ true
+  records-sound =
+      log-sound (p .domains) (λ v. v < b) (λ v. v < i) δ ε ρ ι (next-bool s) grows (merged-no-records (p .domains) s0 (start-well m ss)) (omega arith)
+      (made-declared m p well f ss end δ ε inside) (within-bounds m p well f ss end δ ε inside ρ ι (fitting-exists δ ε ties grows))
 
   abbrev fixed-part : List ℤ
   fixed-part = map fixed-word (map f (below b))
@@ -216,14 +224,14 @@ module _ (m : Bool) (p : Problem) (well : WellFormed p) (f : Fixed) (ss : List S
   abbrev int-part : List ℤ
   int-part = map map-word (map (λ v. get-int-var v s) (below i))
 
-  abbrev domains : List Domain
-  domains = emitted-domains (p .domains) s
+  abbrev emitted-ints : List Emitted
+  emitted-ints = emitted (p .domains) s
 
   abbrev clause-part : List ℤ
   clause-part = counted clause-words (clauses-of s)
 
   abbrev rest : List ℤ
-  rest = pos (next-bool s) ∷ (counted domain-words domains ++ clause-part)
+  rest = pos (next-bool s) ∷ (counted emitted-words emitted-ints ++ clause-part)
 
   part-length : {A : Type 0} (g : A → ℤ) (h : ℕ → A) (n : ℕ) → length (map g (map h (below n))) ≡ n
   part-length g h n = length-map (map h (below n)) g ∙ length-map (below n) h ∙ length-from 0 n
@@ -238,25 +246,25 @@ module _ (m : Bool) (p : Problem) (well : WellFormed p) (f : Fixed) (ss : List S
       ∙ word-behind bool-part (int-part ++ rest) (i + k) (b + i + k) (omega (arith, y))
       ∙ word-behind int-part rest k (i + k) (omega (arith, z))
 
-  tests-pass : loads-with b i (next-bool s) (length domains) (fixed-part ++ (bool-part ++ (int-part ++ rest))) ≡ true
+  tests-pass : loads-with b i (next-bool s) (length emitted-ints) (fixed-part ++ (bool-part ++ (int-part ++ rest))) ≡ true
   unfolding loads-with take-word take-counted
   tests-pass =
       let none = merged-no-clauses s0 (start-well m ss) in
       let t1 = below-take (from-to 0 2) fixed-word f (λ v. fixed-fine (f v)) b (bool-part ++ (int-part ++ rest)) in
       let t2 = below-take (λ w. leb (natAbs w) (next-bool s)) bool-word (λ v. get-bool-var v s) (λ v. map-literal-fine (next-bool s) (get-bool-var v s) (get-bool-below s v)) b (int-part ++ rest) in
-      let t3 = below-take (from-to 0 (length domains)) map-word (λ v. get-int-var v s) (λ v. map-fine (length domains) (get-int-var v s) (λ n e. omega (arith, get-int-below s v n e, length-emitted (p .domains) s))) i rest in
+      let t3 = below-take (from-to 0 (length emitted-ints)) map-word (λ v. get-int-var v s) (λ v. map-fine (length emitted-ints) (get-int-var v s) (λ n e. omega (arith, get-int-below s v n e, length-records (p .domains) s))) i rest in
       let t4 : leb 0 (next-bool s) ≡ true = le-leb 0 (next-bool s) zero-le in
-      let t5 = records-take domains clause-part records-sound in
+      let t5 = records-take (next-bool s) emitted-ints clause-part records-sound in
       let proper : ProperClauses (clauses-of s) = proper-clauses (stmts-proper (p .domains) ss s0) (rw none tt) in
-      let t6 : take-times (take-clause (next-bool s) (length domains)) (length (clauses-of s)) (flat (map clause-words (clauses-of s))) ≡ some [] =
-      rw (append-nil (flat (map clause-words (clauses-of s)))) at (clauses-take (next-bool s) (length domains) (clauses-of s) [] (clauses-named grows none) proper (omega (arith, clauses-numbered grows none, length-emitted (p .domains) s))) in
+      let t6 : take-times (take-clause (next-bool s) (length emitted-ints)) (length (clauses-of s)) (flat (map clause-words (clauses-of s))) ≡ some [] =
+      rw (append-nil (flat (map clause-words (clauses-of s)))) at (clauses-take (next-bool s) (length emitted-ints) (clauses-of s) [] (clauses-named grows none) proper (omega (arith, clauses-numbered grows none, length-records (p .domains) s))) in
       rw (t1, t2, t3, t4, t5, t6) refl
 
   layout-loads : loads b i (layout (normalize m p f ss)) ≡ true
   unfolding loads layout normalize answer-of
   layout-loads =
       let bools : getD (fixed-part ++ (bool-part ++ (int-part ++ rest))) (b + (b + i)) (pos 0) ≡ pos (next-bool s) = word-at 0 (b + (b + i)) (omega arith) in
-      let ints : getD (fixed-part ++ (bool-part ++ (int-part ++ rest))) (suc (b + (b + i))) (pos 0) ≡ pos (length domains) = word-at 1 (suc (b + (b + i))) (omega arith) in
+      let ints : getD (fixed-part ++ (bool-part ++ (int-part ++ rest))) (suc (b + (b + i))) (pos 0) ≡ pos (length emitted-ints) = word-at 1 (suc (b + (b + i))) (omega arith) in
       rw (bools, ints) tests-pass
 
 -- ---- the call

@@ -35,16 +35,27 @@ take-counted t (negsuc n ∷ ws) = none
 abbrev pub from-to : ℕ → ℕ → ℤ → Bool
 from-to low high w = leZ (pos low) w && leZ w (pos high)
 
--- lowest, a highest value that is not below it, at least one value
-unfoldable pub take-record : Take
-take-record ws =
+-- not 0, and within the count of emitted Booleans
+unfoldable pub take-literal : ℕ → Take
+take-literal bools = take-word (λ w. not (is-zero w) && leb (natAbs w) bools)
+
+-- kind 0: lowest, a highest value that is not below it, at least one value
+unfoldable pub take-range : Take
+take-range ws =
     then-take (take-word (λ w. true) ws) (λ (r : List ℤ).
     then-take (take-word (leZ (head-word ws)) r)
     (take-word (leZ (pos 1))))
 
--- not 0, and within the count of emitted Booleans
-unfoldable pub take-literal : ℕ → Take
-take-literal bools = take-word (λ w. not (is-zero w) && leb (natAbs w) bools)
+-- kind 1: a literal, the value where it is false, a higher one where it is true
+unfoldable pub take-following : ℕ → Take
+take-following bools ws =
+    then-take (take-literal bools ws) (λ (r : List ℤ).
+    then-take (take-word (λ w. true) r)
+    (take-word (ltZ (head-word r))))
+
+-- a kind, 0 or 1, and its three words
+unfoldable pub take-record : ℕ → Take
+take-record bools ws = then-take (take-word (from-to 0 1) ws) (λ (r : List ℤ). cond (is-zero (head-word ws)) (take-range r) (take-following bools r))
 
 -- n terms: variables strictly rising from low on, below the count of emitted integers; coefficients not 0
 unfoldable pub take-terms : ℕ → ℕ → ℕ → Take
@@ -78,7 +89,7 @@ loads-with b i bools ints ws =
     then-take (take-times (take-word (from-to 0 ints)) i r) (λ (r : List ℤ).
     -- the count of emitted Booleans, the records of emitted integers, the clauses, and nothing else
     then-take (take-word (leZ (pos 0)) r) (λ (r : List ℤ).
-    then-take (take-counted (take-times take-record) r)
+    then-take (take-counted (take-times (take-record bools)) r)
     (take-counted (take-times (take-clause bools ints))))))))
 
 -- the emitted counts stand behind the maps

@@ -2,7 +2,7 @@
 -- way to them (normalize_int_expr), an AllDifferent's pairs and values among them, each column's difference with its new variable (equivalent_int_var), the products and the bounds of
 -- a column's domain after each term (get_domain_linear_sum). For any emitted numbers of the declared variables.
 use mathlib.Core.Path.{_≡_, refl, sym, _∙_}
-use mathlib.Core.Bool.{Bool, true, false, cond}
+use mathlib.Core.Bool.{Bool, true, false, cond, _||_}
 use mathlib.Core.List.{List, [], _∷_, map}
 use Prim.Native.Nat.{ℕ, _+_, _≤_, _<_}
 use native.Mathlib.Nat.{mul-le-mul-left}
@@ -20,7 +20,7 @@ use Rattle.syntax.specs.Syntax.{Domain, Range, Enumerative, lower-bound, upper-
 use Rattle.syntax.specs.Written.{Any, EveryIntOf, EveryInt, EveryColumnOf, EveryColumn, EveryStmt, EveryStmts, columns-of}
 use Rattle.words.specs.Exact.{Each}
 use Rattle.read.specs.Exact.{set-sound}
-use Rattle.limits.specs.Limits.{any-comparison, any-comparison-members, any-pair, any-part, domain-weight, weight, heavy, heavy-comparison, written, heavy-stmt}
+use Rattle.limits.specs.Limits.{any-comparison, any-comparison-members, any-inside, any-pair, any-part, domain-weight, weight, heavy, heavy-comparison, written, heavy-stmt}
 use Rattle.limits.specs.Light.{value-light, unrefused-light}
 use Rattle.fold.specs.Fold.{Fixed, constant-folding-stmt as fold-stmt}
 use Rattle.fold.specs.Optimize.{settled, optimize}
@@ -243,29 +243,29 @@ module _ (ds : List Domain) (well : (v : ℕ) → v < length ds → ordered (dom
 
 -- ---- what refusal 9 leaves has the property
 
-module _ (P : IntExpr → IntExpr → Type 0) (C : IntExpr → Type 0) (p : IntExpr → IntExpr → Bool) (c : IntExpr → Bool) (f : (a b : IntExpr) → p a b ≡ false → P a b) (g : (e : IntExpr) → c e ≡ false → C e) where
+module _ (P : IntExpr → IntExpr → Type 0) (C : IntExpr → Type 0) (p : IntExpr → IntExpr → Bool) (r c : IntExpr → Bool) (f : (a b : IntExpr) → p a b ≡ false → P a b) (g : (e : IntExpr) → c e ≡ false → C e) where
   mutual
     unfolding EveryComparison any-comparison
 
-    comparisons-every : (e : BoolExpr) → any-comparison p c e ≡ false → EveryComparison P C e
+    comparisons-every : (e : BoolExpr) → any-comparison p r e ≡ false → EveryComparison P C e
     comparisons-every (Const b) h = tt
     comparisons-every (Var v) h = tt
     comparisons-every (NVar n) h = tt
     comparisons-every (And ms) h = members-every ms h
     comparisons-every (Or ms) h = members-every ms h
     comparisons-every (Not e) h = comparisons-every e h
-    comparisons-every (Xor a b) h = (comparisons-every a (or-no-l (any-comparison p c a) (any-comparison p c b) h), comparisons-every b (or-no-r (any-comparison p c a) (any-comparison p c b) h))
-    comparisons-every (Iff a b) h = (comparisons-every a (or-no-l (any-comparison p c a) (any-comparison p c b) h), comparisons-every b (or-no-r (any-comparison p c a) (any-comparison p c b) h))
-    comparisons-every (Imp a b) h = (comparisons-every a (or-no-l (any-comparison p c a) (any-comparison p c b) h), comparisons-every b (or-no-r (any-comparison p c a) (any-comparison p c b) h))
-    comparisons-every (Cmp o a b) h = f a b h
+    comparisons-every (Xor a b) h = (comparisons-every a (or-no-l (any-comparison p r a) (any-comparison p r b) h), comparisons-every b (or-no-r (any-comparison p r a) (any-comparison p r b) h))
+    comparisons-every (Iff a b) h = (comparisons-every a (or-no-l (any-comparison p r a) (any-comparison p r b) h), comparisons-every b (or-no-r (any-comparison p r a) (any-comparison p r b) h))
+    comparisons-every (Imp a b) h = (comparisons-every a (or-no-l (any-comparison p r a) (any-comparison p r b) h), comparisons-every b (or-no-r (any-comparison p r a) (any-comparison p r b) h))
+    comparisons-every (Cmp o a b) h = f a b (or-no-l (p a b) _ h)
 
-    members-every : (ms : Members) → any-comparison-members p c ms ≡ false → EveryMembersComparison P C ms
+    members-every : (ms : Members) → any-comparison-members p r ms ≡ false → EveryMembersComparison P C ms
     members-every mnil h = tt
-    members-every (more e ms) h = (comparisons-every e (or-no-l (any-comparison p c e) (any-comparison-members p c ms) h), members-every ms (or-no-r (any-comparison p c e) (any-comparison-members p c ms) h))
+    members-every (more e ms) h = (comparisons-every e (or-no-l (any-comparison p r e) (any-comparison-members p r ms) h), members-every ms (or-no-r (any-comparison p r e) (any-comparison-members p r ms) h))
 
-  columns-every : (es : List IntExpr) → any c es ≡ false → Each C es
+  columns-every : (es : List IntExpr) → any (λ e. c e || any-inside p r e) es ≡ false → Each C es
   columns-every [] h = tt
-  columns-every (e ∷ es) h = (g e (or-no-l (c e) (any c es) h), columns-every es (or-no-r (c e) (any c es) h))
+  columns-every (e ∷ es) h = (g e (or-no-l (c e) _ (or-no-l (c e || any-inside p r e) _ h)), columns-every es (or-no-r (c e || any-inside p r e) _ h))
 
   row-every : (e : IntExpr) (es : List IntExpr) → any (p e) es ≡ false → Each (P e) es
   row-every e [] h = tt
@@ -284,11 +284,11 @@ module _ (ds : List Domain) (well : (v : ℕ) → v < length ds → ordered (dom
 
   part-in : (nb : ℕ) (t : Stmt) → EveryStmt (λ v. v < nb) (λ v. v < length ds) t → heavy-stmt ds t ≡ false → In t
   unfolding any-part EveryStmt
-  part-in nb (Rule e) d h = comparisons-every (ComparisonIn number) (ColumnIn ds number) (heavy-comparison ds) (heavy ds) (comparison-in ds number) (column-in ds number) e h
-  part-in nb (Table es rows) d h = columns-every (ComparisonIn number) (ColumnIn ds number) (heavy-comparison ds) (heavy ds) (comparison-in ds number) (column-in ds number) es h
+  part-in nb (Rule e) d h = comparisons-every (ComparisonIn number) (ColumnIn ds number) (heavy-comparison ds) (λ e. false) (heavy ds) (comparison-in ds number) (column-in ds number) e h
+  part-in nb (Table es rows) d h = columns-every (ComparisonIn number) (ColumnIn ds number) (heavy-comparison ds) (λ e. false) (heavy ds) (comparison-in ds number) (column-in ds number) es h
   part-in nb (AllDifferent es) d h =
-      let k = or-no-r (any (heavy ds) es) _ h in
-      (pairs-every (ComparisonIn number) (ColumnIn ds number) (heavy-comparison ds) (heavy ds) (comparison-in ds number) (column-in ds number) es k, used-values ds well (ComparisonIn number) (comparison-in ds number) es (columns-of Any (λ v. v < nb) (λ v. v < length ds) es d) k)
+      let k = or-no-r (any (λ e. heavy ds e || any-inside (heavy-comparison ds) (λ x. false) e) es) _ h in
+      (pairs-every (ComparisonIn number) (ColumnIn ds number) (heavy-comparison ds) (λ e. false) (heavy ds) (comparison-in ds number) (column-in ds number) es k, used-values ds well (ComparisonIn number) (comparison-in ds number) es (columns-of Any (λ v. v < nb) (λ v. v < length ds) es d) k)
 
   folded-in : (f : Fixed) (nb : ℕ) (ts : List Stmt) → EveryStmts (λ v. v < nb) (λ v. v < length ds) (map (fold-stmt ds f) ts) → any (heavy-stmt ds) ts ≡ false → Each In (map (fold-stmt ds f) ts)
   unfolding EveryStmts

@@ -3,7 +3,7 @@ use mathlib.Core.Path.{_≡_, refl, sym, _∙_}
 use mathlib.Core.Bool.{Bool, true, false, _||_, cond}
 use mathlib.Core.Option.{Option, none, some}
 use mathlib.Core.List.{List, [], _∷_, _++_, map}
-use Prim.Native.Nat.{ℕ, _+_, _*_, _≤_, max, zero-le}
+use Prim.Native.Nat.{ℕ, suc, _+_, _*_, _≤_, max, zero-le}
 use native.Mathlib.Nat.{mul-le-mul-left, le-trans}
 use native.Mathlib.Omega.{arith}
 use lib.Dec.{ltb, eqb}
@@ -15,7 +15,7 @@ use Rattle.laws.specs.Order.{eqZ-is}
 use Rattle.laws.specs.Lists.{any, any-append, different}
 use Rattle.syntax.specs.Words.{max-weight, max-comparison-vars, max-column-vars}
 use Rattle.syntax.specs.Syntax.{Domain, Range, Enumerative, as-constant, domain-of, IfIsRead, IntExpr, IConst, IVar, Linear, If, Terms, tnil, tmore, BoolExpr, Const, Var, NVar, And, Or, Not, Xor, Iff, Imp, Cmp, Members, mnil, more, Stmt, Rule, Table, AllDifferent}
-use Rattle.limits.specs.Limits.{any-comparison, any-comparison-members, any-pair, any-part, domain-weight, weight, terms-weight, heavy, heavy-terms, heavy-comparison, written, written-terms, many-comparison, many-column, heavy-stmt, many-stmt}
+use Rattle.limits.specs.Limits.{any-comparison, any-comparison-members, any-inside, any-inside-terms, any-pair, any-part, domain-weight, weight, terms-weight, heavy, heavy-terms, heavy-comparison, written, written-terms, ifs, ifs-terms, many-comparison, many-column, heavy-stmt, many-stmt}
 use Rattle.fold.specs.Fold.{Fixed, is-const, has-const, keep-member, kept, join-and, join-or, fold-and, fold-or, not-of, fold-not, fold-var, fold-binary, act, action, Op, op-xor, op-iff, op-imp, Action, be-false, be-true, left, not-left, right, not-right, keep, fold-int-var, fold-sum, fold-if, constant-folding-int, constant-folding-terms, constant-folding-bool, constant-folding-members, constant-folding-stmt}
 use Rattle.sums.specs.Rising.{Among, among-left, among-right, different-part}
 use Rattle.sums.specs.Bounds.{heavy-weight}
@@ -164,44 +164,88 @@ module _ (ds : List Domain) (f : Fixed) where
     fold-terms-written (tmore k e ts) v m =
         among-either v (written (constant-folding-int ds f e)) (written-terms (constant-folding-terms ds f ts)) m (λ q. among-left v (written e) (written-terms ts) (fold-written e v q)) (λ q. among-right v (written e) (written-terms ts) (fold-terms-written ts v q))
 
+  -- ---- 10: Ifs
+
+  sum-ifs : (ts : Terms) → ifs (fold-sum ts) ≤ ifs-terms ts
+  unfolding ifs
+  sum-ifs tnil = zero-le
+  sum-ifs (tmore k e tnil) = go (eqZ k (pos 1))
+    where
+      go : (t : Bool) → ifs (cond t e (Linear (tmore k e tnil))) ≤ ifs e + 0
+      go true = omega arith
+      go false = omega arith
+  sum-ifs (tmore k e (tmore l e' ts)) = omega arith
+
+  var-ifs : (o : Option ℤ) (v : ℕ) → ifs (fold-int-var o v) ≤ 0
+  unfolding ifs
+  var-ifs none v = omega arith
+  var-ifs (some c) v = omega arith
+
+  if-ifs : (k : Option Bool) (i : IfIsRead) (c : BoolExpr) (t e : IntExpr) → ifs (fold-if k i c t e) ≤ suc (ifs t + ifs e)
+  unfolding ifs
+  if-ifs none i c t e = omega arith
+  if-ifs (some true) i c t e = omega arith
+  if-ifs (some false) i c t e = omega arith
+
+  mutual
+    unfolding constant-folding-int ifs
+
+    fold-ifs : (e : IntExpr) → ifs (constant-folding-int ds f e) ≤ ifs e
+    fold-ifs (IConst c) = omega arith
+    fold-ifs (IVar v) = var-ifs (as-constant (domain-of ds v)) v
+    fold-ifs (Linear ts) = omega (arith, sum-ifs (constant-folding-terms ds f ts), fold-terms-ifs ts)
+    fold-ifs (If i c t e) = omega (arith, if-ifs (is-const (constant-folding-bool ds f c)) i (constant-folding-bool ds f c) (constant-folding-int ds f t) (constant-folding-int ds f e), fold-ifs t, fold-ifs e)
+
+    fold-terms-ifs : (ts : Terms) → ifs-terms (constant-folding-terms ds f ts) ≤ ifs-terms ts
+    fold-terms-ifs tnil = omega arith
+    fold-terms-ifs (tmore k e ts) = omega (arith, fold-ifs e, fold-terms-ifs ts)
+
   pub fold-comparison-few : (a b : IntExpr) → many-comparison a b ≡ false → many-comparison (constant-folding-int ds f a) (constant-folding-int ds f b) ≡ false
   unfolding many-comparison
   fold-comparison-few a b h =
       let x = written (constant-folding-int ds f a) in
       let y = written (constant-folding-int ds f b) in
       let p = different-part (x ++ y) (written a ++ written b) (λ v m. among-either v x y m (λ q. among-left v (written a) (written b) (fold-written a v q)) (λ q. among-right v (written a) (written b) (fold-written b v q))) in
-      le-ltb max-comparison-vars (different (x ++ y)) (le-trans p (ltb-false max-comparison-vars (different (written a ++ written b)) h))
+      le-ltb max-comparison-vars (different (x ++ y) + (ifs (constant-folding-int ds f a) + ifs (constant-folding-int ds f b)))
+      (omega (arith, p, fold-ifs a, fold-ifs b, ltb-false max-comparison-vars (different (written a ++ written b) + (ifs a + ifs b)) h))
 
   pub fold-column-few : (e : IntExpr) → many-column e ≡ false → many-column (constant-folding-int ds f e) ≡ false
   unfolding many-column
-  fold-column-few e h = le-ltb max-column-vars (different (written (constant-folding-int ds f e))) (le-trans (different-part (written (constant-folding-int ds f e)) (written e) (fold-written e)) (ltb-false max-column-vars (different (written e)) h))
+  fold-column-few e h =
+      le-ltb max-column-vars (different (written (constant-folding-int ds f e)) + ifs (constant-folding-int ds f e))
+      (omega (arith, different-part (written (constant-folding-int ds f e)) (written e) (fold-written e), fold-ifs e, ltb-false max-column-vars (different (written e) + ifs e) h))
 
-module _ (P : IntExpr → IntExpr → Bool) (C : IntExpr → Bool) where
+-- ---- a test of comparisons (P) and branches (B) that folding keeps false
+
+module _ (P : IntExpr → IntExpr → Bool) (B : IntExpr → Bool) where
   abbrev No : BoolExpr → Type 0
-  No e = any-comparison P C e ≡ false
+  No e = any-comparison P B e ≡ false
 
   abbrev Nos : Members → Type 0
-  Nos ms = any-comparison-members P C ms ≡ false
+  Nos ms = any-comparison-members P B ms ≡ false
+
+  abbrev None : IntExpr → Type 0
+  None e = any-inside P B e ≡ false
 
   kept-no : (ms : Members) → Nos ms → Nos (kept ms)
   unfolding kept any-comparison
   kept-no mnil h = refl
-  kept-no (more e ms) h = go (is-const e) (kept-no ms (or-no-r (any-comparison P C e) (any-comparison-members P C ms) h))
+  kept-no (more e ms) h = go (is-const e) (kept-no ms (or-no-r (any-comparison P B e) (any-comparison-members P B ms) h))
     where
       go : (o : Option Bool) → Nos (kept ms) → Nos (keep-member o e (kept ms))
-      go none q = rw (or-no-l (any-comparison P C e) (any-comparison-members P C ms) h) q
+      go none q = rw (or-no-l (any-comparison P B e) (any-comparison-members P B ms) h) q
       go (some b) q = q
 
   join-and-no : (ms : Members) → Nos ms → No (join-and ms)
   unfolding any-comparison
   join-and-no mnil h = refl
-  join-and-no (more e mnil) h = or-no-l (any-comparison P C e) false h
+  join-and-no (more e mnil) h = or-no-l (any-comparison P B e) false h
   join-and-no (more e (more f ms)) h = h
 
   join-or-no : (ms : Members) → Nos ms → No (join-or ms)
   unfolding any-comparison
   join-or-no mnil h = refl
-  join-or-no (more e mnil) h = or-no-l (any-comparison P C e) false h
+  join-or-no (more e mnil) h = or-no-l (any-comparison P B e) false h
   join-or-no (more e (more f ms)) h = h
 
   fold-and-no : (ms : Members) → Nos ms → No (fold-and ms)
@@ -249,7 +293,28 @@ module _ (P : IntExpr → IntExpr → Bool) (C : IntExpr → Bool) where
   unfolding fold-binary
   fold-binary-no o a b h k = act-no (action o (is-const a) (is-const b)) o a b h k
 
-  module _ (ds : List Domain) (f : Fixed) (keeps : (a b : IntExpr) → P a b ≡ false → P (constant-folding-int ds f a) (constant-folding-int ds f b) ≡ false) where
+  sum-none : (ts : Terms) → any-inside-terms P B ts ≡ false → None (fold-sum ts)
+  unfolding any-comparison
+  sum-none tnil h = refl
+  sum-none (tmore k e tnil) h = go (eqZ k (pos 1))
+    where
+      go : (t : Bool) → None (cond t e (Linear (tmore k e tnil)))
+      go true = or-no-l (any-inside P B e) false h
+      go false = h
+  sum-none (tmore k e (tmore l e' ts)) h = h
+
+  var-none : (o : Option ℤ) (v : ℕ) → None (fold-int-var o v)
+  unfolding any-comparison
+  var-none none v = refl
+  var-none (some c) v = refl
+
+  if-none : (k : Option Bool) (i : IfIsRead) (c : BoolExpr) (t e : IntExpr) → No c → (B t ≡ false) × None t → (B e ≡ false) × None e → None (fold-if k i c t e)
+  unfolding any-comparison
+  if-none none i c t e h g j = rw (h, g .0, g .1, j .0, j .1) refl
+  if-none (some true) i c t e h g j = g .1
+  if-none (some false) i c t e h g j = j .1
+
+  module _ (ds : List Domain) (f : Fixed) (branch : (e : IntExpr) → B e ≡ false → B (constant-folding-int ds f e) ≡ false) (keeps : (a b : IntExpr) → P a b ≡ false → P (constant-folding-int ds f a) (constant-folding-int ds f b) ≡ false) where
     mutual
       unfolding constant-folding-bool any-comparison
 
@@ -260,14 +325,39 @@ module _ (P : IntExpr → IntExpr → Bool) (C : IntExpr → Bool) where
       fold-no (And ms) h = fold-and-no (constant-folding-members ds f ms) (fold-members-no ms h)
       fold-no (Or ms) h = fold-or-no (constant-folding-members ds f ms) (fold-members-no ms h)
       fold-no (Not e) h = fold-not-no (constant-folding-bool ds f e) (fold-no e h)
-      fold-no (Xor a b) h = fold-binary-no op-xor (constant-folding-bool ds f a) (constant-folding-bool ds f b) (fold-no a (or-no-l (any-comparison P C a) (any-comparison P C b) h)) (fold-no b (or-no-r (any-comparison P C a) (any-comparison P C b) h))
-      fold-no (Iff a b) h = fold-binary-no op-iff (constant-folding-bool ds f a) (constant-folding-bool ds f b) (fold-no a (or-no-l (any-comparison P C a) (any-comparison P C b) h)) (fold-no b (or-no-r (any-comparison P C a) (any-comparison P C b) h))
-      fold-no (Imp a b) h = fold-binary-no op-imp (constant-folding-bool ds f a) (constant-folding-bool ds f b) (fold-no a (or-no-l (any-comparison P C a) (any-comparison P C b) h)) (fold-no b (or-no-r (any-comparison P C a) (any-comparison P C b) h))
-      fold-no (Cmp o a b) h = keeps a b h
+      fold-no (Xor a b) h = fold-binary-no op-xor (constant-folding-bool ds f a) (constant-folding-bool ds f b) (fold-no a (or-no-l (any-comparison P B a) (any-comparison P B b) h)) (fold-no b (or-no-r (any-comparison P B a) (any-comparison P B b) h))
+      fold-no (Iff a b) h = fold-binary-no op-iff (constant-folding-bool ds f a) (constant-folding-bool ds f b) (fold-no a (or-no-l (any-comparison P B a) (any-comparison P B b) h)) (fold-no b (or-no-r (any-comparison P B a) (any-comparison P B b) h))
+      fold-no (Imp a b) h = fold-binary-no op-imp (constant-folding-bool ds f a) (constant-folding-bool ds f b) (fold-no a (or-no-l (any-comparison P B a) (any-comparison P B b) h)) (fold-no b (or-no-r (any-comparison P B a) (any-comparison P B b) h))
+      fold-no (Cmp o a b) h =
+          let i = or-no-r (P a b) (any-inside P B a || any-inside P B b) h in
+          rw (keeps a b (or-no-l (P a b) (any-inside P B a || any-inside P B b) h), fold-none a (or-no-l (any-inside P B a) (any-inside P B b) i), fold-none b (or-no-r (any-inside P B a) (any-inside P B b) i)) refl
 
       fold-members-no : (ms : Members) → Nos ms → Nos (constant-folding-members ds f ms)
       fold-members-no mnil h = refl
-      fold-members-no (more e ms) h = rw (fold-no e (or-no-l (any-comparison P C e) (any-comparison-members P C ms) h), fold-members-no ms (or-no-r (any-comparison P C e) (any-comparison-members P C ms) h)) refl
+      fold-members-no (more e ms) h = rw (fold-no e (or-no-l (any-comparison P B e) (any-comparison-members P B ms) h), fold-members-no ms (or-no-r (any-comparison P B e) (any-comparison-members P B ms) h)) refl
+
+      fold-none : (e : IntExpr) → None e → None (constant-folding-int ds f e)
+      fold-none (IConst c) h = refl
+      fold-none (IVar v) h = var-none (as-constant (domain-of ds v)) v
+      fold-none (Linear ts) h = sum-none (constant-folding-terms ds f ts) (fold-terms-none ts h)
+      fold-none (If i c t e) h =
+          let T = B t || any-inside P B t in
+          let E = B e || any-inside P B e in
+          let r = or-no-r (any-comparison P B c) (T || E) h in
+          let x = or-no-l T E r in
+          let y = or-no-r T E r in
+          if-none (is-const (constant-folding-bool ds f c)) i (constant-folding-bool ds f c) (constant-folding-int ds f t) (constant-folding-int ds f e) (fold-no c (or-no-l (any-comparison P B c) (T || E) h))
+          (branch t (or-no-l (B t) (any-inside P B t) x), fold-none t (or-no-r (B t) (any-inside P B t) x))
+          (branch e (or-no-l (B e) (any-inside P B e) y), fold-none e (or-no-r (B e) (any-inside P B e) y))
+
+      fold-terms-none : (ts : Terms) → any-inside-terms P B ts ≡ false → any-inside-terms P B (constant-folding-terms ds f ts) ≡ false
+      fold-terms-none tnil h = refl
+      fold-terms-none (tmore k e ts) h = rw (fold-none e (or-no-l (any-inside P B e) (any-inside-terms P B ts) h), fold-terms-none ts (or-no-r (any-inside P B e) (any-inside-terms P B ts) h)) refl
+
+    -- D: the test of a column, or of an expression by itself
+    one-no : (D : IntExpr → Bool) → ((e : IntExpr) → D e ≡ false → D (constant-folding-int ds f e) ≡ false) → (e : IntExpr)
+        → D e || any-inside P B e ≡ false → D (constant-folding-int ds f e) || any-inside P B (constant-folding-int ds f e) ≡ false
+    one-no D column e h = rw (column e (or-no-l (D e) (any-inside P B e) h), fold-none e (or-no-r (D e) (any-inside P B e) h)) refl
 
     columns-no : (D : IntExpr → Bool) → ((e : IntExpr) → D e ≡ false → D (constant-folding-int ds f e) ≡ false) → (es : List IntExpr) → any D es ≡ false → any D (map (constant-folding-int ds f) es) ≡ false
     columns-no D column [] h = refl
@@ -282,17 +372,18 @@ module _ (P : IntExpr → IntExpr → Bool) (C : IntExpr → Bool) where
     pairs-no [] h = refl
     pairs-no (e ∷ es) h = rw (row-no e es (or-no-l (any (P e) es) (any-pair P es) h), pairs-no es (or-no-r (any (P e) es) (any-pair P es) h)) refl
 
-    -- O: the test of an expression by itself
-    module _ (O : IntExpr → Bool) (column : (e : IntExpr) → C e ≡ false → C (constant-folding-int ds f e) ≡ false) (one : (e : IntExpr) → O e ≡ false → O (constant-folding-int ds f e) ≡ false) where
-      pub fold-stmt-no : (s : Stmt) → any-part P C O s ≡ false → any-part P C O (constant-folding-stmt ds f s) ≡ false
+    module _ (C O : IntExpr → Bool) (column : (e : IntExpr) → C e ≡ false → C (constant-folding-int ds f e) ≡ false) (one : (e : IntExpr) → O e ≡ false → O (constant-folding-int ds f e) ≡ false) where
+      pub fold-stmt-no : (s : Stmt) → any-part P B C O s ≡ false → any-part P B C O (constant-folding-stmt ds f s) ≡ false
       unfolding any-part constant-folding-stmt
       fold-stmt-no (Rule e) h = fold-no e h
-      fold-stmt-no (Table es rows) h = columns-no C column es h
-      fold-stmt-no (AllDifferent es) h = rw (columns-no O one es (or-no-l (any O es) (any-pair P es) h), pairs-no es (or-no-r (any O es) (any-pair P es) h)) refl
+      fold-stmt-no (Table es rows) h = columns-no (λ e. C e || any-inside P B e) (one-no C column) es h
+      fold-stmt-no (AllDifferent es) h =
+          let D : IntExpr → Bool = λ e. O e || any-inside P B e in
+          rw (columns-no D (one-no O one) es (or-no-l (any D es) (any-pair P es) h), pairs-no es (or-no-r (any D es) (any-pair P es) h)) refl
 
 -- refusals 9 and 10 of a statement, after folding under any fixed values
 pub fold-stmt-light : (ds : List Domain) (f : Fixed) (s : Stmt) → heavy-stmt ds s ≡ false → heavy-stmt ds (constant-folding-stmt ds f s) ≡ false
-fold-stmt-light ds f = fold-stmt-no (heavy-comparison ds) (heavy ds) ds f (fold-comparison-light ds f) (heavy ds) (fold-light ds f) (fold-light ds f)
+fold-stmt-light ds f = fold-stmt-no (heavy-comparison ds) (λ e. false) ds f (λ e h. h) (fold-comparison-light ds f) (heavy ds) (heavy ds) (fold-light ds f) (fold-light ds f)
 
 pub fold-stmt-few : (ds : List Domain) (f : Fixed) (s : Stmt) → many-stmt s ≡ false → many-stmt (constant-folding-stmt ds f s) ≡ false
-fold-stmt-few ds f = fold-stmt-no many-comparison many-column ds f (fold-comparison-few ds f) (λ e. false) (fold-column-few ds f) (λ e h. h)
+fold-stmt-few ds f = fold-stmt-no many-comparison many-column ds f (fold-column-few ds f) (fold-comparison-few ds f) many-column (λ e. false) (fold-column-few ds f) (λ e h. h)

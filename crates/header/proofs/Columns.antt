@@ -6,14 +6,13 @@ use native.Mathlib.Omega.{arith}
 use lib.IntN.{ℤ, pos, negℤ, natAbs, _+ℤ_, _-ℤ_}
 use lib.ListN.{length, getD, take, drop, length-drop}
 use lib.Seq.{take-all, getD-drop}
-use borrow.Author.Tests.{ltb-false}
 use mir.Syntax.{w32}
 use mir.Val.{SFits}
 use Rattle.laws.specs.Ints.{natAbs-add, sfits-natAbs, natAbs-negℤ}
-use Rattle.laws.specs.Lists.{different}
-use Rattle.syntax.specs.Words.{max-weight, max-column-vars}
+use Rattle.syntax.specs.Words.{max-weight}
 use Rattle.syntax.specs.Syntax.{Domain, Range, lower-bound, upper-bound, num-candidates, domain-of, IntExpr}
-use Rattle.limits.specs.Limits.{written, many-column}
+use Rattle.limits.specs.Limits.{written}
+use Rattle.limits.specs.Light.{few-in-column}
 use Rattle.sums.specs.LinearSum.{LinearSum, linear-sum, lowest, highest, get-domain-linear-sum}
 use Rattle.sums.specs.Linear.{linear-of, linear-of-same}
 use Rattle.sums.specs.Rising.{constant-of, terms-of, Among}
@@ -55,14 +54,13 @@ module _ {w : List ℤ} {place : ℕ} {e : IntExpr} {ds : List Domain} {dom : �
   bounds = part w free-from
 
   pub column-ready : Ready w place
-  unfolding many-column
   column-ready = record {
     tree = e;
     has = c .has;
     domains = ds;
     light = c .light;
     vars = written e;
-    few = let d = ltb-false max-column-vars (different (written e)) (c .few) in omega arith;
+    few = omega (arith, few-in-column e (c .few));
     among = λ v m. m;
   }
 

@@ -12,7 +12,7 @@ use lib.Dec.{ltb}
 use borrow.Author.Tests.{ltb-true, ltb-false}
 use Rattle.laws.specs.Lists.{flat}
 use Rattle.laws.specs.Writes.{cap, Wrote, wrote-none, wrote-then, wrote-length, wrote-to, Open}
-use Rattle.syntax.specs.Syntax.{Domain, Range, lower-bound, upper-bound, num-candidates, domain-of, Stmt, Problem, encode}
+use Rattle.syntax.specs.Syntax.{Domain, Range, lower-bound, upper-bound, domain-of, Stmt, Problem, encode}
 use Rattle.fold.specs.Fold.{Fixed}
 use Rattle.clauses.specs.Emitted.{length-emitted}
 use Rattle.answer.specs.Answer.{domain-words}
@@ -55,22 +55,24 @@ module _ (w : List ℤ) (n : ℕ) (low high : ℤ) (room : free-from + 2 * n + 1
           let m : k ≡ n = omega (arith, ltb-false k n q) in
           rw m (low-stands ∙ l, high-stands ∙ h)
 
-three-words : {out a b e : List ℤ} {o p q r : ℕ} {low high size : ℤ} (d : Domain) → length out ≤ cap → IsDomain d low high size
-    → Wrote out o (low ∷ []) a p → Wrote a p (high ∷ []) b q → Wrote b q (size ∷ []) e r → Wrote out o (domain-words d) e r
-three-words {out} {a} {b} {e} {o} {p} {q} {r} {low} {high} {size} d l i x y z =
-    let k : length a ≤ cap = omega (arith, wrote-length x) in
-    wrote-to (ap (λ (u : ℤ). u ∷ high ∷ size ∷ []) (i .low-is) ∙ ap (λ (u : ℤ). lower-bound d ∷ u ∷ size ∷ []) (i .high-is) ∙ ap (λ (u : ℤ). lower-bound d ∷ upper-bound d ∷ u ∷ []) (i .size-is))
-    (wrote-then l x (wrote-then k y z))
+-- the kind 0 in front
+record-words : {out c a b e : List ℤ} {o k p q r : ℕ} {low high size : ℤ} (d : Domain) → length out ≤ cap → IsDomain d low high size
+    → Wrote out o (pos 0 ∷ []) c k → Wrote c k (low ∷ []) a p → Wrote a p (high ∷ []) b q → Wrote b q (size ∷ []) e r → Wrote out o (domain-words d) e r
+record-words {out} {c} {a} {b} {e} {o} {k} {p} {q} {r} {low} {high} {size} d l i t x y z =
+    let m : length c ≤ cap = omega (arith, wrote-length t) in
+    let n : length a ≤ cap = omega (arith, wrote-length t, wrote-length x) in
+    wrote-to (ap (λ (u : ℤ). pos 0 ∷ u ∷ high ∷ size ∷ []) (i .low-is) ∙ ap (λ (u : ℤ). pos 0 ∷ lower-bound d ∷ u ∷ size ∷ []) (i .high-is) ∙ ap (λ (u : ℤ). pos 0 ∷ lower-bound d ∷ upper-bound d ∷ u ∷ []) (i .size-is))
+    (wrote-then l t (wrote-then m x (wrote-then n y z)))
 
 -- y, z, k: the bits of its lowest and highest value and of its number of values
 module _ {set w : List ℤ} {n : ℕ} (x : SomeEmits set w n) where
   pub pair-room : free-from + 2 * n + 1 < length w
   pair-room = omega (arith, emits-few (x .emits), emits-long (x .emits))
 
-  pub put-done : {out a b out' : List ℤ} {o p q r : ℕ} {low high size y z k : ℤ} → y ≡ low → z ≡ high → k ≡ size → EmittedDomain set w n low high size → length out ≤ cap
-      → Wrote out o (y ∷ []) a p → Wrote a p (z ∷ []) b q → Wrote b q (k ∷ []) out' r → Put set w n out o (stored w n y z pair-room) out' r
-  put-done {out} {a} {b} {out'} {o} {p} {q} {r} {low} {high} {size} {y} {z} {k} i j m d l u v t = record {
-    wrote = λ merge p f ss c e. let h = d merge p f ss c e in three-words (domain-of (emitted merge p ss) n) l (record { low-is = i ∙ h .low-is; high-is = j ∙ h .high-is; size-is = m ∙ h .size-is }) u v t;
+  pub put-done : {out c a b out' : List ℤ} {o s p q r : ℕ} {low high size y z k : ℤ} → y ≡ low → z ≡ high → k ≡ size → EmittedDomain set w n low high size → length out ≤ cap
+      → Wrote out o (pos 0 ∷ []) c s → Wrote c s (y ∷ []) a p → Wrote a p (z ∷ []) b q → Wrote b q (k ∷ []) out' r → Put set w n out o (stored w n y z pair-room) out' r
+  put-done {out} {c} {a} {b} {out'} {o} {s} {p} {q} {r} {low} {high} {size} {y} {z} {k} i j m d l x u v t = record {
+    wrote = λ merge p f ss c e. let h = d merge p f ss c e in record-words (domain-of (emitted merge p ss) n) l (record { low-is = i ∙ h .low-is; high-is = j ∙ h .high-is; size-is = m ∙ h .size-is }) x u v t;
     pairs = λ merge p f ss c e. let h = d merge p f ss c e in stored-pairs w n y z pair-room (emitted merge p ss) (i ∙ h .low-is) (j ∙ h .high-is) (e .pairs);
     below = stored-below w n y z pair-room;
     above = λ k g. other w n y z pair-room k (λ e. omega arith) (λ e. omega arith);
@@ -121,7 +123,7 @@ module _ {set w₀ : List ℤ} {count : ℕ} {out₀ : List ℤ} {o : ℕ} {w ou
     where
       go : (es : List Domain) → flat (map domain-words es) ++ domain-words (domain-of ds n) ≡ flat (map domain-words (es ++ (domain-of ds n ∷ [])))
       go [] = refl
-      go (d ∷ es) = ap (λ (l : List ℤ). lower-bound d ∷ upper-bound d ∷ num-candidates d ∷ l) (go es)
+      go (d ∷ es) = ap (λ (l : List ℤ). domain-words d ++ l) (go es)
 
   -- the words of the set that is given
   here : {w' out' : List ℤ} {at' : ℕ} → n < count → Put set w n out at w' out' at' → Wrote out at (domain-words (domain-of (emitted (g .some .merge) (g .some .it) (g .some .stmts)) n)) out' at'

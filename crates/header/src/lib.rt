@@ -110,7 +110,7 @@ fn emitted_domain(set: &[i32], work: &[i32], n: usize) -> Triple
     declared_domain(set, w as usize)
 }
 
-// Its words in the output, its bounds in the work slice.
+// Its record in the output, of kind 0; its bounds in the work slice.
 fn put_domain(set: &[i32], work: &mut [i32], n: usize, out: &mut [i32], o: usize) -> usize
     requires { ⌜ SomeEmits (now set) (now work) n × Open (now out) o ⌝ }
     ensures { λ r. ⌜ Put (now (set .entry)) (now (work .entry)) n (now (out .entry)) o (now (work .exit)) (now (out .exit)) r ⌝ }
@@ -122,7 +122,8 @@ fn put_domain(set: &[i32], work: &mut [i32], n: usize, out: &mut [i32], o: usize
     let at = 12032 + 2 * n;
     work[at] = low;
     work[at + 1] = high;
-    let a = output::put(out, o, low);
+    let k = output::put(out, o, 0);
+    let a = output::put(out, k, low);
     let b = output::put(out, a, high);
     output::put(out, b, size)
 }

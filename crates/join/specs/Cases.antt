@@ -6,7 +6,7 @@ use lib.IntN.{ℤ, pos}
 use Rattle.laws.specs.Same.{same-words}
 use Rattle.syntax.specs.Syntax.{encode-bool, encode-int, encode-terms, encode-members, encode-stmt, encode, Var, Not, Rule}
 use Rattle.read.specs.Read.{times, up-to, count, index, number, read-range, read-rising, read-enumerative, read-domain, kind-bool, kind-int, read-terms, read-members, read-cell, step-int, read-int, read-table, step-bool, read-bool, read-stmt, read-set}
-use Rattle.limits.specs.Limits.{any-comparison, any-part, weight, heavy, heavy-comparison, written, many-comparison, many-column, interval, span, wide-column, check}
+use Rattle.limits.specs.Limits.{any-comparison, any-part, weight, heavy, heavy-comparison, written, ifs, many-comparison, many-column, interval, span, wide-column, check}
 use Rattle.limits.specs.Admitted.{limited, admitted}
 use Rattle.join.specs.Join.{declaration-words, compared, agree-read, agreement, Joining, joined, refused, sized, join, Found, in-first, in-second, nowhere, placed, statements-of, statement-at}
 
@@ -16,11 +16,11 @@ abbrev words : List ℕ → List ℤ
 words ns = map pos ns
 
 unfoldable pub joining : List ℕ → List ℕ → ℕ → ℕ → Joining
-unfolding encode-bool encode-int encode-terms encode-members encode-stmt encode times up-to count index number read-range read-rising read-enumerative read-domain kind-bool kind-int read-terms read-members read-cell step-int read-int read-table step-bool read-bool read-stmt read-set any-comparison any-part weight heavy heavy-comparison written many-comparison many-column interval span wide-column check limited admitted declaration-words same-words compared agree-read agreement sized join
+unfolding encode-bool encode-int encode-terms encode-members encode-stmt encode times up-to count index number read-range read-rising read-enumerative read-domain kind-bool kind-int read-terms read-members read-cell step-int read-int read-table step-bool read-bool read-stmt read-set any-comparison any-part weight heavy heavy-comparison written ifs many-comparison many-column interval span wide-column check limited admitted declaration-words same-words compared agree-read agreement sized join
 joining first second buffer-length work-length = join (words first) (words second) buffer-length work-length
 
 unfoldable pub looking-up : List ℕ → List ℕ → ℕ → Found
-unfolding encode-bool encode-int encode-terms encode-members encode-stmt encode times up-to count index number read-range read-rising read-enumerative read-domain kind-bool kind-int read-terms read-members read-cell step-int read-int read-table step-bool read-bool read-stmt read-set any-comparison any-part weight heavy heavy-comparison written many-comparison many-column interval span wide-column check limited admitted declaration-words same-words compared agree-read agreement placed statements-of statement-at
+unfolding encode-bool encode-int encode-terms encode-members encode-stmt encode times up-to count index number read-range read-rising read-enumerative read-domain kind-bool kind-int read-terms read-members read-cell step-int read-int read-table step-bool read-bool read-stmt read-set any-comparison any-part weight heavy heavy-comparison written ifs many-comparison many-column interval span wide-column check limited admitted declaration-words same-words compared agree-read agreement placed statements-of statement-at
 looking-up first second k = statement-at (words first) (words second) 16384 k
 
 -- one Boolean variable: the rule v0; the rules not v0, v0

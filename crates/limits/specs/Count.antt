@@ -1,4 +1,4 @@
--- How many different variables are written: the numbers below n that a test marks. Assumes nothing.
+-- How many different variables are written, the numbers below n that a test marks, and how many Ifs. Assumes nothing.
 use mathlib.Core.Path.{_≡_, refl, sym, ap, _∙_}
 use mathlib.Core.Bool.{Bool, true, false, _||_, cond}
 use mathlib.Core.List.{List, [], _∷_, _++_}
@@ -8,9 +8,9 @@ use lib.Dec.{eqb, ltb}
 use lib.ListN.{length, length-append}
 use borrow.Author.Tests.{eqb-true, eqb-false, ne-eqb, le-ltb}
 use Rattle.laws.specs.Lists.{any, any-append, different}
-use Rattle.syntax.specs.Syntax.{IntExpr, IConst, IVar, Linear, If, Terms, tnil, tmore, encode-int, encode-terms}
+use Rattle.syntax.specs.Syntax.{IntExpr, IConst, IVar, Linear, If, Terms, tnil, tmore, encode-int, encode-terms, BoolExpr, Const, Var, NVar, And, Or, Not, Xor, Iff, Imp, Cmp, encode-bool}
 use Rattle.syntax.specs.Written.{EveryInt, EveryTerm, EveryIntOf}
-use Rattle.limits.specs.Limits.{written, written-terms, many-comparison, many-column}
+use Rattle.limits.specs.Limits.{written, written-terms, ifs, ifs-terms, many-comparison, many-column}
 
 -- how many numbers below n the test holds of
 unfoldable pub marked : (ℕ → Bool) → ℕ → ℕ
@@ -87,28 +87,25 @@ module _ (n : ℕ) where
     written-below : (e : IntExpr) → EveryInt (λ v. v < n) e → Below n (written e)
     written-below (IConst c) h = tt
     written-below (IVar v) h = (h, tt)
-    written-below (If i c t f) h = absurd i
     written-below (Linear ts) h = written-terms-below ts h
+    written-below (If i c t f) h = below-append n (written t) (written f) (written-below t (h .1 .0)) (written-below f (h .1 .1))
 
     written-terms-below : (ts : Terms) → EveryTerm (λ v. v < n) ts → Below n (written-terms ts)
     written-terms-below tnil h = tt
     written-terms-below (tmore k e ts) h = below-append n (written e) (written-terms ts) (written-below e (h .0)) (written-terms-below ts (h .1))
 
-  pub many-comparison-marked : (a b : IntExpr) → EveryInt (λ v. v < n) a → EveryInt (λ v. v < n) b → many-comparison a b ≡ ltb 64 (marked (either a b) n)
+  pub many-comparison-marked : (a b : IntExpr) → EveryInt (λ v. v < n) a → EveryInt (λ v. v < n) b → many-comparison a b ≡ ltb 64 (marked (either a b) n + (ifs a + ifs b))
   unfolding many-comparison
   many-comparison-marked a b h k =
-      ap (ltb 64) (different-marked n (written a ++ written b) (below-append n (written a) (written b) (written-below a h) (written-below b k))
+      ap (λ m. ltb 64 (m + (ifs a + ifs b)))
+      (different-marked n (written a ++ written b) (below-append n (written a) (written b) (written-below a h) (written-below b k))
       ∙ marked-cong (among (written a ++ written b)) (either a b) n (λ v l. any-append (eqb v) (written a) (written b)))
 
-  pub many-column-marked : (a : IntExpr) → EveryInt (λ v. v < n) a → many-column a ≡ ltb 63 (marked (either a a) n)
+  pub many-column-marked : (a : IntExpr) → EveryInt (λ v. v < n) a → many-column a ≡ ltb 63 (marked (among (written a)) n + ifs a)
   unfolding many-column
-  many-column-marked a h = ap (ltb 63) (different-marked n (written a) (written-below a h) ∙ marked-cong (among (written a)) (either a a) n (λ v l. twice (among (written a) v)))
-    where
-      twice : (t : Bool) → t ≡ (t || t)
-      twice true = refl
-      twice false = refl
+  many-column-marked a h = ap (λ m. ltb 63 (m + ifs a)) (different-marked n (written a) (written-below a h))
 
--- ---- few words write few variables
+-- ---- few words write few variables and Ifs: each has two words at least
 
 different-few : (xs : List ℕ) → different xs ≤ length xs
 different-few [] = omega arith
@@ -118,23 +115,40 @@ different-few (x ∷ xs) = go (any (eqb x) xs) (different-few xs)
     go true h = omega arith
     go false h = omega arith
 
-mutual
-  unfolding written encode-int
+bool-some : (e : BoolExpr) → 1 ≤ length (encode-bool e)
+unfolding encode-bool
+bool-some (Const b) = omega arith
+bool-some (Var v) = omega arith
+bool-some (NVar n) = omega arith
+bool-some (And ms) = omega arith
+bool-some (Or ms) = omega arith
+bool-some (Not e) = omega arith
+bool-some (Xor a b) = omega arith
+bool-some (Iff a b) = omega arith
+bool-some (Imp a b) = omega arith
+bool-some (Cmp o a b) = omega arith
 
-  written-few : (e : IntExpr) → 2 * length (written e) ≤ length (encode-int e)
+mutual
+  unfolding written ifs encode-int
+
+  written-few : (e : IntExpr) → 2 * (length (written e) + ifs e) ≤ length (encode-int e)
   written-few (IConst c) = omega arith
   written-few (IVar v) = omega arith
-  written-few (If i c t f) = absurd i
   written-few (Linear ts) = omega (arith, written-terms-few ts)
+  written-few (If i c t f) =
+      omega (arith, bool-some c, written-few t, written-few f, length-append (written t) (written f), length-append (encode-bool c) (encode-int t ++ encode-int f), length-append (encode-int t) (encode-int f))
 
-  written-terms-few : (ts : Terms) → 2 * length (written-terms ts) ≤ length (encode-terms ts)
+  written-terms-few : (ts : Terms) → 2 * (length (written-terms ts) + ifs-terms ts) ≤ length (encode-terms ts)
   written-terms-few tnil = omega arith
   written-terms-few (tmore k e ts) = omega (arith, written-few e, written-terms-few ts, length-append (written e) (written-terms ts), length-append (encode-int e) (encode-terms ts))
 
+pub ifs-few : (e : IntExpr) → 2 * ifs e ≤ length (encode-int e)
+ifs-few e = omega (arith, written-few e)
+
 pub few-comparison : (a b : IntExpr) → length (encode-int a) + length (encode-int b) < 128 → many-comparison a b ≡ false
 unfolding many-comparison
-few-comparison a b h = le-ltb 64 (different (written a ++ written b)) (omega (arith, different-few (written a ++ written b), length-append (written a) (written b), written-few a, written-few b))
+few-comparison a b h = le-ltb 64 (different (written a ++ written b) + (ifs a + ifs b)) (omega (arith, different-few (written a ++ written b), length-append (written a) (written b), written-few a, written-few b))
 
 pub few-column : (e : IntExpr) → length (encode-int e) < 128 → many-column e ≡ false
 unfolding many-column
-few-column e h = le-ltb 63 (different (written e)) (omega (arith, different-few (written e), written-few e))
+few-column e h = le-ltb 63 (different (written e) + ifs e) (omega (arith, different-few (written e), written-few e))

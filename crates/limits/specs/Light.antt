@@ -1,18 +1,18 @@
--- What refusal 9 leaves: a value of a domain is no larger than its weight, and no statement weighs too much. Assumes nothing.
+-- What refusals 9 and 10 leave: a value of a domain is no larger than its weight, no statement weighs too much, few variables are written. Assumes nothing.
 use mathlib.Core.Path.{_≡_, refl, ap}
-use mathlib.Core.Bool.{Bool, true, false, cond}
-use mathlib.Core.List.{List, [], _∷_}
-use Prim.Native.Nat.{ℕ, _≤_, max}
+use mathlib.Core.Bool.{Bool, true, false, _||_, cond}
+use mathlib.Core.List.{List, [], _∷_, _++_}
+use Prim.Native.Nat.{ℕ, _+_, _≤_, max}
 use native.Mathlib.Omega.{arith}
 use lib.IntN.{ℤ, pos, negsuc, natAbs}
 use lib.Signed.{leZ}
-use borrow.Author.Tests.{leb-true}
-use Rattle.laws.specs.Bools.{and-l, and-r, never, or-pick}
+use borrow.Author.Tests.{leb-true, ltb-false}
+use Rattle.laws.specs.Bools.{and-l, and-r, never, or-pick, or-no-l, or-no-r}
 use Rattle.laws.specs.Ints.{eqZ}
-use Rattle.laws.specs.Lists.{any}
+use Rattle.laws.specs.Lists.{any, different}
 use Rattle.laws.specs.Order.{eqZ-is}
-use Rattle.syntax.specs.Syntax.{Domain, Range, Enumerative, in-domain, Problem}
-use Rattle.limits.specs.Limits.{largest, domain-weight, heavy-stmt, check}
+use Rattle.syntax.specs.Syntax.{Domain, Range, Enumerative, in-domain, IntExpr, Problem}
+use Rattle.limits.specs.Limits.{largest, domain-weight, written, ifs, many-comparison, many-column, heavy-stmt, check}
 
 between : (low x high : ℤ) → leZ low x ≡ true → leZ x high ≡ true → natAbs x ≤ max (natAbs low) (natAbs high)
 between low (pos b) (pos c) h k = omega (arith, leb-true b c k)
@@ -35,3 +35,16 @@ unrefused-light p h = go (any (heavy-stmt (p .domains)) (p .stmts)) _ h
     go : (t : Bool) (k : ℕ) → cond t 9 k ≡ 0 → t ≡ false
     go true k h = absurd (omega arith)
     go false k h = refl
+
+pub few-written : (a b : IntExpr) → many-comparison a b ≡ false → different (written a ++ written b) ≤ 64
+unfolding many-comparison
+few-written a b h = omega (arith, ltb-false 64 (different (written a ++ written b) + (ifs a + ifs b)) h)
+
+pub few-in-column : (e : IntExpr) → many-column e ≡ false → different (written e) ≤ 63
+unfolding many-column
+few-in-column e h = omega (arith, ltb-false 63 (different (written e) + ifs e) h)
+
+-- a test of each, beside that of what stands inside it
+pub tests-none : (f g : IntExpr → Bool) (es : List IntExpr) → any (λ e. f e || g e) es ≡ false → any f es ≡ false
+tests-none f g [] h = refl
+tests-none f g (e ∷ es) h = rw (or-no-l (f e) (g e) (or-no-l (f e || g e) (any (λ x. f x || g x) es) h)) (tests-none f g es (or-no-r (f e || g e) (any (λ x. f x || g x) es) h))

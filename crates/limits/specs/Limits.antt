@@ -4,13 +4,13 @@ use mathlib.Core.List.{List, [], _∷_, _++_}
 use Prim.Native.Nat.{ℕ, suc, _+_, _*_, max}
 use lib.IntN.{ℤ, pos, natAbs, _+ℤ_, _-ℤ_}
 use lib.Dec.{ltb}
-use Rattle.laws.specs.Ints.{times-low, times-high}
+use Rattle.laws.specs.Ints.{times-low, times-high, lower, higher}
 use Rattle.laws.specs.Lists.{any, different}
 use Rattle.syntax.specs.Words.{max-weight, max-comparison-vars, max-column-vars, max-span}
 use Rattle.syntax.specs.Syntax.{Domain, Range, Enumerative, lower-bound, upper-bound, domain-of, IntExpr, IConst, IVar, Linear, If, Terms, tnil, tmore, BoolExpr, Const, Var, NVar, And, Or, Not, Xor, Iff, Imp, Cmp, Members, mnil, more, Stmt, Rule, Table, AllDifferent, Problem}
 
--- a test of every comparison and every column
-module _ (onCmp : IntExpr → IntExpr → Bool) (onColumn : IntExpr → Bool) where
+-- a test of every comparison and of every branch of an If, wherever they stand, conditions included
+module _ (onCmp : IntExpr → IntExpr → Bool) (onBranch : IntExpr → Bool) where
   unfoldable mutual
     pub any-comparison : BoolExpr → Bool
     any-comparison (Const b) = false
@@ -22,23 +22,34 @@ module _ (onCmp : IntExpr → IntExpr → Bool) (onColumn : IntExpr → Bool) wh
     any-comparison (Xor a b) = any-comparison a || any-comparison b
     any-comparison (Iff a b) = any-comparison a || any-comparison b
     any-comparison (Imp a b) = any-comparison a || any-comparison b
-    any-comparison (Cmp o a b) = onCmp a b
+    any-comparison (Cmp o a b) = onCmp a b || (any-inside a || any-inside b)
 
     pub any-comparison-members : Members → Bool
     any-comparison-members mnil = false
     any-comparison-members (more e ms) = any-comparison e || any-comparison-members ms
+
+    -- what stands inside an integer expression
+    pub any-inside : IntExpr → Bool
+    any-inside (IConst c) = false
+    any-inside (IVar v) = false
+    any-inside (Linear ts) = any-inside-terms ts
+    any-inside (If i c t f) = any-comparison c || ((onBranch t || any-inside t) || (onBranch f || any-inside f))
+
+    pub any-inside-terms : Terms → Bool
+    any-inside-terms tnil = false
+    any-inside-terms (tmore k e ts) = any-inside e || any-inside-terms ts
 
 -- a test of each pair: the first with each later one, then the second, and so on
 unfoldable pub any-pair : (IntExpr → IntExpr → Bool) → List IntExpr → Bool
 any-pair f [] = false
 any-pair f (e ∷ es) = any (f e) es || any-pair f es
 
--- of every comparison, column and expression of an AllDifferent by itself; its pairs are comparisons
-module _ (onCmp : IntExpr → IntExpr → Bool) (onColumn onOne : IntExpr → Bool) where
+-- and of every column, and of an AllDifferent's expressions one by one; its pairs are comparisons
+module _ (onCmp : IntExpr → IntExpr → Bool) (onBranch onColumn onOne : IntExpr → Bool) where
   unfoldable pub any-part : Stmt → Bool
-  any-part (Rule e) = any-comparison onCmp onColumn e
-  any-part (Table es rows) = any onColumn es
-  any-part (AllDifferent es) = any onOne es || any-pair onCmp es
+  any-part (Rule e) = any-comparison onCmp onBranch e
+  any-part (Table es rows) = any (λ e. onColumn e || any-inside onCmp onBranch e) es
+  any-part (AllDifferent es) = any (λ e. onOne e || any-inside onCmp onBranch e) es || any-pair onCmp es
 
 -- ---- 9: weights
 
@@ -77,7 +88,7 @@ module _ (ds : List Domain) where
   unfoldable pub heavy-comparison : IntExpr → IntExpr → Bool
   heavy-comparison a b = heavy a || (heavy b || ltb max-weight (weight a + weight b))
 
--- ---- 10: variables written
+-- ---- 10: variables written, and Ifs, each of which becomes one; conditions do not count
 
 unfoldable mutual
   pub written : IntExpr → List ℕ
@@ -90,11 +101,23 @@ unfoldable mutual
   written-terms tnil = []
   written-terms (tmore k e ts) = written e ++ written-terms ts
 
-unfoldable pub many-comparison : IntExpr → IntExpr → Bool
-many-comparison a b = ltb max-comparison-vars (different (written a ++ written b))
+unfoldable mutual
+  pub ifs : IntExpr → ℕ
+  ifs (IConst c) = 0
+  ifs (IVar v) = 0
+  ifs (Linear ts) = ifs-terms ts
+  ifs (If i c t f) = suc (ifs t + ifs f)
 
+  pub ifs-terms : Terms → ℕ
+  ifs-terms tnil = 0
+  ifs-terms (tmore k e ts) = ifs e + ifs-terms ts
+
+unfoldable pub many-comparison : IntExpr → IntExpr → Bool
+many-comparison a b = ltb max-comparison-vars (different (written a ++ written b) + (ifs a + ifs b))
+
+-- a column, or a branch of an If
 unfoldable pub many-column : IntExpr → Bool
-many-column e = ltb max-column-vars (different (written e))
+many-column e = ltb max-column-vars (different (written e) + ifs e)
 
 -- ---- 11: spans, by interval arithmetic
 
@@ -104,8 +127,8 @@ module _ (ds : List Domain) where
     pub interval : IntExpr → ℤ × ℤ
     interval (IConst c) = (c, c)
     interval (IVar v) = (lower-bound (domain-of ds v), upper-bound (domain-of ds v))
-    interval (If i c t f) = absurd i
     interval (Linear ts) = terms-interval ts
+    interval (If i c t f) = (lower (interval t .0) (interval f .0), higher (interval t .1) (interval f .1))
 
     pub terms-interval : Terms → ℤ × ℤ
     terms-interval tnil = (pos 0, pos 0)
@@ -120,16 +143,16 @@ module _ (ds : List Domain) where
   unfoldable pub wide-column : IntExpr → Bool
   wide-column e = ltb max-span (span e)
 
--- ---- of a statement; nothing of an AllDifferent's expression by itself is 10 or 11
+-- ---- of a statement. A branch weighs with its If; of an AllDifferent's expression by itself only 9 is asked
 
 abbrev pub heavy-stmt : List Domain → Stmt → Bool
-heavy-stmt ds = any-part (heavy-comparison ds) (heavy ds) (heavy ds)
+heavy-stmt ds = any-part (heavy-comparison ds) (λ e. false) (heavy ds) (heavy ds)
 
 abbrev pub many-stmt : Stmt → Bool
-many-stmt = any-part many-comparison many-column (λ e. false)
+many-stmt = any-part many-comparison many-column many-column (λ e. false)
 
 abbrev pub wide-stmt : List Domain → Stmt → Bool
-wide-stmt ds = any-part (λ a b. false) (wide-column ds) (λ e. false)
+wide-stmt ds = any-part (λ a b. false) (λ e. false) (wide-column ds) (λ e. false)
 
 -- ---- the refusal, or 0
 

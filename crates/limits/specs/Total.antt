@@ -8,7 +8,8 @@ use lib.IntN.{ℤ, natAbs}
 use lib.Dec.{ltb, eqb}
 use borrow.Author.Tests.{ltb-true, ltb-false, lt-ltb, le-ltb, ne-eqb}
 use Rattle.laws.specs.Bools.{or-no-l}
-use Rattle.laws.specs.Ints.{times-low, times-high, natAbs-add, times-low-size, times-high-size}
+use lib.Signed.{leZ}
+use Rattle.laws.specs.Ints.{times-low, times-high, lower, higher, natAbs-add, times-low-size, times-high-size}
 use Rattle.syntax.specs.Words.{max-weight}
 use Rattle.syntax.specs.Syntax.{Domain, lower-bound, upper-bound, domain-of, IntExpr, IConst, IVar, Linear, If, Terms, tnil, tmore}
 use Rattle.limits.specs.Limits.{domain-weight, weight, terms-weight, heavy, heavy-terms, heavy-comparison, interval, terms-interval}
@@ -34,8 +35,8 @@ module _ (ds : List Domain) where
     pub total : IntExpr → ℕ
     total (IConst c) = constant-total c
     total (IVar v) = bounds-total (lower-bound (domain-of ds v)) (upper-bound (domain-of ds v))
-    total (If i c t f) = absurd i
     total (Linear ts) = terms-total ts
+    total (If i c t f) = max 1 (max (total t) (total f))
 
     pub terms-total : Terms → ℕ
     terms-total tnil = 0
@@ -65,8 +66,19 @@ module _ (ds : List Domain) where
   unfolding total constant-total bounds-total
   total-cap (IConst c) = omega arith
   total-cap (IVar v) = omega arith
-  total-cap (If i c t f) = absurd i
   total-cap (Linear ts) = terms-total-cap ts
+  total-cap (If i c t f) = omega (arith, total-cap t, total-cap f)
+
+-- one of the two, within the heavier
+either-small : (t : Bool) (x y : ℤ) (a b : ℕ) → natAbs x ≤ a → natAbs y ≤ b → natAbs (cond t x y) ≤ max 1 (max a b)
+either-small true x y a b h k = omega arith
+either-small false x y a b h k = omega arith
+
+lower-small : (x y : ℤ) (a b : ℕ) → natAbs x ≤ a → natAbs y ≤ b → natAbs (lower x y) ≤ max 1 (max a b)
+lower-small x y a b h k = either-small (leZ x y) x y a b h k
+
+higher-small : (x y : ℤ) (a b : ℕ) → natAbs x ≤ a → natAbs y ≤ b → natAbs (higher x y) ≤ max 1 (max a b)
+higher-small x y a b h k = omega (arith, either-small (leZ x y) y x b a k h)
 
 -- ---- 9: the weight, where no part weighs too much
 
@@ -113,12 +125,28 @@ join-weights k w tw false false l = rw (product-light k w (l refl)) (both (ltb m
     both false true p q = omega (arith, ltb-false max-weight tw p, ltb-true max-weight (k * w + tw) q)
     both false false p q = omega (arith, ltb-false max-weight tw p, ltb-false max-weight (k * w + tw) q)
 
+-- the heavier of two branches, by whether a part of each weighs too much
+heavier : (x y : ℕ) (h g : Bool) → (h ≡ false → x ≤ max-weight) → (g ≡ false → y ≤ max-weight)
+    → max 1 (max (cond h cap x) (cond g cap y)) ≡ cond (ltb max-weight (max 1 (max x y)) || (h || g)) cap (max 1 (max x y))
+heavier x y h g l k = go h g (ltb max-weight (max 1 (max x y))) refl l k
+  where
+    go : (h g b : Bool) → ltb max-weight (max 1 (max x y)) ≡ b → (h ≡ false → x ≤ max-weight) → (g ≡ false → y ≤ max-weight)
+        → max 1 (max (cond h cap x) (cond g cap y)) ≡ cond (b || (h || g)) cap (max 1 (max x y))
+    go true true true q l k = omega arith
+    go true true false q l k = omega arith
+    go true false true q l k = omega (arith, k refl)
+    go true false false q l k = omega (arith, k refl)
+    go false true true q l k = omega (arith, l refl)
+    go false true false q l k = omega (arith, l refl)
+    go false false true q l k = absurd (omega (arith, l refl, k refl, ltb-true max-weight (max 1 (max x y)) q))
+    go false false false q l k = refl
+
 module _ (ds : List Domain) where
   light-weight : (e : IntExpr) → heavy ds e ≡ false → weight ds e ≤ max-weight
   unfolding heavy
   light-weight (IConst c) h = ltb-false max-weight (weight ds (IConst c)) h
   light-weight (IVar v) h = ltb-false max-weight (weight ds (IVar v)) h
-  light-weight (If i c t f) h = absurd i
+  light-weight (If i c t f) h = ltb-false max-weight (weight ds (If i c t f)) (or-no-l (ltb max-weight (weight ds (If i c t f))) (heavy ds t || heavy ds f) h)
   light-weight (Linear ts) h = ltb-false max-weight (weight ds (Linear ts)) (or-no-l (ltb max-weight (weight ds (Linear ts))) (heavy-terms ds ts) h)
 
   module _ (b : Bounded ds) where
@@ -128,7 +156,7 @@ module _ (ds : List Domain) where
       pub total-weight : (e : IntExpr) → total ds e ≡ cond (heavy ds e) cap (weight ds e)
       total-weight (IConst c) = capped (natAbs c)
       total-weight (IVar v) = ap (λ n. min n cap) (sym (b .weights v)) ∙ capped (domain-weight (domain-of ds v))
-      total-weight (If i c t f) = absurd i
+      total-weight (If i c t f) = rw (total-weight t, total-weight f) (heavier (weight ds t) (weight ds f) (heavy ds t) (heavy ds f) (light-weight t) (light-weight f))
       total-weight (Linear ts) = terms-total-weight ts
 
       terms-total-weight : (ts : Terms) → terms-total ds ts ≡ cond (ltb max-weight (terms-weight ds ts) || heavy-terms ds ts) cap (terms-weight ds ts)
@@ -160,7 +188,10 @@ module _ (ds : List Domain) where
       pub interval-small : (e : IntExpr) → (natAbs (interval ds e .0) ≤ weight ds e) × (natAbs (interval ds e .1) ≤ weight ds e)
       interval-small (IConst c) = (omega arith, omega arith)
       interval-small (IVar v) = (omega (arith, b .weights v), omega (arith, b .weights v))
-      interval-small (If i c t f) = absurd i
+      interval-small (If i c t f) = (
+        lower-small (interval ds t .0) (interval ds f .0) (weight ds t) (weight ds f) (interval-small t .0) (interval-small f .0),
+        higher-small (interval ds t .1) (interval ds f .1) (weight ds t) (weight ds f) (interval-small t .1) (interval-small f .1),
+      )
       interval-small (Linear ts) = terms-small ts
 
       terms-small : (ts : Terms) → (natAbs (terms-interval ds ts .0) ≤ terms-weight ds ts) × (natAbs (terms-interval ds ts .1) ≤ terms-weight ds ts)

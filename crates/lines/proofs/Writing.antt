@@ -190,6 +190,6 @@ module _ (f : List ℤ → Shown) (g : List ℤ → ℕ) where
 
 -- ---- a domain
 
-pub domain-shown : (ws : List ℤ) (from : ℕ) (out : List ℕ) (at : ℕ) (out' : List ℕ) (r e : ℕ) → Printed (line-of domain-key 3 (drop from ws)) ws from out at out' r e → Printed (print-domain (drop from ws)) ws from out at out' r e
+pub domain-shown : (ws : List ℤ) (from : ℕ) (out : List ℕ) (at : ℕ) (out' : List ℕ) (r e : ℕ) → Printed (line-of domain-key 4 (drop from ws)) ws from out at out' r e → Printed (print-domain (drop from ws)) ws from out at out' r e
 unfolding line-of print-domain
 domain-shown ws from out at out' r e p = p

@@ -40,9 +40,9 @@ times f (suc n) (w ∷ ws) =
     let b = times f n (a .rest) in
     record { text = a .text ++ b .text; rest = b .rest }
 
--- lowest, highest, number of values
+-- a kind, and its three words
 unfoldable pub print-domain : List ℤ → Shown
-print-domain ws = record { text = print-line domain-key (take 3 ws); rest = drop 3 ws }
+print-domain ws = record { text = print-line domain-key (take 4 ws); rest = drop 4 ws }
 
 -- operator, constant, count of terms, then variable and coefficient of each
 unfoldable pub print-comparison : List ℤ → Shown

@@ -100,7 +100,7 @@ fn put_domain(out: &mut [u8], at: usize, words: &[i32], from: usize) -> Place
     requires { ⌜ from ≤ length (now words) ⌝ }
     ensures { λ r. ⌜ Printed (print-domain (drop from (now (words .entry)))) (now (words .entry)) from (now (out .entry)) at (now (out .exit)) (r .at) (r .next) ⌝ }
 {
-    put_line(out, at, &DOMAIN, words, from, 3)
+    put_line(out, at, &DOMAIN, words, from, 4)
 }
 
 pub fn put_domains(out: &mut [u8], at: usize, words: &[i32], from: usize, n: usize) -> Place

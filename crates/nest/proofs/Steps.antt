@@ -16,7 +16,7 @@ use Rattle.laws.specs.Bools.{or-no-l, or-no-r}
 use Rattle.laws.specs.Ints.{eqZ, count-of}
 use Rattle.laws.specs.Slices.{Has, has-front, has-back, has-word, has-rest}
 use Rattle.syntax.specs.Words.{max-weight}
-use Rattle.syntax.specs.Syntax.{IntExpr, IConst, IVar, Linear as Total, Terms, tnil, tmore, count-terms, encode-int, encode-terms}
+use Rattle.syntax.specs.Syntax.{unread, IntExpr, IConst, IVar, Linear as Total, If, Terms, tnil, tmore, count-terms, encode-int, encode-terms}
 use Rattle.syntax.specs.Unique.{int-unique}
 use Rattle.syntax.specs.Lengths.{int-long, int-fits}
 use Rattle.limits.specs.Limits.{weight, terms-weight, heavy, heavy-terms, written, written-terms}
@@ -91,6 +91,7 @@ module _ (ws numbers : List ℤ) (at : ℕ) (s : Sum) (r : Ready ws at) where
   unfolding encode-int linear-of
   constant-right h o (IConst c) k = (stands-to s _ _ o (ap constant (second ws at (pos 20) c [] k)), refl)
   constant-right h o (IVar v) k = differ (getD ws at (pos 0)) 20 21 h (has-word ws at _ _ (pos 0) k) (λ q. omega arith)
+  constant-right h o (If i c t f) k = absurd (unread i)
   constant-right h o (Total ts) k = differ (getD ws at (pos 0)) 20 22 h (has-word ws at _ _ (pos 0) k) (λ q. omega arith)
 
   pub leaf-constant : getD ws at (pos 0) ≡ pos 20 → Stands s (constant (getD ws (at + 1) (pos 0))) → Linear ws numbers at (at + 2) s
@@ -101,6 +102,7 @@ module _ (ws numbers : List ℤ) (at : ℕ) (s : Sum) (r : Ready ws at) where
   unfolding encode-int linear-of
   var-right n h g q o (IConst c) k = absurd (h (has-word ws at _ _ (pos 0) k))
   var-right n h g q o (IVar v) k = (stands-to s _ _ o (ap singleton (q ∙ ap (λ (z : ℤ). number-at numbers (count-of z)) (second ws at (pos 21) (pos v) [] k))), refl)
+  var-right n h g q o (If i c t f) k = absurd (unread i)
   var-right n h g q o (Total ts) k = absurd (g (has-word ws at _ _ (pos 0) k))
 
   pub leaf-var : (n : ℕ) → (getD ws at (pos 0) ≡ pos 20 → ⊥) → (getD ws at (pos 0) ≡ pos 22 → ⊥) → n ≡ number-at numbers (count-of (getD ws (at + 1) (pos 0))) → n < 2147483648 → Stands s (singleton n) → Linear ws numbers at (at + 2) s
@@ -121,6 +123,7 @@ module _ (ws numbers : List ℤ) (at : ℕ) where
   leaf-right g (IConst c) k = (constant-is (has-word ws at _ _ (pos 0) k) ∙ ap constant (second ws at (pos 20) c [] k), refl)
   leaf-right g (IVar v) k =
       (variable-is (λ h. differ (getD ws at (pos 0)) 20 21 h (has-word ws at _ _ (pos 0) k) (λ q. omega arith)) ∙ ap (λ (z : ℤ). singleton (number-at numbers (count-of z))) (second ws at (pos 21) (pos v) [] k), refl)
+  leaf-right g (If i c t f) k = absurd (unread i)
   leaf-right g (Total ts) k = absurd (g (has-word ws at _ _ (pos 0) k))
 
 -- ---- the loop's start and end
@@ -130,6 +133,7 @@ module _ (ws numbers : List ℤ) (at : ℕ) (z : Sum) (r : Ready ws at) (h : get
   unfolding encode-int linear-of heavy weight written
   going-of (IConst c) k l m = differ (getD ws at (pos 0)) 22 20 h (has-word ws at _ _ (pos 0) k) (λ q. omega arith)
   going-of (IVar v) k l m = differ (getD ws at (pos 0)) 22 21 h (has-word ws at _ _ (pos 0) k) (λ q. omega arith)
+  going-of (If i c t f) k l m = absurd (unread i)
   going-of (Total ts) k l m =
       let n : size (sum-of z) ≡ 0 = ap size (stands-sum z _ o) ∙ constant-load (λ v. 1) (pos 0) in
       record {

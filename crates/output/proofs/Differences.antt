@@ -12,9 +12,10 @@ use Rattle.laws.specs.Bools.{or-no-l, or-no-r}
 use Rattle.laws.specs.Lists.{different}
 use Rattle.laws.specs.Slices.{Has, has-front, has-back}
 use Rattle.laws.specs.Ints.{count-of}
-use Rattle.syntax.specs.Words.{max-weight, max-comparison-vars}
-use Rattle.syntax.specs.Syntax.{Domain, IntExpr, IConst, IVar, Linear, If, Terms, tnil, tmore, encode-int}
-use Rattle.limits.specs.Limits.{weight, heavy, heavy-comparison, written, many-comparison}
+use Rattle.syntax.specs.Words.{max-weight}
+use Rattle.syntax.specs.Syntax.{unread, Domain, IntExpr, IConst, IVar, Linear, If, Terms, tnil, tmore, encode-int}
+use Rattle.limits.specs.Limits.{weight, heavy, heavy-comparison, written}
+use Rattle.limits.specs.Light.{few-written}
 use Rattle.sums.specs.LinearSum.{LinearSum, constant, add-sum, mul-sum, sub-sum}
 use Rattle.sums.specs.Linear.{linear-of, linear-terms}
 use Rattle.sums.specs.Rising.{terms-of, Each, sub-sum-each, among-left, among-right}
@@ -35,7 +36,7 @@ mutual
   linear-same : (f g : ℕ → ℕ) → ((v : ℕ) → f v ≡ g v) → (e : IntExpr) → linear-of f e ≡ linear-of g e
   linear-same f g h (IConst c) = refl
   linear-same f g h (IVar v) = rw (h v)
-  linear-same f g h (If j c x y) = absurd j
+  linear-same f g h (If j c x y) = absurd (unread j)
   linear-same f g h (Linear ts) = terms-same f g h ts (constant (pos 0))
 
   terms-same : (f g : ℕ → ℕ) → ((v : ℕ) → f v ≡ g v) → (ts : Terms) (sum : LinearSum) → linear-terms f ts sum ≡ linear-terms g ts sum
@@ -73,8 +74,7 @@ module _ (w : List ℤ) (at : ℕ) (c : Compares w at) where
   ds = c .sides .domains
 
   few : different (written lhs ++ written rhs) ≤ 64
-  unfolding many-comparison
-  few = ltb-false max-comparison-vars (different (written lhs ++ written rhs)) (c .sides .few)
+  few = few-written lhs rhs (c .sides .few)
 
   light-left : heavy ds lhs ≡ false
   unfolding heavy-comparison

@@ -14,7 +14,7 @@ use Rattle.laws.specs.Lists.{counted}
 use Rattle.laws.specs.Slices.{has-word, has-rest}
 use Rattle.laws.specs.Writes.{cap, Wrote, wrote-length, wrote-then, wrote-to}
 use Rattle.syntax.specs.Lengths.{int-tag, int-long, int-fits}
-use Rattle.syntax.specs.Syntax.{Domain, Ne, IntExpr, IConst, IVar, Linear, If, encode-int}
+use Rattle.syntax.specs.Syntax.{unread, Domain, Ne, IntExpr, IConst, IVar, Linear, If, encode-int}
 use Rattle.limits.specs.Limits.{weight}
 use Rattle.sums.specs.LinearSum.{Term, term, LinearSum, linear-sum, insert-coef, add-coef, add-terms, add-sum, mul-terms, mul-sum, sub-sum}
 use Rattle.sums.specs.Linear.{linear-of}
@@ -115,14 +115,14 @@ module _ (w : List ℤ) (p : ℕ) where
     unfolding linear-of
     constant-sum (IConst c) a t = rw (constant-is c a) refl
     constant-sum (IVar v) a t = absurd (no (code ∙ code-is w p (IVar v) (a .words)))
-    constant-sum (If j c x y) a t = absurd j
+    constant-sum (If j c x y) a t = absurd (unread j)
     constant-sum (Linear ts) a t = absurd (t refl)
 
     constant-light : (ds : List Domain) (e : IntExpr) → At w p e → (int-tag e ≡ 22 → ⊥) → natAbs (getD w (p + 1) (pos 0)) ≤ weight ds e
     unfolding weight
     constant-light ds (IConst c) a t = omega (arith, ap natAbs (constant-is c a))
     constant-light ds (IVar v) a t = absurd (no (code ∙ code-is w p (IVar v) (a .words)))
-    constant-light ds (If j c x y) a t = absurd j
+    constant-light ds (If j c x y) a t = absurd (unread j)
     constant-light ds (Linear ts) a t = absurd (t refl)
 
     pub constant-leaf : IsLeaf w p 0 (getD w (p + 1) (pos 0))

@@ -13,7 +13,7 @@ use Rattle.laws.specs.Order.{is-eqZ, not-eqZ}
 use Rattle.laws.specs.Lists.{all}
 use Rattle.laws.specs.Slices.{Has}
 use Rattle.syntax.specs.Words.{max-count}
-use Rattle.syntax.specs.Syntax.{Domain, enumerate, num-candidates, domain-of, encode-domain, IntExpr, IConst, IVar, Linear, If, encode-int}
+use Rattle.syntax.specs.Syntax.{unread, Domain, enumerate, num-candidates, domain-of, encode-domain, IntExpr, IConst, IVar, Linear, If, encode-int}
 use Rattle.syntax.specs.Written.{EveryInt, EveryColumn, EveryIntOf, EveryColumnOf}
 use Rattle.different.specs.Different.{is-like}
 use Rattle.domains.specs.Declared.{Domain-post}
@@ -70,7 +70,7 @@ module _ (set w : List ℤ) (p : ℕ) {m : ℕ} (code : m ≡ word (read-part w)
   pub other-not : (m ≡ 21 → ⊥) → {b n : ℕ} → Like set w p b n false
   other-not k ds (IConst c) dm o s = refl
   other-not k ds (IVar v) dm o s = absurd (k (code ∙ code-is w p (IVar v) (o .stands .words)))
-  other-not k ds (If i c t f) dm o s = absurd i
+  other-not k ds (If i c t f) dm o s = absurd (unread i)
   other-not k ds (Linear ts) dm o s = refl
 
 -- ---- one after the other
@@ -108,7 +108,7 @@ module _ (set w : List ℤ) (p rest : ℕ) where
   unfolding encode-int
   two-words ds n dm (IConst c) h = refl
   two-words ds n dm (IVar v) h = refl
-  two-words ds n dm (If i c t f) h = absurd i
+  two-words ds n dm (If i c t f) h = absurd (unread i)
   two-words ds n dm (Linear ts) h = never h
 
   rest-over : {ds : List Domain} {e : IntExpr} {es : List IntExpr} → length (encode-int e) ≡ 2 → Over set w p rest ds (e ∷ es) → Over set w (p + 2) (rest - 1) ds es

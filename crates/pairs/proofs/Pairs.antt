@@ -10,10 +10,11 @@ use borrow.Author.Tests.{ltb-false}
 use Rattle.laws.specs.Bools.{or-no-l, or-no-r}
 use Rattle.laws.specs.Lists.{different}
 use Rattle.laws.specs.Writes.{cap, Wrote, wrote-length, wrote-then, wrote-to}
-use Rattle.syntax.specs.Words.{max-weight, max-comparison-vars}
+use Rattle.syntax.specs.Words.{max-weight}
 use Rattle.syntax.specs.Lengths.{int-tag}
 use Rattle.syntax.specs.Syntax.{Domain, Ne, IntExpr, encode-int}
-use Rattle.limits.specs.Limits.{weight, heavy, heavy-comparison, written, many-comparison}
+use Rattle.limits.specs.Limits.{weight, heavy, heavy-comparison, written}
+use Rattle.limits.specs.Light.{few-written}
 use Rattle.sums.specs.LinearSum.{LinearSum, mul-sum, sub-sum}
 use Rattle.sums.specs.Linear.{linear-of, linear-of-same}
 use Rattle.sums.specs.Rising.{terms-of, Among, Each, sub-sum-each, among-left, among-right}
@@ -39,8 +40,7 @@ module _ (w : List ℤ) (a b : ℕ) (c : Pair w a b) where
   ds = c .domains
 
   few : different (written (c .left) ++ written (c .right)) ≤ 64
-  unfolding many-comparison
-  few = ltb-false max-comparison-vars (different (written (c .left) ++ written (c .right))) (c .few)
+  few = few-written (c .left) (c .right) (c .few)
 
   light-left : heavy ds (c .left) ≡ false
   unfolding heavy-comparison

@@ -16,13 +16,13 @@ use Rattle.clauses.specs.Emitted.{length-emitted}
 use Rattle.answer.specs.Answer.{fixed-word, map-word, bool-word, domain-words}
 use Rattle.statements.specs.Stages.{log-of, head-words}
 
-triples-length : (ds : List Domain) → length (flat (map domain-words ds)) ≡ 3 * length ds
-triples-length [] = refl
-triples-length (d ∷ ds) = omega (arith, triples-length ds)
+records-length : (ds : List Domain) → length (flat (map domain-words ds)) ≡ 4 * length ds
+records-length [] = refl
+records-length (d ∷ ds) = omega (arith, records-length ds)
 
 module _ (merge : Bool) (p : Problem) (f : Fixed) (ss : List Stmt) where
-  abbrev pub triples : List ℤ
-  triples = flat (map domain-words (emitted-domains (p .domains) (log-of merge p ss)))
+  abbrev pub records : List ℤ
+  records = flat (map domain-words (emitted-domains (p .domains) (log-of merge p ss)))
 
   abbrev fixed-words : List ℤ
   fixed-words = map fixed-word (map f (below (p .bools)))
@@ -37,13 +37,13 @@ module _ (merge : Bool) (p : Problem) (f : Fixed) (ss : List Stmt) where
   abbrev front : List ℤ
   front = fixed-words ++ (bool-words ++ (int-words ++ (pos (next-bool (log-of merge p ss)) ∷ pos (length (emitted-domains (p .domains) (log-of merge p ss))) ∷ [])))
 
-  head-front : head-words merge p f ss ≡ front ++ triples
+  head-front : head-words merge p f ss ≡ front ++ records
   unfolding head-words
   head-front =
       let z : List ℤ = pos (next-bool (log-of merge p ss)) ∷ pos (length (emitted-domains (p .domains) (log-of merge p ss))) ∷ [] in
       sym (
-      append-assoc fixed-words (bool-words ++ (int-words ++ z)) triples
-      ∙ ap (λ (l : List ℤ). fixed-words ++ l) (append-assoc bool-words (int-words ++ z) triples ∙ ap (λ (l : List ℤ). bool-words ++ l) (append-assoc int-words z triples))
+      append-assoc fixed-words (bool-words ++ (int-words ++ z)) records
+      ∙ ap (λ (l : List ℤ). fixed-words ++ l) (append-assoc bool-words (int-words ++ z) records ∙ ap (λ (l : List ℤ). bool-words ++ l) (append-assoc int-words z records))
       )
 
   front-length : length front ≡ 2 * p .bools + length (p .domains) + 2
@@ -54,13 +54,13 @@ module _ (merge : Bool) (p : Problem) (f : Fixed) (ss : List Stmt) where
       let c : length int-words ≡ length (p .domains) = length-map (map (λ v. get-int-var v (log-of merge p ss)) (below (length (p .domains)))) map-word ∙ length-map (below (length (p .domains))) _ ∙ length-from 0 (length (p .domains)) in
       omega (arith, a, b, c, length-append fixed-words (bool-words ++ (int-words ++ z)), length-append bool-words (int-words ++ z), length-append int-words z)
 
-  pub head-length : length (head-words merge p f ss) ≡ 2 * p .bools + length (p .domains) + 2 + 3 * next-int (log-of merge p ss)
-  head-length = ap length head-front ∙ omega (arith, length-append front triples, front-length, triples-length (emitted-domains (p .domains) (log-of merge p ss)), length-emitted (p .domains) (log-of merge p ss))
+  pub head-length : length (head-words merge p f ss) ≡ 2 * p .bools + length (p .domains) + 2 + 4 * next-int (log-of merge p ss)
+  head-length = ap length head-front ∙ omega (arith, length-append front records, front-length, records-length (emitted-domains (p .domains) (log-of merge p ss)), length-emitted (p .domains) (log-of merge p ss))
 
   -- written with room, the emitted domains stand behind the maps and the two counts
-  pub head-domains : (out : List ℤ) → length (head-words merge p f ss) ≤ length out → Has (sets out 0 (head-words merge p f ss)) (2 * p .bools + length (p .domains) + 2) triples
+  pub head-domains : (out : List ℤ) → length (head-words merge p f ss) ≤ length out → Has (sets out 0 (head-words merge p f ss)) (2 * p .bools + length (p .domains) + 2) records
   head-domains out h =
-      let s : Has (sets out 0 (front ++ triples)) 0 (front ++ triples) = has-sets out 0 (front ++ triples) (omega (arith, ap length head-front)) in
-      let t : Has (sets out 0 (front ++ triples)) (0 + length front) triples = has-back (sets out 0 (front ++ triples)) 0 front triples s in
+      let s : Has (sets out 0 (front ++ records)) 0 (front ++ records) = has-sets out 0 (front ++ records) (omega (arith, ap length head-front)) in
+      let t : Has (sets out 0 (front ++ records)) (0 + length front) records = has-back (sets out 0 (front ++ records)) 0 front records s in
       let e : 0 + length front ≡ 2 * p .bools + length (p .domains) + 2 = omega (arith, front-length) in
       rw (head-front, ← e) t

@@ -48,13 +48,13 @@ module _ (merge : Bool) (p : Problem) (f : Fixed) (ss : List Stmt) where
   layout-length = ap length layout-is ∙ omega (arith, length-append head (pos (length (clauses-of merge p ss)) ∷ tail))
 
   -- the words in front of the count alone do not fit
-  layout-long : (w : List ℤ) (c : Counters) (b i : ℕ) → b ≡ p .bools → i ≡ length (p .domains) → NumberedSet merge p f ss w c → 2 * b + i + 2 + 3 * c .ints < length (layout (normalize merge p f ss))
+  layout-long : (w : List ℤ) (c : Counters) (b i : ℕ) → b ≡ p .bools → i ≡ length (p .domains) → NumberedSet merge p f ss w c → 2 * b + i + 2 + 4 * c .ints < length (layout (normalize merge p f ss))
   layout-long w c b i eb ei r =
       let n : c .ints ≡ next-int (log-of merge p ss) = r .numbered .ints in
       omega (arith, layout-length, head-length merge p f ss)
 
 module _ {merge : Bool} {p : Problem} {f : Fixed} {ss : List Stmt} {c : Counters} {set' w : List ℤ} {b i end from : ℕ} {out : List ℤ} (h : Writes merge p f ss c set' w b i end from out) where
-  head-is : length (head-words merge p f ss) ≡ 2 * b + i + 2 + 3 * c .ints
+  head-is : length (head-words merge p f ss) ≡ 2 * b + i + 2 + 4 * c .ints
   head-is =
       let n : c .ints ≡ next-int (log-of merge p ss) = h .ready .numbered .ints in
       omega (arith, head-length merge p f ss, h .bools, h .ints)
@@ -197,10 +197,10 @@ module _ (merge : Bool) (set' w : List ℤ) (b i end : ℕ) (out w' : List ℤ) 
     counts-small s = (omega (arith, s .emits .bools, s .emits .folded .set .well .few-bools), omega (arith, s .emits .ints, s .emits .folded .set .well .few-ints))
 
     module _ (room : ℕ) (cut : room ≡ min (length out) max-answer-words) where
-      pub emit-short : room ≤ 2 * b + i + 2 + 3 * c .ints → Emit-post merge set' w b i end out out (answer.Refused 12)
+      pub emit-short : room ≤ 2 * b + i + 2 + 4 * c .ints → Emit-post merge set' w b i end out out (answer.Refused 12)
       emit-short l p f ss h = gives-long (length out) (layout (normalize merge p f ss)) out (omega (arith, layout-long merge p f ss w'' c b i (h .bools) (h .ints) (numbered p f ss h))) (h .zeroed)
 
-      module _ (fits : 2 * b + i + 2 + 3 * c .ints < room) where
+      module _ (fits : 2 * b + i + 2 + 4 * c .ints < room) where
         writes : (p : Problem) (f : Fixed) (ss : List Stmt) → Emits p f ss set' w b i end out → Writes merge p f ss c set' w'' b i end n (take room out)
         writes p f ss h =
             let l : length (take room out) ≡ room = length-take-le room out (omega arith) in

@@ -34,7 +34,7 @@ pub record Writes (merge : Bool) (p : Problem) (f : Fixed) (ss : List Stmt) (c :
   pub ready : NumberedSet merge p f ss w c
   pub ends : end ≡ 512 + length (stmts-words ss)
   pub first : from ≡ next-bool (start-log merge ss)
-  pub fits : 2 * b + i + 2 + 3 * c .ints < length out
+  pub fits : 2 * b + i + 2 + 4 * c .ints < length out
   pub part : length out ≤ max-answer-words
 
 pub record SomeWrites (set w : List ℤ) (b i end from : ℕ) (c : Counters) (out : List ℤ) : Type 0 where

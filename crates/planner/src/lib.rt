@@ -66,7 +66,7 @@ fn emit(
     let n = merging::merge_equivalent_variables(work, end, merge);
     let c = numbered::number_statements(work, end, n);
     let room = lent(out.len());
-    if room <= 2 * bools + ints + 2 + 3 * c.ints {
+    if room <= 2 * bools + ints + 2 + 4 * c.ints {
         return Answer::Refused(12);
     }
     let words = write_answer(set, work, bools, ints, end, n, c, &mut out[..room]);

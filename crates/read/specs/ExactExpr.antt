@@ -10,7 +10,7 @@ use native.Mathlib.Numerals.{sub-one}
 use lib.IntN.{ℤ, pos}
 use Rattle.laws.specs.Ints.{eqZ}
 use Rattle.laws.specs.Order.{eqZ-is}
-use Rattle.syntax.specs.Syntax.{op-at, encode-op, encode-int, encode-terms, encode-bool, encode-members, encode-bit, count-terms, count-members, CmpOp, Eq, Ne, Le, Lt, Ge, Gt, IntExpr, IConst, IVar, Linear, If, Terms, tnil, tmore, BoolExpr, Const, Var, NVar, And, Or, Not, Xor, Iff, Imp, Cmp, Members, mnil, more}
+use Rattle.syntax.specs.Syntax.{unread, op-at, encode-op, encode-int, encode-terms, encode-bool, encode-members, encode-bit, count-terms, count-members, CmpOp, Eq, Ne, Le, Lt, Ge, Gt, IntExpr, IConst, IVar, Linear, If, Terms, tnil, tmore, BoolExpr, Const, Var, NVar, And, Or, Not, Xor, Iff, Imp, Cmp, Members, mnil, more}
 use Rattle.words.specs.Parse.{ok, Parser, parse-then, seq-parser, word, up-to, count, index, number}
 use Rattle.words.specs.Exact.{Exact, refuse-ok, parse-then-ok, word-ok, up-to-exact, count-exact, index-exact, number-exact}
 use Rattle.read.specs.Read.{kind-int, IntKind, i-const, i-var, i-sum, i-unknown, kind-bool, BoolKind, k-const, k-var, k-and, k-or, k-not, k-xor, k-iff, k-imp, k-cmp, k-unknown, bit-at, read-terms, read-members, step-int, read-int, step-bool, read-bool}
@@ -118,7 +118,7 @@ module _ (ni left : ℕ) (p : Parser IntExpr) (x : Exact encode-int (WellInt ni 
   unfolding step-int kind-int encode-int WellInt
   step-int-complete (IConst c) r h = rw (number-exact .complete c r (h .1)) refl
   step-int-complete (IVar v) r h = rw (index-exact ni .complete v r (h .1)) refl
-  step-int-complete (If i c t f) r h = absurd i
+  step-int-complete (If i c t f) r h = absurd (unread i)
   step-int-complete (Linear ts) r h = rw (count-exact .complete (count-terms ts) (encode-terms ts ++ r) (h .1), terms-complete ts r (rw sub-one at (h .2))) refl
 
   -- an unknown word is not accepted
@@ -139,7 +139,7 @@ int-no-level : (ni : ℕ) (e : IntExpr) → WellInt ni 0 e → ⊥
 unfolding WellInt
 int-no-level ni (IConst c) h = omega (arith, h .0)
 int-no-level ni (IVar v) h = omega (arith, h .0)
-int-no-level ni (If i c t f) h = absurd i
+int-no-level ni (If i c t f) h = absurd (unread i)
 int-no-level ni (Linear ts) h = omega (arith, h .0)
 
 pub int-exact : (ni left : ℕ) → Exact encode-int (WellInt ni left) (read-int ni left)

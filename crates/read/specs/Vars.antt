@@ -1,7 +1,7 @@
 -- What reading accepts writes declared variables only and no emitted number, and its rows are as wide as their tables.
 use mathlib.Core.List.{List, [], _∷_}
 use Prim.Native.Nat.{ℕ, _-_, _<_}
-use Rattle.syntax.specs.Syntax.{IntExpr, IConst, IVar, Linear, If, Terms, tnil, tmore, BoolExpr, Const, Var, NVar, And, Or, Not, Xor, Iff, Imp, Cmp, Members, mnil, more, Cell}
+use Rattle.syntax.specs.Syntax.{unread, IntExpr, IConst, IVar, Linear, If, Terms, tnil, tmore, BoolExpr, Const, Var, NVar, And, Or, Not, Xor, Iff, Imp, Cmp, Members, mnil, more, Cell}
 use Rattle.syntax.specs.Written.{EveryIntOf, EveryTermOf, EveryColumnOf, EveryOf, EveryMemberOf, None}
 use Rattle.syntax.specs.Lengths.{Wide}
 use Rattle.words.specs.Exact.{Each}
@@ -14,7 +14,7 @@ module _ (N P : ℕ → Type 0) (ni : ℕ) where
     pub int-vars : (left : ℕ) (e : IntExpr) → WellInt ni left e → EveryIntOf N P (λ v. v < ni) e
     int-vars left (IConst c) h = tt
     int-vars left (IVar v) h = h .1
-    int-vars left (If i c t f) h = absurd i
+    int-vars left (If i c t f) h = absurd (unread i)
     int-vars left (Linear ts) h = terms-vars (left - 1) ts (h .2)
 
     terms-vars : (left : ℕ) (ts : Terms) → WellTerms ni left ts → EveryTermOf N P (λ v. v < ni) ts

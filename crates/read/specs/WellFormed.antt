@@ -8,7 +8,7 @@ use lib.IntN.{ℤ}
 use lib.Signed.{ltZ, leZ}
 use lib.ListN.{length}
 use Rattle.syntax.specs.Words.{max-bools, max-ints, max-count, max-depth}
-use Rattle.syntax.specs.Syntax.{count-terms, count-members, Domain, Range, Enumerative, IntExpr, IConst, IVar, Linear, If, Terms, tnil, tmore, BoolExpr, Const, Var, NVar, And, Or, Not, Xor, Iff, Imp, Cmp, Members, mnil, more, Cell, star, value, Stmt, Rule, Table, AllDifferent, Problem}
+use Rattle.syntax.specs.Syntax.{unread, count-terms, count-members, Domain, Range, Enumerative, IntExpr, IConst, IVar, Linear, If, Terms, tnil, tmore, BoolExpr, Const, Var, NVar, And, Or, Not, Xor, Iff, Imp, Cmp, Members, mnil, more, Cell, star, value, Stmt, Rule, Table, AllDifferent, Problem}
 use Rattle.words.specs.Exact.{Value, Each}
 
 -- each value above the one before it
@@ -30,7 +30,7 @@ module _ (ni : ℕ) where
     pub WellInt : ℕ → IntExpr → Type 0
     WellInt left (IConst c) = (0 < left) × Value c
     WellInt left (IVar v) = (0 < left) × (v < ni)
-    WellInt left (If i c t f) = absurd i
+    WellInt left (If i c t f) = absurd (unread i)
     WellInt left (Linear ts) = (0 < left) × (count-terms ts ≤ max-count) × WellTerms (left - 1) ts
 
     pub WellTerms : ℕ → Terms → Type 0

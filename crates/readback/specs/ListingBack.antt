@@ -11,7 +11,7 @@ use lib.ListN.{length, take, drop, length-map}
 use lib.Seq.{take-append-seam, drop-append-seam}
 use Rattle.laws.specs.Lists.{flat, counted, below, length-from}
 use Rattle.syntax.specs.Words.{max-set-words, min-work-words, max-answer-words}
-use Rattle.syntax.specs.Syntax.{Domain, Stmt, Problem, encode}
+use Rattle.syntax.specs.Syntax.{Stmt, Problem, encode}
 use Rattle.words.specs.Parse.{Parsed, ok, refuse}
 use Rattle.read.specs.Read.{read-set}
 use Rattle.read.specs.Exact.{set-sound}
@@ -19,7 +19,7 @@ use Rattle.limits.specs.Limits.{check}
 use Rattle.fold.specs.Fold.{Fixed}
 use Rattle.fold.specs.Optimize.{Outcome, inconsistent, settled, optimize}
 use Rattle.clauses.specs.Clause.{Clause, clause}
-use Rattle.answer.specs.Answer.{Answer, layout, answer-of, normalize, fixed-word, map-word, bool-word, domain-words, clause-words}
+use Rattle.answer.specs.Answer.{Emitted, Answer, layout, answer-of, normalize, fixed-word, map-word, bool-word, emitted-words, clause-words}
 use Rattle.call.specs.Call.{Result, compiled, contradiction, refused, measured, answered, checked, when-read, call-with}
 use Rattle.call.specs.declared.Choices.{Choices}
 use Rattle.decimal.specs.Bytes.{line-feed, bools-key, ints-key, fixed-key, emitted-key, domain-key, compiled-line}
@@ -35,10 +35,10 @@ use Rattle.readback.specs.Shown.{times-shown, domain-filled, domain-show
 use Rattle.readback.specs.Lines.{line-split, one-back-line, last-text, last-split, clauses-split, clauses-back}
 use Rattle.readback.specs.Listed.{print-result}
 
--- ---- the domains
+-- ---- the records
 
-abbrev pub domain-text : Domain → List ℕ
-domain-text d = print-line domain-key (domain-words d)
+abbrev pub domain-text : Emitted → List ℕ
+domain-text e = print-line domain-key (emitted-words e)
 
 join-assoc : (xs ys : List ℤ) (b : Option (List ℤ)) → join (some xs) (join (some ys) b) ≡ join (some (xs ++ ys)) b
 join-assoc xs ys none = refl
@@ -48,19 +48,19 @@ join-none : (b : Option (List ℤ)) → join (some []) b ≡ b
 join-none none = refl
 join-none (some zs) = refl
 
-domain-read : (d : Domain) (next : Reader) (rest : List ℕ) → each-line domain-key next (split line-feed (domain-text d ++ rest)) ≡ join (some (domain-words d)) (each-line domain-key next (split line-feed rest))
+domain-read : (d : Emitted) (next : Reader) (rest : List ℕ) → each-line domain-key next (split line-feed (domain-text d ++ rest)) ≡ join (some (emitted-words d)) (each-line domain-key next (split line-feed rest))
 unfolding each-line
-domain-read d next rest = rw (line-split domain-key refl (domain-words d) rest, after-key domain-key (print-numbers (domain-words d)), part-back (domain-words d)) refl
+domain-read d next rest = rw (line-split domain-key refl (emitted-words d) rest, after-key domain-key (print-numbers (emitted-words d)), part-back (emitted-words d)) refl
 
-domains-back : (ds : List Domain) (next : Reader) (rest : List ℕ) → each-line domain-key next (split line-feed rest) ≡ next (split line-feed rest)
-    → each-line domain-key next (split line-feed (flat (map domain-text ds) ++ rest)) ≡ join (some (flat (map domain-words ds))) (next (split line-feed rest))
+domains-back : (ds : List Emitted) (next : Reader) (rest : List ℕ) → each-line domain-key next (split line-feed rest) ≡ next (split line-feed rest)
+    → each-line domain-key next (split line-feed (flat (map domain-text ds) ++ rest)) ≡ join (some (flat (map emitted-words ds))) (next (split line-feed rest))
 domains-back [] next rest h = h ∙ sym (join-none (next (split line-feed rest)))
 domains-back (d ∷ ds) next rest h =
     let more : List ℕ = flat (map domain-text ds) ++ rest in
     ap (λ l. each-line domain-key next (split line-feed l)) (append-assoc (domain-text d) (flat (map domain-text ds)) rest)
     ∙ domain-read d next more
-    ∙ ap (join (some (domain-words d))) (domains-back ds next rest h)
-    ∙ join-assoc (domain-words d) (flat (map domain-words ds)) (next (split line-feed rest))
+    ∙ ap (join (some (emitted-words d))) (domains-back ds next rest h)
+    ∙ join-assoc (emitted-words d) (flat (map emitted-words ds)) (next (split line-feed rest))
 
 -- no line of the clauses is a domain's
 not-domain : (cs : List Clause) (k t : ℕ) (next : Reader) → each-line domain-key next (split line-feed (flat (map clause-text cs) ++ last-text k t)) ≡ next (split line-feed (flat (map clause-text cs) ++ last-text k t))
@@ -73,12 +73,12 @@ not-domain (c ∷ cs) k t next = rw (clauses-split c cs k t) (go c)
 
 -- ---- what is printed of an answer's words
 
-module _ (fs ms is : List ℤ) (b i : ℕ) (fs-count : length fs ≡ b) (ms-count : length ms ≡ b) (is-count : length is ≡ i) (eb : ℕ) (ds : List Domain) (cs : List Clause) where
+module _ (fs ms is : List ℤ) (b i : ℕ) (fs-count : length fs ≡ b) (ms-count : length ms ≡ b) (is-count : length is ≡ i) (eb : ℕ) (ds : List Emitted) (cs : List Clause) where
   abbrev pub clauses-words : List ℤ
   clauses-words = counted clause-words cs
 
   abbrev pub tail : List ℤ
-  tail = pos eb ∷ (counted domain-words ds ++ clauses-words)
+  tail = pos eb ∷ (counted emitted-words ds ++ clauses-words)
 
   abbrev pub whole : List ℤ
   whole = fs ++ (ms ++ (is ++ tail))
@@ -99,7 +99,7 @@ module _ (fs ms is : List ℤ) (b i : ℕ) (fs-count : length fs ≡ b) (ms-coun
 
   tail-printed : print-emitted tail ≡ tail-text
   unfolding print-emitted
-  tail-printed = rw (times-shown print-domain domain-words domain-text domain-filled domain-shown ds clauses-words, clauses-printed) refl
+  tail-printed = rw (times-shown print-domain emitted-words domain-text domain-filled domain-shown ds clauses-words, clauses-printed) refl
 
   pub compiled-printed : print-compiled b i whole ≡ compiled-line ++ (print-line fixed-key fs ++ (print-line bools-key ms ++ (print-line ints-key is ++ tail-text)))
   unfolding print-compiled
@@ -117,7 +117,7 @@ module _ (fs ms is : List ℤ) (b i : ℕ) (fs-count : length fs ≡ b) (ms-coun
   tail-back : one-line emitted-key (each-line domain-key read-clauses) (split line-feed tail-text) ≡ some tail
   tail-back =
       one-back-line emitted-key (each-line domain-key read-clauses) refl (pos eb ∷ pos (length ds) ∷ []) (flat (map domain-text ds) ++ clauses-text)
-      ∙ ap (join (some (pos eb ∷ pos (length ds) ∷ []))) (domains-back ds read-clauses clauses-text (not-domain cs (length cs) (members-in cs) read-clauses) ∙ ap (join (some (flat (map domain-words ds)))) (clauses-back cs (length cs)))
+      ∙ ap (join (some (pos eb ∷ pos (length ds) ∷ []))) (domains-back ds read-clauses clauses-text (not-domain cs (length cs) (members-in cs) read-clauses) ∙ ap (join (some (flat (map emitted-words ds)))) (clauses-back cs (length cs)))
 
   words-back : read-compiled (split line-feed (print-line fixed-key fs ++ (print-line bools-key ms ++ (print-line ints-key is ++ tail-text)))) ≡ some whole
   unfolding read-compiled

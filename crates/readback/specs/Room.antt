@@ -11,15 +11,15 @@ use borrow.Author.Tests.{leb-true, ltb-false}
 use Rattle.laws.specs.Bools.{and-l, and-r}
 use Rattle.laws.specs.Lists.{all, flat, counted, below, length-from}
 use Rattle.syntax.specs.Words.{max-set-words, min-work-words, max-answer-words}
-use Rattle.syntax.specs.Syntax.{Domain, encode-op, Stmt, Problem}
+use Rattle.syntax.specs.Syntax.{encode-op, Stmt, Problem}
 use Rattle.words.specs.Parse.{Parsed, ok, refuse}
 use Rattle.read.specs.Read.{read-set}
 use Rattle.limits.specs.Limits.{check}
 use Rattle.fold.specs.Fold.{Fixed}
 use Rattle.fold.specs.Optimize.{Outcome, inconsistent, settled, optimize}
 use Rattle.sums.specs.LinearSum.{linear-sum}
-use Rattle.clauses.specs.Clause.{LinearLit, linear, Clause, clause}
-use Rattle.answer.specs.Answer.{Answer, layout, answer-of, normalize, fixed-word, map-word, bool-word, domain-words, lit-words, linear-words, clause-words}
+use Rattle.clauses.specs.Clause.{lit, LinearLit, linear, Clause, clause}
+use Rattle.answer.specs.Answer.{Emitted, ranging, following, Answer, layout, answer-of, normalize, fixed-word, map-word, bool-word, emitted-words, lit-words, linear-words, clause-words}
 use Rattle.call.specs.Call.{Result, compiled, contradiction, refused, measured, answered, checked, when-read, call-with}
 use Rattle.call.specs.declared.Choices.{Choices}
 use Rattle.decimal.specs.Bytes.{colon, line-feed, bools-key, ints-key, fixed-key, emitted-key, domain-key, clause-key, clauses-key, total-key, compiled-line}
@@ -76,8 +76,10 @@ module _ {A : Type 0} (text : A → List ℕ) (code : A → List ℤ) (one : (a 
   all-short [] = omega arith
   all-short (a ∷ ys) = short-append (text a) (flat (map text ys)) (code a) (flat (map code ys)) (one a) (all-short ys)
 
-domain-short : (d : Domain) → Short (domain-text d) (domain-words d)
-domain-short d = omega (arith, line-short domain-key (domain-words d))
+domain-short : (e : Emitted) → Short (domain-text e) (emitted-words e)
+domain-short (ranging d) = omega (arith, line-short domain-key (emitted-words (ranging d)))
+domain-short (following (lit n false) a b) = omega (arith, line-short domain-key (emitted-words (following (lit n false) a b)))
+domain-short (following (lit n true) a b) = omega (arith, line-short domain-key (emitted-words (following (lit n true) a b)))
 
 linear-short : (k : LinearLit) → Short (linear-text k) (linear-words k)
 unfolding bytes
@@ -112,7 +114,7 @@ last-short : (k t : ℕ) → t ≤ 2147483648 → length (last-text k t) ≤ byt
 last-short k t h =
     omega (arith, length-append (print-line clauses-key (pos k ∷ [])) (total-key ++ (print-natural t ++ (line-feed ∷ []))), length-append total-key (print-natural t ++ (line-feed ∷ [])), length-append (print-natural t) (line-feed ∷ []), line-short clauses-key (pos k ∷ []), natural-short 9 t (omega (arith, h)))
 
-module _ (fs ms is : List ℤ) (b i : ℕ) (fs-count : length fs ≡ b) (ms-count : length ms ≡ b) (is-count : length is ≡ i) (eb : ℕ) (ds : List Domain) (cs : List Clause) where
+module _ (fs ms is : List ℤ) (b i : ℕ) (fs-count : length fs ≡ b) (ms-count : length ms ≡ b) (is-count : length is ≡ i) (eb : ℕ) (ds : List Emitted) (cs : List Clause) where
   abbrev words : List ℤ
   words = whole fs ms is b i fs-count ms-count is-count eb ds cs
 
@@ -128,20 +130,20 @@ module _ (fs ms is : List ℤ) (b i : ℕ) (fs-count : length fs ≡ b) (ms-coun
       let t : members-in cs ≤ 2147483648 = omega (arith, members-few cs, h) in
       omega (arith, length-append (flat (map clause-text cs)) (last-text (length cs) (members-in cs)), all-short clause-text clause-words clause-short cs, last-short (length cs) (members-in cs) t)
 
-  tail-short : length (flat (map clause-words cs)) ≤ 2147483648 → length printed ≤ bytes (pos eb ∷ (counted domain-words ds ++ counted clause-words cs)) + 3 * length (counted domain-words ds ++ counted clause-words cs) + 35
+  tail-short : length (flat (map clause-words cs)) ≤ 2147483648 → length printed ≤ bytes (pos eb ∷ (counted emitted-words ds ++ counted clause-words cs)) + 3 * length (counted emitted-words ds ++ counted clause-words cs) + 35
   unfolding bytes
   tail-short h =
       let emitted : List ℤ = pos eb ∷ pos (length ds) ∷ [] in
       let domains : List ℕ = flat (map domain-text ds) in
-      omega (arith, length-append (print-line emitted-key emitted) (domains ++ clauses-printed), length-append domains clauses-printed, line-short emitted-key emitted, all-short domain-text domain-words domain-short ds, clauses-short h, bytes-append (counted domain-words ds) (counted clause-words cs), length-append (counted domain-words ds) (counted clause-words cs))
+      omega (arith, length-append (print-line emitted-key emitted) (domains ++ clauses-printed), length-append domains clauses-printed, line-short emitted-key emitted, all-short domain-text emitted-words domain-short ds, clauses-short h, bytes-append (counted emitted-words ds) (counted clause-words cs), length-append (counted emitted-words ds) (counted clause-words cs))
 
   answer-short : length words ≤ 16384 → all fitting words ≡ true → length (print-compiled b i words) ≤ 262144
   answer-short h k =
-      let tail : List ℤ = pos eb ∷ (counted domain-words ds ++ counted clause-words cs) in
+      let tail : List ℤ = pos eb ∷ (counted emitted-words ds ++ counted clause-words cs) in
       let c1 : length words ≡ length fs + length (ms ++ (is ++ tail)) = length-append fs (ms ++ (is ++ tail)) in
       let c2 : length (ms ++ (is ++ tail)) ≡ length ms + length (is ++ tail) = length-append ms (is ++ tail) in
       let c3 : length (is ++ tail) ≡ length is + length tail = length-append is tail in
-      let c4 : length (counted domain-words ds ++ counted clause-words cs) ≡ length (counted domain-words ds) + length (counted clause-words cs) = length-append (counted domain-words ds) (counted clause-words cs) in
+      let c4 : length (counted emitted-words ds ++ counted clause-words cs) ≡ length (counted emitted-words ds) + length (counted clause-words cs) = length-append (counted emitted-words ds) (counted clause-words cs) in
       let few : length (flat (map clause-words cs)) ≤ 2147483648 = omega arith in
       let e1 : bytes words ≡ bytes fs + bytes (ms ++ (is ++ tail)) = bytes-append fs (ms ++ (is ++ tail)) in
       let e2 : bytes (ms ++ (is ++ tail)) ≡ bytes ms + bytes (is ++ tail) = bytes-append ms (is ++ tail) in

@@ -8,10 +8,10 @@ use lib.ListN.{length, take, drop, length-append}
 use lib.Seq.{take-append-seam, drop-append-seam}
 use mathlib.Core.Bool.{true, false}
 use Rattle.laws.specs.Lists.{flat, counted}
-use Rattle.syntax.specs.Syntax.{Domain, encode-op}
+use Rattle.syntax.specs.Syntax.{encode-op}
 use Rattle.sums.specs.LinearSum.{Term, term, linear-sum}
 use Rattle.clauses.specs.Clause.{BoolLit, lit, LinearLit, linear, Clause, clause}
-use Rattle.answer.specs.Answer.{domain-words, lit-words, term-words, linear-words, clause-words}
+use Rattle.answer.specs.Answer.{Emitted, ranging, following, emitted-words, lit-words, term-words, linear-words, clause-words}
 use Rattle.decimal.specs.Bytes.{semicolon, line-feed, domain-key, clause-key}
 use Rattle.lines.specs.Lines.{Shown, count-word, print-numbers, print-line, times, print-domain, print-comparison, literals, after-literals, print-comparisons, print-clause, summed, members, total}
 use Rattle.readback.specs.Split.{body}
@@ -31,14 +31,17 @@ module _ {A : Type 0} (f : List ℤ → Shown) (code : A → List ℤ) (text : A
       let more : List ℤ = flat (map code ys) ++ r in
       rw (append-assoc (code a) (flat (map code ys)) r) (times-suc f (length ys) (code a ++ more) (omega (arith, filled a, length-append (code a) more)) ∙ rw (one a more, times-shown ys r) refl)
 
--- ---- a domain
+-- ---- a record
 
-pub domain-filled : (d : Domain) → 0 < length (domain-words d)
-domain-filled d = omega arith
+pub domain-filled : (e : Emitted) → 0 < length (emitted-words e)
+domain-filled (ranging d) = omega arith
+domain-filled (following l a b) = omega arith
 
-pub domain-shown : (d : Domain) (r : List ℤ) → print-domain (domain-words d ++ r) ≡ record { text = print-line domain-key (domain-words d); rest = r }
+pub domain-shown : (e : Emitted) (r : List ℤ) → print-domain (emitted-words e ++ r) ≡ record { text = print-line domain-key (emitted-words e); rest = r }
 unfolding print-domain
-domain-shown d r = refl
+domain-shown (ranging d) r = refl
+domain-shown (following (lit n false) a b) r = refl
+domain-shown (following (lit n true) a b) r = refl
 
 -- ---- a comparison
 

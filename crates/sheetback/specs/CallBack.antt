@@ -19,7 +19,7 @@ use Rattle.limits.specs.Limits.{check}
 use Rattle.fold.specs.Fold.{Fixed}
 use Rattle.fold.specs.Optimize.{Outcome, inconsistent, settled, optimize}
 use Rattle.clauses.specs.Clause.{Clause}
-use Rattle.answer.specs.Answer.{Answer, layout, answer-of, normalize, fixed-word, map-word, bool-word, domain-words, clause-words}
+use Rattle.answer.specs.Answer.{Answer, layout, answer-of, normalize, fixed-word, map-word, bool-word, emitted-words, clause-words}
 use Rattle.answer.specs.Passes.{Decoded, decode}
 use Rattle.answer.specs.ReadBack.{answer-back}
 use Rattle.call.specs.Call.{Result, compiled, contradiction, refused, measured, answered, checked, when-read, call-with}
@@ -48,12 +48,12 @@ layout-clauses a b i f m n =
     let fs : List ℤ = map fixed-word (a .fixed) in
     let ms : List ℤ = map bool-word (a .bool-map) in
     let is : List ℤ = map map-word (a .int-map) in
-    let rest : List ℤ = pos (a .emitted-bools) ∷ (counted domain-words (a .emitted-ints) ++ counted clause-words (a .clauses)) in
+    let rest : List ℤ = pos (a .emitted-bools) ∷ (counted emitted-words (a .emitted-ints) ++ counted clause-words (a .clauses)) in
     let d1 : drop b (fs ++ (ms ++ (is ++ rest))) ≡ ms ++ (is ++ rest) = rw (← f, ← length-map (a .fixed) fixed-word) (drop-append-seam fs (ms ++ (is ++ rest))) in
     let d2 : drop b (ms ++ (is ++ rest)) ≡ is ++ rest = rw (← m, ← length-map (a .bool-map) bool-word) (drop-append-seam ms (is ++ rest)) in
     let d3 : drop i (is ++ rest) ≡ rest = rw (← n, ← length-map (a .int-map) map-word) (drop-append-seam is rest) in
     let d : drop i (drop b (drop b (fs ++ (ms ++ (is ++ rest))))) ≡ rest = ap (λ (x : List ℤ). drop i (drop b x)) d1 ∙ ap (drop i) d2 ∙ d3 in
-    ap (λ (es : List ℤ). times print-domain (count-word (drop 1 es)) (drop 2 es) .rest) d ∙ ap (λ (x : Shown). x .rest) (times-shown print-domain domain-words domain-text domain-filled domain-shown (a .emitted-ints) (counted clause-words (a .clauses)))
+    ap (λ (es : List ℤ). times print-domain (count-word (drop 1 es)) (drop 2 es) .rest) d ∙ ap (λ (x : Shown). x .rest) (times-shown print-domain emitted-words domain-text domain-filled domain-shown (a .emitted-ints) (counted clause-words (a .clauses)))
 
 clauses-few : (cs : List Clause) → length cs ≤ length (flat (map clause-words cs))
 clauses-few [] = omega arith
@@ -62,7 +62,7 @@ clauses-few (c ∷ cs) = omega (arith, clauses-few cs, clause-filled c, length-a
 pub layout-few : (a : Answer) → length (a .clauses) < length (layout a)
 unfolding layout
 layout-few a =
-    let ds : List ℤ = counted domain-words (a .emitted-ints) in
+    let ds : List ℤ = counted emitted-words (a .emitted-ints) in
     let cs : List ℤ = counted clause-words (a .clauses) in
     let is : List ℤ = map map-word (a .int-map) in
     let ms : List ℤ = map bool-word (a .bool-map) in

@@ -13,7 +13,7 @@ use Rattle.laws.specs.Lists.{all, all-append, flat, counted}
 use Rattle.syntax.specs.Syntax.{encode-op}
 use Rattle.sums.specs.LinearSum.{linear-sum}
 use Rattle.clauses.specs.Clause.{LinearLit, linear, Clause, clause}
-use Rattle.answer.specs.Answer.{Answer, layout, fixed-word, map-word, bool-word, domain-words, lit-words, linear-words, clause-words}
+use Rattle.answer.specs.Answer.{Answer, layout, fixed-word, map-word, bool-word, emitted-words, lit-words, linear-words, clause-words}
 use Rattle.call.specs.Call.{compiled, call-with}
 use Rattle.call.specs.declared.Choices.{Choices}
 use Rattle.decimal.specs.Bytes.{comma, colon, line-feed}
@@ -329,7 +329,7 @@ behind xs ys h = and-r (all fitting xs) (all fitting ys) (sym (all-append fittin
 clauses-fit : (a : Answer) → all fitting (layout a) ≡ true → all fitting (flat (map clause-words (a .clauses))) ≡ true
 unfolding layout
 clauses-fit a h =
-    let ds : List ℤ = counted domain-words (a .emitted-ints) in
+    let ds : List ℤ = counted emitted-words (a .emitted-ints) in
     let cs : List ℤ = counted clause-words (a .clauses) in
     let e : all fitting (pos (a .emitted-bools) ∷ (ds ++ cs)) ≡ true = behind (map map-word (a .int-map)) _ (behind (map bool-word (a .bool-map)) _ (behind (map fixed-word (a .fixed)) _ h)) in
     let f : all fitting cs ≡ true = behind ds cs (and-r (fitting (pos (a .emitted-bools))) (all fitting (ds ++ cs)) e) in

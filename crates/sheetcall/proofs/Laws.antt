@@ -30,25 +30,25 @@ cleared-all s₀ s i h k z e = let q : i ≡ length s₀ = omega arith in sym (t
 
 -- ---- the place of the count of clauses
 
-after-one : (w : ℤ) (ws : List ℤ) → print-domain (w ∷ ws) .rest ≡ drop 3 (w ∷ ws)
+after-one : (w : ℤ) (ws : List ℤ) → print-domain (w ∷ ws) .rest ≡ drop 4 (w ∷ ws)
 unfolding print-domain
 after-one w ws = refl
 
-domains-drop : (n : ℕ) (ws : List ℤ) → times print-domain n ws .rest ≡ drop (3 * n) ws
+domains-drop : (n : ℕ) (ws : List ℤ) → times print-domain n ws .rest ≡ drop (4 * n) ws
 unfolding times
 domains-drop zero ws = refl
-domains-drop (suc n) [] = sym (drop-nil (3 * suc n))
+domains-drop (suc n) [] = sym (drop-nil (4 * suc n))
 domains-drop (suc n) (w ∷ ws) =
-    let e : 3 + 3 * n ≡ 3 * suc n = omega arith in
-    ap (λ (l : List ℤ). times print-domain n l .rest) (after-one w ws) ∙ domains-drop n (drop 3 (w ∷ ws)) ∙ drop-drop (3 * n) 3 (w ∷ ws) ∙ ap (λ (k : ℕ). drop k (w ∷ ws)) e
+    let e : 4 + 4 * n ≡ 4 * suc n = omega arith in
+    ap (λ (l : List ℤ). times print-domain n l .rest) (after-one w ws) ∙ domains-drop n (drop 4 (w ∷ ws)) ∙ drop-drop (4 * n) 4 (w ∷ ws) ∙ ap (λ (k : ℕ). drop k (w ∷ ws)) e
 
-pub clauses-found : (ws : List ℤ) (b i a₁ a₂ c d n e r : ℕ) → Stops ws 0 b a₁ → Stops ws a₁ b a₂ → Stops ws a₂ i c → Stops ws c 1 d → n ≡ count-word (drop d ws) → Stops ws c 2 e → Stops ws e (3 * n) r → (drop r ws ≡ from-clauses b i ws) × (r ≤ length ws)
+pub clauses-found : (ws : List ℤ) (b i a₁ a₂ c d n e r : ℕ) → Stops ws 0 b a₁ → Stops ws a₁ b a₂ → Stops ws a₂ i c → Stops ws c 1 d → n ≡ count-word (drop d ws) → Stops ws c 2 e → Stops ws e (4 * n) r → (drop r ws ≡ from-clauses b i ws) × (r ≤ length ws)
 unfolding from-clauses
 clauses-found ws b i a₁ a₂ c d n e r s₁ s₂ s₃ s₄ m s₅ s₆ =
     let f : drop c ws ≡ drop i (drop b (drop b ws)) = s₃ .rest ∙ ap (drop i) (s₂ .rest ∙ ap (drop b) (s₁ .rest)) in
     let g : times print-domain (count-word (drop 1 (drop c ws))) (drop 2 (drop c ws)) .rest ≡ times print-domain (count-word (drop 1 (drop i (drop b (drop b ws))))) (drop 2 (drop i (drop b (drop b ws)))) .rest = ap (λ (es : List ℤ). times print-domain (count-word (drop 1 es)) (drop 2 es) .rest) f in
     let k : n ≡ count-word (drop 1 (drop c ws)) = m ∙ ap count-word (s₄ .rest) in
-    (s₆ .rest ∙ ap (drop (3 * n)) (s₅ .rest) ∙ sym (domains-drop n (drop 2 (drop c ws))) ∙ ap (λ (x : ℕ). times print-domain x (drop 2 (drop c ws)) .rest) k ∙ g, s₆ .high)
+    (s₆ .rest ∙ ap (drop (4 * n)) (s₅ .rest) ∙ sym (domains-drop n (drop 2 (drop c ws))) ∙ ap (λ (x : ℕ). times print-domain x (drop 2 (drop c ws)) .rest) k ∙ g, s₆ .high)
 
 pub sheet-of-words : {sheet sheet' : List ℕ} {r : ℕ} (set ws : List ℤ) (b i at : ℕ) → b ≡ count-word (drop 0 set) → i ≡ count-word (drop 1 set) → drop at ws ≡ from-clauses b i ws → Wrote sheet 0 (print-sheet (drop at ws)) sheet' r → Wrote sheet 0 (sheet-text set ws) sheet' r
 unfolding sheet-text clauses-part

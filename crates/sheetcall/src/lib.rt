@@ -38,7 +38,7 @@ fn clauses_at(words: &[i32], bools: usize, ints: usize) -> usize
     let d = stop(words, c, 1);
     let n = count_at(words, d);
     let e = stop(words, c, 2);
-    stop(words, e, 3 * n)
+    stop(words, e, 4 * n)
 }
 
 // The sheet of an answer's words, and how many bytes it has.

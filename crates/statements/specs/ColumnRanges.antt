@@ -11,7 +11,7 @@ use lib.Seq.{take-length}
 use Rattle.laws.specs.Bools.{never, and-l, and-r}
 use Rattle.laws.specs.Order.{leZ-trans}
 use Rattle.syntax.specs.Words.{max-value, max-weight}
-use Rattle.syntax.specs.Syntax.{Domain, Range, lower-bound, in-domain, domain-of, IntExpr, IConst, IVar, Linear, If, Terms, tnil, tmore}
+use Rattle.syntax.specs.Syntax.{unread, Domain, Range, lower-bound, in-domain, domain-of, IntExpr, IConst, IVar, Linear, If, Terms, tnil, tmore}
 use Rattle.syntax.specs.Written.{EveryInt, EveryTerm, EveryIntOf}
 use Rattle.limits.specs.Limits.{heavy, written, written-terms}
 use Rattle.sums.specs.LinearSum.{LinearSum, linear-sum, lowest, highest, sum-value, get-domain-linear-sum}
@@ -37,7 +37,7 @@ module _ (Q : ℕ → Type 0) where
     every-among : (e : IntExpr) → EveryInt Q e → (v : ℕ) → Among (written e) v → Q v
     every-among (IConst c) h v m = never m
     every-among (IVar u) h v m = subst Q (sym (single v u m)) h
-    every-among (If i c t f) h v m = absurd i
+    every-among (If i c t f) h v m = absurd (unread i)
     every-among (Linear ts) h v m = terms-among ts h v m
 
     terms-among : (ts : Terms) → EveryTerm Q ts → (v : ℕ) → Among (written-terms ts) v → Q v

@@ -11,7 +11,7 @@ use lib.Seq.{getD-set-same, getD-set-other}
 use Rattle.laws.specs.Bools.{or-no-l, or-no-r}
 use Rattle.laws.specs.Lists.{any, flat}
 use Rattle.laws.specs.Slices.{Has, has-front, has-back}
-use Rattle.syntax.specs.Syntax.{Domain, domain-of, Eq, IntExpr, IConst, IVar, Linear, If, encode-int}
+use Rattle.syntax.specs.Syntax.{unread, Domain, domain-of, Eq, IntExpr, IConst, IVar, Linear, If, encode-int}
 use Rattle.syntax.specs.Written.{EveryInt, EveryColumn, EveryIntOf, EveryColumnOf}
 use Rattle.syntax.specs.Lengths.{int-long}
 use Rattle.limits.specs.Limits.{heavy, many-column}
@@ -47,7 +47,7 @@ pub record ColumnRecord (F : List ℤ) (ds : List Domain) (s : Log) (word : ℤ)
 unfoldable pub meet-column : ℕ → IntExpr → State → State
 meet-column p (IConst c) st = number-column p (meet-int (IConst c) st)
 meet-column p (IVar v) st = meet-int-var v st
-meet-column p (If i c t f) st = absurd i
+meet-column p (If i c t f) st = absurd (unread i)
 meet-column p (Linear ts) st = number-column p (meet-int (Linear ts) st)
 
 unfoldable pub meet-columns : ℕ → List IntExpr → State → State
@@ -59,7 +59,7 @@ meet-columns p (e ∷ es) st = meet-columns (p + length (encode-int e)) es (meet
 unfoldable pub column-number : List ℤ → ℕ → IntExpr → ℕ
 column-number w p (IConst c) = nat (getD w (column-map + p) (pos 0)) - 1
 column-number w p (IVar v) = int-number w v
-column-number w p (If i c t f) = absurd i
+column-number w p (If i c t f) = absurd (unread i)
 column-number w p (Linear ts) = nat (getD w (column-map + p) (pos 0)) - 1
 
 unfoldable pub column-numbers : List ℤ → ℕ → List IntExpr → List ℕ
@@ -73,7 +73,7 @@ equality w e v = clause [] (linear Eq (sub-sum (linear-of (int-number w) e) (sin
 unfoldable pub column-clause : List ℤ → ℕ → IntExpr → List Clause
 column-clause w p (IConst c) = equality w (IConst c) (column-number w p (IConst c)) ∷ []
 column-clause w p (IVar v) = []
-column-clause w p (If i c t f) = absurd i
+column-clause w p (If i c t f) = absurd (unread i)
 column-clause w p (Linear ts) = equality w (Linear ts) (column-number w p (Linear ts)) ∷ []
 
 unfoldable pub columns-clauses : List ℤ → ℕ → List IntExpr → List Clause
@@ -152,7 +152,7 @@ module _ (F : List ℤ) (ds : List Domain) where
   abbrev pub PlacedOne : List ℤ → ℕ → IntExpr → Log → Type 0
   PlacedOne w p (IConst c) s = getD w (column-map + p) (pos 0) ≡ pos (suc (next-int (normalize-int-expr ds (IConst c) s .1)))
   PlacedOne w p (IVar v) s = Unit {0}
-  PlacedOne w p (If i c t f) s = absurd i
+  PlacedOne w p (If i c t f) s = absurd (unread i)
   PlacedOne w p (Linear ts) s = getD w (column-map + p) (pos 0) ≡ pos (suc (next-int (normalize-int-expr ds (Linear ts) s .1)))
 
   unfoldable pub Placed : List ℤ → ℕ → List IntExpr → Log → Type 0
@@ -166,7 +166,7 @@ module _ (F : List ℤ) (ds : List Domain) where
   one-keeps : (w w' : List ℤ) (p : ℕ) (e : IntExpr) (s : Log) → 512 ≤ p → Grown (p + 1) w w' → PlacedOne w p e s → PlacedOne w' p e s
   one-keeps w w' p (IConst c) s l g h = g .columns (column-map + p) (omega arith) (omega arith) ∙ h
   one-keeps w w' p (IVar v) s l g h = tt
-  one-keeps w w' p (If i c t f) s l g h = absurd i
+  one-keeps w w' p (If i c t f) s l g h = absurd (unread i)
   one-keeps w w' p (Linear ts) s l g h = g .columns (column-map + p) (omega arith) (omega arith) ∙ h
 
   pub grown-less : (p q : ℕ) {w w' : List ℤ} → p ≤ q → Grown q w w' → Grown p w w'
@@ -214,7 +214,7 @@ module _ (F : List ℤ) (ds : List Domain) where
   unfolding equivalent-int-var old-column
   column-grows (IConst c) s = new-grows (IConst c) s
   column-grows (IVar v) s = unfold normalize-int-expr normalize-int-var in int-grows ds (IVar v) s
-  column-grows (If i c t f) s = absurd i
+  column-grows (If i c t f) s = absurd (unread i)
   column-grows (Linear ts) s = new-grows (Linear ts) s
 
   pub columns-grow : (es : List IntExpr) (s : Log) → Grows s (equivalent-int-vars ds es s .log)
@@ -231,7 +231,7 @@ module _ (F : List ℤ) (ds : List Domain) where
         placed = tt;
         grown = kept-grown p (int-var-kept v st k (omega (arith, n .ints, column-grows (IVar v) s .ints)));
       }
-  column-met p (If i0 c0 t0 f0) st s l h f v y z n r = absurd i0
+  column-met p (If i0 c0 t0 f0) st s l h f v y z n r = absurd (unread i0)
   column-met p (Linear ts) st s l h f v y z n r = let x = new-met p (Linear ts) st s l h f v y z n r in record { numbered = unfold new-column in x .0; placed = x .1 .0; grown = x .1 .1 }
 
   -- ---- all columns
@@ -281,7 +281,7 @@ module _ (F : List ℤ) (ds : List Domain) where
     column-is p (IVar v) s h f =
         let n : int-number w v ≡ convert-int-var v s .0 = omega (arith, f .agree-int v (convert-int-var v s .0) (var-found v s)) in
         (rw n refl, adds-same s (convert-int-var v s .1) (unfold normalize-int-expr in unfold normalize-int-var in int-quiet ds (IVar v) s))
-    column-is p (If j c x y) s h f = absurd j
+    column-is p (If j c x y) s h f = absurd (unread j)
     column-is p (Linear ts) s h f =
         let n = placed-number p (next-int (normalize-int-expr ds (Linear ts) s .1)) h in
         (unfold new-column in rw n refl, rw n (new-adds p (Linear ts) s f))

@@ -6,7 +6,7 @@ use mathlib.Core.List.{List, [], _∷_, _++_, map}
 use Prim.Native.Nat.{ℕ, _≤_, _<_}
 use native.Mathlib.Omega.{arith}
 use lib.IntN.{ℤ, pos}
-use Rattle.syntax.specs.Syntax.{Domain, Eq, Ne, IntExpr, IConst, IVar, Linear, If, Terms, tnil, tmore, BoolExpr, Cmp, Members, more}
+use Rattle.syntax.specs.Syntax.{unread, Domain, Eq, Ne, IntExpr, IConst, IVar, Linear, If, Terms, tnil, tmore, BoolExpr, Cmp, Members, more}
 use Rattle.syntax.specs.Written.{Any, EveryInt, EveryTerm, EveryColumn, EveryIntOf, EveryColumnOf, every-int-map, every-column-map}
 use Rattle.sums.specs.LinearSum.{LinearSum, constant, add-sum, mul-sum, sub-sum}
 use Rattle.sums.specs.Linear.{linear-of}
@@ -188,7 +188,7 @@ module _ (ds : List Domain) where
     found-same : (e : IntExpr) (s : Log) → EveryInt (Found s) e → normalize-int-expr ds e s .1 ≡ s
     found-same (IConst c) s h = refl
     found-same (IVar v) s h = rw (h .is) refl
-    found-same (If i c t f) s h = absurd i
+    found-same (If i c t f) s h = absurd (unread i)
     found-same (Linear ts) s h = found-terms ts (constant (pos 0)) s h
 
     found-terms : (ts : Terms) (sum : LinearSum) (s : Log) → EveryTerm (Found s) ts → normalize-terms ds ts sum s .1 ≡ s
@@ -203,7 +203,7 @@ module _ (ds : List Domain) where
     int-found : (e : IntExpr) (s : Log) → EveryInt (Found (normalize-int-expr ds e s .1)) e
     int-found (IConst c) s = tt
     int-found (IVar v) s = record { number = convert-int-var v s .0; is = var-found v s }
-    int-found (If i c t f) s = absurd i
+    int-found (If i c t f) s = absurd (unread i)
     int-found (Linear ts) s = terms-found ts (constant (pos 0)) s
 
     terms-found : (ts : Terms) (sum : LinearSum) (s : Log) → EveryTerm (Found (normalize-terms ds ts sum s .1)) ts

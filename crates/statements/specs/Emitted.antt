@@ -10,7 +10,7 @@ use borrow.Author.Tests.{ne-eqb, eqb-true, eqb-false, ltb-true, ltb-false}
 use lib.IntN.{pos}
 use lib.ListN.{length, length-append}
 use Rattle.laws.specs.Lists.{any, flat}
-use Rattle.syntax.specs.Syntax.{Domain, domain-of, IntExpr, IConst, IVar, Linear, If, Terms, tnil, tmore, encode-int, BoolExpr, Const, Var, NVar, And, Or, Not, Xor, Iff, Imp, Cmp, Members, mnil, more, Cell, encode-cell, Stmt, Rule, Table, AllDifferent, encode-stmt}
+use Rattle.syntax.specs.Syntax.{unread, Domain, domain-of, IntExpr, IConst, IVar, Linear, If, Terms, tnil, tmore, encode-int, BoolExpr, Const, Var, NVar, And, Or, Not, Xor, Iff, Imp, Cmp, Members, mnil, more, Cell, encode-cell, Stmt, Rule, Table, AllDifferent, encode-stmt}
 use Rattle.syntax.specs.Satisfies.{Val, IVal}
 use Rattle.syntax.specs.Lengths.{int-long}
 use Rattle.sums.specs.LinearSum.{LinearSum, constant}
@@ -161,7 +161,7 @@ module _ (ds : List Domain) where
     int-columns : (e : IntExpr) (s : Log) → columns (normalize-int-expr ds e s .1) ≡ columns s
     int-columns (IConst c) s = refl
     int-columns (IVar v) s = int-var-columns (get-int-var v s) v s
-    int-columns (If i c t f) s = absurd i
+    int-columns (If i c t f) s = absurd (unread i)
     int-columns (Linear ts) s = terms-columns ts (constant (pos 0)) s
 
     terms-columns : (ts : Terms) (sum : LinearSum) (s : Log) → columns (normalize-terms ds ts sum s .1) ≡ columns s
@@ -200,7 +200,7 @@ module _ (ds : List Domain) where
   unfolding equivalent-int-var old-column new-column convert-int-var
   one-column (IConst c) s = omega (arith, int-columns (IConst c) s)
   one-column (IVar v) s = omega (arith, int-var-columns (get-int-var v s) v s)
-  one-column (If i c t f) s = absurd i
+  one-column (If i c t f) s = absurd (unread i)
   one-column (Linear ts) s = omega (arith, int-columns (Linear ts) s)
 
   some-columns : (es : List IntExpr) (s : Log) → columns (equivalent-int-vars ds es s .log) ≤ columns s + length es

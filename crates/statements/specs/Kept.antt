@@ -8,7 +8,7 @@ use lib.IntN.{ℤ, pos}
 use lib.ListN.{length, getD, set, length-set}
 use lib.Seq.{getD-set-other}
 use Rattle.laws.specs.Ints.{is-zero}
-use Rattle.syntax.specs.Syntax.{Domain, IntExpr, IConst, IVar, Linear, If, Terms, tnil, tmore}
+use Rattle.syntax.specs.Syntax.{unread, Domain, IntExpr, IConst, IVar, Linear, If, Terms, tnil, tmore}
 use Rattle.syntax.specs.Written.{EveryInt, EveryTerm, EveryIntOf}
 use Rattle.sums.specs.LinearSum.{LinearSum, constant, add-sum, mul-sum}
 use Rattle.clauses.specs.Log.{Log, next-int, convert-int-var}
@@ -70,7 +70,7 @@ module _ (Column : Log → ℤ → LinearSum → Domain → Type 0) (ds : List D
     pub expr-kept : (e : IntExpr) → EveryInt (λ v. v < 256) e → (st : State) (s : Log) → Numbered Column st s → next-int (normalize-int-expr ds e s .1) < max-emitted → Kept (st .work) (meet-int e st .work)
     expr-kept (IConst c) p st s h l = kept-same (st .work)
     expr-kept (IVar v) p st s h l = int-var-kept v st p (omega (arith, h .ints, int-grows ds (IVar v) s .ints))
-    expr-kept (If i c t f) p st s h l = absurd i
+    expr-kept (If i c t f) p st s h l = absurd (unread i)
     expr-kept (Linear ts) p st s h l = terms-kept ts p st (constant (pos 0)) s h l
 
     terms-kept : (ts : Terms) → EveryTerm (λ v. v < 256) ts → (st : State) (sum : LinearSum) (s : Log) → Numbered Column st s → next-int (normalize-terms ds ts sum s .1) < max-emitted → Kept (st .work) (meet-terms ts st .work)

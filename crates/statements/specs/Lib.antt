@@ -7,6 +7,7 @@ pub mod Statements
 pub mod Bounds
 pub mod Emitted
 pub mod Settled
+pub mod Ranging
 pub mod Whole
 pub mod Records
 pub mod Stages

@@ -7,7 +7,7 @@ use lib.IntN.{ℤ, pos}
 use lib.ListN.{length, length-append}
 use Rattle.laws.specs.Lists.{flat}
 use Rattle.laws.specs.Slices.{Has, has-front, has-back, has-word}
-use Rattle.syntax.specs.Syntax.{IntExpr, IConst, IVar, Linear, If, count-terms, encode-int, encode-terms}
+use Rattle.syntax.specs.Syntax.{unread, IntExpr, IConst, IVar, Linear, If, count-terms, encode-int, encode-terms}
 use Rattle.words.specs.Exact.{Each}
 use Rattle.walk.specs.Item.{nat, State, meet-int}
 use Rattle.walk.specs.Legal.{LegalInt}
@@ -32,7 +32,7 @@ module _ (ws : List ℤ) where
   unfolding meet-column-at meet-column meet-int word nat encode-int
   column-is (IConst c) p st h d = rw (int-is (IConst c) 64 ws p h d, has-word ws p (pos 20) (c ∷ []) (pos 0) d)
   column-is (IVar v) p st h d = rw (int-is (IVar v) 64 ws p h d, has-word ws p (pos 21) (pos v ∷ []) (pos 0) d)
-  column-is (If i c t f) p st h d = absurd i
+  column-is (If i c t f) p st h d = absurd (unread i)
   column-is (Linear ts) p st h d = rw (int-is (Linear ts) 64 ws p h d, has-word ws p (pos 22) (pos (count-terms ts) ∷ encode-terms ts) (pos 0) d)
 
   pub columns-are : (es : List IntExpr) (p : ℕ) (st : State) → Each (λ e. LegalInt e 64) es → Has ws p (flat (map encode-int es)) → meet-columns-at ws (length es) p st ≡ meet-columns p es st

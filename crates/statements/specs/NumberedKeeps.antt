@@ -8,7 +8,7 @@ use lib.IntN.{ℤ, pos}
 use lib.ListN.{length, getD, take, length-append}
 use lib.Seq.{take-take}
 use Rattle.laws.specs.Slices.{Has}
-use Rattle.syntax.specs.Syntax.{Domain, Stmt, encode-stmt, Problem}
+use Rattle.syntax.specs.Syntax.{unread, Domain, Stmt, encode-stmt, Problem}
 use Rattle.fold.specs.Fold.{Fixed}
 use Rattle.sums.specs.LinearSum.{LinearSum}
 use Rattle.clauses.specs.Log.{declared-int, column, chosen, binary, bool, merged, int, added, defined, known, Log, next-int}
@@ -48,8 +48,8 @@ module _ {w w' : List ℤ} (same : Saved 0 w w') where
   recorded-same C (merged u v g ∷ s) h r = recorded-same C s h r
   recorded-same C (int (declared-int v) ∷ s) h r = (word-same (emitted-ints + next-int s) (omega arith) ∙ r .0, recorded-same C s (omega arith) (r .1))
   recorded-same C (int (column l d) ∷ s) h r = (rw (word-same (emitted-ints + next-int s) (omega arith)) (r .0), recorded-same C s (omega arith) (r .1))
-  recorded-same C (int (chosen i e p q d) ∷ s) h r = absurd i
-  recorded-same C (int (binary i l a b) ∷ s) h r = absurd i
+  recorded-same C (int (chosen i e p q d) ∷ s) h r = absurd (unread i)
+  recorded-same C (int (binary i l a b) ∷ s) h r = absurd (unread i)
   recorded-same C (added cs ∷ s) h r = recorded-same C s h r
   recorded-same C (defined cs ∷ s) h r = recorded-same C s h r
   recorded-same C (known e n ∷ s) h r = recorded-same C s h r

@@ -12,7 +12,7 @@ use lib.ListN.{getD}
 use Rattle.laws.specs.Bools.{never}
 use Rattle.laws.specs.Lists.{any, any-append, least}
 use Rattle.laws.specs.Slices.{Has}
-use Rattle.syntax.specs.Syntax.{Domain, domain-of, IntExpr, IConst, IVar, Linear, If, Terms, tnil, tmore, encode-int}
+use Rattle.syntax.specs.Syntax.{unread, Domain, domain-of, IntExpr, IConst, IVar, Linear, If, Terms, tnil, tmore, encode-int}
 use Rattle.syntax.specs.Satisfies.{Val, IVal}
 use Rattle.limits.specs.Limits.{heavy, many-column, written, written-terms}
 use Rattle.sums.specs.LinearSum.{Term, term, LinearSum, linear-sum, constant, add-sum, mul-sum, lowest, highest, get-domain-linear-sum}
@@ -80,7 +80,7 @@ module _ (ds : List Domain) where
     pub written-found : (e : IntExpr) (s : Log) (v : ℕ) → Among (written e) v → Found (normalize-int-expr ds e s .1) v
     written-found (IConst c) s v h = never h
     written-found (IVar u) s v h = rw (single v u h) (record { number = convert-int-var u s .0; is = var-found u s })
-    written-found (If i c t f) s v h = absurd i
+    written-found (If i c t f) s v h = absurd (unread i)
     written-found (Linear ts) s v h = terms-found ts (constant (pos 0)) s v h
 
     terms-found : (ts : Terms) (sum : LinearSum) (s : Log) (v : ℕ) → Among (written-terms ts) v → Found (normalize-terms ds ts sum s .1) v
@@ -162,8 +162,8 @@ module _ (F : List ℤ) (ds : List Domain) (b i : ℕ) (w : List ℤ) (L : Log) 
         least n (next-int t) (ltb n (next-int t)) refl (omega arith)
         (λ m. entry-at y k (grows-trans (grow (int (column x e)) l same) g) (r .1) (d .1) f n m)
         (λ z. rw z (column-entry x e t (r .0) (l .0) g (grows-trans (grow (int (column x e)) l same) g) f))
-    entry-at y (grow {t} (int (chosen j x p q e)) l k) g r d f n h = absurd j
-    entry-at y (grow {t} (int (binary j x p q)) l k) g r d f n h = absurd j
+    entry-at y (grow {t} (int (chosen j x p q e)) l k) g r d f n h = absurd (unread j)
+    entry-at y (grow {t} (int (binary j x p q)) l k) g r d f n h = absurd (unread j)
     entry-at y (grow {t} (added cs) l k) g r d f n h = entry-at y k (grows-trans (grow (added cs) l same) g) r (d .1) f n h
     entry-at y (grow {t} (defined cs) l k) g r d f n h = entry-at y k (grows-trans (grow (defined cs) l same) g) r (d .1) f n h
     entry-at y (grow {t} (known e v) l k) g r d f n h = entry-at y k (grows-trans (grow (known e v) l same) g) r (d .1) f n h

@@ -10,7 +10,7 @@ use lib.ListN.{length, getD, take, drop, length-append, length-take, length-drop
 use lib.Seq.{ext-getD, getD-take, getD-drop}
 use Rattle.laws.specs.Lists.{flat}
 use Rattle.laws.specs.Slices.{Has, has-fits, has-nth}
-use Rattle.syntax.specs.Syntax.{Domain, IntExpr, IConst, IVar, Linear, If, encode-int, Stmt, Rule, Table, AllDifferent, encode-stmt}
+use Rattle.syntax.specs.Syntax.{unread, Domain, IntExpr, IConst, IVar, Linear, If, encode-int, Stmt, Rule, Table, AllDifferent, encode-stmt}
 use Rattle.clauses.specs.Clause.{BoolLit}
 use Rattle.clauses.specs.Log.{Log, get-bool-var, get-int-var}
 use Rattle.tables.specs.Tables.{equivalent-int-var}
@@ -97,7 +97,7 @@ module _ (F : List ℤ) (ds : List Domain) where
   one-saved : {e : ℕ} {w w' : List ℤ} (p : ℕ) (x : IntExpr) (s : Log) → e ≤ column-map + p → p < bool-map → Saved e w w' → PlacedOne F ds w p x s → PlacedOne F ds w' p x s
   one-saved p (IConst c) s l k v h = v .cells (column-map + p) l (omega arith) ∙ h
   one-saved p (IVar x) s l k v h = tt
-  one-saved p (If i c t f) s l k v h = absurd i
+  one-saved p (If i c t f) s l k v h = absurd (unread i)
   one-saved p (Linear ts) s l k v h = v .cells (column-map + p) l (omega arith) ∙ h
 
   placed-saved : {e : ℕ} {w w' : List ℤ} (p : ℕ) (es : List IntExpr) (s : Log) → e ≤ column-map + p → p + length (flat (map encode-int es)) ≤ bool-map → Saved e w w' → Placed F ds w p es s → Placed F ds w' p es s

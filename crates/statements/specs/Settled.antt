@@ -9,12 +9,13 @@ use lib.IntN.{ℤ}
 use lib.ListN.{length}
 use Rattle.laws.specs.Bools.{or-no-l, or-no-r}
 use Rattle.laws.specs.Lists.{any}
-use Rattle.syntax.specs.Syntax.{Domain, IntExpr, IConst, IVar, Linear, If, Terms, tnil, tmore, BoolExpr, Const, Var, NVar, And, Or, Not, Xor, Iff, Imp, Cmp, Members, mnil, more, Stmt, Rule, Table, AllDifferent, Problem}
+use Rattle.syntax.specs.Syntax.{unread, Domain, IntExpr, IConst, IVar, Linear, If, Terms, tnil, tmore, BoolExpr, Const, Var, NVar, And, Or, Not, Xor, Iff, Imp, Cmp, Members, mnil, more, Stmt, Rule, Table, AllDifferent, Problem}
 use Rattle.syntax.specs.Depth.{depth-int, depth-terms, depth, depth-members}
 use Rattle.syntax.specs.Written.{Any, EveryInt, EveryTerm, EveryIntOf, EveryOf, Every, EveryMember, EveryStmt, EveryStmts, ints-of, columns-of, every-stmts-map}
 use Rattle.words.specs.Exact.{Each}
 use Rattle.read.specs.WellFormed.{WellInt, WellTerms, WellBool, WellMembers, WellStmt, WellFormed}
-use Rattle.limits.specs.Limits.{any-part, check, heavy-stmt, many-stmt}
+use Rattle.limits.specs.Limits.{any-part, heavy, many-column, check, heavy-stmt, many-stmt}
+use Rattle.limits.specs.Light.{tests-none}
 use Rattle.fold.specs.Fold.{Fixed, is-const, constant-folding-stmt as fold-stmt}
 use Rattle.fold.specs.Optimize.{settled, optimize}
 use Rattle.fold.specs.Ends.{optimize-rests}
@@ -37,7 +38,7 @@ module _ (nb ni : ℕ) where
     pub int-depth : (l : ℕ) (e : IntExpr) → WellInt ni l e → depth-int e ≤ l
     int-depth l (IConst c) h = omega (arith, h .0)
     int-depth l (IVar v) h = omega (arith, h .0)
-    int-depth l (If i c t f) h = absurd i
+    int-depth l (If i c t f) h = absurd (unread i)
     int-depth l (Linear ts) h = omega (arith, h .0, terms-depth (l - 1) ts (h .2))
 
     terms-depth : (l : ℕ) (ts : Terms) → WellTerms ni l ts → depth-terms ts ≤ l
@@ -71,7 +72,7 @@ mutual
   pub int-legal : (e : IntExpr) (l : ℕ) → EveryInt (λ v. v < 256) e → depth-int e ≤ l → LegalInt e l
   int-legal (IConst c) l v d = omega arith
   int-legal (IVar v) l h d = (omega arith, h)
-  int-legal (If i c t f) l v d = absurd i
+  int-legal (If i c t f) l v d = absurd (unread i)
   int-legal (Linear ts) l v d = (omega arith, terms-legal ts (l - 1) v (omega arith))
 
   terms-legal : (ts : Terms) (l : ℕ) → EveryTerm (λ v. v < 256) ts → depth-terms ts ≤ l → LegalTerms ts l
@@ -138,7 +139,7 @@ module _ (ds : List Domain) (f : Fixed) where
   unfolding SettledStmts EveryStmts EveryStmt any-part
   stmts-legal F [] s v n d l = tt
   stmts-legal F (Rule e ∷ ss) s v n d l = (root-legal e (s .0) (v .0) (n .0) (d .0), stmts-legal F ss (s .1) (v .1) (n .1) (d .1) (l .1))
-  stmts-legal F (Table es rows ∷ ss) s v n d l = ((columns-of Any (λ v. v < 512) (λ v. v < 256) es (v .0), l .0 .weight, l .0 .variables), stmts-legal F ss (s .1) (v .1) (n .1) (d .1) (l .1))
+  stmts-legal F (Table es rows ∷ ss) s v n d l = ((columns-of Any (λ v. v < 512) (λ v. v < 256) es (v .0), tests-none (heavy ds) _ es (l .0 .weight), tests-none many-column _ es (l .0 .variables)), stmts-legal F ss (s .1) (v .1) (n .1) (d .1) (l .1))
   stmts-legal F (AllDifferent es ∷ ss) s v n d l = (columns-of Any (λ v. v < 512) (λ v. v < 256) es (v .0), stmts-legal F ss (s .1) (v .1) (n .1) (d .1) (l .1))
 
   -- ---- after folding

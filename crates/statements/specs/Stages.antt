@@ -1,7 +1,7 @@
 -- What every later walk may take for granted: a set that was accepted and settled, what is known of its folded statements,
 -- and the work slice before and after numbering.
 use mathlib.Core.Path.{_≡_, sym, ap, _∙_}
-use mathlib.Core.Bool.{Bool, false}
+use mathlib.Core.Bool.{Bool, false, _||_}
 use mathlib.Core.List.{List, [], _∷_, _++_, map, append-assoc}
 use Prim.Native.Nat.{ℕ, _+_, _*_, _≤_, _<_}
 use native.Mathlib.Omega.{arith}
@@ -15,7 +15,8 @@ use Rattle.syntax.specs.Syntax.{Domain, Range, Enumerative, IntExpr, BoolExpr, 
 use Rattle.syntax.specs.Written.{Any, EveryColumn, EveryColumnOf, EveryStmt, EveryStmts, every-int-map, columns-of}
 use Rattle.words.specs.Exact.{Each}
 use Rattle.read.specs.WellFormed.{WellDomain, WellInt, WellRow, WellStmt, WellFormed}
-use Rattle.limits.specs.Limits.{any-comparison, any-pair, any-part, heavy, heavy-comparison, many-comparison, many-column, check}
+use Rattle.limits.specs.Limits.{any-comparison, any-inside, any-pair, any-part, heavy, heavy-comparison, many-comparison, many-column, check}
+use Rattle.limits.specs.Light.{tests-none}
 use Rattle.fold.specs.Fold.{Fixed, constant-folding-int as fold-int, constant-folding-stmt as fold-stmt}
 use Rattle.fold.specs.Optimize.{settled, optimize}
 use Rattle.fold.specs.Ends.{optimize-rests}
@@ -30,6 +31,7 @@ use Rattle.walk.specs.Decode.{read-part}
 use Rattle.walk.specs.NumberingSteps.{state-of}
 use Rattle.walk.specs.Num.{Numbered}
 use Rattle.walk.specs.declared.Counters.{Counters}
+use Rattle.statements.specs.Ranging.{records-count, records-range}
 use Rattle.statements.specs.Columns.{ColumnRecord}
 use Rattle.statements.specs.Statements.{LegalStmts, AllInPlace}
 use Rattle.statements.specs.Settled.{int-depth, int-legal, Light, settled-declared, settled-light, settled-legal}
@@ -57,7 +59,7 @@ clauses-of m p ss = clauses-in (log-of m p ss)
 
 pub record RuleFacts (ds : List Domain) (e : BoolExpr) : Type 0 where
   pub legal : LegalRule e 64
-  pub light : any-comparison (heavy-comparison ds) (heavy ds) e ≡ false
+  pub light : any-comparison (heavy-comparison ds) (λ x. false) e ≡ false
   pub few : any-comparison many-comparison many-column e ≡ false
 
 pub record TableFacts (ds : List Domain) (es : List IntExpr) (rows : List (List Cell)) : Type 0 where
@@ -103,8 +105,8 @@ module _ (ds : List Domain) (f : Fixed) (nb : ℕ) (small : length ds ≤ 256) w
           rows-few = w .0 .1;
           legal = columns-legal es (w .0 .2) (columns-of Any (λ v. v < nb) (λ v. v < length ds) (map (fold-int ds f) es) (d .0));
           declared = columns-of Any (λ v. v < nb) (λ v. v < length ds) (map (fold-int ds f) es) (d .0);
-          light = k .0 .weight;
-          few = k .0 .variables;
+          light = tests-none (heavy ds) _ (map (fold-int ds f) es) (k .0 .weight);
+          few = tests-none many-column _ (map (fold-int ds f) es) (k .0 .variables);
           cells = rw n (w .0 .3);
         },
         stmts-facts F ss (w .1) (d .1) (l .1) (k .1),
@@ -115,8 +117,8 @@ module _ (ds : List Domain) (f : Fixed) (nb : ℕ) (small : length ds ≤ 256) w
           few = omega (arith, n, w .0 .0);
           legal = columns-legal es (w .0 .1) (columns-of Any (λ v. v < nb) (λ v. v < length ds) (map (fold-int ds f) es) (d .0));
           declared = columns-of Any (λ v. v < nb) (λ v. v < length ds) (map (fold-int ds f) es) (d .0);
-          light = or-no-r (any (heavy ds) (map (fold-int ds f) es)) _ (k .0 .weight);
-          variables = or-no-r (any (λ e. false) (map (fold-int ds f) es)) _ (k .0 .variables);
+          light = or-no-r (any (λ e. heavy ds e || any-inside (heavy-comparison ds) (λ x. false) e) (map (fold-int ds f) es)) _ (k .0 .weight);
+          variables = or-no-r (any (λ e. false || any-inside many-comparison many-column e) (map (fold-int ds f) es)) _ (k .0 .variables);
         },
         stmts-facts F ss (w .1) (d .1) (l .1) (k .1),
       )
@@ -187,7 +189,7 @@ layout-head m p f ss =
     let c : List ℤ = map map-word (map (λ v. get-int-var v (log-of m p ss)) (below (length (p .domains)))) in
     let d : List ℤ = pos (next-bool (log-of m p ss)) ∷ counted domain-words (emitted-domains (p .domains) (log-of m p ss)) in
     let e : List ℤ = counted clause-words (clauses-of m p ss) in
-    sym (append-assoc a (b ++ (c ++ d)) e ∙ ap (λ (l : List ℤ). a ++ l) (append-assoc b (c ++ d) e ∙ ap (λ (l : List ℤ). b ++ l) (append-assoc c d e)))
+    rw (records-count (p .domains) (log-of m p ss), records-range (p .domains) (log-of m p ss)) (sym (append-assoc a (b ++ (c ++ d)) e ∙ ap (λ (l : List ℤ). a ++ l) (append-assoc b (c ++ d) e ∙ ap (λ (l : List ℤ). b ++ l) (append-assoc c d e))))
 
 -- ---- what a walk is lent: some such set
 

@@ -9,7 +9,7 @@ use lib.ListN.{length, length-append}
 use Rattle.laws.specs.Bools.{or-no-l, or-no-r}
 use Rattle.laws.specs.Lists.{any, flat, any-cong}
 use Rattle.laws.specs.Slices.{Has}
-use Rattle.syntax.specs.Syntax.{Domain, domain-of, IntExpr, IConst, IVar, Linear, If, encode-int, Cell, star, value}
+use Rattle.syntax.specs.Syntax.{unread, Domain, domain-of, IntExpr, IConst, IVar, Linear, If, encode-int, Cell, star, value}
 use Rattle.syntax.specs.Written.{EveryColumn}
 use Rattle.limits.specs.Limits.{heavy, many-column}
 use Rattle.sums.specs.LinearSum.{LinearSum}
@@ -225,7 +225,7 @@ module _ (F : List ℤ) (ds : List Domain) where
   unfolding equivalent-int-var old-column new-column
   column-below (IConst c) s = (omega arith, tt)
   column-below (IVar v) s = (int-below (convert-int-var v s .1) v (convert-int-var v s .0) (var-found v s), tt)
-  column-below (If i c t f) s = absurd i
+  column-below (If i c t f) s = absurd (unread i)
   column-below (Linear ts) s = (omega arith, tt)
 
   pub columns-below : (es : List IntExpr) (s : Log) → Below (next-int (equivalent-int-vars ds es s .log)) (equivalent-int-vars ds es s .vars)
@@ -239,7 +239,7 @@ module _ (F : List ℤ) (ds : List Domain) where
   unfolding equivalent-int-var old-column new-column
   column-bools (IConst c) s = int-bools ds (IConst c) s
   column-bools (IVar v) s = unfold normalize-int-expr normalize-int-var in int-bools ds (IVar v) s
-  column-bools (If i c t f) s = absurd i
+  column-bools (If i c t f) s = absurd (unread i)
   column-bools (Linear ts) s = int-bools ds (Linear ts) s
 
   pub columns-bools : (es : List IntExpr) (s : Log) → next-bool (equivalent-int-vars ds es s .log) ≡ next-bool s
@@ -251,7 +251,7 @@ module _ (F : List ℤ) (ds : List Domain) where
   unfolding equivalent-int-var old-column new-column
   column-count (IConst c) s = refl
   column-count (IVar v) s = refl
-  column-count (If i c t f) s = absurd i
+  column-count (If i c t f) s = absurd (unread i)
   column-count (Linear ts) s = refl
 
   pub columns-count : (es : List IntExpr) (s : Log) → length (equivalent-int-vars ds es s .vars) ≡ length es

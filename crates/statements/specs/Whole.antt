@@ -28,6 +28,7 @@ use Rattle.tables.specs.ColumnMeaning.{WithinDomain}
 use Rattle.answer.specs.Answer.{fixed-word, map-word, bool-word, start-log, domain-words, clause-words, layout, answer-of, normalize, normalize-stmts}
 use Rattle.answer.specs.Declared.{Declared, stmts-well}
 use Rattle.answer.specs.Start.{start-well, start-ints, start-made}
+use Rattle.statements.specs.Ranging.{records-count, records-range}
 use Rattle.call.specs.Demand.{stmts-mean, domains-ordered}
 use Rattle.walk.specs.Item.{bool-at, int-entry, State}
 use Rattle.clauses.specs.Since.{clauses-since}
@@ -163,4 +164,4 @@ module _ (m : Bool) (p : Problem) (well : WellFormed p) (f : Fixed) (ss : List S
       let b : map bool-word (map (λ v. get-bool-var v out) (below (p .bools))) ≡ map (bool-at (st .work)) (below (p .bools)) = words-at (bool-at (st .work)) (λ v. get-bool-var v out) 0 (p .bools) (λ v l. k .map v (omega (arith, well .few-bools))) in
       let i : map map-word (map (λ v. get-int-var v out) (below (length (p .domains)))) ≡ map (λ v. pos (int-entry (st .work) v)) (below (length (p .domains))) = entries (int-entry (st .work)) (λ v. get-int-var v out) 0 (length (p .domains)) (λ v l. k .map-int v (omega (arith, well .few-ints))) in
       let t : stmts-text (p .domains) (st .work) dom 512 ss n ≡ flat (map clause-words (clauses-of out)) = set-walks .text (st .work) dom fit (set-walks .placed) d ∙ ap (λ (cs : List Clause). flat (map clause-words cs)) (start-clauses m ss out) in
-      rw (b, i, k .bools, t) refl
+      rw (records-count (p .domains) out, records-range (p .domains) out, b, i, k .bools, t) refl

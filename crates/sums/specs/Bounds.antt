@@ -12,9 +12,10 @@ use borrow.Author.Tests.{eq-eqb, ltb-false}
 use Rattle.laws.specs.Bools.{or-l, or-no-l, or-no-r}
 use Rattle.laws.specs.Ints.{times-low, times-high, natAbs-add, times-low-size, times-high-size}
 use Rattle.laws.specs.Lists.{different}
-use Rattle.syntax.specs.Words.{max-weight, max-comparison-vars, max-column-vars}
-use Rattle.syntax.specs.Syntax.{Domain, Range, Enumerative, lower-bound, upper-bound, last-or, domain-of, IntExpr, IConst, IVar, Linear, If, Terms, tnil, tmore}
+use Rattle.syntax.specs.Words.{max-weight}
+use Rattle.syntax.specs.Syntax.{unread, Domain, Range, Enumerative, lower-bound, upper-bound, last-or, domain-of, IntExpr, IConst, IVar, Linear, If, Terms, tnil, tmore}
 use Rattle.limits.specs.Limits.{largest, domain-weight, weight, terms-weight, heavy, heavy-terms, heavy-comparison, written, written-terms, many-comparison, many-column}
+use Rattle.limits.specs.Light.{few-written, few-in-column}
 use Rattle.sums.specs.LinearSum.{Term, term, LinearSum, linear-sum, constant, singleton, add-coef, add-sum, mul-sum, lowest, highest}
 use Rattle.sums.specs.Rising.{terms-of, constant-of, Rises, add-coef-rises, Each, each-map, add-coef-each, mul-sum-each, singleton-each, Among, among-left, among-right, few-terms, different-cons, different-map}
 use Rattle.sums.specs.Linear.{linear-of, linear-terms, linear-of-proper, linear-of-among}
@@ -22,7 +23,7 @@ use Rattle.sums.specs.Norm.{norm, load, constant-load, singleton-load, a
 
 -- ---- weights
 
-domain-weight-one : (d : Domain) → 1 ≤ domain-weight d
+pub domain-weight-one : (d : Domain) → 1 ≤ domain-weight d
 domain-weight-one (Range low high) = omega arith
 domain-weight-one (Enumerative xs) = omega arith
 
@@ -45,7 +46,7 @@ pub heavy-weight : (ds : List Domain) (e : IntExpr) → heavy ds e ≡ false →
 unfolding heavy
 heavy-weight ds (IConst c) h = ltb-false max-weight (weight ds (IConst c)) h
 heavy-weight ds (IVar v) h = ltb-false max-weight (weight ds (IVar v)) h
-heavy-weight ds (If i c t f) h = absurd i
+heavy-weight ds (If i c t f) h = ltb-false max-weight (weight ds (If i c t f)) (or-no-l (ltb max-weight (weight ds (If i c t f))) (heavy ds t || heavy ds f) h)
 heavy-weight ds (Linear ts) h = ltb-false max-weight (weight ds (Linear ts)) (or-no-l (ltb max-weight (weight ds (Linear ts))) (heavy-terms ds ts) h)
 
 -- w: a weight of each emitted number, no more than its declared variable's
@@ -56,7 +57,7 @@ module _ (ds : List Domain) (number : ℕ → ℕ) (w : ℕ → ℕ) where
     pub linear-of-load : (e : IntExpr) → ((v : ℕ) → Among (written e) v → w (number v) ≤ domain-weight (domain-of ds v)) → load w (linear-of number e) ≤ weight ds e
     linear-of-load (IConst c) h = omega (arith, constant-load w c)
     linear-of-load (IVar v) h = omega (arith, singleton-load w (number v), h v (or-l (eqb v v) _ (eq-eqb v v refl)))
-    linear-of-load (If i c t f) h = absurd i
+    linear-of-load (If i c t f) h = absurd (unread i)
     linear-of-load (Linear ts) h = omega (arith, linear-terms-load ts (constant (pos 0)) h, constant-load w (pos 0))
 
     linear-terms-load : (ts : Terms) (sum : LinearSum) → ((v : ℕ) → Among (written-terms ts) v → w (number v) ≤ domain-weight (domain-of ds v)) → load w (linear-terms number ts sum) ≤ load w sum + terms-weight ds ts
@@ -118,7 +119,7 @@ module _ (number : ℕ → ℕ) where
     pub computed : IntExpr → List LinearSum
     computed (IConst c) = constant c ∷ []
     computed (IVar v) = singleton (number v) ∷ []
-    computed (If i c t f) = absurd i
+    computed (If i c t f) = absurd (unread i)
     computed (Linear ts) = constant (pos 0) ∷ computed-terms ts (constant (pos 0))
 
     computed-terms : Terms → LinearSum → List LinearSum
@@ -154,7 +155,7 @@ module _ (ds : List Domain) (number : ℕ → ℕ) where
     computed-small : (e : IntExpr) → heavy ds e ≡ false → Every Small (computed number e)
     computed-small (IConst c) h = (omega (arith, constant-load (λ v. 1) c, heavy-weight ds (IConst c) h), tt)
     computed-small (IVar v) h = (omega (arith, singleton-load (λ v. 1) (number v)), tt)
-    computed-small (If i c t f) h = absurd i
+    computed-small (If i c t f) h = absurd (unread i)
     computed-small (Linear ts) h =
         (omega (arith, constant-load (λ v. 1) (pos 0)), computed-terms-small ts (constant (pos 0)) (or-no-r (ltb max-weight (terms-weight ds ts)) (heavy-terms ds ts) h) (omega (arith, constant-load (λ v. 1) (pos 0), heavy-weight ds (Linear ts) h)))
 
@@ -204,21 +205,21 @@ module _ (domain : ℕ → Domain) where
   high-size : (k : ℤ) (v : ℕ) → natAbs (times-high k (lower-bound (domain v)) (upper-bound (domain v))) ≤ natAbs k * reach (domain v)
   high-size k v = times-high-size k (lower-bound (domain v)) (upper-bound (domain v)) (reach (domain v)) (omega arith) (omega arith)
 
-  lowest-size : (c : ℤ) (ts : List Term) → natAbs (lowest domain c ts) ≤ natAbs c + norm (λ v. reach (domain v)) ts
+  pub lowest-size : (c : ℤ) (ts : List Term) → natAbs (lowest domain c ts) ≤ natAbs c + norm (λ v. reach (domain v)) ts
   unfolding lowest norm
   lowest-size c [] = omega arith
   lowest-size c (term v a ∷ ts) =
       let t = times-low a (lower-bound (domain v)) (upper-bound (domain v)) in
       omega (arith, lowest-size (c +ℤ t) ts, natAbs-add c t, low-size a v)
 
-  highest-size : (c : ℤ) (ts : List Term) → natAbs (highest domain c ts) ≤ natAbs c + norm (λ v. reach (domain v)) ts
+  pub highest-size : (c : ℤ) (ts : List Term) → natAbs (highest domain c ts) ≤ natAbs c + norm (λ v. reach (domain v)) ts
   unfolding highest norm
   highest-size c [] = omega arith
   highest-size c (term v a ∷ ts) =
       let t = times-high a (lower-bound (domain v)) (upper-bound (domain v)) in
       omega (arith, highest-size (c +ℤ t) ts, natAbs-add c t, high-size a v)
 
-  bounds-within : (i n : ℕ) (l : LinearSum) → load (λ v. reach (domain v)) l ≤ n → (natAbs (lowest domain (constant-of l) (take i (terms-of l))) ≤ n) × (natAbs (highest domain (constant-of l) (take i (terms-of l))) ≤ n)
+  pub bounds-within : (i n : ℕ) (l : LinearSum) → load (λ v. reach (domain v)) l ≤ n → (natAbs (lowest domain (constant-of l) (take i (terms-of l))) ≤ n) × (natAbs (highest domain (constant-of l) (take i (terms-of l))) ≤ n)
   unfolding load
   bounds-within i n (linear-sum c ts) h =
       let t = take-norm (λ v. reach (domain v)) i ts in
@@ -247,20 +248,18 @@ room-among ws n ts (term v a ∷ us) r h k =
 
 -- both sides of a comparison, and a column with its new variable
 pub comparison-room : (number : ℕ → ℕ) (a b : IntExpr) → many-comparison a b ≡ false → Room (terms-of (linear-of number a)) (terms-of (mul-sum (negsuc 0) (linear-of number b)))
-unfolding many-comparison
 comparison-room number a b h =
     let ws = written a ++ written b in
-    room-among (map number ws) (le-trans (different-map number ws) (ltb-false max-comparison-vars (different ws) h)) (terms-of (linear-of number a)) (terms-of (mul-sum (negsuc 0) (linear-of number b)))
+    room-among (map number ws) (le-trans (different-map number ws) (few-written a b h)) (terms-of (linear-of number a)) (terms-of (mul-sum (negsuc 0) (linear-of number b)))
     (linear-of-proper number a)
     (linear-of-among number ws a (λ v m. among-left v (written a) (written b) m))
     (mul-sum-each (Among (map number ws)) (negsuc 0) (linear-of number b) (linear-of-among number ws b (λ v m. among-right v (written a) (written b) m)))
 
 pub column-room : (number : ℕ → ℕ) (e : IntExpr) (n : ℕ) → many-column e ≡ false → Room (terms-of (linear-of number e)) (terms-of (mul-sum (negsuc 0) (singleton n)))
-unfolding many-column
 column-room number e n h =
     let ws = n ∷ map number (written e) in
     let d = different-cons n (map number (written e)) in
-    room-among ws (omega (arith, d, different-map number (written e), ltb-false max-column-vars (different (written e)) h)) (terms-of (linear-of number e)) (terms-of (mul-sum (negsuc 0) (singleton n)))
+    room-among ws (omega (arith, d, different-map number (written e), few-in-column e h)) (terms-of (linear-of number e)) (terms-of (mul-sum (negsuc 0) (singleton n)))
     (linear-of-proper number e)
     (each-map (Among (map number (written e))) (Among ws) (terms-of (linear-of number e)) (λ v m. among-right v (n ∷ []) (map number (written e)) m) (linear-of-among number (written e) e (λ v m. m)))
     (mul-sum-each (Among ws) (negsuc 0) (singleton n) (singleton-each (Among ws) n (or-l (eqb n n) _ (eq-eqb n n refl))))

@@ -6,7 +6,7 @@ use lib.Dec.{eqb}
 use lib.IntN.{pos}
 use borrow.Author.Tests.{eq-eqb}
 use Rattle.laws.specs.Bools.{or-l}
-use Rattle.syntax.specs.Syntax.{IntExpr, IConst, IVar, Linear, If, Terms, tnil, tmore}
+use Rattle.syntax.specs.Syntax.{unread, IntExpr, IConst, IVar, Linear, If, Terms, tnil, tmore}
 use Rattle.limits.specs.Limits.{written, written-terms}
 use Rattle.sums.specs.LinearSum.{LinearSum, constant, singleton, add-sum, mul-sum}
 use Rattle.sums.specs.Rising.{terms-of, Proper, constant-proper, singleton-proper, add-sum-proper, Each, constant-each, singleton-each, add-sum-each, mul-sum-each, Among, among-left, among-right, among-map}
@@ -17,7 +17,7 @@ module _ (number : ℕ → ℕ) where
     pub linear-of : IntExpr → LinearSum
     linear-of (IConst c) = constant c
     linear-of (IVar v) = singleton (number v)
-    linear-of (If i c t f) = absurd i
+    linear-of (If i c t f) = absurd (unread i)
     linear-of (Linear ts) = linear-terms ts (constant (pos 0))
 
     -- the sum so far and the terms to come
@@ -31,7 +31,7 @@ module _ (number : ℕ → ℕ) where
     pub linear-of-proper : (e : IntExpr) → Proper (linear-of e)
     linear-of-proper (IConst c) = constant-proper c
     linear-of-proper (IVar v) = singleton-proper (number v)
-    linear-of-proper (If i c t f) = absurd i
+    linear-of-proper (If i c t f) = absurd (unread i)
     linear-of-proper (Linear ts) = linear-terms-proper ts (constant (pos 0)) (constant-proper (pos 0))
 
     linear-terms-proper : (ts : Terms) (sum : LinearSum) → Proper sum → Proper (linear-terms ts sum)
@@ -47,7 +47,7 @@ module _ (number : ℕ → ℕ) where
       pub linear-of-each : (e : IntExpr) → ((v : ℕ) → Among (written e) v → P (number v)) → Each P (terms-of (linear-of e))
       linear-of-each (IConst c) f = constant-each P c
       linear-of-each (IVar v) f = singleton-each P (number v) (f v (or-l (eqb v v) _ (eq-eqb v v refl)))
-      linear-of-each (If j c x y) f = absurd j
+      linear-of-each (If j c x y) f = absurd (unread j)
       linear-of-each (Linear ts) f = linear-terms-each ts (constant (pos 0)) (constant-each P (pos 0)) f
 
       linear-terms-each : (ts : Terms) (sum : LinearSum) → Each P (terms-of sum) → ((v : ℕ) → Among (written-terms ts) v → P (number v)) → Each P (terms-of (linear-terms ts sum))
@@ -69,7 +69,7 @@ module _ (f g : ℕ → ℕ) where
     pub linear-of-same : (e : IntExpr) → ((v : ℕ) → Among (written e) v → f v ≡ g v) → linear-of f e ≡ linear-of g e
     linear-of-same (IConst c) h = refl
     linear-of-same (IVar v) h = ap singleton (h v (or-l (eqb v v) _ (eq-eqb v v refl)))
-    linear-of-same (If i c t f) h = absurd i
+    linear-of-same (If i c t f) h = absurd (unread i)
     linear-of-same (Linear ts) h = linear-terms-same ts (constant (pos 0)) h
 
     linear-terms-same : (ts : Terms) (sum : LinearSum) → ((v : ℕ) → Among (written-terms ts) v → f v ≡ g v) → linear-terms f ts sum ≡ linear-terms g ts sum

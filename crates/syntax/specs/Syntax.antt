@@ -63,9 +63,12 @@ domain-of ds v = getD ds v (Range (pos 0) (pos 0))
 pub data CmpOp : Type 0 where
   Eq Ne Le Lt Ge Gt : CmpOp
 
--- request 2.5 is under way: no If is read yet, so none can be made
-abbrev pub IfIsRead : Type 0
-IfIsRead = ⊥
+-- request 2.5 is under way: no If is read yet, so none can be made. A type of its own, so that no arithmetic step is proved by it
+pub data IfIsRead : Type 0 where
+  read-by : ⊥ → IfIsRead
+
+pub unread : IfIsRead → ⊥
+unread (read-by x) = x
 
 -- If: a condition, the value where it holds, the value where it fails.
 -- NVar is an emitted number: splitting makes it, reading never does

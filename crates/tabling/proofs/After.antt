@@ -26,19 +26,19 @@ sets-below out o (v ∷ vs) j h = sets-below (set out o v) (suc o) vs j (omega a
 has-below : (out out' : List ℤ) (o o' : ℕ) (vs : List ℤ) (at : ℕ) (us : List ℤ) → at + length us ≤ o → Wrote out o vs out' o' → Has out at us → Has out' at us
 has-below out out' o o' vs at us l w h = subst (λ (x : List ℤ). Has x at us) (sym (w .words)) (has-cells out (sets out o vs) at us (length-sets out o vs) (λ i k. sets-below out o vs (at + i) (omega arith)) h)
 
-length-triples : (ds : List Domain) → length (flat (map domain-words ds)) ≡ 3 * length ds
-length-triples [] = refl
-length-triples (d ∷ ds) = omega (arith, length-append (domain-words d) (flat (map domain-words ds)), length-triples ds)
+length-records : (ds : List Domain) → length (flat (map domain-words ds)) ≡ 4 * length ds
+length-records [] = refl
+length-records (d ∷ ds) = omega (arith, length-append (domain-words d) (flat (map domain-words ds)), length-records ds)
 
 -- the emitted integers' words
-pub triples-stay : (ds : List Domain) (L : Log) (triples : ℕ) {out out' : List ℤ} {o o' : ℕ} {vs : List ℤ} → triples + 3 * next-int L ≤ o → Wrote out o vs out' o'
-    → Has out triples (flat (map domain-words (emitted-domains ds L))) → Has out' triples (flat (map domain-words (emitted-domains ds L)))
-triples-stay ds L triples {out} {out'} {o} {o'} {vs} l w h =
-    let e : length (flat (map domain-words (emitted-domains ds L))) ≡ 3 * next-int L = length-triples (emitted-domains ds L) ∙ ap (λ (i : ℕ). 3 * i) (length-emitted ds L) in
-    has-below out out' o o' vs triples _ (omega (arith, e, l)) w h
+pub records-stay : (ds : List Domain) (L : Log) (records : ℕ) {out out' : List ℤ} {o o' : ℕ} {vs : List ℤ} → records + 4 * next-int L ≤ o → Wrote out o vs out' o'
+    → Has out records (flat (map domain-words (emitted-domains ds L))) → Has out' records (flat (map domain-words (emitted-domains ds L)))
+records-stay ds L records {out} {out'} {o} {o'} {vs} l w h =
+    let e : length (flat (map domain-words (emitted-domains ds L))) ≡ 4 * next-int L = length-records (emitted-domains ds L) ∙ ap (λ (i : ℕ). 4 * i) (length-emitted ds L) in
+    has-below out out' o o' vs records _ (omega (arith, e, l)) w h
 
-pub at-after : {x : Place} {t : Stmt} {set w : List ℤ} {q triples m : ℕ} {out : List ℤ} {o : ℕ} {vs out' : List ℤ} {o' : ℕ} → o ≤ cap → Wrote out o vs out' o' → At x t set w q triples m out o → At x t set w q triples m out' o'
-at-after {x} {triples = triples} l v h = record {
+pub at-after : {x : Place} {t : Stmt} {set w : List ℤ} {q records m : ℕ} {out : List ℤ} {o : ℕ} {vs out' : List ℤ} {o' : ℕ} → o ≤ cap → Wrote out o vs out' o' → At x t set w q records m out o → At x t set w q records m out' o'
+at-after {x} {records = records} l v h = record {
   words = h .words;
   short = h .short;
   well = h .well;
@@ -48,7 +48,7 @@ at-after {x} {triples = triples} l v h = record {
   fit = h .fit;
   low = h .low;
   few = h .few;
-  domains = triples-stay (x .problem .domains) (x .whole) triples (h .behind) v (h .domains);
+  domains = records-stay (x .problem .domains) (x .whole) records (h .behind) v (h .domains);
   behind = omega (arith, h .behind, v .at);
   size = h .size;
 }

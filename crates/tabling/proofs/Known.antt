@@ -1,4 +1,4 @@
--- The domains of a table's columns: a declared variable has its own, any other column a range whose three words stand in the answer.
+-- The domains of a table's columns: a declared variable has its own, any other column a range whose record stands in the answer.
 use mathlib.Core.Path.{_≡_, sym, ap, _∙_, subst}
 use mathlib.Core.Bool.{true, false}
 use mathlib.Core.Option.{some}
@@ -10,7 +10,7 @@ use lib.ListN.{length, getD}
 use Rattle.laws.specs.Bools.{or-no-l, or-no-r}
 use Rattle.laws.specs.Lists.{any, flat}
 use Rattle.laws.specs.Slices.{Has, has-front, has-back}
-use Rattle.syntax.specs.Syntax.{Domain, domain-of, IntExpr, IConst, IVar, Linear, If, encode-int}
+use Rattle.syntax.specs.Syntax.{unread, Domain, domain-of, IntExpr, IConst, IVar, Linear, If, encode-int}
 use Rattle.syntax.specs.Written.{EveryInt, EveryColumn, EveryIntOf, EveryColumnOf}
 use Rattle.limits.specs.Limits.{heavy}
 use Rattle.sums.specs.Domain.{ordered}
@@ -29,20 +29,20 @@ use Rattle.statements.specs.Statements.{Stable}
 use Rattle.statements.specs.ColumnRanges.{RangeOf, column-range}
 use Rattle.columns.specs.Describing.{Ranged, Known, AllKnown}
 
--- ---- the three words of an emitted integer
+-- ---- the record of an emitted integer
 
-has-triple : (os : List Domain) (out : List ℤ) (at n : ℕ) → n < length os → Has out at (flat (map domain-words os)) → Has out (at + 3 * n) (domain-words (domain-of os n))
-has-triple [] out at n l h = absurd (omega arith)
-has-triple (d ∷ os) out at zero l h =
-    let e : at + 3 * zero ≡ at = omega arith in
+has-record : (os : List Domain) (out : List ℤ) (at n : ℕ) → n < length os → Has out at (flat (map domain-words os)) → Has out (at + 4 * n) (domain-words (domain-of os n))
+has-record [] out at n l h = absurd (omega arith)
+has-record (d ∷ os) out at zero l h =
+    let e : at + 4 * zero ≡ at = omega arith in
     subst (λ (i : ℕ). Has out i (domain-words d)) (sym e) (has-front out at (domain-words d) (flat (map domain-words os)) h)
-has-triple (d ∷ os) out at (suc n) l h =
-    let e : at + 3 + 3 * n ≡ at + 3 * suc n = omega arith in
-    subst (λ (i : ℕ). Has out i (domain-words (domain-of os n))) e (has-triple os out (at + 3) n (omega arith) (has-back out at (domain-words d) (flat (map domain-words os)) h))
+has-record (d ∷ os) out at (suc n) l h =
+    let e : at + 4 + 4 * n ≡ at + 4 * suc n = omega arith in
+    subst (λ (i : ℕ). Has out i (domain-words (domain-of os n))) e (has-record os out (at + 4) n (omega arith) (has-back out at (domain-words d) (flat (map domain-words os)) h))
 
 -- ---- L: the log of all statements; w: a work slice with its maps and columns' numbers
 
-module _ (F : List ℤ) (ds : List Domain) (L : Log) (w out : List ℤ) (triples : ℕ) (words : Has out triples (flat (map domain-words (emitted-domains ds L)))) where
+module _ (F : List ℤ) (ds : List Domain) (L : Log) (w out : List ℤ) (records : ℕ) (words : Has out records (flat (map domain-words (emitted-domains ds L)))) where
   abbrev dom : ℕ → Domain
   dom = domain-of (emitted-domains ds L)
 
@@ -50,7 +50,7 @@ module _ (F : List ℤ) (ds : List Domain) (L : Log) (w out : List ℤ) (triples
   dom-at : (t z : Log) (n : ℕ) → Grows t z → Stable ds dom z → n < next-int t → dom n ≡ domain-of (emitted-domains ds t) n
   dom-at t z n g d h = d n (omega (arith, g .ints)) ∙ top-domain ds (g .top) n h
 
-  ranged : (n : ℕ) → n < next-int L → RangeOf (dom n) → Ranged dom out triples n
+  ranged : (n : ℕ) → n < next-int L → RangeOf (dom n) → Ranged dom out records n
   ranged n h r = record {
     low = r .low;
     high = r .high;
@@ -58,11 +58,11 @@ module _ (F : List ℤ) (ds : List Domain) (L : Log) (w out : List ℤ) (triples
     small-low = r .small-low;
     small-high = r .small-high;
     order = r .order;
-    words = has-triple (emitted-domains ds L) out triples n (omega (arith, length-emitted ds L)) words;
+    words = has-record (emitted-domains ds L) out records n (omega (arith, length-emitted ds L)) words;
   }
 
   new-known : (p : ℕ) (e : IntExpr) (s z : Log) → EveryInt (λ v. ordered (domain-of ds v) ≡ true) e → heavy ds e ≡ false → getD w (column-map + p) (pos 0) ≡ pos (suc (next-int (normalize-int-expr ds e s .1)))
-      → Grows (new-column ds (normalize-int-expr ds e s) .log) z → Fit w (normalize-int-expr ds e s .1) → Stable ds dom z → next-int z ≤ next-int L → Ranged dom out triples (nat (getD w (column-map + p) (pos 0)) - 1)
+      → Grows (new-column ds (normalize-int-expr ds e s) .log) z → Fit w (normalize-int-expr ds e s .1) → Stable ds dom z → next-int z ≤ next-int L → Ranged dom out records (nat (getD w (column-map + p) (pos 0)) - 1)
   unfolding new-column nat domain-of-sum
   new-known p e s z v l h g f d k =
       let x : IntOut = normalize-int-expr ds e s in
@@ -78,7 +78,7 @@ module _ (F : List ℤ) (ds : List Domain) (L : Log) (w out : List ℤ) (triples
 
   -- one column at p, behind which the log has grown to z
   one-known : (p : ℕ) (e : IntExpr) (s z : Log) → EveryInt (λ v. ordered (domain-of ds v) ≡ true) e → EveryInt (λ v. v < length ds) e → heavy ds e ≡ false → PlacedOne F ds w p e s
-      → Grows (equivalent-int-var ds e s .log) z → Fit w (equivalent-int-var ds e s .log) → Stable ds dom z → next-int z ≤ next-int L → Known ds dom out triples (column-number w p e) e
+      → Grows (equivalent-int-var ds e s .log) z → Fit w (equivalent-int-var ds e s .log) → Stable ds dom z → next-int z ≤ next-int L → Known ds dom out records (column-number w p e) e
   unfolding equivalent-int-var old-column column-number EveryIntOf
   one-known p (IConst c) s z v u l h g f d k = new-known p (IConst c) s z v l h g (new-fit (IConst c) s f) d k
   one-known p (IVar x) s z v u l h g f d k =
@@ -87,12 +87,12 @@ module _ (F : List ℤ) (ds : List Domain) (L : Log) (w out : List ℤ) (triples
       let q : get-int-var x t ≡ some n = var-found x s in
       let i : int-number w x ≡ n = omega (arith, f .agree-int x n q) in
       (u, ap dom i ∙ dom-at t z n g d (get-int-below t x n q) ∙ int-var-domain ds t x n q)
-  one-known p (If j c x y) s z v u l h g f d k = absurd j
+  one-known p (If j c x y) s z v u l h g f d k = absurd (unread j)
   one-known p (Linear ts) s z v u l h g f d k = new-known p (Linear ts) s z v l h g (new-fit (Linear ts) s f) d k
 
   -- the columns from p on, s the log before them
   pub all-known : (p : ℕ) (es : List IntExpr) (s : Log) → EveryColumn (λ v. ordered (domain-of ds v) ≡ true) es → EveryColumn (λ v. v < length ds) es → any (heavy ds) es ≡ false → Placed F ds w p es s
-      → Fit w (equivalent-int-vars ds es s .log) → Stable ds dom (equivalent-int-vars ds es s .log) → next-int (equivalent-int-vars ds es s .log) ≤ next-int L → AllKnown ds dom out triples w p es
+      → Fit w (equivalent-int-vars ds es s .log) → Stable ds dom (equivalent-int-vars ds es s .log) → next-int (equivalent-int-vars ds es s .log) ≤ next-int L → AllKnown ds dom out records w p es
   unfolding equivalent-int-vars Placed EveryColumnOf
   all-known p [] s v u l h f d k = tt
   all-known p (e ∷ es) s v u l h f d k =

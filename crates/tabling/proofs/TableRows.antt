@@ -69,7 +69,7 @@ empty-rows : (ds : List Domain) (vs : List ℕ) (z : Log) → normalize-extensio
 unfolding normalize-extension-supports plain-table plain-clauses sort-rows
 empty-rows ds vs z = refl
 
-module _ {x : Place} {es : List IntExpr} {rows : List (List Cell)} {set w : List ℤ} {q p n k triples m : ℕ} {out : List ℤ} {o : ℕ} (h : TableAt x es rows set w q p n k triples m out o) where
+module _ {x : Place} {es : List IntExpr} {rows : List (List Cell)} {set w : List ℤ} {q p n k records m : ℕ} {out : List ℤ} {o : ℕ} (h : TableAt x es rows set w q p n k records m out o) where
   abbrev ds : List Domain
   ds = x .problem .domains
 
@@ -139,11 +139,11 @@ module _ {x : Place} {es : List IntExpr} {rows : List (List Cell)} {set w : List
     size = omega (arith, h .at .size);
   }
 
-  known : AllKnown ds dom out triples w (q + 3) es
+  known : AllKnown ds dom out records w (q + 3) es
   unfolding EveryStmt
-  known = all-known (x .folded) ds (x .whole) w out triples (h .at .domains) (q + 3) es (x .before) (every-column-map Any Any (WithinDomain ds (lowest ds)) Any Any (λ v. ordered (domain-of ds v) ≡ true) (λ n y. y) (λ v y. y) (λ v y. y .0) es (h .at .at .standing)) (h .at .at .facts .declared) (h .at .at .facts .light) (h .at .at .placed) z-fit z-stable (z-grows .ints)
+  known = all-known (x .folded) ds (x .whole) w out records (h .at .domains) (q + 3) es (x .before) (every-column-map Any Any (WithinDomain ds (lowest ds)) Any Any (λ v. ordered (domain-of ds v) ≡ true) (λ n y. y) (λ v y. y) (λ v y. y .0) es (h .at .at .standing)) (h .at .at .facts .declared) (h .at .at .facts .light) (h .at .at .placed) z-fit z-stable (z-grows .ints)
 
-  describable : (k ≡ 0 → ⊥) → Describable set w (q + 3) n out triples ds dom es
+  describable : (k ≡ 0 → ⊥) → Describable set w (q + 3) n out records ds dom es
   describable c = record {
     standing = columns-stand;
     declared = subst (λ (l : List ℤ). Has l 2 (flat (map encode-domain ds))) (sym (h .at .words)) (declared-has (x .problem));
@@ -164,7 +164,7 @@ module _ {x : Place} {es : List IntExpr} {rows : List (List Cell)} {set w : List
 
   -- ---- behind the description of its columns
 
-  module _ {w₁ : List ℤ} (some : k ≡ 0 → ⊥) (d : Described set w (q + 3) n out triples w₁) where
+  module _ {w₁ : List ℤ} (some : k ≡ 0 → ⊥) (d : Described set w (q + 3) n out records w₁) where
     kept : Saved 0 w w₁
     kept = saved-below (d .below) (d .size)
 
@@ -240,11 +240,11 @@ module _ {x : Place} {es : List IntExpr} {rows : List (List Cell)} {set w : List
 
 -- ---- some table stands there
 
-module _ {set w : List ℤ} {q p n k triples m : ℕ} {out : List ℤ} {o : ℕ} (s : SomeTableAt set w q p n k triples m out o) where
+module _ {set w : List ℤ} {q p n k records m : ℕ} {out : List ℤ} {o : ℕ} (s : SomeTableAt set w q p n k records m out o) where
   pub some-inside : p + k * n ≤ bool-map
   some-inside = table-inside (s .it)
 
-  pub some-describable : (k ≡ 0 → ⊥) → SomeDescribable set w (q + 3) n out triples
+  pub some-describable : (k ≡ 0 → ⊥) → SomeDescribable set w (q + 3) n out records
   some-describable c = record {
     domains = s .place .problem .domains;
     dom = domain-of (emitted-domains (s .place .problem .domains) (s .place .whole));
@@ -252,7 +252,7 @@ module _ {set w : List ℤ} {q p n k triples m : ℕ} {out : List ℤ} {o : ℕ}
     it = describable (s .it) c;
   }
 
-  module _ {w₁ : List ℤ} (some : k ≡ 0 → ⊥) (d : Described set w (q + 3) n out triples w₁) where
+  module _ {w₁ : List ℤ} (some : k ≡ 0 → ⊥) (d : Described set w (q + 3) n out records w₁) where
     pub some-fits : p + k * n ≤ length w₁
     some-fits = described-fits (s .it) some d
 

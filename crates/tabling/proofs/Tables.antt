@@ -39,8 +39,8 @@ count-rows : (F : List ℤ) (q : ℕ) (es : List IntExpr) (rows : List (List Cel
 unfolding word nat encode-stmt
 count-rows F q es rows h = ap nat (has-word F (q + 2) (pos (length rows)) _ (pos 0) (has-back F q (pos 2 ∷ pos (length es) ∷ []) _ h))
 
-module _ {set w : List ℤ} {q triples m : ℕ} {out : List ℤ} {o : ℕ} where
-  module _ {x : Place} {es : List IntExpr} {rows : List (List Cell)} (h : At x (Table es rows) set w q triples m out o) {n : ℕ} (hn : n ≡ word (read-part w) (q + 1)) where
+module _ {set w : List ℤ} {q records m : ℕ} {out : List ℤ} {o : ℕ} where
+  module _ {x : Place} {es : List IntExpr} {rows : List (List Cell)} (h : At x (Table es rows) set w q records m out o) {n : ℕ} (hn : n ≡ word (read-part w) (q + 1)) where
     stands-at : Standing w (q + 3) n es
     stands-at = record {
       words = table-words (read-part w) (x .problem .domains) q es rows (h .stands);
@@ -60,7 +60,7 @@ module _ {set w : List ℤ} {q triples m : ℕ} {out : List ℤ} {o : ℕ} where
 
     -- behind its equalities
     module _ {k p : ℕ} (hk : k ≡ word (read-part w) (q + 2)) (hp : p ≡ columns-end (read-part w) n (q + 3)) {vs out' : List ℤ} {o' : ℕ} (l : o ≤ cap) (v : Wrote out o vs out' o') where
-      table-at : TableAt x es rows set w q p n k triples m out' o'
+      table-at : TableAt x es rows set w q p n k records m out' o'
       table-at = record {
         at = at-after l v h;
         width = stands-at .counted;
@@ -70,28 +70,28 @@ module _ {set w : List ℤ} {q triples m : ℕ} {out : List ℤ} {o : ℕ} where
 
   -- ---- some table stands there
 
-  pub some-equatable : SomeTable set w q triples m out o → {n : ℕ} → n ≡ word (read-part w) (q + 1) → Equatable w (q + 3) n
+  pub some-equatable : SomeTable set w q records m out o → {n : ℕ} → n ≡ word (read-part w) (q + 1) → Equatable w (q + 3) n
   some-equatable s hn = equatable-at (s .it) hn
 
-  pub some-low : SomeTable set w q triples m out o → q + 3 ≤ bool-map
+  pub some-low : SomeTable set w q records m out o → q + 3 ≤ bool-map
   some-low s = omega (arith, s .it .at .inside, table-length (s .place .folded) (s .place .problem .domains) (s .exprs) (s .rows))
 
-  pub some-size : SomeTable set w q triples m out o → 16384 ≤ length w
+  pub some-size : SomeTable set w q records m out o → 16384 ≤ length w
   some-size s = s .it .size
 
   module _ {n k p : ℕ} (hn : n ≡ word (read-part w) (q + 1)) (hk : k ≡ word (read-part w) (q + 2)) (hp : p ≡ columns-end (read-part w) n (q + 3)) {c : ℕ} (b : Behind out o c) {out₁ : List ℤ} {o₁ c₁ : ℕ} (y : Equated w (q + 3) n out o c out₁ o₁ c₁) where
-    equalities : {x : Place} {es : List IntExpr} {rows : List (List Cell)} → At x (Table es rows) set w q triples m out o → Clauses out o c (columns-clauses w (q + 3) es) out₁ o₁ c₁
+    equalities : {x : Place} {es : List IntExpr} {rows : List (List Cell)} → At x (Table es rows) set w q records m out o → Clauses out o c (columns-clauses w (q + 3) es) out₁ o₁ c₁
     equalities {es = es} h = y .clauses es (stands-at h hn)
 
-    table-then : {x : Place} {es : List IntExpr} {rows : List (List Cell)} → At x (Table es rows) set w q triples m out o → TableAt x es rows set w q p n k triples m out₁ o₁
+    table-then : {x : Place} {es : List IntExpr} {rows : List (List Cell)} → At x (Table es rows) set w q records m out o → TableAt x es rows set w q p n k records m out₁ o₁
     table-then h = table-at h hn hk hp (b .room .low) (equalities h .words)
 
-    pub some-table-at : SomeTable set w q triples m out o → SomeTableAt set w q p n k triples m out₁ o₁
+    pub some-table-at : SomeTable set w q records m out o → SomeTableAt set w q p n k records m out₁ o₁
     some-table-at s = record { place = s .place; exprs = s .exprs; rows = s .rows; it = table-then (s .it) }
 
     pub table-did : {f : ℕ} → Freshens w p n k f → {w' out' : List ℤ} {o' c' : ℕ}
-        → ((x : Place) (es : List IntExpr) (rows : List (List Cell)) → TableAt x es rows set w q p n k triples m out₁ o₁ → RowsDid x es rows w p n k out₁ o₁ c₁ w' out' o' c')
-        → (x : Place) (es : List IntExpr) (rows : List (List Cell)) → At x (Table es rows) set w q triples m out o → Did x (Table es rows) w q out o c w' out' (p + k * n) (bump m f) o' c'
+        → ((x : Place) (es : List IntExpr) (rows : List (List Cell)) → TableAt x es rows set w q p n k records m out₁ o₁ → RowsDid x es rows w p n k out₁ o₁ c₁ w' out' o' c')
+        → (x : Place) (es : List IntExpr) (rows : List (List Cell)) → At x (Table es rows) set w q records m out o → Did x (Table es rows) w q out o c w' out' (p + k * n) (bump m f) o' c'
     unfolding normalize-stmt stmt-count
     table-did {f} hf g x es rows h =
         let ds : List Domain = x .problem .domains in

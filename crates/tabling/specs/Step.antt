@@ -34,8 +34,8 @@ pub record Place : Type 0 where
 abbrev pub after : Place → Stmt → Log
 after x t = normalize-stmt (x .problem .domains) t (x .before)
 
--- it stands at q in the work slice w; m: the next Boolean's number; the emitted integers' words stand in the answer from `triples` on, in front of o
-pub record At (x : Place) (t : Stmt) (set w : List ℤ) (q triples m : ℕ) (out : List ℤ) (o : ℕ) : Type 0 where
+-- it stands at q in the work slice w; m: the next Boolean's number; the emitted integers' words stand in the answer from `records` on, in front of o
+pub record At (x : Place) (t : Stmt) (set w : List ℤ) (q records m : ℕ) (out : List ℤ) (o : ℕ) : Type 0 where
   pub words : set ≡ encode (x .problem)
   pub short : length set ≤ max-set-words
   pub well : Each WellDomain (x .problem .domains)
@@ -45,20 +45,20 @@ pub record At (x : Place) (t : Stmt) (set w : List ℤ) (q triples m : ℕ) (out
   pub fit : Fit w (x .whole)
   pub low : Low (x .whole)
   pub few : next-int (x .whole) < max-emitted
-  pub domains : Has out triples (flat (map domain-words (emitted-domains (x .problem .domains) (x .whole))))
-  pub behind : triples + 3 * next-int (x .whole) ≤ o
+  pub domains : Has out records (flat (map domain-words (emitted-domains (x .problem .domains) (x .whole))))
+  pub behind : records + 4 * next-int (x .whole) ≤ o
   pub size : 16384 ≤ length w
 
-pub record SomeAt (set w : List ℤ) (q triples m : ℕ) (out : List ℤ) (o : ℕ) : Type 0 where
+pub record SomeAt (set w : List ℤ) (q records m : ℕ) (out : List ℤ) (o : ℕ) : Type 0 where
   pub place : Place
   pub stmt : Stmt
-  pub it : At place stmt set w q triples m out o
+  pub it : At place stmt set w q records m out o
 
-pub record SomeTable (set w : List ℤ) (q triples m : ℕ) (out : List ℤ) (o : ℕ) : Type 0 where
+pub record SomeTable (set w : List ℤ) (q records m : ℕ) (out : List ℤ) (o : ℕ) : Type 0 where
   pub place : Place
   pub exprs : List IntExpr
   pub rows : List (List Cell)
-  pub it : At place (Table exprs rows) set w q triples m out o
+  pub it : At place (Table exprs rows) set w q records m out o
 
 -- its clauses are written behind k others, and the work slice is saved from its end to the free region. Free, but for their number, are the
 -- words before its end (a table's rows are sorted in place) and those of the free region (its columns are described there)

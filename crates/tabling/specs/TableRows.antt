@@ -17,17 +17,17 @@ use Rattle.columns.specs.Describing.{column-words}
 use Rattle.tabling.specs.Step.{Place, At}
 
 -- the table at q: n columns, then k rows, whose cells begin at p
-pub record TableAt (x : Place) (es : List IntExpr) (rows : List (List Cell)) (set w : List ℤ) (q p n k triples m : ℕ) (out : List ℤ) (o : ℕ) : Type 0 where
-  pub at : At x (Table es rows) set w q triples m out o
+pub record TableAt (x : Place) (es : List IntExpr) (rows : List (List Cell)) (set w : List ℤ) (q p n k records m : ℕ) (out : List ℤ) (o : ℕ) : Type 0 where
+  pub at : At x (Table es rows) set w q records m out o
   pub width : n ≡ length es
   pub height : k ≡ length rows
   pub cells : p ≡ q + 3 + length (flat (map encode-int es))
 
-pub record SomeTableAt (set w : List ℤ) (q p n k triples m : ℕ) (out : List ℤ) (o : ℕ) : Type 0 where
+pub record SomeTableAt (set w : List ℤ) (q p n k records m : ℕ) (out : List ℤ) (o : ℕ) : Type 0 where
   pub place : Place
   pub exprs : List IntExpr
   pub rows : List (List Cell)
-  pub it : TableAt place exprs rows set w q p n k triples m out o
+  pub it : TableAt place exprs rows set w q p n k records m out o
 
 -- the variables of its columns, and the log behind them
 abbrev pub columns-of : Place → List IntExpr → Columns

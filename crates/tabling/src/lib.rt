@@ -62,19 +62,19 @@ fn write_rows(
     p: usize,
     n: usize,
     rows: usize,
-    triples: usize,
+    records: usize,
     m: usize,
     out: &mut [i32],
     o: usize,
     k: usize,
 ) -> Written
-    requires { ⌜ SomeTableAt (now set) (now work) at p n rows triples m (now out) o × Behind (now out) o k ⌝ }
-    ensures { λ r. ⌜ ((x : Place) (es : List IntExpr) (cells : List (List Cell)) → TableAt x es cells (now (set .entry)) (now (work .entry)) at p n rows triples m (now (out .entry)) o → RowsDid x es cells (now (work .entry)) p n rows (now (out .entry)) o k (now (work .exit)) (now (out .exit)) (r .at) (r .clauses)) ⌝ }
+    requires { ⌜ SomeTableAt (now set) (now work) at p n rows records m (now out) o × Behind (now out) o k ⌝ }
+    ensures { λ r. ⌜ ((x : Place) (es : List IntExpr) (cells : List (List Cell)) → TableAt x es cells (now (set .entry)) (now (work .entry)) at p n rows records m (now (out .entry)) o → RowsDid x es cells (now (work .entry)) p n rows (now (out .entry)) o k (now (work .exit)) (now (out .exit)) (r .at) (r .clauses)) ⌝ }
 {
     if rows == 0 {
         return put_empty(out, o, k);
     }
-    columns::describe_columns(set, work, at + 3, n, out, triples);
+    columns::describe_columns(set, work, at + 3, n, out, records);
     if rows::has_star(work, p, rows * n) {
         return write_stars(work, p, n, rows, m, out, o, k);
     }
@@ -86,21 +86,21 @@ pub fn write_table(
     set: &[i32],
     work: &mut [i32],
     at: usize,
-    triples: usize,
+    records: usize,
     m: usize,
     out: &mut [i32],
     o: usize,
     k: usize,
 ) -> Step
-    requires { ⌜ SomeTable (now set) (now work) at triples m (now out) o × Behind (now out) o k ⌝ }
-    ensures { λ r. ⌜ ((x : Place) (es : List IntExpr) (rows : List (List Cell)) → At x (Table es rows) (now (set .entry)) (now (work .entry)) at triples m (now (out .entry)) o → Did x (Table es rows) (now (work .entry)) at (now (out .entry)) o k (now (work .exit)) (now (out .exit)) (r .next) (r .bools) (r .at) (r .clauses)) ⌝ }
+    requires { ⌜ SomeTable (now set) (now work) at records m (now out) o × Behind (now out) o k ⌝ }
+    ensures { λ r. ⌜ ((x : Place) (es : List IntExpr) (rows : List (List Cell)) → At x (Table es rows) (now (set .entry)) (now (work .entry)) at records m (now (out .entry)) o → Did x (Table es rows) (now (work .entry)) at (now (out .entry)) o k (now (work .exit)) (now (out .exit)) (r .next) (r .bools) (r .at) (r .clauses)) ⌝ }
 {
     let n = survey::word(work, at + 1);
     let rows = survey::word(work, at + 2);
     let e = columns::put_equalities(work, at + 3, n, out, o, k);
     let p = numbered::columns_end(work, at + 3, n);
     let f = numbered::table_fresh(work, p, n, rows);
-    let r = write_rows(set, work, at, p, n, rows, triples, m, out, e.at, e.clauses);
+    let r = write_rows(set, work, at, p, n, rows, records, m, out, e.at, e.clauses);
     Step {
         next: p + rows * n,
         bools: survey::bump(m, f),

@@ -16,8 +16,8 @@ pub early-counted : total 4 (pos 1 ∷ pos 7 ∷ pos 5 ∷ pos 0 ∷ pos 3 ∷ [
 unfolding times print-comparison print-comparisons print-clause summed members
 early-counted = refl
 
--- a domain, and a clause of two comparisons
-pub P9-listed : print-answer Compiled 0 1 (pos 1 ∷ pos 0 ∷ pos 1 ∷ pos 0 ∷ pos 2 ∷ pos 3 ∷ pos 1 ∷ pos 0 ∷ pos 2 ∷ pos 0 ∷ pos 0 ∷ pos 1 ∷ pos 0 ∷ pos 1 ∷ pos 0 ∷ negsuc 1 ∷ pos 1 ∷ pos 0 ∷ pos 1 ∷ []) ≡ 97 ∷ 110 ∷ 115 ∷ 119 ∷ 101 ∷ 114 ∷ 61 ∷ 99 ∷ 111 ∷ 109 ∷ 112 ∷ 105 ∷ 108 ∷ 101 ∷ 100 ∷ 10 ∷ 102 ∷ 105 ∷ 120 ∷ 101 ∷ 100 ∷ 61 ∷ 10 ∷ 98 ∷ 111 ∷ 111 ∷ 108 ∷ 115 ∷ 61 ∷ 10 ∷ 105 ∷ 110 ∷ 116 ∷ 115 ∷ 61 ∷ 49 ∷ 10 ∷ 101 ∷ 109 ∷ 105 ∷ 116 ∷ 116 ∷ 101 ∷ 100 ∷ 61 ∷ 48 ∷ 44 ∷ 49 ∷ 10 ∷ 100 ∷ 111 ∷ 109 ∷ 97 ∷ 105 ∷ 110 ∷ 61 ∷ 48 ∷ 44 ∷ 50 ∷ 44 ∷ 51 ∷ 10 ∷ 99 ∷ 108 ∷ 97 ∷ 117 ∷ 115 ∷ 101 ∷ 61 ∷ 59 ∷ 48 ∷ 58 ∷ 48 ∷ 58 ∷ 48 ∷ 44 ∷ 49 ∷ 59 ∷ 48 ∷ 58 ∷ 45 ∷ 50 ∷ 58 ∷ 48 ∷ 44 ∷ 49 ∷ 10 ∷ 99 ∷ 108 ∷ 97 ∷ 117 ∷ 115 ∷ 101 ∷ 115 ∷ 61 ∷ 49 ∷ 10 ∷ 116 ∷ 111 ∷ 116 ∷ 97 ∷ 108 ∷ 61 ∷ 50 ∷ 10 ∷ []
+-- a record, and a clause of two comparisons
+pub P9-listed : print-answer Compiled 0 1 (pos 1 ∷ pos 0 ∷ pos 1 ∷ pos 0 ∷ pos 0 ∷ pos 2 ∷ pos 3 ∷ pos 1 ∷ pos 0 ∷ pos 2 ∷ pos 0 ∷ pos 0 ∷ pos 1 ∷ pos 0 ∷ pos 1 ∷ pos 0 ∷ negsuc 1 ∷ pos 1 ∷ pos 0 ∷ pos 1 ∷ []) ≡ 97 ∷ 110 ∷ 115 ∷ 119 ∷ 101 ∷ 114 ∷ 61 ∷ 99 ∷ 111 ∷ 109 ∷ 112 ∷ 105 ∷ 108 ∷ 101 ∷ 100 ∷ 10 ∷ 102 ∷ 105 ∷ 120 ∷ 101 ∷ 100 ∷ 61 ∷ 10 ∷ 98 ∷ 111 ∷ 111 ∷ 108 ∷ 115 ∷ 61 ∷ 10 ∷ 105 ∷ 110 ∷ 116 ∷ 115 ∷ 61 ∷ 49 ∷ 10 ∷ 101 ∷ 109 ∷ 105 ∷ 116 ∷ 116 ∷ 101 ∷ 100 ∷ 61 ∷ 48 ∷ 44 ∷ 49 ∷ 10 ∷ 100 ∷ 111 ∷ 109 ∷ 97 ∷ 105 ∷ 110 ∷ 61 ∷ 48 ∷ 44 ∷ 48 ∷ 44 ∷ 50 ∷ 44 ∷ 51 ∷ 10 ∷ 99 ∷ 108 ∷ 97 ∷ 117 ∷ 115 ∷ 101 ∷ 61 ∷ 59 ∷ 48 ∷ 58 ∷ 48 ∷ 58 ∷ 48 ∷ 44 ∷ 49 ∷ 59 ∷ 48 ∷ 58 ∷ 45 ∷ 50 ∷ 58 ∷ 48 ∷ 44 ∷ 49 ∷ 10 ∷ 99 ∷ 108 ∷ 97 ∷ 117 ∷ 115 ∷ 101 ∷ 115 ∷ 61 ∷ 49 ∷ 10 ∷ 116 ∷ 111 ∷ 116 ∷ 97 ∷ 108 ∷ 61 ∷ 50 ∷ 10 ∷ []
 unfolding print-steps print-natural print-number print-more print-numbers print-line times print-domain print-comparison print-comparisons print-clause summed members print-clauses print-emitted print-compiled print-answer
 P9-listed = refl
 

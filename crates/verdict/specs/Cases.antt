@@ -8,7 +8,7 @@ use lib.Dec.{eqb}
 use Rattle.syntax.specs.Words.{star-word}
 use Rattle.syntax.specs.Satisfies.{int-value, terms-value, holds, holds-all, holds-any, distinct, stmt-holds, in-domains}
 use Rattle.read.specs.Read.{times, up-to, count, index, number, read-range, read-rising, read-enumerative, read-domain, kind-bool, kind-int, read-terms, read-members, step-int, read-int, step-bool, read-bool, read-cell, read-table, read-different, read-stmt, read-set}
-use Rattle.limits.specs.Limits.{any-comparison, any-comparison-members, any-pair, any-part, weight, terms-weight, heavy, heavy-terms, heavy-comparison, written, written-terms, many-comparison, many-column, interval, terms-interval, span, wide-column, check}
+use Rattle.limits.specs.Limits.{any-comparison, any-comparison-members, any-inside, any-inside-terms, any-pair, any-part, weight, terms-weight, heavy, heavy-terms, heavy-comparison, written, written-terms, ifs, ifs-terms, many-comparison, many-column, interval, terms-interval, span, wide-column, check}
 use Rattle.limits.specs.Admitted.{admitted, limited}
 use Rattle.verdict.specs.Roster.{Verdict, satisfied, broken, refused, right-count, all-inside, first-false, judged, rostered, when-admitted, check-roster}
 
@@ -28,7 +28,7 @@ pub data Case : Type 0 where
   case : List ℤ → List ℤ → ℕ → Verdict → Case
 
 unfoldable pub agrees : Case → Bool
-unfolding same-verdict times up-to count index number read-range read-rising read-enumerative read-domain kind-bool kind-int read-terms read-members step-int read-int step-bool read-bool read-cell read-table read-different read-stmt read-set any-comparison any-comparison-members any-pair any-part weight terms-weight heavy heavy-terms heavy-comparison written written-terms many-comparison many-column interval terms-interval span wide-column check int-value terms-value holds holds-all holds-any distinct stmt-holds in-domains right-count all-inside first-false judged rostered when-admitted check-roster admitted limited
+unfolding same-verdict times up-to count index number read-range read-rising read-enumerative read-domain kind-bool kind-int read-terms read-members step-int read-int step-bool read-bool read-cell read-table read-different read-stmt read-set any-comparison any-comparison-members any-inside any-inside-terms any-pair any-part weight terms-weight heavy heavy-terms heavy-comparison written written-terms ifs ifs-terms many-comparison many-column interval terms-interval span wide-column check int-value terms-value holds holds-all holds-any distinct stmt-holds in-domains right-count all-inside first-false judged rostered when-admitted check-roster admitted limited
 agrees (case set values work-length v) = same-verdict (check-roster set values work-length) v
 
 unfoldable pub all-agree : List Case → Bool

@@ -11,7 +11,7 @@ use borrow.Author.Tests.{lt-ltb}
 use lib.ListN.{length, getD, take, drop, take-append-drop, length-append, length-drop}
 use lib.Seq.{drop-append-le, take-append-le}
 use Rattle.laws.specs.Slices.{Has, has-fits, has-front, has-back, has-word, has-rest}
-use Rattle.syntax.specs.Syntax.{CmpOp, Eq, Ne, Le, Lt, Ge, Gt, op-at, encode-op, IntExpr, IConst, IVar, Linear, If, Terms, tnil, tmore, count-terms, encode-int, encode-terms, BoolExpr, Const, Var, NVar, And, Or, Not, Xor, Iff, Imp, Cmp, Members, mnil, more, count-members, encode-bool, encode-members}
+use Rattle.syntax.specs.Syntax.{unread, CmpOp, Eq, Ne, Le, Lt, Ge, Gt, op-at, encode-op, IntExpr, IConst, IVar, Linear, If, Terms, tnil, tmore, count-terms, encode-int, encode-terms, BoolExpr, Const, Var, NVar, And, Or, Not, Xor, Iff, Imp, Cmp, Members, mnil, more, count-members, encode-bool, encode-members}
 use Rattle.walk.specs.Tree.{Tree, num, tied, Trees, nil, cons, pair, append, splits, splits-members, crossed, resolve, resolves, both-tied, ties, ties-members}
 use Rattle.walk.specs.Item.{limit, bump, nat}
 use Rattle.walk.specs.Legal.{LegalInt, LegalTerms, Legal, LegalMembers}
@@ -80,7 +80,7 @@ mutual
   int-is (IVar v) l ws at h d =
       let p = two ws at (pos 21) (pos v) [] d in
       rw (int-level ws l at (h .0), p .first, p .second, p .stop, lt-ltb v 256 (h .1))
-  int-is (If i c t f) l ws at h d = absurd i
+  int-is (If i c t f) l ws at h d = absurd (unread i)
   int-is (Linear ts) l ws at h d =
       let p = two ws at (pos 22) (pos (count-terms ts)) (encode-terms ts) d in
       rw (int-level ws l at (h .0), p .first, p .second, p .stop, terms-is ts (l - 1) ws (at + 2) (h .1) (p .rest)) (ap (λ n. (Linear ts, n)) (omega arith))

@@ -5,7 +5,7 @@ use mathlib.Core.List.{List}
 use Prim.Native.Nat.{ℕ}
 use native.Mathlib.Omega.{arith}
 use lib.IntN.{ℤ, pos}
-use Rattle.syntax.specs.Syntax.{Domain, IntExpr, IConst, IVar, Linear, If, Terms, tnil, tmore}
+use Rattle.syntax.specs.Syntax.{unread, Domain, IntExpr, IConst, IVar, Linear, If, Terms, tnil, tmore}
 use Rattle.sums.specs.LinearSum.{LinearSum, constant, singleton, add-sum, mul-sum}
 use Rattle.sums.specs.Linear.{linear-of, linear-terms}
 use Rattle.clauses.specs.Log.{Log, next-bool, get-int-var, int-var-at, convert-int-var, clauses-of}
@@ -54,7 +54,7 @@ module _ (ds : List Domain) where
     pub int-grows : (e : IntExpr) (s : Log) → Grows s (normalize-int-expr ds e s .1)
     int-grows (IConst c) s = same
     int-grows (IVar v) s = var-grows v s
-    int-grows (If i c t f) s = absurd i
+    int-grows (If i c t f) s = absurd (unread i)
     int-grows (Linear ts) s = terms-grow ts (constant (pos 0)) s
 
     pub terms-grow : (ts : Terms) (sum : LinearSum) (s : Log) → Grows s (normalize-terms ds ts sum s .1)
@@ -67,7 +67,7 @@ module _ (ds : List Domain) where
     pub int-bools : (e : IntExpr) (s : Log) → next-bool (normalize-int-expr ds e s .1) ≡ next-bool s
     int-bools (IConst c) s = refl
     int-bools (IVar v) s = var-bools v s
-    int-bools (If i c t f) s = absurd i
+    int-bools (If i c t f) s = absurd (unread i)
     int-bools (Linear ts) s = terms-bools ts (constant (pos 0)) s
 
     terms-bools : (ts : Terms) (sum : LinearSum) (s : Log) → next-bool (normalize-terms ds ts sum s .1) ≡ next-bool s
@@ -80,7 +80,7 @@ module _ (ds : List Domain) where
     pub int-quiet : (e : IntExpr) (s : Log) → clauses-of (normalize-int-expr ds e s .1) ≡ clauses-of s
     int-quiet (IConst c) s = refl
     int-quiet (IVar v) s = var-quiet v s
-    int-quiet (If i c t f) s = absurd i
+    int-quiet (If i c t f) s = absurd (unread i)
     int-quiet (Linear ts) s = terms-quiet ts (constant (pos 0)) s
 
     terms-quiet : (ts : Terms) (sum : LinearSum) (s : Log) → clauses-of (normalize-terms ds ts sum s .1) ≡ clauses-of s
@@ -97,7 +97,7 @@ module _ (w : List ℤ) (ds : List Domain) where
     pub int-linear : (e : IntExpr) (s : Log) → Fit w (normalize-int-expr ds e s .1) → normalize-int-expr ds e s .0 ≡ linear-of (int-number w) e
     int-linear (IConst c) s f = refl
     int-linear (IVar v) s f = ap singleton (var-number v (convert-int-var v s .0) (convert-int-var v s .1) (var-found v s) f)
-    int-linear (If j c x y) s f = absurd j
+    int-linear (If j c x y) s f = absurd (unread j)
     int-linear (Linear ts) s f = terms-linear ts (constant (pos 0)) s f
 
     terms-linear : (ts : Terms) (sum : LinearSum) (s : Log) → Fit w (normalize-terms ds ts sum s .1) → normalize-terms ds ts sum s .0 ≡ linear-terms (int-number w) ts sum

@@ -7,7 +7,7 @@ use lib.IntN.{ℤ, pos, negsuc, negℤ, natAbs}
 use Rattle.laws.specs.Ints.{is-zero}
 use lib.ListN.{length, getD, set}
 use lib.Dec.{eqb, leb}
-use Rattle.syntax.specs.Syntax.{CmpOp, IntExpr, IConst, IVar, Linear, If, Terms, tnil, tmore}
+use Rattle.syntax.specs.Syntax.{unread, CmpOp, IntExpr, IConst, IVar, Linear, If, Terms, tnil, tmore}
 use Rattle.sums.specs.LinearSum.{sub-sum}
 use Rattle.sums.specs.Linear.{linear-of}
 use Rattle.clauses.specs.Clause.{linear}
@@ -85,7 +85,7 @@ unfoldable mutual
   pub meet-int : IntExpr → State → State
   meet-int (IConst c) s = s
   meet-int (IVar v) s = meet-int-var v s
-  meet-int (If i c t f) s = absurd i
+  meet-int (If i c t f) s = absurd (unread i)
   meet-int (Linear ts) s = meet-terms ts s
 
   pub meet-terms : Terms → State → State

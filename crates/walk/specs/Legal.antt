@@ -4,7 +4,7 @@ use mathlib.Core.Bool.{Bool, true, false, not}
 use Prim.Native.Nat.{ℕ, suc, _+_, _-_, _≤_, _<_}
 use native.Mathlib.Omega.{arith}
 use lib.ListN.{length}
-use Rattle.syntax.specs.Syntax.{IntExpr, IConst, IVar, Linear, If, Terms, tnil, tmore, BoolExpr, Const, Var, NVar, And, Or, Not, Xor, Iff, Imp, Cmp, Members, mnil, more, count-members, encode-bool}
+use Rattle.syntax.specs.Syntax.{unread, IntExpr, IConst, IVar, Linear, If, Terms, tnil, tmore, BoolExpr, Const, Var, NVar, And, Or, Not, Xor, Iff, Imp, Cmp, Members, mnil, more, count-members, encode-bool}
 use Rattle.syntax.specs.Written.{EveryInt, EveryTerm, EveryIntOf}
 use Rattle.walk.specs.Tree.{Tree, num, Trees, nil, cons, size, append, joined, splits, splits-members, crossed, resolve, resolves, tie, both-tied, ties, ties-members}
 use Rattle.walk.specs.Item.{limit}
@@ -15,7 +15,7 @@ unfoldable mutual
   pub LegalInt : IntExpr → ℕ → Type 0
   LegalInt (IConst c) l = 0 < l
   LegalInt (IVar v) l = (0 < l) × (v < 256)
-  LegalInt (If i c t f) l = absurd i
+  LegalInt (If i c t f) l = absurd (unread i)
   LegalInt (Linear ts) l = (0 < l) × LegalTerms ts (l - 1)
 
   pub LegalTerms : Terms → ℕ → Type 0
@@ -46,7 +46,7 @@ mutual
   pub legal-int : (e : IntExpr) (l : ℕ) → LegalInt e l → EveryInt (λ v. v < 256) e
   legal-int (IConst c) l h = tt
   legal-int (IVar v) l h = h .1
-  legal-int (If i c t f) l h = absurd i
+  legal-int (If i c t f) l h = absurd (unread i)
   legal-int (Linear ts) l h = legal-terms ts (l - 1) (h .1)
 
   legal-terms : (ts : Terms) (l : ℕ) → LegalTerms ts l → EveryTerm (λ v. v < 256) ts

@@ -12,7 +12,7 @@ use lib.ListN.{length, getD, set, length-set}
 use lib.Seq.{getD-set-same, getD-set-other}
 use lib.Dec.{eqb, eqb→eq}
 use borrow.Author.Tests.{eq-eqb, ne-eqb}
-use Rattle.syntax.specs.Syntax.{Domain, IntExpr, IConst, IVar, Linear, If, Terms, tnil, tmore}
+use Rattle.syntax.specs.Syntax.{unread, Domain, IntExpr, IConst, IVar, Linear, If, Terms, tnil, tmore}
 use Rattle.syntax.specs.Written.{EveryInt, EveryTerm, EveryIntOf}
 use Rattle.sums.specs.LinearSum.{LinearSum, constant, add-sum, mul-sum}
 use Rattle.clauses.specs.Log.{declared, declared-int, column, chosen, binary, bool, merged, int, added, defined, known, Log, next-bool, next-int, get-bool-var, get-int-var, bool-var-at, int-var-at, convert-int-var}
@@ -38,8 +38,8 @@ module _ (Column : Log → ℤ → LinearSum → Domain → Type 0) where
   Recorded w (merged q r z ∷ s) = Recorded w s
   Recorded w (int (declared-int v) ∷ s) = (getD w (emitted-ints + next-int s) (pos 0) ≡ pos v) × Recorded w s
   Recorded w (int (column l d) ∷ s) = Column s (getD w (emitted-ints + next-int s) (pos 0)) l d × Recorded w s
-  Recorded w (int (chosen i e p q d) ∷ s) = absurd i
-  Recorded w (int (binary i l a b) ∷ s) = absurd i
+  Recorded w (int (chosen i e p q d) ∷ s) = absurd (unread i)
+  Recorded w (int (binary i l a b) ∷ s) = absurd (unread i)
   Recorded w (added cs ∷ s) = Recorded w s
   Recorded w (defined cs ∷ s) = Recorded w s
   Recorded w (known e n ∷ s) = Recorded w s
@@ -82,8 +82,8 @@ module _ (Column : Log → ℤ → LinearSum → Domain → Type 0) where
       (getD-set-other w p (emitted-ints + next-int s) x (pos 0) (f (next-int s) (omega arith)) ∙ h .0, recorded-set w p x s (λ k l. f k (omega arith)) (h .1))
   recorded-set w p x (int (column l d) ∷ s) f h =
       (rw (getD-set-other w p (emitted-ints + next-int s) x (pos 0) (f (next-int s) (omega arith))) (h .0), recorded-set w p x s (λ k l. f k (omega arith)) (h .1))
-  recorded-set w p x (int (chosen i e t q d) ∷ s) f h = absurd i
-  recorded-set w p x (int (binary i l a b) ∷ s) f h = absurd i
+  recorded-set w p x (int (chosen i e t q d) ∷ s) f h = absurd (unread i)
+  recorded-set w p x (int (binary i l a b) ∷ s) f h = absurd (unread i)
   recorded-set w p x (added cs ∷ s) f h = recorded-set w p x s f h
   recorded-set w p x (defined cs ∷ s) f h = recorded-set w p x s f h
   recorded-set w p x (known e n ∷ s) f h = recorded-set w p x s f h
@@ -192,7 +192,7 @@ module _ (Column : Log → ℤ → LinearSum → Domain → Type 0) where
       pub expr-num : (e : IntExpr) → EveryInt (λ v. v < 256) e → (st : State) (s : Log) → Numbered st s → next-int (normalize-int-expr ds e s .1) ≤ max-emitted → Numbered (meet-int e st) (normalize-int-expr ds e s .1)
       expr-num (IConst c) p st s h l = h
       expr-num (IVar v) p st s h l = int-num v st s (get-int-var v s) refl p h l
-      expr-num (If i c t f) p st s h l = absurd i
+      expr-num (If i c t f) p st s h l = absurd (unread i)
       expr-num (Linear ts) p st s h l = terms-num ts p st (constant (pos 0)) s h l
 
       terms-num : (ts : Terms) → EveryTerm (λ v. v < 256) ts → (st : State) (sum : LinearSum) (s : Log) → Numbered st s → next-int (normalize-terms ds ts sum s .1) ≤ max-emitted → Numbered (meet-terms ts st) (normalize-terms ds ts sum s .1)

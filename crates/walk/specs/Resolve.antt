@@ -5,7 +5,7 @@ use mathlib.Core.List.{List, [], _∷_, _++_}
 use Prim.Native.Nat.{ℕ, suc, _+_}
 use native.Mathlib.Omega.{arith}
 use lib.ListN.{length}
-use Rattle.syntax.specs.Syntax.{Domain, CmpOp, IntExpr, IConst, IVar, Linear, If, Terms, tnil, tmore, BoolExpr, Const, Var, NVar, And, Or, Not, Xor, Iff, Imp, Cmp, Members, mnil, more, encode-bool}
+use Rattle.syntax.specs.Syntax.{unread, Domain, CmpOp, IntExpr, IConst, IVar, Linear, If, Terms, tnil, tmore, BoolExpr, Const, Var, NVar, And, Or, Not, Xor, Iff, Imp, Cmp, Members, mnil, more, encode-bool}
 use Rattle.clauses.specs.Log.{side, bool, Log, next-bool, next-int, get-bool-var, get-int-var, clauses-of}
 use Rattle.clauses.specs.Disjunction.{normalize-disjunction}
 use Rattle.clauses.specs.Normalize.{register, no-run, normalize-conjunction, disjunction-of, normalize-bool-expr, normalize-members}
@@ -23,7 +23,7 @@ mutual
   int-unsplit (IConst c) s = refl
   int-unsplit (IVar v) s = refl
   int-unsplit (Linear ts) s = rw (terms-unsplit ts s) refl
-  int-unsplit (If i c t f) s = absurd i
+  int-unsplit (If i c t f) s = absurd (unread i)
 
   terms-unsplit : (ts : Terms) (s : Log) → split-terms ts s ≡ unsplit ts s
   terms-unsplit tnil s = refl

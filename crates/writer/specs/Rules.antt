@@ -10,8 +10,8 @@ use Rattle.laws.specs.Bools.{or-no-l, or-no-r}
 use Rattle.laws.specs.Lists.{flat}
 use Rattle.laws.specs.Slices.{Has, has-front, has-back, has-rest}
 use Rattle.laws.specs.Writes.{Wrote, wrote-to}
-use Rattle.syntax.specs.Syntax.{Domain, IntExpr, encode-int, BoolExpr, Const, Var, NVar, And, Or, Not, Xor, Iff, Imp, Cmp, Members, mnil, more, encode-bool, encode-members}
-use Rattle.limits.specs.Limits.{heavy-comparison, many-comparison, any-comparison, any-comparison-members}
+use Rattle.syntax.specs.Syntax.{Domain, encode-int, BoolExpr, Const, Var, NVar, And, Or, Not, Xor, Iff, Imp, Cmp, Members, mnil, more, encode-bool, encode-members}
+use Rattle.limits.specs.Limits.{heavy-comparison, many-comparison, many-column, any-comparison, any-comparison-members}
 use Rattle.sums.specs.LinearSum.{LinearSum}
 use Rattle.clauses.specs.Clause.{negate-if}
 use Rattle.clauses.specs.Log.{Log, next-bool}
@@ -55,18 +55,18 @@ tied-fit : (w : List ℤ) (ts us : Trees) (a b : Tree) → AllComparisonsFit w t
 unfolding ComparisonsFit
 tied-fit w ts us a b h i j k = append-fit w (append ts (cons a nil)) (append us (cons b nil)) (append-fit w ts (cons a nil) h (i, tt)) (append-fit w us (cons b nil) j (k, tt))
 
-module _ (w : List ℤ) (ds : List Domain) (column : IntExpr → Bool) where
+module _ (w : List ℤ) (ds : List Domain) where
   abbrev H : BoolExpr → Bool
-  H e = any-comparison (heavy-comparison ds) column e
+  H e = any-comparison (heavy-comparison ds) (λ x. false) e
 
   abbrev M : BoolExpr → Bool
-  M e = any-comparison many-comparison column e
+  M e = any-comparison many-comparison many-column e
 
   abbrev HM : Members → Bool
-  HM ms = any-comparison-members (heavy-comparison ds) column ms
+  HM ms = any-comparison-members (heavy-comparison ds) (λ x. false) ms
 
   abbrev MM : Members → Bool
-  MM ms = any-comparison-members many-comparison column ms
+  MM ms = any-comparison-members many-comparison many-column ms
 
   -- no comparison is too heavy, none has too many variables
   abbrev Light : BoolExpr → Type 0
@@ -109,7 +109,7 @@ module _ (w : List ℤ) (ds : List Domain) (column : IntExpr → Bool) where
           resolve-fit a t (at + 1) n (not g) (has-front w (at + 1) (encode-bool a) (encode-bool b) d) (left-light (H a) (H b) (M a) (M b) l),
           (resolve-fit b t (at + 1 + length (encode-bool a)) (n + splits a t) g (has-back w (at + 1) (encode-bool a) (encode-bool b) d) (right-light (H a) (H b) (M a) (M b) l), tt),
         )
-    resolve-fit (Cmp o a b) t at n g h l = record { has = has-two w at _ _ (encode-int a ++ encode-int b) h; domains = ds; light = l .0; few = l .1 }
+    resolve-fit (Cmp o a b) t at n g h l = record { has = has-two w at _ _ (encode-int a ++ encode-int b) h; domains = ds; light = or-no-l (heavy-comparison ds a b) _ (l .0); few = or-no-l (many-comparison a b) _ (l .1) }
 
     resolves-fit : (ms : Members) (t : Bool) (at n : ℕ) (g : Bool) → Has w at (encode-members ms) → LightMembers ms → AllComparisonsFit w (resolves ms t at n g)
     resolves-fit mnil t at n g h l = tt
@@ -192,7 +192,7 @@ pub record Writable (w : List ℤ) (at n : ℕ) : Type 0 where
   pub room : n + splits rule false ≤ limit
   pub domains : List Domain
   pub light : any-comparison (heavy-comparison domains) (λ e. false) rule ≡ false
-  pub few : any-comparison many-comparison (λ e. false) rule ≡ false
+  pub few : any-comparison many-comparison many-column rule ≡ false
 
 pub writable-fit : (w : List ℤ) (at n : ℕ) → Writable w at n → AllComparisonsFit w (rule-at (read-part w) 64 at n)
 unfolding ComparisonsFit
@@ -201,8 +201,8 @@ writable-fit w at n h =
     let d = has-part w at (encode-bool e) (h .has) in
     subst (λ (ts : Trees). AllComparisonsFit w ts) (sym (rule-stands e (read-part w) 64 at n (h .legal) (h .has) (h .room) .trees))
     (append-fit w (ties e false at n) (cons (resolve e false at n false) nil)
-    (ties-fit w (h .domains) (λ e. false) e false at n d (h .light, h .few))
-    (resolve-fit w (h .domains) (λ e. false) e false at n false d (h .light, h .few), tt))
+    (ties-fit w (h .domains) e false at n d (h .light, h .few))
+    (resolve-fit w (h .domains) e false at n false d (h .light, h .few), tt))
 
 -- for every legal rule e that stands there: its extras and its tree are written
 record RuleText (e : BoolExpr) (w : List ℤ) (at n : ℕ) (out : List ℤ) (o : ℕ) (out' : List ℤ) (end m k p : ℕ) : Type 0 where

@@ -34,7 +34,7 @@ unfolding encode-stmt
 words es = omega arith
 
 module _ {set w : List ℤ} {q m : ℕ} {out : List ℤ} {o : ℕ} where
-  module _ {triples : ℕ} {x : Place} {es : List IntExpr} (h : At x (AllDifferent es) set w q triples m out o) where
+  module _ {records : ℕ} {x : Place} {es : List IntExpr} (h : At x (AllDifferent es) set w q records m out o) where
     abbrev ds : List Domain
     ds = x .problem .domains
 
@@ -82,7 +82,7 @@ module _ {set w : List ℤ} {q m : ℕ} {out : List ℤ} {o : ℕ} where
 
   pub different-did : {n e k : ℕ} → n ≡ word (read-part w) (q + 1) → e ≡ columns-end (read-part w) n (q + 2) → {out' : List ℤ} {o' k' : ℕ} → PutDifferent set w (q + 2) n out o k out' o' k' → DifferentDid set w q m out o k out' e m o' k'
   unfolding normalize-stmt
-  different-did hn he r x es triples h = record {
+  different-did hn he r x es records h = record {
     clauses = clauses-to (sym (different-out w (x .problem .domains) es (x .before) (unfold normalize-stmt in fit h))) (r .clauses (x .problem .domains) es (ready h hn));
     next = stop h hn he;
     bools = h .number ∙ sym (different-bools (x .problem .domains) es (x .before));

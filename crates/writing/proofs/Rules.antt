@@ -1,6 +1,6 @@
 -- A rule among the statements: it may be written where it stands, and what is written are its clauses.
-use mathlib.Core.Path.{_≡_, refl, sym, ap, _∙_, subst}
-use mathlib.Core.Bool.{Bool, false}
+use mathlib.Core.Path.{_≡_, sym, ap, _∙_, subst}
+use mathlib.Core.Bool.{false}
 use mathlib.Core.List.{List, [], _∷_}
 use Prim.Native.Nat.{ℕ, _+_, _*_, _≤_}
 use native.Mathlib.Omega.{arith}
@@ -8,9 +8,8 @@ use lib.IntN.{ℤ, pos}
 use lib.ListN.{length, length-append}
 use Rattle.laws.specs.Lists.{counted}
 use Rattle.laws.specs.Slices.{Has, has-rest}
-use Rattle.syntax.specs.Syntax.{IntExpr, BoolExpr, Const, Var, NVar, And, Or, Not, Xor, Iff, Imp, Cmp, Members, mnil, more, encode-bool, Cell, Stmt, Rule, Table, AllDifferent, encode-stmt}
+use Rattle.syntax.specs.Syntax.{IntExpr, BoolExpr, encode-bool, Cell, Stmt, Rule, Table, AllDifferent, encode-stmt}
 use Rattle.syntax.specs.Codes.{stmt-code, stmt-code-word}
-use Rattle.limits.specs.Limits.{any-comparison, any-comparison-members}
 use Rattle.clauses.specs.Clause.{Clause, clause}
 use Rattle.clauses.specs.Log.{next-bool}
 use Rattle.clauses.specs.Split.{normalize-and-register-expr}
@@ -29,28 +28,6 @@ use Rattle.statements.specs.Columns.{ColumnRecord}
 use Rattle.statements.specs.Saved.{saved-same}
 use Rattle.tabling.specs.Step.{Place, At, SomeAt, SomeTable, Did}
 use Rattle.writing.specs.Writing.{RuleStep, SomeDifferent, DifferentDid}
-
--- ---- a rule has no columns
-
-module _ (f : IntExpr → IntExpr → Bool) (g h : IntExpr → Bool) where
-  mutual
-    unfolding any-comparison
-
-    any-same : (e : BoolExpr) → any-comparison f g e ≡ any-comparison f h e
-    any-same (Const b) = refl
-    any-same (Var v) = refl
-    any-same (NVar n) = refl
-    any-same (And ms) = any-sames ms
-    any-same (Or ms) = any-sames ms
-    any-same (Not e) = any-same e
-    any-same (Xor a b) = rw (any-same a, any-same b) refl
-    any-same (Iff a b) = rw (any-same a, any-same b) refl
-    any-same (Imp a b) = rw (any-same a, any-same b) refl
-    any-same (Cmp o a b) = refl
-
-    any-sames : (ms : Members) → any-comparison-members f g ms ≡ any-comparison-members f h ms
-    any-sames mnil = refl
-    any-sames (more e ms) = rw (any-same e, any-sames ms) refl
 
 -- ---- a clause has two words at least
 
@@ -75,8 +52,8 @@ rule-length : (e : BoolExpr) → length (encode-stmt (Rule e)) ≡ 1 + length (e
 unfolding encode-stmt
 rule-length e = omega arith
 
-module _ {set w : List ℤ} {q triples m : ℕ} {out : List ℤ} {o : ℕ} where
-  module _ {x : Place} {e : BoolExpr} (h : At x (Rule e) set w q triples m out o) where
+module _ {set w : List ℤ} {q records m : ℕ} {out : List ℤ} {o : ℕ} where
+  module _ {x : Place} {e : BoolExpr} (h : At x (Rule e) set w q records m out o) where
     rule-low : Low (normalize-and-register-expr (x .problem .domains) e (x .before))
     rule-low = unfold normalize-stmt in low-back (h .at .grows) (h .low)
 
@@ -92,8 +69,8 @@ module _ {set w : List ℤ} {q triples m : ℕ} {out : List ℤ} {o : ℕ} where
         has = rule-has w q e (h .stands);
         room = omega (arith, h .number, room);
         domains = x .problem .domains;
-        light = sym (any-same _ _ _ e) ∙ h .at .facts .light;
-        few = sym (any-same _ _ _ e) ∙ h .at .facts .few;
+        light = h .at .facts .light;
+        few = h .at .facts .few;
       },
     )
 
@@ -118,49 +95,49 @@ module _ {set w : List ℤ} {q triples m : ℕ} {out : List ℤ} {o : ℕ} where
         }
 
   -- the code word is another statement's
-  not-here : {X : Type 0} {x : Place} (t : Stmt) → At x t set w q triples m out o → (word (read-part w) q ≡ stmt-code t → ⊥) → X
+  not-here : {X : Type 0} {x : Place} (t : Stmt) → At x t set w q records m out o → (word (read-part w) q ≡ stmt-code t → ⊥) → X
   not-here t h c = absurd (c (code-is w q t (h .stands)))
 
   -- it is a rule's
-  is-rule : {X : Type 0} (x : Place) (t : Stmt) → At x t set w q triples m out o → word (read-part w) q ≡ 1 → ((e : BoolExpr) → At x (Rule e) set w q triples m out o → X) → X
+  is-rule : {X : Type 0} (x : Place) (t : Stmt) → At x t set w q records m out o → word (read-part w) q ≡ 1 → ((e : BoolExpr) → At x (Rule e) set w q records m out o → X) → X
   is-rule x (Rule e) h c f = f e h
   is-rule x (Table es rows) h c f = not-here (Table es rows) h (λ z. omega (arith, c, z))
   is-rule x (AllDifferent es) h c f = not-here (AllDifferent es) h (λ z. omega (arith, c, z))
 
-  pub some-rule : SomeAt set w q triples m out o → word (read-part w) q ≡ 1 → Placed w (q + 1) m m × Writable w (q + 1) m
+  pub some-rule : SomeAt set w q records m out o → word (read-part w) q ≡ 1 → Placed w (q + 1) m m × Writable w (q + 1) m
   some-rule s c = is-rule (s .place) (s .stmt) (s .it) c (λ e h. rule-writable h)
 
   -- it is a table's
-  pub some-table : SomeAt set w q triples m out o → (word (read-part w) q ≡ 1 → ⊥) → (word (read-part w) q ≡ 3 → ⊥) → SomeTable set w q triples m out o
+  pub some-table : SomeAt set w q records m out o → (word (read-part w) q ≡ 1 → ⊥) → (word (read-part w) q ≡ 3 → ⊥) → SomeTable set w q records m out o
   some-table s c d = go (s .stmt) (s .it)
     where
-      go : (t : Stmt) → At (s .place) t set w q triples m out o → SomeTable set w q triples m out o
+      go : (t : Stmt) → At (s .place) t set w q records m out o → SomeTable set w q records m out o
       go (Rule e) h = not-here (Rule e) h c
       go (Table es rows) h = record { place = s .place; exprs = es; rows = rows; it = h }
       go (AllDifferent es) h = not-here (AllDifferent es) h d
 
   -- it is an AllDifferent's
-  pub some-different : SomeAt set w q triples m out o → word (read-part w) q ≡ 3 → SomeDifferent set w q m out o
+  pub some-different : SomeAt set w q records m out o → word (read-part w) q ≡ 3 → SomeDifferent set w q m out o
   some-different s c = go (s .stmt) (s .it)
     where
-      go : (t : Stmt) → At (s .place) t set w q triples m out o → SomeDifferent set w q m out o
+      go : (t : Stmt) → At (s .place) t set w q records m out o → SomeDifferent set w q m out o
       go (Rule e) h = not-here (Rule e) h (λ z. omega (arith, c, z))
       go (Table es rows) h = not-here (Table es rows) h (λ z. omega (arith, c, z))
-      go (AllDifferent es) h = record { place = s .place; exprs = es; triples = triples; it = h }
+      go (AllDifferent es) h = record { place = s .place; exprs = es; records = records; it = h }
 
   module _ {k : ℕ} {out' : List ℤ} {e' m' o' k' : ℕ} where
-    pub did-rule : word (read-part w) q ≡ 1 → Behind out o k → RuleStep w q m out o k out' e' m' o' k' → (x : Place) (t : Stmt) → At x t set w q triples m out o → Did x t w q out o k w out' e' m' o' k'
+    pub did-rule : word (read-part w) q ≡ 1 → Behind out o k → RuleStep w q m out o k out' e' m' o' k' → (x : Place) (t : Stmt) → At x t set w q records m out o → Did x t w q out o k w out' e' m' o' k'
     did-rule c b r x (Rule e) h = rule-did h b r
     did-rule c b r x (Table es rows) h = not-here (Table es rows) h (λ z. omega (arith, c, z))
     did-rule c b r x (AllDifferent es) h = not-here (AllDifferent es) h (λ z. omega (arith, c, z))
 
-    pub did-different : word (read-part w) q ≡ 3 → DifferentDid set w q m out o k out' e' m' o' k' → (x : Place) (t : Stmt) → At x t set w q triples m out o → Did x t w q out o k w out' e' m' o' k'
+    pub did-different : word (read-part w) q ≡ 3 → DifferentDid set w q m out o k out' e' m' o' k' → (x : Place) (t : Stmt) → At x t set w q records m out o → Did x t w q out o k w out' e' m' o' k'
     did-different c f x (Rule e) h = not-here (Rule e) h (λ z. omega (arith, c, z))
     did-different c f x (Table es rows) h = not-here (Table es rows) h (λ z. omega (arith, c, z))
-    did-different c f x (AllDifferent es) h = f x es triples h
+    did-different c f x (AllDifferent es) h = f x es records h
 
-    pub did-table : {w' : List ℤ} → (word (read-part w) q ≡ 1 → ⊥) → (word (read-part w) q ≡ 3 → ⊥) → ((x : Place) (es : List IntExpr) (rows : List (List Cell)) → At x (Table es rows) set w q triples m out o → Did x (Table es rows) w q out o k w' out' e' m' o' k')
-        → (x : Place) (t : Stmt) → At x t set w q triples m out o → Did x t w q out o k w' out' e' m' o' k'
+    pub did-table : {w' : List ℤ} → (word (read-part w) q ≡ 1 → ⊥) → (word (read-part w) q ≡ 3 → ⊥) → ((x : Place) (es : List IntExpr) (rows : List (List Cell)) → At x (Table es rows) set w q records m out o → Did x (Table es rows) w q out o k w' out' e' m' o' k')
+        → (x : Place) (t : Stmt) → At x t set w q records m out o → Did x t w q out o k w' out' e' m' o' k'
     did-table c d f x (Rule e) h = not-here (Rule e) h c
     did-table c d f x (Table es rows) h = f x es rows h
     did-table c d f x (AllDifferent es) h = not-here (AllDifferent es) h d

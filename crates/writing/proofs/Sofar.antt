@@ -23,7 +23,7 @@ use Rattle.statements.specs.Stages.{stmts-words, clauses-of, log-of}
 use Rattle.statements.specs.NumberedEntry.{settled-emitted, settled-low, ready-fit}
 use Rattle.statements.specs.Along.{begin, StmtAt, Rest, rest-start, rest-first, rest-next}
 use Rattle.statements.specs.Saved.{Saved, saved-same, saved-then, saved-less, has-saved, fit-saved, in-place-saved}
-use Rattle.tabling.proofs.After.{triples-stay}
+use Rattle.tabling.proofs.After.{records-stay}
 use Rattle.tabling.specs.Step.{Place, after, At, SomeAt, Did}
 use Rattle.writing.specs.Writing.{Writable}
 
@@ -44,7 +44,7 @@ stmt-words (Rule e) = omega arith
 stmt-words (Table es rows) = omega arith
 stmt-words (AllDifferent es) = omega arith
 
-module _ {set w₀ : List ℤ} {end from triples : ℕ} {out₀ : List ℤ} {o₀ : ℕ} {merge : Bool} {p : Problem} {f : Fixed} {ss : List Stmt} {c : Counters} (h : Writable merge p f ss c set w₀ end from triples out₀ o₀) where
+module _ {set w₀ : List ℤ} {end from records : ℕ} {out₀ : List ℤ} {o₀ : ℕ} {merge : Bool} {p : Problem} {f : Fixed} {ss : List Stmt} {c : Counters} (h : Writable merge p f ss c set w₀ end from records out₀ o₀) where
   abbrev ds : List Domain
   ds = p .domains
 
@@ -83,11 +83,11 @@ module _ {set w₀ : List ℤ} {end from triples : ℕ} {out₀ : List ℤ} {o�
     abbrev place : Place
     place = record { problem = p; folded = F; whole = L; before = v .log; state = v .state }
 
-    next-at : (t : Stmt) (ts : List Stmt) → Rest merge p ss F w₀ q (t ∷ ts) (v .log) (v .state) (v .done) → At place t set w q triples m out o
+    next-at : (t : Stmt) (ts : List Stmt) → Rest merge p ss F w₀ q (t ∷ ts) (v .log) (v .state) (v .done) → At place t set w q records m out o
     next-at t ts r =
         let a : StmtAt ds F w₀ L q t (v .log) (v .state) = rest-first merge (h .ready .set) r in
         let n = h .ready .numbered in
-        let b : triples + 3 * next-int L ≤ o₀ = omega (arith, h .behind, n .ints) in
+        let b : records + 4 * next-int L ≤ o₀ = omega (arith, h .behind, n .ints) in
         record {
           words = h .words;
           short = rw (h .words) (h .ready .set .short);
@@ -110,7 +110,7 @@ module _ {set w₀ : List ℤ} {end from triples : ℕ} {out₀ : List ℤ} {o�
           fit = fit-saved L (omega (arith, a .inside)) (n .low) (n .low-int) (v .saved) (ready-fit (h .ready));
           low = settled-low merge (h .ready .set);
           few = omega (arith, settled-emitted merge (h .ready .set));
-          domains = triples-stay ds L triples b (v .wrote .words) (h .domains);
+          domains = records-stay ds L records b (v .wrote .words) (h .domains);
           behind = omega (arith, b, v .wrote .words .at, h .room .room .low);
           size = omega (arith, n .size, v .saved .size);
         }
@@ -119,10 +119,10 @@ module _ {set w₀ : List ℤ} {end from triples : ℕ} {out₀ : List ℤ} {o�
     some-left l [] r g = absurd (omega (arith, r .place, h .ends))
     some-left l (t ∷ ts) r g = g t ts r
 
-    pub sofar-at : q < end → SomeAt set w q triples m out o
+    pub sofar-at : q < end → SomeAt set w q records m out o
     sofar-at l = some-left l (v .rest) (v .left) (λ t ts r. record { place = place; stmt = t; it = next-at t ts r })
 
-    module _ {w' out' : List ℤ} {e m' o' k' : ℕ} (g : (x : Place) (t : Stmt) → At x t set w q triples m out o → Did x t w q out o k w' out' e m' o' k') where
+    module _ {w' out' : List ℤ} {e m' o' k' : ℕ} (g : (x : Place) (t : Stmt) → At x t set w q records m out o → Did x t w q out o k w' out' e m' o' k') where
       next : (t : Stmt) (ts : List Stmt) → Rest merge p ss F w₀ q (t ∷ ts) (v .log) (v .state) (v .done) → Sofar w₀ out₀ o₀ merge p ss w' out' e m' o' k' × ((q < e) × (e ≤ end))
       next t ts r =
           let d : Did place t w q out o k w' out' e m' o' k' = g place t (next-at t ts r) in

@@ -56,14 +56,14 @@ fn write_statement(
     set: &[i32],
     work: &mut [i32],
     at: usize,
-    triples: usize,
+    records: usize,
     m: usize,
     out: &mut [i32],
     o: usize,
     k: usize,
 ) -> Step
-    requires { ⌜ SomeAt (now set) (now work) at triples m (now out) o × Behind (now out) o k ⌝ }
-    ensures { λ r. ⌜ ((x : Place) (t : Stmt) → At x t (now (set .entry)) (now (work .entry)) at triples m (now (out .entry)) o → Did x t (now (work .entry)) at (now (out .entry)) o k (now (work .exit)) (now (out .exit)) (r .next) (r .bools) (r .at) (r .clauses)) ⌝ }
+    requires { ⌜ SomeAt (now set) (now work) at records m (now out) o × Behind (now out) o k ⌝ }
+    ensures { λ r. ⌜ ((x : Place) (t : Stmt) → At x t (now (set .entry)) (now (work .entry)) at records m (now (out .entry)) o → Did x t (now (work .entry)) at (now (out .entry)) o k (now (work .exit)) (now (out .exit)) (r .next) (r .bools) (r .at) (r .clauses)) ⌝ }
 {
     let code = survey::word(work, at);
     if code == 1 {
@@ -72,28 +72,28 @@ fn write_statement(
     if code == 3 {
         return write_different(set, work, at, m, out, o, k);
     }
-    tabling::write_table(set, work, at, triples, m, out, o, k)
+    tabling::write_table(set, work, at, records, m, out, o, k)
 }
 
-// The clauses of the statements from 512 to `end`. `from` Booleans have a number already; the emitted integers' words stand in the answer from `triples` on.
+// The clauses of the statements from 512 to `end`. `from` Booleans have a number already; the emitted integers' words stand in the answer from `records` on.
 pub fn write_statements(
     set: &[i32],
     work: &mut [i32],
     end: usize,
     from: usize,
-    triples: usize,
+    records: usize,
     out: &mut [i32],
     o: usize,
 ) -> Written
-    requires { ⌜ SomeWritable (now set) (now work) end from triples (now out) o ⌝ }
-    ensures { λ r. ⌜ WrittenAll (now (set .entry)) (now (work .entry)) end from triples (now (out .entry)) o (now (work .exit)) (now (out .exit)) r ⌝ }
+    requires { ⌜ SomeWritable (now set) (now work) end from records (now out) o ⌝ }
+    ensures { λ r. ⌜ WrittenAll (now (set .entry)) (now (work .entry)) end from records (now (out .entry)) o (now (work .exit)) (now (out .exit)) r ⌝ }
 {
     let mut q = 512;
     let mut m = from;
     let mut p = o;
     let mut k = 0;
     while q < end {
-        let r = write_statement(set, work, q, triples, m, out, p, k);
+        let r = write_statement(set, work, q, records, m, out, p, k);
         q = r.next;
         m = r.bools;
         p = r.at;

@@ -46,7 +46,7 @@ pub fn roster(set: &[i32], values: &[i32], work: &mut [i32]) -> i64 {
     unsafe { check_roster(set.as_ptr(), set.len(), values.as_ptr(), values.len(), work.as_mut_ptr(), work.len()) }
 }
 
-/// Runs `SEED COUNT [FAMILY]` of the command line: COUNT sets of every family, or of one.
+/// Runs `SEED COUNT [FAMILY..]` of the command line: COUNT sets of every family, or of the named ones.
 pub fn run_families(
     program: &str,
     families: &[&str],
@@ -56,8 +56,10 @@ pub fn run_families(
     let number = |text: &str| text.parse::<u64>().map_err(|e| e.to_string());
     match &arguments[..] {
         [seed, count] => run(number(seed)?, number(count)?, families),
-        [seed, count, family] => run(number(seed)?, number(count)?, &[family]),
-        _ => Err(format!("usage: {program} SEED COUNT [FAMILY]")),
+        [seed, count, named @ ..] => {
+            run(number(seed)?, number(count)?, &named.iter().map(String::as_str).collect::<Vec<&str>>())
+        }
+        _ => Err(format!("usage: {program} SEED COUNT [FAMILY..]")),
     }
 }
 

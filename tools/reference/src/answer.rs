@@ -22,8 +22,8 @@ pub struct Answer {
     pub int_map: Vec<i32>,
     /// The count of emitted Booleans.
     pub bools: i32,
-    /// Lowest, highest and number of values of each emitted integer.
-    pub domains: Vec<[i32; 3]>,
+    /// Kind 0 with lowest, highest and number of values, or 1 with a literal, the value if false, the value if true.
+    pub domains: Vec<[i32; 4]>,
     pub clauses: Vec<Clause>,
 }
 
@@ -36,7 +36,7 @@ pub fn decode(bools: usize, ints: usize, words: &[i32]) -> Option<Answer> {
     let bool_map = w.many(bools)?;
     let int_map = w.many(ints)?;
     let emitted_bools = w.word()?;
-    let domains = w.counted(|w| Some([w.word()?, w.word()?, w.word()?]))?;
+    let domains = w.counted(|w| Some([w.word()?, w.word()?, w.word()?, w.word()?]))?;
     let clauses = w.counted(Words::clause)?;
     if w.word().is_some() {
         return None;

@@ -88,7 +88,7 @@ fn rules() -> Vec<Known> {
 }
 
 fn tables() -> Vec<Known> {
-    let one = "answer=compiled\nfixed=\nbools=\nints=1\nemitted=0,1\ndomain=0,2,3\n";
+    let one = "answer=compiled\nfixed=\nbools=\nints=1\nemitted=0,1\ndomain=0,0,2,3\n";
     let star = i32::MIN;
     vec![
         case(
@@ -101,7 +101,7 @@ fn tables() -> Vec<Known> {
         case(
             "P12",
             &[0, 2, 0, 0, 1, 0, 0, 1, 1, 2, 2, 2, 21, 0, 21, 1, 0, 0, 1, 1],
-            "answer=compiled\nfixed=\nbools=\nints=1,2\nemitted=0,2\ndomain=0,1,2\ndomain=0,1,2\n\
+            "answer=compiled\nfixed=\nbools=\nints=1,2\nemitted=0,2\ndomain=0,0,1,2\ndomain=0,0,1,2\n\
              clause=;1:0:0,1;0:0:1,1\nclause=;1:-1:0,1;0:-1:1,1\nclauses=2\ntotal=4\n",
         ),
         case(

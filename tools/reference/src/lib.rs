@@ -34,5 +34,6 @@ pub mod set;
 pub mod settled;
 pub mod sheet;
 mod size;
+mod tally;
 
 pub use call::{call, call_with, Outcome};

@@ -1,9 +1,10 @@
 //! Commands over the reference; README.md lists them.
 use reference::call::counted;
-use reference::generate::{case, limits, FAMILIES};
+use reference::generate::{case, iflimits, limits, FAMILIES, IFS};
 use reference::meaning::{check, check_with, Verdict};
 use reference::merge::{model, ties};
 use reference::record::{commas, inputs, record, record_merged, result};
+use reference::settled::{settled, Settled};
 use reference::{call, call_with, cases, listing::listing, sheet::sheet_listing, Outcome};
 use std::collections::BTreeMap;
 use std::io::{Read, Write};
@@ -22,6 +23,8 @@ fn main() -> ExitCode {
         ["words"] => words(SLICE, false),
         ["words", length] => length.parse().is_ok_and(|length| words(length, false)),
         ["merged"] => words(SLICE, true),
+        ["settled"] => given().is_some_and(|set| show(&format!("{}\n", beside(&set, 1 << 24)))),
+        ["settled", seed, family, count] => each(seed, family, count, settled_case),
         ["cases"] => report(&cases::differences()),
         ["generate", seed, family, count] => each(seed, family, count, generated),
         ["record", seed, family, count] => each(seed, family, count, record),
@@ -41,11 +44,12 @@ fn main() -> ExitCode {
 
 fn usage() -> bool {
     eprintln!(
-        "p1 | listing | sheet | words [OUT] | merged | cases | generate SEED FAMILY COUNT | record SEED FAMILY COUNT [merged]"
+        "p1 | listing | sheet | words [OUT] | merged | settled [SEED FAMILY COUNT] | cases | generate SEED FAMILY COUNT | record SEED FAMILY COUNT [merged]"
     );
     eprintln!("meaning SEED FAMILY COUNT | merging SEED FAMILY COUNT | sizes SEED FAMILY COUNT | refusals SEED COUNT");
-    eprintln!("families: {}, longest, text (generate and record only)", FAMILIES.join(", "));
-    eprintln!("meaning, merging and sizes also take all, which is all but longest");
+    eprintln!("families: {}, longest, text and iftext (generate and record only)", FAMILIES.join(", "));
+    eprintln!("families with Ifs: {}", IFS.join(", "));
+    eprintln!("meaning, merging and sizes also take all, the first but longest, and allifs, those with Ifs");
     false
 }
 
@@ -60,13 +64,28 @@ fn input() -> Vec<u8> {
     text
 }
 
-fn words(out_len: usize, merge: bool) -> bool {
+/// The words on standard input.
+fn given() -> Option<Vec<i32>> {
     let text = String::from_utf8_lossy(&input()).replace(',', " ");
-    let Ok(set) = text.split_whitespace().map(str::parse).collect::<Result<Vec<i32>, _>>() else {
-        eprintln!("words are numbers parted by blanks or commas");
-        return false;
+    let words = text.split_whitespace().map(str::parse).collect::<Result<Vec<i32>, _>>();
+    words.map_err(|_| eprintln!("words are numbers parted by blanks or commas")).ok()
+}
+
+fn words(out_len: usize, merge: bool) -> bool {
+    given().is_some_and(|set| show(&format!("{}\n", result(&call_with(&set, out_len, SLICE, merge)))))
+}
+
+/// The set, what the passes leave of it, and the answer: for models of what comes between them.
+fn beside(set: &[i32], out_len: usize) -> String {
+    let left = match settled(set, SLICE) {
+        Settled::Words(words) => commas(&words),
+        other => format!("{other:?}").to_lowercase(),
     };
-    show(&format!("{}\n", result(&call_with(&set, out_len, SLICE, merge))))
+    format!("set={} settled={left} result={}", commas(set), result(&call(set, out_len, SLICE)))
+}
+
+fn settled_case(family: &str, seed: u64, index: u64) -> Option<String> {
+    case(family, seed, index).map(|case| beside(&case.set, case.out_len))
 }
 
 fn report(differences: &[String]) -> bool {
@@ -76,8 +95,8 @@ fn report(differences: &[String]) -> bool {
 }
 
 fn generated(family: &str, seed: u64, index: u64) -> Option<String> {
-    if family == "text" {
-        return Some(reference::generate::text(seed, index).escape_ascii().to_string());
+    if let Some(text) = reference::generate::text(family, seed, index) {
+        return Some(text.escape_ascii().to_string());
     }
     case(family, seed, index).map(|case| inputs(&case))
 }
@@ -100,7 +119,11 @@ fn tally(seed: &str, family: &str, count: &str, test: fn(&[i32]) -> String) -> b
     let (Ok(seed), Ok(count)) = (seed.parse::<u64>(), count.parse::<u64>()) else {
         return usage();
     };
-    let families = if family == "all" { FAMILIES.to_vec() } else { vec![family] };
+    let families = match family {
+        "all" => FAMILIES.to_vec(),
+        "allifs" => IFS.to_vec(),
+        family => vec![family],
+    };
     families.iter().all(|family| {
         let mut tallies: BTreeMap<String, u64> = BTreeMap::new();
         for index in 0..count {
@@ -176,9 +199,9 @@ fn sizes(seed: &str, family: &str, count: &str) -> bool {
 
 /// The limits against their expectations, and the outcomes of damaged sets.
 fn refusals(seed: &str, count: &str) -> bool {
-    let limits = limits::all();
+    let limits = [limits::all(), iflimits::all()].concat();
     let differences: Vec<String> = limits.iter().filter_map(|limit| limit.difference()).collect();
-    println!("{} limits", limits.len());
+    println!("{} limits, {} of them of Ifs", limits.len(), iflimits::all().len());
     report(&differences)
         && tally(seed, "damaged", count, |set| match call(set, SLICE, SLICE) {
             Outcome::Compiled(_) => "compiled".to_string(),

@@ -11,9 +11,6 @@ const ASSIGNMENTS: u64 = 4096;
 /// Nor are sets whose assignments times the answer's words are more than this.
 const EFFORT: u64 = 1 << 20;
 
-/// No set of 4096 words has more emitted Booleans than this.
-const EMITTED: i32 = 4096;
-
 #[derive(Clone, Debug)]
 pub struct Assignment {
     pub bools: Vec<bool>,
@@ -107,6 +104,9 @@ fn compare(set: &Set, count: u64, words: &[i32], merge: bool) -> Verdict {
     let Some(answer) = decode(set.bools, set.domains.len(), words) else {
         return Verdict::Differs("the answer's words do not fit the layout".to_string());
     };
+    if answer.bools < 0 || answer.bools as usize > words.len() {
+        return Verdict::Differs("the count of emitted Booleans is out of range".to_string());
+    }
     if let Some(fault) = fault(set, &answer, merge) {
         return Verdict::Differs(fault.to_string());
     }
@@ -125,13 +125,10 @@ fn compare(set: &Set, count: u64, words: &[i32], merge: bool) -> Verdict {
     Verdict::Agrees(passing, count)
 }
 
-/// What the answer's layout promises besides its meaning. With merging, Booleans may share a number and be its negation.
+/// What the answer's layout promises besides its meaning, each emitted Boolean having a word of its own somewhere. With merging, Booleans may share a number and be its negation.
 fn fault(set: &Set, answer: &Answer, merge: bool) -> Option<&'static str> {
     let emitted_bools = answer.bools;
     let emitted_ints = answer.domains.len() as i32;
-    if !(0..=EMITTED).contains(&emitted_bools) {
-        return Some("the count of emitted Booleans is out of range");
-    }
     if answer.fixed.iter().any(|word| !(0..=2).contains(word)) {
         return Some("a fixed word is not 0, 1 or 2");
     }
@@ -162,12 +159,17 @@ fn numbers(map: &[i32], emitted: i32) -> bool {
 }
 
 fn records(set: &Set, answer: &Answer) -> bool {
-    let whole = |[low, high, count]: &[i32; 3]| *count >= 1 && *high as i64 - *low as i64 + 1 == *count as i64;
+    let emitted = |literal: i32| literal != 0 && literal.unsigned_abs() as i64 <= answer.bools as i64;
+    let whole = |record: &[i32; 4]| match *record {
+        [0, low, high, count] => count >= 1 && high as i64 - low as i64 + 1 == count as i64,
+        [1, literal, no, yes] => emitted(literal) && no < yes,
+        _ => false,
+    };
     answer.domains.iter().enumerate().all(|(number, record)| {
         match answer.int_map.iter().position(|word| *word == number as i32 + 1) {
             Some(declared) => {
                 let domain = &set.domains[declared];
-                *record == [domain.lowest(), domain.highest(), domain.count() as i32]
+                *record == [0, domain.lowest(), domain.highest(), domain.count() as i32]
             }
             None => whole(record),
         }
@@ -230,11 +232,12 @@ pub fn compares(op: i32, left: i128, right: i128) -> bool {
     }
 }
 
-fn value(e: &Int, a: &Assignment) -> i128 {
+pub fn value(e: &Int, a: &Assignment) -> i128 {
     match e {
         Int::Const(c) => *c as i128,
         Int::Var(v) => a.ints[*v] as i128,
         Int::Sum(terms) => terms.iter().map(|(coefficient, term)| *coefficient as i128 * value(term, a)).sum(),
+        Int::If(c, t, f) => value(if holds(c, a) { t } else { f }, a),
     }
 }
 

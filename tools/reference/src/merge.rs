@@ -92,6 +92,7 @@ fn renumbered(plain: &Answer, ties: &Ties) -> Answer {
     answer.bools = next as i32;
     answer.bool_map.iter_mut().for_each(renamed);
     answer.clauses.iter_mut().flat_map(|clause| &mut clause.literals).for_each(renamed);
+    answer.domains.iter_mut().filter(|record| record[0] == 1).for_each(|record| renamed(&mut record[1]));
     answer
 }
 

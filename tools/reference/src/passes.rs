@@ -81,7 +81,7 @@ impl<'a> Search<'a> {
     fn branch(&mut self, unknown: Unknown, part: Vec<&'a Clause>) -> bool {
         let (low, high) = match unknown {
             Unknown::Bool(_) => (0, 1),
-            Unknown::Int(v) => (self.answer.domains[v][0] as i128, self.answer.domains[v][1] as i128),
+            Unknown::Int(v) => (self.answer.domains[v][1] as i128, self.answer.domains[v][2] as i128),
         };
         let mark = self.trail.len();
         for value in low..=high {
@@ -136,9 +136,12 @@ impl<'a> Search<'a> {
             return true;
         }
         let (v, coefficient) = unknown[0];
+        if self.answer.domains[v][0] == 1 {
+            return true;
+        }
         let rest = -self.known(c);
         let value = rest / coefficient;
-        let [low, high, _] = self.answer.domains[v].map(i128::from);
+        let [_, low, high, _] = self.answer.domains[v].map(i128::from);
         if value * coefficient != rest || value < low || high < value {
             return false;
         }
@@ -169,12 +172,30 @@ impl<'a> Search<'a> {
     /// The unknown variables of a comparison with their coefficients.
     fn unknown_of(&self, c: &Comparison) -> Vec<(usize, i128)> {
         let terms = c.terms.iter().map(|(v, a)| (*v as usize, *a as i128));
-        terms.filter(|(v, _)| self.ints[*v].is_none()).collect()
+        terms.filter(|(v, _)| self.value(*v).is_none()).collect()
+    }
+
+    /// The value of an emitted integer: a binary one's follows its literal.
+    fn value(&self, v: usize) -> Option<i128> {
+        match self.answer.domains[v] {
+            [1, literal, no, yes] => {
+                let holds = self.bools[literal.unsigned_abs() as usize - 1]? == (literal > 0);
+                Some(if holds { yes } else { no } as i128)
+            }
+            _ => self.ints[v],
+        }
+    }
+
+    fn unknown(&self, v: usize) -> Unknown {
+        match self.answer.domains[v] {
+            [1, literal, _, _] => Unknown::Bool(literal.unsigned_abs() as usize - 1),
+            _ => Unknown::Int(v),
+        }
     }
 
     /// The sum of what is known.
     fn known(&self, c: &Comparison) -> i128 {
-        let term = |(v, a): &(i32, i32)| self.ints[*v as usize].unwrap_or(0) * *a as i128;
+        let term = |(v, a): &(i32, i32)| self.value(*v as usize).unwrap_or(0) * *a as i128;
         c.constant as i128 + c.terms.iter().map(term).sum::<i128>()
     }
 
@@ -185,7 +206,7 @@ impl<'a> Search<'a> {
                 Open::Literal(l) => {
                     unknowns.insert(Unknown::Bool(l.unsigned_abs() as usize - 1));
                 }
-                Open::Comparison(c) => unknowns.extend(self.unknown_of(c).iter().map(|(v, _)| Unknown::Int(*v))),
+                Open::Comparison(c) => unknowns.extend(self.unknown_of(c).iter().map(|(v, _)| self.unknown(*v))),
             }
         }
         unknowns

@@ -196,9 +196,13 @@ impl Reader<'_> {
     }
 
     fn int(&mut self, level: usize) -> Read<Int> {
-        match self.code(20, 22, level)? {
+        match self.code(20, 23, level)? {
             20 => Ok(Int::Const(self.value()?)),
             21 => Ok(Int::Var(self.index(self.ints)?)),
+            23 => {
+                let c = self.side(level)?;
+                Ok(Int::If(c, Box::new(self.int(level + 1)?), Box::new(self.int(level + 1)?)))
+            }
             _ => {
                 let mut terms = vec![];
                 for _ in 0..self.count(COUNT)? {

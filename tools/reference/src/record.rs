@@ -24,10 +24,9 @@ pub fn result(outcome: &Outcome) -> String {
     }
 }
 
-/// The recorded line of a case; for the family `text`, the text and its listing with escaped line feeds.
+/// The recorded line of a case; for the families of texts, the text and its listing with escaped line feeds.
 pub fn record(family: &str, seed: u64, index: u64) -> Option<String> {
-    if family == "text" {
-        let text = text(seed, index);
+    if let Some(text) = text(family, seed, index) {
         let printed = listing(&text);
         return Some(format!("text={} listing={}", text.escape_ascii(), printed.escape_debug()));
     }

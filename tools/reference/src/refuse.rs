@@ -1,4 +1,4 @@
-//! Refusals 1, 2 and 9 to 11, by a plain reading of document 01, and of document 02 for AllDifferent (2.1).
+//! Refusals 1, 2 and 9 to 11, by a plain reading of document 01, and of document 02 for AllDifferent (2.1) and If (2.5).
 use crate::read::{read, Refusal};
 use crate::set::{Bool, Domain, Int, Set, Statement, LIMIT};
 use std::collections::BTreeSet;
@@ -31,6 +31,8 @@ enum Part<'a> {
     Column(&'a Int),
     /// The expressions of an AllDifferent: every two of them are compared.
     Different(&'a [Int]),
+    /// A branch of an If: weighed with the whole, and held to as many variables as a column.
+    Branch(&'a Int),
 }
 
 fn parts(set: &Set) -> Vec<Part<'_>> {
@@ -38,8 +40,14 @@ fn parts(set: &Set) -> Vec<Part<'_>> {
     for statement in &set.statements {
         match statement {
             Statement::Rule(rule) => comparisons(rule, &mut parts),
-            Statement::Table(table) => parts.extend(table.columns.iter().map(Part::Column)),
-            Statement::AllDifferent(exprs) => parts.push(Part::Different(exprs)),
+            Statement::Table(table) => {
+                parts.extend(table.columns.iter().map(Part::Column));
+                table.columns.iter().for_each(|column| inside(column, &mut parts));
+            }
+            Statement::AllDifferent(exprs) => {
+                parts.push(Part::Different(exprs));
+                exprs.iter().for_each(|e| inside(e, &mut parts));
+            }
         }
     }
     parts
@@ -54,7 +62,26 @@ fn comparisons<'a>(e: &'a Bool, parts: &mut Vec<Part<'a>>) {
             comparisons(l, parts);
             comparisons(r, parts);
         }
-        Bool::Compare(_, l, r) => parts.push(Part::Comparison(l, r)),
+        Bool::Compare(_, l, r) => {
+            parts.push(Part::Comparison(l, r));
+            inside(l, parts);
+            inside(r, parts);
+        }
+    }
+}
+
+/// The branches of the Ifs in an expression, and the comparisons in their conditions.
+fn inside<'a>(e: &'a Int, parts: &mut Vec<Part<'a>>) {
+    match e {
+        Int::Const(_) | Int::Var(_) => (),
+        Int::Sum(terms) => terms.iter().for_each(|(_, term)| inside(term, parts)),
+        Int::If(c, t, f) => {
+            comparisons(c, parts);
+            for branch in [t, f] {
+                parts.push(Part::Branch(branch));
+                inside(branch, parts);
+            }
+        }
     }
 }
 
@@ -62,7 +89,7 @@ fn comparisons<'a>(e: &'a Bool, parts: &mut Vec<Part<'a>>) {
 fn weights(domains: &[Domain], part: &Part) -> Result<(), Refusal> {
     match part {
         Part::Comparison(l, r) => light(weight(domains, l)? + weight(domains, r)?).map(|_| ()),
-        Part::Column(column) => weight(domains, column).map(|_| ()),
+        Part::Column(e) | Part::Branch(e) => weight(domains, e).map(|_| ()),
         Part::Different(exprs) => {
             let weights = exprs.iter().map(|e| weight(domains, e)).collect::<Result<Vec<u128>, Refusal>>()?;
             pairs(&weights, |l, r| light(l + r).map(|_| ()))
@@ -89,6 +116,7 @@ fn weight(domains: &[Domain], e: &Int) -> Result<u128, Refusal> {
             }
             light(total)
         }
+        Int::If(_, t, f) => Ok(weight(domains, t)?.max(weight(domains, f)?).max(1)),
     }
 }
 
@@ -99,32 +127,55 @@ fn light(weight: u128) -> Result<u128, Refusal> {
     Ok(weight)
 }
 
-/// Refusal 10: the different variables written, whatever becomes of them. An expression of an AllDifferent has no limit by itself.
+/// Refusal 10: the different variables written outside conditions, and each If written there, whatever becomes of them. An expression of
+/// an AllDifferent has no limit by itself.
 fn variables(part: &Part) -> Result<(), Refusal> {
     match part {
         Part::Comparison(l, r) => few(&[&written(l), &written(r)], COMPARISON_VARIABLES),
-        Part::Column(column) => few(&[&written(column)], COLUMN_VARIABLES),
+        Part::Column(e) | Part::Branch(e) => few(&[&written(e)], COLUMN_VARIABLES),
         Part::Different(exprs) => {
-            let written: Vec<BTreeSet<usize>> = exprs.iter().map(written).collect();
+            let written: Vec<Written> = exprs.iter().map(written).collect();
             pairs(&written, |l, r| few(&[l, r], COMPARISON_VARIABLES))
         }
     }
 }
 
-/// At most that many different variables in all of them.
-fn few(written: &[&BTreeSet<usize>], most: usize) -> Result<(), Refusal> {
-    let all: usize = written.iter().map(|met| met.len()).sum();
-    if all > most && written.iter().copied().flatten().collect::<BTreeSet<_>>().len() > most {
+/// What is written outside conditions: the different variables, and how many Ifs.
+#[derive(Default)]
+struct Written {
+    variables: BTreeSet<usize>,
+    ifs: usize,
+}
+
+/// At most that many different variables and Ifs in all of them.
+fn few(written: &[&Written], most: usize) -> Result<(), Refusal> {
+    let ifs: usize = written.iter().map(|part| part.ifs).sum();
+    let all: usize = written.iter().map(|part| part.variables.len()).sum();
+    let different = || written.iter().flat_map(|part| &part.variables).collect::<BTreeSet<_>>().len();
+    if all + ifs > most && different() + ifs > most {
         return Err(10);
     }
     Ok(())
 }
 
-fn written(e: &Int) -> BTreeSet<usize> {
+fn written(e: &Int) -> Written {
+    let mut found = Written::default();
+    write(e, &mut found);
+    found
+}
+
+fn write(e: &Int, found: &mut Written) {
     match e {
-        Int::Const(_) => BTreeSet::new(),
-        Int::Var(v) => BTreeSet::from([*v]),
-        Int::Sum(terms) => terms.iter().flat_map(|(_, term)| written(term)).collect(),
+        Int::Const(_) => (),
+        Int::Var(v) => {
+            found.variables.insert(*v);
+        }
+        Int::Sum(terms) => terms.iter().for_each(|(_, term)| write(term, found)),
+        Int::If(_, t, f) => {
+            found.ifs += 1;
+            write(t, found);
+            write(f, found);
+        }
     }
 }
 
@@ -149,5 +200,9 @@ fn interval(domains: &[Domain], e: &Int) -> (i128, i128) {
             let (a, b) = (l * *coefficient as i128, h * *coefficient as i128);
             (low + a.min(b), high + a.max(b))
         }),
+        Int::If(_, t, f) => {
+            let ((a, b), (c, d)) = (interval(domains, t), interval(domains, f));
+            (a.min(c), b.max(d))
+        }
     }
 }

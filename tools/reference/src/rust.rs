@@ -104,6 +104,7 @@ fn int_expr(e: &Int) -> IntExpr {
         Int::Const(c) => IntExpr::Const(*c),
         Int::Var(v) => IntExpr::Var(IntVar::new(*v)),
         Int::Sum(terms) => IntExpr::Linear(terms.iter().map(|(c, e)| (Box::new(int_expr(e)), *c)).collect()),
+        Int::If(c, t, f) => IntExpr::If(Box::new(bool_expr(c)), Box::new(int_expr(t)), Box::new(int_expr(f))),
     }
 }
 
@@ -141,11 +142,14 @@ fn emitted(norm: &NormCSP, out: &mut Vec<i32>) {
     for v in norm.int_vars_iter() {
         match norm.vars.int_var(v) {
             IntVarRepresentation::Domain(d) => {
+                out.push(0);
                 out.push(d.lower_bound_checked().get());
                 out.push(d.upper_bound_checked().get());
                 out.push(d.num_candidates() as i32);
             }
-            IntVarRepresentation::Binary { .. } => panic!("a binary variable without If"),
+            IntVarRepresentation::Binary { cond, v_false, v_true } => {
+                out.extend([1, literal(cond.var.id(), cond.negated), v_false.get(), v_true.get()])
+            }
         }
     }
 }

@@ -25,6 +25,8 @@ pub enum Int {
     Var(usize),
     /// Coefficient and expression of each term.
     Sum(Vec<(i32, Int)>),
+    /// Condition, the value if it holds, the value if not.
+    If(Box<Bool>, Box<Int>, Box<Int>),
 }
 
 #[derive(Clone, Debug, PartialEq)]
@@ -180,6 +182,12 @@ pub fn int_words(e: &Int, out: &mut Vec<i32>) {
                 out.push(*coefficient);
                 int_words(term, out);
             }
+        }
+        Int::If(c, t, f) => {
+            out.push(23);
+            bool_words(c, out);
+            int_words(t, out);
+            int_words(f, out);
         }
     }
 }

@@ -81,6 +81,7 @@ fn int_expr(e: &IntExpr) -> Int {
         IntExpr::Const(c) => Int::Const(*c),
         IntExpr::Var(v) => Int::Var(v.to_index()),
         IntExpr::Linear(terms) => Int::Sum(terms.iter().map(|(e, c)| (*c, int_expr(e))).collect()),
+        IntExpr::If(c, t, f) => Int::If(Box::new(bool_expr(c)), Box::new(int_expr(t)), Box::new(int_expr(f))),
         _ => panic!("an expression that the documents leave out"),
     }
 }

@@ -153,7 +153,7 @@ fn wrong_answers_are_noticed() {
         panic!("compiled");
     };
     assert_eq!(judge(&set, &answer), Verdict::Agrees(2, 4));
-    for (at, word) in [(12, 0), (13, 0), (14, 1), (22, 1), (23, 5)] {
+    for (at, word) in [(14, 0), (15, 0), (16, 1), (24, 1), (25, 5)] {
         let mut wrong = answer.clone();
         assert_ne!(wrong[at], word, "word {at}");
         wrong[at] = word;

@@ -1,5 +1,5 @@
 //! Every limit, at it and one past it, with the outcome written by hand.
-use reference::generate::{case, limits, FAMILIES};
+use reference::generate::{case, limits, FAMILIES, IFS};
 use reference::{call, Outcome};
 
 #[test]
@@ -20,7 +20,7 @@ fn every_refusal_is_met() {
 
 #[test]
 fn a_case_is_made_again() {
-    for family in FAMILIES.into_iter().chain(["longest"]) {
+    for family in FAMILIES.into_iter().chain(IFS).chain(["longest"]) {
         for index in [0, 15, 300] {
             assert_eq!(case(family, 8, index), case(family, 8, index));
         }

@@ -36,7 +36,7 @@ class Documents(unittest.TestCase):
         text = read("docs", "FORMAT.md")
         shown = re.search(r"```\n(bools=0\nints=1\nint=1,2,0,2\n.*?)```", text, re.S)[1]
         printed = listing.run(shown)
-        for line in ("ints=1", "domain=0,2,2", "clause=;0:-1:0,1"):
+        for line in ("ints=1", "domain=0,0,2,2", "clause=;0:-1:0,1"):
             self.assertIn("`%s`" % line, text)
             self.assertIn("%s\n" % line, printed)
 

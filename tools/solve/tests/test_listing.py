@@ -7,10 +7,11 @@ COMPILED = """answer=compiled
 fixed=0,2
 bools=0,1
 ints=2,1
-emitted=2,3
-domain=0,8,3
-domain=-2,1,4
-domain=0,5,6
+emitted=2,4
+domain=0,0,8,3
+domain=0,-2,1,4
+domain=0,0,5,6
+domain=1,-2,-3,5
 clause=1,-2
 clause=-1;0:-1:0,1;4:3:0,-2,2,1
 clause=
@@ -24,7 +25,7 @@ class Listings(unittest.TestCase):
     def test_a_listing(self):
         found = listing.read(COMPILED)
         self.assertEqual((found.fixed, found.bools, found.ints, found.emitted), ([0, 2], [0, 1], [2, 1], 2))
-        self.assertEqual(found.domains, [(0, 8), (-2, 1), (0, 5)])
+        self.assertEqual(found.records, [(0, 0, 8, 3), (0, -2, 1, 4), (0, 0, 5, 6), (1, -2, -3, 5)])
         self.assertEqual(found.clauses, [([1, -2], []), ([-1], [(0, -1, [(0, 1)]), (4, 3, [(0, -2), (2, 1)])]),
                                          ([], []), ([], [(0, -1, [])])])
 
@@ -44,6 +45,12 @@ class Listings(unittest.TestCase):
             with self.assertRaisesRegex(Failed, "cut off", msg=total):
                 listing.read(COMPILED.replace("total=6\n", total))
 
+    def test_a_listing_with_an_unsound_record_is_refused(self):
+        # no kind, another kind, lowest above highest, no value, literal 0, one not emitted, values that do not rise
+        for record in ("1,-3,5", "2,-2,-3,5", "0,6,5,1", "0,0,5,0", "1,0,-3,5", "1,3,-3,5", "1,-2,5,5"):
+            with self.assertRaisesRegex(Failed, "cut off", msg=record):
+                listing.read(COMPILED.replace("domain=1,-2,-3,5\n", "domain=%s\n" % record))
+
     def test_other_answers(self):
         self.assertEqual(listing.read("answer=contradiction\n").answer, "contradiction")
         self.assertEqual(listing.read("answer=refused,12\n").answer, 12)
@@ -62,6 +69,7 @@ class Scripts(unittest.TestCase):
             "(declare-const x0 Int)", "(assert (or (= x0 0) (= x0 3) (= x0 8)))",  # declared: its values
             "(declare-const x1 Int)", "(assert (<= (- 2) x1 1))",
             "(declare-const x2 Int)", "(assert (<= 0 x2 5))",  # new: lowest to highest
+            "(declare-const x3 Int)", "(assert (= x3 (ite (not b2) 5 (- 3))))",  # new: it follows its literal
             "(assert (or b1 (not b2)))",
             "(assert (or (not b1) (= (* 1 x0) 1) (>= (+ (* (- 2) x0) (* 1 x2)) (- 3))))",
             "(assert false)", "(assert (= 0 1))", "(check-sat)"])

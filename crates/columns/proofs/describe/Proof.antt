@@ -4,14 +4,14 @@ use Prim.Native.Nat.{_+_, _*_, _≤_}
 use lib.ListN.{length}
 use mir.Facts.{toZ-ofZ}
 use borrow.Author.Needs.{needs, sfits-of}
-use Rattle.columns.proofs.Descriptions.{place-inside, told-declared, told-variable, told-range, triple-inside, triple-describes}
+use Rattle.columns.proofs.Descriptions.{place-inside, told-declared, told-variable, told-range, record-inside, record-describes}
 use borrow.Author.Needs.{needs}
 use Rattle.columns.proofs.describe.Statement.{statement}
 use Rattle.columns.proofs.describe.Tie as tie
 
--- the integer's words stand in the answer
-inside : (c : tie.Else1) → c .before .before .args .triples + 3 * c .before .before .args .n + 3 ≤ length (c .before .before .args .out .now)
-inside c = let t = c .before .before .pre in triple-inside (told-range (c .before .before .args .work .now) (c .before .before .args .p) (c .before .word .ensures) (c .if1 .left) (t .domains) (t .dom) (t .expr) (t .it))
+-- the integer's record stands in the answer
+inside : (c : tie.Else1) → c .before .before .args .records + 4 * c .before .before .args .n + 4 ≤ length (c .before .before .args .out .now)
+inside c = let t = c .before .before .pre in record-inside (told-range (c .before .before .args .work .now) (c .before .before .args .p) (c .before .word .ensures) (c .if1 .left) (t .domains) (t .dom) (t .expr) (t .it))
 
 word-requires : tie.Need-word-requires
 word-requires c κs = search needs
@@ -34,6 +34,9 @@ mul-i c = let i = inside c in search needs
 add-i : tie.Need-add-i
 add-i c = let i = inside c in search needs
 
+add-low : tie.Need-add-low
+add-low c = let i = inside c in search needs
+
 mul-low : tie.Need-mul-low
 mul-low c = let i = inside c in search needs
 
@@ -50,7 +53,7 @@ shared-slice-copy-out-c : tie.Need-shared-slice-copy-out-c
 shared-slice-copy-out-c c = let i = inside (c .before) in search needs
 
 returns-2 : tie.Need-returns-2
-returns-2 c = λ ds dom e t. triple-describes (told-range (c .before .before .before .before .args .work .now) (c .before .before .before .before .args .p) (c .before .before .before .word .ensures) (c .before .before .if1 .left) ds dom e t) (c .before .before .before .before .args .set .now) _ _ (toZ-ofZ (sfits-of (c .before .low .given))) (toZ-ofZ (sfits-of (c .c .given)))
+returns-2 c = λ ds dom e t. record-describes (told-range (c .before .before .before .before .args .work .now) (c .before .before .before .before .args .p) (c .before .before .before .word .ensures) (c .before .before .if1 .left) ds dom e t) (c .before .before .before .before .args .set .now) _ _ (toZ-ofZ (sfits-of (c .before .low .given))) (toZ-ofZ (sfits-of (c .c .given)))
 
 pub describe-spec : {M : Type 1} → statement M
 describe-spec =
@@ -63,6 +66,7 @@ describe-spec =
     returns
     mul-i
     add-i
+    add-low
     mul-low
     shared-slice-copy-out-low
     add-c

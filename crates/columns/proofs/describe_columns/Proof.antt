@@ -6,16 +6,16 @@ use Rattle.columns.proofs.describe_columns.Statement.{statement}
 use Rattle.columns.proofs.describe_columns.Tie as tie
 
 abbrev Inv-loop : tie.InvT-loop
-Inv-loop set work₀ at count out triples p₀ to₀ rest₀ work p to rest = Storing set work₀ at count out triples work p to rest
+Inv-loop set work₀ at count out records p₀ to₀ rest₀ work p to rest = Storing set work₀ at count out records work p to rest
 
 abbrev μ-loop : tie.MeasureT-loop
-μ-loop set work₀ at count out triples p₀ to₀ rest₀ work p to rest = rest
+μ-loop set work₀ at count out records p₀ to₀ rest₀ work p to rest = rest
 
 loop-holds : tie.Need-loop-holds Inv-loop μ-loop
-loop-holds c = storing-start (c .args .set .now) (c .args .work .now) (c .args .at) (c .args .count) (c .args .out .now) (c .args .triples) (c .pre)
+loop-holds c = storing-start (c .args .set .now) (c .args .work .now) (c .args .at) (c .args .count) (c .args .out .now) (c .args .records) (c .pre)
 
 describe-column-requires : tie.Need-describe-column-requires Inv-loop μ-loop
-describe-column-requires c κs = storing-column (c .before .before .before .args .set .now) (c .before .before .before .args .work .now) (c .before .before .before .args .at) (c .before .before .before .args .count) (c .before .before .before .args .out .now) (c .before .before .before .args .triples) _ _ _ _ (c .before .before .loop .inv) (c .before .loop-test .taken)
+describe-column-requires c κs = storing-column (c .before .before .before .args .set .now) (c .before .before .before .args .work .now) (c .before .before .before .args .at) (c .before .before .before .args .count) (c .before .before .before .args .out .now) (c .before .before .before .args .records) _ _ _ _ (c .before .before .loop .inv) (c .before .loop-test .taken)
 
 add-to : tie.Need-add-to Inv-loop μ-loop
 add-to c = omega (arith, c .before .before .before .before .loop .inv .place, c .before .before .before .before .loop .inv .room, c .before .before .before .before .loop .inv .counted, c .before .before .before .loop-test .taken)
@@ -27,13 +27,13 @@ loop-less : tie.Need-loop-less Inv-loop μ-loop
 loop-less c = search needs
 
 loop-again : tie.Need-loop-again Inv-loop μ-loop
-loop-again c = storing-next (c .before .before .before .before .before .args .set .now) (c .before .before .before .before .before .args .work .now) (c .before .before .before .before .before .args .at) (c .before .before .before .before .before .args .count) (c .before .before .before .before .before .args .out .now) (c .before .before .before .before .before .args .triples) _ _ _ _ (c .before .before .before .before .loop .inv) _ _ (c .before .describe-column .ensures) (c .before .before .before .loop-test .taken)
+loop-again c = storing-next (c .before .before .before .before .before .args .set .now) (c .before .before .before .before .before .args .work .now) (c .before .before .before .before .before .args .at) (c .before .before .before .before .before .args .count) (c .before .before .before .before .before .args .out .now) (c .before .before .before .before .before .args .records) _ _ _ _ (c .before .before .before .before .loop .inv) _ _ (c .before .describe-column .ensures) (c .before .before .before .loop-test .taken)
 
 same-length : tie.Need-same-length Inv-loop μ-loop
-same-length c = storing-size (c .before .before .args .set .now) (c .before .before .args .work .now) (c .before .before .args .at) (c .before .before .args .count) (c .before .before .args .out .now) (c .before .before .args .triples) _ _ _ _ (c .before .loop .inv)
+same-length c = storing-size (c .before .before .args .set .now) (c .before .before .args .work .now) (c .before .before .args .at) (c .before .before .args .count) (c .before .before .args .out .now) (c .before .before .args .records) _ _ _ _ (c .before .loop .inv)
 
 returns : tie.Need-returns Inv-loop μ-loop
-returns c = storing-end (c .before .before .args .set .now) (c .before .before .args .work .now) (c .before .before .args .at) (c .before .before .args .count) (c .before .before .args .out .now) (c .before .before .args .triples) _ _ _ _ (c .before .loop .inv) (c .loop-test .left)
+returns c = storing-end (c .before .before .args .set .now) (c .before .before .args .work .now) (c .before .before .args .at) (c .before .before .args .count) (c .before .before .args .out .now) (c .before .before .args .records) _ _ _ _ (c .before .loop .inv) (c .loop-test .left)
 
 pub describe-columns-spec : {M : Type 1} → statement M
 describe-columns-spec =

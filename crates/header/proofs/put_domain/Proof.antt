@@ -43,6 +43,9 @@ put-requires-2 c κs = search needs
 put-requires-3 : tie.Need-put-requires-3
 put-requires-3 c κs = search needs
 
+put-requires-4 : tie.Need-put-requires-4
+put-requires-4 c κs = search needs
+
 same-length : tie.Need-same-length
 same-length c = search needs
 
@@ -51,12 +54,12 @@ same-length-2 c = search needs
 
 returns : tie.Need-returns
 returns c =
-    let s = c .before .before .before .before .before .before .before .before .before .before .before .before .before .before in
-    let d = c .before .before .before .before .before .before .before .before .before .before .before .before .emitted-domain in
+    let s = c .before .before .before .before .before .before .before .before .before .before .before .before .before .before .before .before .before in
+    let d = c .before .before .before .before .before .before .before .before .before .before .before .before .before .before .before .emitted-domain in
     let f : SFits w32 (d .result .low) = search needs in
     let g : SFits w32 (d .result .high) = search needs in
     let k : SFits w32 (d .result .size) = search needs in
-    put-done (s .pre .0) (toZ-ofZ f) (toZ-ofZ g) (toZ-ofZ k) (d .ensures) (s .pre .1 .room) (c .before .before .before .before .before .before .before .put .ensures) (c .before .before .before .before .put2 .ensures) (c .before .put3 .ensures)
+    put-done (s .pre .0) (toZ-ofZ f) (toZ-ofZ g) (toZ-ofZ k) (d .ensures) (s .pre .1 .room) (c .before .before .before .before .before .before .before .before .before .before .put .ensures) (c .before .before .before .before .before .before .before .put2 .ensures) (c .before .before .before .before .put3 .ensures) (c .before .put4 .ensures)
 
 pub put-domain-spec : {M : Type 1} → statement M
 put-domain-spec =
@@ -73,6 +76,7 @@ put-domain-spec =
     put-requires
     put-requires-2
     put-requires-3
+    put-requires-4
     same-length
     same-length-2
     returns)

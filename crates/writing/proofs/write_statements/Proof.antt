@@ -11,10 +11,10 @@ use Rattle.writing.proofs.write_statements.Statement.{statement}
 use Rattle.writing.proofs.write_statements.Tie as tie
 
 abbrev Inv-loop : tie.InvT-loop
-Inv-loop set work₀ end from triples out₀ o q₀ m₀ p₀ k₀ work out q m p k = (merge : Bool) (p₁ : Problem) (f : Fixed) (ss : List Stmt) (c : Counters) → Writable merge p₁ f ss c set work₀ end from triples out₀ o → Sofar work₀ out₀ o merge p₁ ss work out q m p k
+Inv-loop set work₀ end from records out₀ o q₀ m₀ p₀ k₀ work out q m p k = (merge : Bool) (p₁ : Problem) (f : Fixed) (ss : List Stmt) (c : Counters) → Writable merge p₁ f ss c set work₀ end from records out₀ o → Sofar work₀ out₀ o merge p₁ ss work out q m p k
 
 abbrev μ-loop : tie.MeasureT-loop
-μ-loop set work₀ end from triples out₀ o q₀ m₀ p₀ k₀ work out q m p k = end - q
+μ-loop set work₀ end from records out₀ o q₀ m₀ p₀ k₀ work out q m p k = end - q
 
 loop-holds : tie.Need-loop-holds Inv-loop μ-loop
 loop-holds c = λ merge p f ss d h. sofar-start h

@@ -1,4 +1,4 @@
-//! The port's call against the Rust, in time. `bench SEED COUNT [FAMILY]`: COUNT sets of each family, refused ones left out;
+//! The port's call against the Rust, in time. `bench SEED COUNT [FAMILY..]`: COUNT sets of each family, refused ones left out;
 //! `bench extremes`: the sets of `extremes`, each compared word for word before it is timed.
 //! The port's time is a whole call: clearing both slices, reading, refusals, answer, clearing the work slice.
 //! The Rust's is building its problem from a set that was read, `optimize`, `normalize`, and writing the answer's words.

@@ -1,6 +1,7 @@
 //! The port's call against the Rust's answers, word for word.
-//! `calls SEED COUNT [FAMILY]`: COUNT sets of each family (or of one), each with several lengths of the output and work slices;
-//! `calls stack`: the deepest and the widest sets on a thread of 512 KiB. Status 1 on the first difference.
+//! `calls SEED COUNT [FAMILY..]`: COUNT sets of each family (or of the named ones), each with several lengths of the output and work slices;
+//! `calls stack`: the deepest and the widest sets on a thread of 512 KiB; `calls stack ifs`: those of Ifs. Status 1 on the first
+//! difference.
 
 use differential::links::case;
 use differential::slices::{kind, lengths, Slices};
@@ -65,8 +66,29 @@ fn extremes() -> Vec<(&'static str, Vec<i32>)> {
     ]
 }
 
-fn stack() -> Result<(), String> {
-    for (name, set) in extremes() {
+/// Ifs in conditions of Ifs, 31 levels of open ones and 12 of constants; in branches of Ifs, 62 levels, in a rule and a column; 60
+/// splits in a condition; 64 Ifs in a comparison.
+fn if_extremes() -> Vec<(&'static str, Vec<i32>)> {
+    let rule = |e: Vec<i32>| [vec![2, 1, 0, 0, 3, 1, 1], e].concat();
+    let nested = |levels: usize, t: [i32; 2]| {
+        [[18, 0, 23].repeat(levels), vec![11, 0], [&t[..], &[20, 0, 20, 0]].concat().repeat(levels)].concat()
+    };
+    let branches = [[23, 11, 0, 21, 0].repeat(62), vec![20, 1]].concat();
+    let splits = [vec![23], [15, 11, 0].repeat(60), vec![11, 1, 21, 0, 20, 7]].concat();
+    let wide = [vec![22, 63], [1, 23, 12, 2, 11, 0, 11, 1, 21, 0, 20, 2].repeat(63)].concat();
+    vec![
+        ("open Ifs in conditions", rule(nested(31, [21, 0]))),
+        ("Ifs of constants in conditions", rule(nested(12, [20, 1]))),
+        ("Ifs in branches", rule([vec![18, 0], branches.clone(), vec![20, 1]].concat())),
+        ("Ifs in a column's branches", [vec![2, 1, 0, 0, 3, 1, 2, 1, 0], branches].concat()),
+        ("splits in a condition", rule([vec![18, 0], splits.clone(), vec![20, 1]].concat())),
+        ("splits in a pair", [vec![2, 1, 0, 0, 3, 1, 3, 2], splits, vec![20, 1]].concat()),
+        ("Ifs side by side", rule([vec![18, 0], wide, vec![20, 1]].concat())),
+    ]
+}
+
+fn stack(sets: Vec<(&'static str, Vec<i32>)>) -> Result<(), String> {
+    for (name, set) in sets {
         let want = call(&set, 1 << 22, 16384);
         let small = std::thread::Builder::new().stack_size(512 * 1024);
         let thread =
@@ -78,6 +100,10 @@ fn stack() -> Result<(), String> {
 }
 
 fn main() {
-    let stacked = std::env::args().nth(1).is_some_and(|word| word == "stack");
-    exit_on_error(if stacked { stack() } else { run_families("calls stack | calls", &FAMILIES, run) });
+    let arguments: Vec<String> = std::env::args().skip(1).collect();
+    exit_on_error(match &arguments.iter().map(String::as_str).collect::<Vec<&str>>()[..] {
+        ["stack"] => stack(extremes()),
+        ["stack", "ifs"] => stack(if_extremes()),
+        _ => run_families("calls stack [ifs] | calls", &FAMILIES, run),
+    });
 }

@@ -1,5 +1,5 @@
 //! The port's join against the reference's, word for word, and the Rust on the joined sets.
-//! `joins SEED COUNT [FAMILY]`: COUNT pairs made from each family's sets (or one's), each with several lengths of the buffer and work slices,
+//! `joins SEED COUNT [FAMILY..]`: COUNT pairs made from each family's sets (or the named ones'), each with several lengths of the buffer and work slices,
 //! and every joined statement by its number. Status 1 on the first difference.
 
 use differential::{compile, exit_on_error, run_families};

@@ -1,5 +1,5 @@
 //! The port's call with merging (request 2.7) against the Rust's answers, word for word.
-//! `merges SEED COUNT [FAMILY]`: COUNT sets of each family (or of one), each with several lengths of the output and work slices, and
+//! `merges SEED COUNT [FAMILY..]`: COUNT sets of each family (or of the named ones), each with several lengths of the output and work slices, and
 //! with other bits beside the choice. Sets with a variable tied to itself before it has a number are held to the reference's model
 //! instead, and to enumeration. `merges speed`: sets of 512 tied variables, merged against unmerged. Status 1 on the first difference.
 

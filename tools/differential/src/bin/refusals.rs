@@ -1,9 +1,11 @@
 //! Refusals 1 to 11 of the port against the reference: every limit case, and damaged sets.
-//! `refusals SEED COUNT`; `refusals speed`: the time on the sets of `extremes`. Status 1 on the first difference.
+//! `refusals SEED COUNT`; `refusals SEED COUNT FAMILY..`: COUNT sets of each named family; `refusals speed`: the time on the sets of
+//! `extremes`. Status 1 on the first difference.
 
 use differential::extremes::extremes;
 use differential::{exit_on_error, run_families};
 use reference::generate::{self, GOOD};
+use std::collections::BTreeMap;
 use std::hint::black_box;
 use std::time::Instant;
 
@@ -68,6 +70,21 @@ fn refusals(seed: u64, count: u64) -> Result<(), String> {
     Ok(())
 }
 
+/// The sets of some families.
+fn named(seed: u64, count: u64, families: &[&str]) -> Result<(), String> {
+    for family in families {
+        let mut seen = BTreeMap::new();
+        for index in 0..count {
+            let case = generate::case(family, seed, index).ok_or("no case")?;
+            let k = compare(&case.set, case.work_len)
+                .map_err(|e| format!("{family} seed {seed} index {index}: {e}\nset {:?}", case.set))?;
+            *seen.entry(k).or_insert(0u64) += 1;
+        }
+        println!("{family} seed {seed}: {count} sets {seen:?}, no difference");
+    }
+    Ok(())
+}
+
 /// The least time of some rounds: reading and refusals 3 to 11, and clearing the work slice.
 fn speed() -> Result<(), String> {
     for (name, set) in extremes() {
@@ -86,6 +103,9 @@ fn speed() -> Result<(), String> {
 
 fn main() {
     let speeds = std::env::args().nth(1).is_some_and(|word| word == "speed");
-    let run = || run_families("refusals speed | refusals", &[], |seed, count, _| refusals(seed, count));
-    exit_on_error(if speeds { speed() } else { run() });
+    let run = |seed: u64, count: u64, families: &[&str]| match families {
+        [] => refusals(seed, count),
+        families => named(seed, count, families),
+    };
+    exit_on_error(if speeds { speed() } else { run_families("refusals speed | refusals", &[], run) });
 }

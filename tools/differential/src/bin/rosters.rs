@@ -1,5 +1,5 @@
 //! The port's check of rosters against the reference, statement by statement.
-//! `rosters SEED COUNT [FAMILY]`: COUNT sets of each family, each with many rosters: enumerated ones of small sets, random and nearly
+//! `rosters SEED COUNT [FAMILY..]`: COUNT sets of each family, each with many rosters: enumerated ones of small sets, random and nearly
 //! satisfying ones, wrong lengths and wrong values; where the compile is not refused, yes against passing its answer.
 //! `rosters speed`: the time of a check by its words.
 //! `rosters texts SEED COUNT`: the program target/bin/roster on COUNT texts of each family, a third of them spoilt. Status 1 on the first difference.

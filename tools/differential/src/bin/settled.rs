@@ -1,5 +1,5 @@
 //! The fixed values and the remaining statements of the port against the Rust's after `optimize(true, false)`.
-//! `settled SEED COUNT [FAMILY]`: COUNT sets of each family (or of one), each with three lengths of the output; status 1 on the first difference.
+//! `settled SEED COUNT [FAMILY..]`: COUNT sets of each family (or of the named ones), each with three lengths of the output; status 1 on the first difference.
 //! The family `links` is asked for by name.
 
 use differential::links::case;

@@ -1,5 +1,5 @@
 //! The port's call with a sheet against the Rust's answers and the reference's sheets, word for word and byte for byte.
-//! `sheetcalls SEED COUNT [FAMILY]`: COUNT sets of each family (or of one), each with sheet slices of exactly the sheet's length,
+//! `sheetcalls SEED COUNT [FAMILY..]`: COUNT sets of each family (or of the named ones), each with sheet slices of exactly the sheet's length,
 //! one less, none and some more, and outputs of exactly the answer's length and one less. Status 1 on the first difference.
 
 use differential::links::case;

@@ -13,13 +13,9 @@ pub fn chain(rng: &mut Rng, scale: Scale) -> Set {
     };
     let mut world = World::of("rules", rng, Scale::Small);
     world.bools = length;
-    let mut order: Vec<usize> = (0..length).collect();
-    rng.shuffle(&mut order);
-    let values: Vec<bool> = (0..length).map(|_| rng.chance(50)).collect();
-    let mut rules = links(rng, &order, &values);
+    let (mut rules, last) = fixing(rng, length);
     if rng.chance(35) {
-        let last = order[length - 1];
-        rules.push(against(rng, literal(last, values[last])));
+        rules.push(against(rng, last));
     }
     for _ in 0..rng.below(3) {
         let size = rng.size(1, 6);
@@ -27,6 +23,15 @@ pub fn chain(rng: &mut Rng, scale: Scale) -> Set {
     }
     arrange(rng, &mut rules);
     fill(&world, rules.into_iter().map(Statement::Rule))
+}
+
+/// Rules that fix so many variables one after the other, in some order of them; and the last one's literal.
+pub fn fixing(rng: &mut Rng, length: usize) -> (Vec<Bool>, Bool) {
+    let mut order: Vec<usize> = (0..length).collect();
+    rng.shuffle(&mut order);
+    let values: Vec<bool> = (0..length).map(|_| rng.chance(50)).collect();
+    let last = order[length - 1];
+    (links(rng, &order, &values), literal(last, values[last]))
 }
 
 /// The first rule fixes the first variable, each other one the next.
@@ -41,7 +46,7 @@ fn links(rng: &mut Rng, order: &[usize], values: &[bool]) -> Vec<Bool> {
     rules
 }
 
-fn arrange(rng: &mut Rng, rules: &mut [Bool]) {
+pub fn arrange(rng: &mut Rng, rules: &mut [Bool]) {
     match rng.below(3) {
         0 => rules.reverse(),
         1 => rng.shuffle(rules),

@@ -1,15 +1,18 @@
 //! Damaged copies of good sets: each word changed, dropped, doubled, or the last one kept.
 use super::rng::Rng;
-use super::{set, Case, Scale, GOOD, SLICE};
+use super::{set, Case, Scale, SLICE};
 use crate::set::{LIMIT, STAR};
 
 /// Copies of one set before the next is taken: enough for every word of a set of 64 words.
 const COPIES: u64 = 256;
+/// The code of If (request 2.5).
+const IF: i32 = 23;
 
-pub fn damaged(seed: u64, index: u64) -> Case {
+/// A damaged copy of a set of one of the families.
+pub fn damaged(seed: u64, index: u64, families: &[&str]) -> Case {
     let (base, copy) = (index / COPIES, index % COPIES);
     let mut rng = Rng::of(seed, "base", base);
-    let family = rng.pick(&GOOD);
+    let family = rng.pick(families);
     let scale = if base % 8 == 7 { Scale::Medium } else { Scale::Small };
     let words = set(family, &mut rng, scale).map_or(vec![], |set| set.words());
     let mut rng = Rng::of(seed, "damage", index);
@@ -24,7 +27,7 @@ pub fn damage(rng: &mut Rng, mut words: Vec<i32>, copy: u64) -> Vec<i32> {
         return words;
     }
     match copy % 4 {
-        0 => words[at] = other(rng, words[at]),
+        0 => words[at] = other(rng, words[at], words.contains(&IF)),
         1 => {
             words.remove(at);
         }
@@ -34,13 +37,16 @@ pub fn damage(rng: &mut Rng, mut words: Vec<i32>, copy: u64) -> Vec<i32> {
     words
 }
 
-/// Another word: near, mirrored, a code, or beside a limit.
-fn other(rng: &mut Rng, word: i32) -> i32 {
+/// Another word: near, mirrored, a code, or beside a limit. The code of If only into a set that may have one.
+fn other(rng: &mut Rng, word: i32, ifs: bool) -> i32 {
     match rng.below(6) {
         0 => word.wrapping_add(1),
         1 => word.wrapping_sub(1),
         2 => word.wrapping_neg(),
-        3 => rng.range(-2, 24),
+        3 => match rng.range(-2, 24) {
+            IF if !ifs => IF + 1,
+            code => code,
+        },
         4 => rng.pick(&[LIMIT, LIMIT + 1, -LIMIT, -LIMIT - 1, i32::MAX, STAR, STAR + 1]),
         _ => rng.pick(&[63, 64, 65, 255, 256, 257, 511, 512, 513, 4095, 4096, 4097, 65536]),
     }

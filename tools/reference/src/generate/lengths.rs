@@ -51,7 +51,7 @@ pub fn longest(index: u64) -> Case {
 /// A set whose answer has that many words: tables of one row over one variable, of at most `most` columns.
 pub fn exact(target: u64, most: u64) -> Set {
     // one map word, the counts of Booleans, integers and clauses, one record
-    let mut left = target.saturating_sub(1 + 3 + 3);
+    let mut left = target.saturating_sub(1 + 3 + 4);
     let mut statements = vec![];
     let mut columns = most;
     while columns > 0 {
@@ -72,7 +72,7 @@ pub fn exact(target: u64, most: u64) -> Set {
 fn exact_different(target: u64) -> Set {
     const VARIABLES: u64 = 8;
     // the map, the counts of Booleans, integers and clauses, the records
-    let left = target - VARIABLES - 3 - 3 * VARIABLES;
+    let left = target - VARIABLES - 3 - 4 * VARIABLES;
     let pairs = |n: u64| n * n.saturating_sub(1) / 2;
     // a pair of two variables has 9 words, one of the same variable 5
     let words = |n: u64, often: u64| {

@@ -12,6 +12,7 @@ pub enum Expected {
     Refused(u8),
 }
 
+#[derive(Clone)]
 pub struct Limit {
     pub name: String,
     pub case: Case,
@@ -40,8 +41,7 @@ impl Limit {
 }
 
 /// A limit by its number; further numbers give damaged copies of them.
-pub fn limit(rng: &mut Rng, index: u64) -> Case {
-    let mut all = all();
+pub fn limit(rng: &mut Rng, mut all: Vec<Limit>, index: u64) -> Case {
     let count = all.len() as u64;
     let mut case = all.swap_remove((index % count) as usize).case;
     if index >= count {

@@ -1,23 +1,29 @@
 //! Deterministic sets: seed, family and index decide a case, so that one case can be made again alone.
+mod again;
 mod chains;
 mod damage;
+mod deep;
 mod different;
 mod expressions;
 mod heavy;
+pub mod iflimits;
+mod ifs;
+mod late;
 mod lengths;
 pub mod limits;
 pub mod pairs;
 mod places;
 mod rng;
+mod short;
 mod tables;
 mod text;
 mod ties;
 
-use crate::set::{Set, Statement};
+use crate::set::{Domain, Set, Statement};
 use expressions::World;
 use rng::Rng;
 
-pub use text::{good_text, text};
+pub use text::text;
 
 /// One call: the set's words, and the lengths of the output and the work slice.
 #[derive(Clone, Debug, PartialEq)]
@@ -30,6 +36,22 @@ pub struct Case {
 /// The families of sets. A further one, `longest`, is asked for by name: it needs a gigabyte a case.
 pub const FAMILIES: [&str; 11] =
     ["rules", "chains", "comparisons", "tables", "mixed", "different", "kinds", "damaged", "limits", "lengths", "ties"];
+/// The families of sets with Ifs (request 2.5), asked for by name: the port does not read them yet.
+pub const IFS: [&str; 13] = [
+    "ifs",
+    "ifcolumns",
+    "ifmixed",
+    "ifdifferent",
+    "ifequal",
+    "ifcancel",
+    "ifmany",
+    "ifheavy",
+    "ifchains",
+    "ifties",
+    "ifdeep",
+    "iflimits",
+    "ifdamaged",
+];
 /// The families of good sets that others are made from: damaged, cut to lengths, written as texts.
 pub const GOOD: [&str; 7] = ["rules", "chains", "comparisons", "tables", "mixed", "different", "kinds"];
 
@@ -58,8 +80,11 @@ impl Scale {
 pub fn case(family: &str, seed: u64, index: u64) -> Option<Case> {
     let mut rng = Rng::of(seed, family, index);
     let case = match family {
-        "damaged" => damage::damaged(seed, index),
-        "limits" => limits::limit(&mut rng, index),
+        "damaged" => damage::damaged(seed, index, &GOOD),
+        "ifdamaged" => damage::damaged(seed, index, &IFS[..10]),
+        "ifdeep" => deep::nested(seed, index),
+        "iflimits" => limits::limit(&mut rng, iflimits::all(), index),
+        "limits" => limits::limit(&mut rng, limits::all(), index),
         "lengths" => lengths::near(seed, index),
         "longest" => lengths::longest(index),
         _ => good(family, &mut rng, Scale::of(index))?,
@@ -73,7 +98,7 @@ fn good(family: &str, rng: &mut Rng, scale: Scale) -> Option<Case> {
     Some(Case { set: set.words(), out_len, work_len: SLICE })
 }
 
-/// A good set of one of those families or of `ties`.
+/// A good set of one of those families, of `ties` or of a family with Ifs.
 pub fn set(family: &str, rng: &mut Rng, scale: Scale) -> Option<Set> {
     let make: fn(&mut Rng, &World, Scale) -> Statement = match family {
         "rules" | "comparisons" => expressions::rule,
@@ -83,6 +108,16 @@ pub fn set(family: &str, rng: &mut Rng, scale: Scale) -> Option<Set> {
         "kinds" => kinds,
         "chains" => return Some(chains::chain(rng, scale)),
         "ties" => return Some(ties::ties(rng, scale)),
+        "ifs" => return Some(ifs::set(rng, (0, 0), scale)),
+        "ifcolumns" => return Some(ifs::set(rng, (100, 0), scale)),
+        "ifmixed" => return Some(ifs::set(rng, (35, 15), scale)),
+        "ifdifferent" => return Some(ifs::set(rng, (10, 70), scale)),
+        "ifequal" => return Some(again::equal(rng, scale)),
+        "ifcancel" => return Some(again::cancelling(rng)),
+        "ifmany" => return Some(again::many(rng)),
+        "ifheavy" => return Some(again::heavy(rng)),
+        "ifchains" => return Some(late::chain(rng, scale)),
+        "ifties" => return Some(late::tied(rng, scale)),
         _ => return None,
     };
     let world = World::of(family, rng, scale);
@@ -113,7 +148,11 @@ fn kinds(rng: &mut Rng, world: &World, scale: Scale) -> Statement {
 
 /// The set of the statements, as far as they fit into 4096 words.
 fn fill(world: &World, statements: impl Iterator<Item = Statement>) -> Set {
-    let mut set = Set { bools: world.bools, domains: world.domains.clone(), statements: vec![] };
+    filled(world.bools, &world.domains, statements)
+}
+
+fn filled(bools: usize, domains: &[Domain], statements: impl Iterator<Item = Statement>) -> Set {
+    let mut set = Set { bools, domains: domains.to_vec(), statements: vec![] };
     for statement in statements {
         set.statements.push(statement);
         if set.words().len() > SET {

@@ -70,5 +70,6 @@ fn value(e: &Int, values: &[i64]) -> i128 {
         Int::Const(c) => *c as i128,
         Int::Var(v) => values[*v] as i128,
         Int::Sum(terms) => terms.iter().map(|(c, e)| *c as i128 * value(e, values)).sum(),
+        Int::If(_, t, _) => value(t, values),
     }
 }

@@ -1,14 +1,19 @@
 //! Texts for the listing program, well-formed and malformed.
 use super::rng::Rng;
-use super::{set, Scale, GOOD};
+use super::{set, Scale, GOOD, IFS};
 
 const TEXT: usize = 65536;
 
-/// A text: the index decides its kind, so that every kind comes up.
-pub fn text(seed: u64, index: u64) -> Vec<u8> {
-    let mut rng = Rng::of(seed, "text", index);
-    let good = good_text(seed, index / 16);
-    match index % 16 {
+/// A text of the family `text`, or `iftext` for sets with Ifs: the index decides its kind, so that every kind comes up.
+pub fn text(family: &str, seed: u64, index: u64) -> Option<Vec<u8>> {
+    let families: &[&str] = match family {
+        "text" => &GOOD,
+        "iftext" => &IFS[..10],
+        _ => return None,
+    };
+    let mut rng = Rng::of(seed, family, index);
+    let good = good_text(seed, index / 16, families);
+    Some(match index % 16 {
         0 => good,
         1 => resplit(&mut rng, &good),
         2 => long(TEXT),
@@ -18,13 +23,13 @@ pub fn text(seed: u64, index: u64) -> Vec<u8> {
         9 => good[..rng.below(good.len())].to_vec(),
         10 => good[..good.len().saturating_sub(1)].to_vec(),
         _ => byte_changed(&mut rng, good),
-    }
+    })
 }
 
 /// A good set in the listing's own form.
-pub fn good_text(seed: u64, index: u64) -> Vec<u8> {
+fn good_text(seed: u64, index: u64, families: &[&str]) -> Vec<u8> {
     let mut rng = Rng::of(seed, "good text", index);
-    let family = rng.pick(&GOOD);
+    let family = rng.pick(families);
     let made = set(family, &mut rng, Scale::Small);
     made.map_or(String::new(), |set| lines(&set)).into_bytes()
 }
