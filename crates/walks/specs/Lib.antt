@@ -39,6 +39,7 @@ pub mod Near
 pub mod LowIfs
 pub mod Next
 pub mod Rule
+pub mod Clear
 pub mod Column
 pub mod ColumnText
 pub mod Totals
