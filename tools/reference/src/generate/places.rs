@@ -123,11 +123,11 @@ pub fn codes() -> Vec<Limit> {
         [(&[-1], Refused(5)), (&[0], Refused(5)), (&[4], Refused(5)), (&[9], Refused(5)), (&[STAR], Refused(5))];
     all.extend(at("statement code", &[0, 0, 1], &[0], &unknown));
     all.extend(at("statement code", &[0, 0, 1], &[0], &[(&[1, 12], Compiled), (&[2, 0], Compiled), (&[3], Compiled)]));
-    for code in [-1, 0, 9, 19, 20, 21, 22, 23, i32::MAX] {
+    for code in [-1, 0, 9, 19, 20, 21, 22, 24, i32::MAX] {
         all.push(Limit::new(&format!("Boolean code {code}"), vec![1, 0, 1, 1, code, 0], Refused(5)));
         all.push(Limit::new(&format!("member code {code}"), vec![1, 0, 1, 1, 12, 1, code, 0], Refused(5)));
     }
-    for code in [-1, 0, 10, 11, 14, 18, 19, 23, i32::MAX] {
+    for code in [-1, 0, 10, 11, 14, 18, 19, 24, i32::MAX] {
         all.push(Limit::new(&format!("left code {code}"), vec![1, 0, 1, 1, 18, 0, code, 0, 20, 0], Refused(5)));
         all.push(Limit::new(&format!("right code {code}"), vec![1, 0, 1, 1, 18, 0, 20, 0, code, 0], Refused(5)));
         all.push(Limit::new(&format!("term code {code}"), vec![1, 0, 1, 1, 18, 0, 22, 1, 1, code, 0], Refused(5)));
