@@ -1,2 +1,3 @@
 mod NodeLaws
 mod Meeting
+mod Seeing

@@ -7,7 +7,7 @@ use lib.ListN.{getD}
 use borrow.Author.Tests.{eq-eqb, ne-eqb}
 use Rattle.walk.specs.Item.{nat, bump, bool-entry, int-entry}
 use Rattle.walk.specs.declared.Counters.{Counters}
-use Rattle.walks.specs.Item.{counters, meets-bool, meets-int}
+use Rattle.walks.specs.Item.{counters, more-ints, meets-bool, meets-int}
 
 module _ (w : List ℤ) (v : ℕ) (n : Counters) (e : ℕ) where
   pub bool-new : (k : ℕ) → e ≡ nat (getD w (4608 + v) (pos 0)) → e ≡ n .bools + 1 → k ≡ bump (n .bools) 1 → counters k (n .ints) ≡ meets-bool w v n
@@ -18,9 +18,9 @@ module _ (w : List ℤ) (v : ℕ) (n : Counters) (e : ℕ) where
   unfolding meets-bool bool-entry
   bool-old h i = rw (ne-eqb _ _ (λ q. i (h ∙ q)))
 
-  pub int-new : (k : ℕ) → e ≡ nat (getD w (5120 + v) (pos 0)) → e ≡ n .ints + 1 → k ≡ bump (n .ints) 1 → counters (n .bools) k ≡ meets-int w v n
+  pub int-new : (k : Counters) → e ≡ nat (getD w (5120 + v) (pos 0)) → e ≡ n .ints + 1 → k ≡ more-ints w 1 n → k ≡ meets-int w v n
   unfolding meets-int int-entry
-  int-new k h i j = rw (eq-eqb _ _ (sym h ∙ i), j)
+  int-new k h i j = rw (eq-eqb _ _ (sym h ∙ i)) j
 
   pub int-old : e ≡ nat (getD w (5120 + v) (pos 0)) → (e ≡ n .ints + 1 → ⊥) → n ≡ meets-int w v n
   unfolding meets-int int-entry

@@ -1,17 +1,20 @@
 -- Laws of nodes.
-use mathlib.Core.Path.{_≡_, refl}
+use mathlib.Core.Path.{_≡_, _∙_}
 use mathlib.Core.Bool.{Bool, true, not}
 use mathlib.Core.List.{List}
-use Prim.Native.Nat.{ℕ, _+_, _≤_, min}
-use lib.IntN.{ℤ}
-use lib.ListN.{length}
-use lib.Dec.{eqb}
+use Prim.Native.Nat.{ℕ, _+_, _≤_, _<_, min}
+use native.Mathlib.Omega.{arith}
+use lib.IntN.{ℤ, pos, negsuc}
+use lib.ListN.{length, getD}
+use mir.Syntax.{w32}
+use mir.Val.{ofZ}
 use borrow.Author.Tests.{ne-eqb}
+use Rattle.walk.specs.Item.{nat}
 use Rattle.walk.specs.Decode.{word, past, below, constant-node, read-part}
 use Rattle.walk.specs.declared.Node.{Node}
 use Rattle.walk.specs.declared.Node.the-variants.{Var, Cmp, Not, Join, Cross}
 use Rattle.walks.specs.Decode.{node-of}
-use Rattle.survey.proofs.Leaves.{past-is}
+use Rattle.survey.proofs.Leaves.{word-inside, past-is}
 
 module _ (w : List ℤ) (size : 4608 ≤ length w) (g : Bool) (at : ℕ) (x one two k : ℕ)
     (hx : x ≡ word (read-part w) (at + 1)) (h1 : one ≡ min (at + 1) 4608) (h2 : two ≡ min (at + 2) 4608) (hk : k ≡ word (read-part w) at) where
@@ -63,3 +66,13 @@ module _ (w : List ℤ) (size : 4608 ≤ length w) (g : Bool) (at : ℕ) (x one 
   pub node-other : (k ≡ 10 → ⊥) → (k ≡ 11 → ⊥) → (k ≡ 12 → ⊥) → (k ≡ 13 → ⊥) → (k ≡ 14 → ⊥) → (k ≡ 15 → ⊥) → (k ≡ 16 → ⊥) → (k ≡ 17 → ⊥) → (k ≡ 18 → ⊥) → Asks (Join true 0 g g one)
   unfolding node-of
   node-other a b c d e f i j m = rw (← hk, ne-eqb k 10 a, ne-eqb k 11 b, ne-eqb k 12 c, ne-eqb k 13 d, ne-eqb k 14 e, ne-eqb k 15 f, ne-eqb k 16 i, ne-eqb k 17 j, ne-eqb k 18 m, ← p1)
+
+-- ---- words that are not a code
+
+not-code : (z : ℤ) (k : ℕ) → 0 < k → (ofZ w32 z ≡ k → ⊥) → nat z ≡ k → ⊥
+unfolding nat
+not-code (pos n) k l h e = h e
+not-code (negsuc n) k l h e = omega arith
+
+pub no-code-at : (w : List ℤ) (at k : ℕ) → at < 4608 → 0 < k → (ofZ w32 (getD w at (pos 0)) ≡ k → ⊥) → word (read-part w) at ≡ k → ⊥
+no-code-at w at k h l ne e = not-code (getD w at (pos 0)) k l ne (word-inside w at h ∙ e)

@@ -6,14 +6,13 @@ use Prim.Native.Nat.{ℕ, zero, suc, _+_, _-_, _≤_, _<_, min}
 use native.Mathlib.Omega.{arith}
 use native.Mathlib.Numerals.{sub-one}
 use lib.IntN.{ℤ}
-use lib.ListN.{length}
 use lib.Dec.{eqb}
 use Rattle.walk.specs.Item.{limit, bump}
-use Rattle.walk.specs.Decode.{word, read-part}
+use Rattle.walk.specs.Decode.{word}
 use Rattle.walk.specs.declared.Node.{Node}
 use Rattle.walk.specs.declared.Node.the-variants.{Var, Cmp, Not, Join, Cross}
 use Rattle.walks.specs.Tree.{Splitting, never, below, here, inner}
-use Rattle.walks.specs.Form.{Form, Forms, nil, cons, joined}
+use Rattle.walks.specs.Form.{Forms, nil, cons, joined}
 use Rattle.walks.specs.Meet.{form-leaves, form-leaves-all}
 use Rattle.walks.specs.Decode.{node-of, Read, Reader, IntReader, many, cross-step, step, decode, decode-int}
 use Rattle.walks.specs.NoTies.{Alike, decode-same}

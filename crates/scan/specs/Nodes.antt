@@ -1,16 +1,15 @@
 -- What the words at a place ask: where the parts lie, and one level of the decoder.
 use mathlib.Core.Path.{_≡_, refl}
-use mathlib.Core.Bool.{Bool, true, false, not, cond}
+use mathlib.Core.Bool.{Bool, true, false, cond}
 use mathlib.Core.List.{List}
 use Prim.Native.Nat.{ℕ, zero, suc, _+_, _-_, _≤_, _<_, min}
 use native.Mathlib.Omega.{arith}
-use native.Mathlib.Numerals.{sub-one}
 use lib.IntN.{ℤ, pos}
-use lib.ListN.{length, getD, length-take, List·getD-eq-default}
+use lib.ListN.{length, length-take, List·getD-eq-default}
 use lib.Dec.{eqb, ltb}
 use borrow.Author.Tests.{ltb-true, ltb-false}
 use Rattle.walk.specs.Item.{nat}
-use Rattle.walk.specs.Decode.{word, past, read-part}
+use Rattle.walk.specs.Decode.{word, read-part}
 use Rattle.walk.specs.Steps.{below-lt}
 use Rattle.walk.specs.declared.Node.{Node}
 use Rattle.walk.specs.declared.Node.the-variants.{Var, Cmp, Not, Join, Cross}

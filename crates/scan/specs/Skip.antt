@@ -114,41 +114,41 @@ module _ (w : List ℤ) (size : 4608 ≤ length w) (l : ℕ) (m : Splitting) (at
   int-none e = rw e (record { end = refl; next = refl; start = omega arith; inside = inside; low = low })
 
   module _ (u : ℕ) (z : l ≡ 0 → ⊥) (hu : u ≡ l - 1) where
-    -- of the plain expression
-    ends : (N : Node) → N ≡ node-of (read-part w) false at (word (read-part w) at) → (q b : ℕ) → (let r = step (decode (read-part w) u) (decode-int (read-part w) u) m false base N in (q ≡ r .end) × (b ≡ r .next)) → at ≤ q → q ≤ 4608 → b ≤ limit → Skips (read-part w) l m at base q b
-    ends N a q b x f h k =
-        let e = level (read-part w) l u m false at base N z hu a in
+    -- negated if g
+    ends : (g : Bool) (N : Node) → N ≡ node-of (read-part w) g at (word (read-part w) at) → (q b : ℕ) → (let r = step (decode (read-part w) u) (decode-int (read-part w) u) m g base N in (q ≡ r .end) × (b ≡ r .next)) → at ≤ q → q ≤ 4608 → b ≤ limit → Skips (read-part w) l m at base q b
+    ends g N a q b x f h k =
+        let e = level (read-part w) l u m g at base N z hu a in
         record {
-          end = λ g. x .0 ∙ ap (λ (r : Read). r .end) (sym e) ∙ decode-same (read-part w) l m false g at base .0;
-          next = λ g. x .1 ∙ ap (λ (r : Read). r .next) (sym e) ∙ decode-same (read-part w) l m false g at base .1;
+          end = λ h. x .0 ∙ ap (λ (r : Read). r .end) (sym e) ∙ decode-same (read-part w) l m g h at base .0;
+          next = λ h. x .1 ∙ ap (λ (r : Read). r .next) (sym e) ∙ decode-same (read-part w) l m g h at base .1;
           start = f;
           inside = h;
           low = k;
         }
 
-    pub skips-var : (v q : ℕ) → Var v q ≡ node-of (read-part w) false at (word (read-part w) at) → Skips (read-part w) l m at base q base
+    pub skips-var : (g : Bool) (v q : ℕ) → Var v q ≡ node-of (read-part w) g at (word (read-part w) at) → Skips (read-part w) l m at base q base
     unfolding step
-    skips-var v q e = let o = okay-at w false at (Var v q) size inside e in ends (Var v q) e q base (refl, refl) (omega (arith, o .0)) (omega (arith, o .1, part-length w size)) low
+    skips-var g v q e = let o = okay-at w g at (Var v q) size inside e in ends g (Var v q) e q base (refl, refl) (omega (arith, o .0)) (omega (arith, o .1, part-length w size)) low
 
-    pub skips-cmp : (o e j q b q' b' : ℕ) → Cmp o e ≡ node-of (read-part w) false at (word (read-part w) at) → split-by j ≡ inner m → IntSkips (read-part w) u (split-by j) e base q b → IntSkips (read-part w) u (split-by j) q b q' b' → Skips (read-part w) l m at base q' b'
+    pub skips-cmp : (g : Bool) (o e j q b q' b' : ℕ) → Cmp o e ≡ node-of (read-part w) g at (word (read-part w) at) → split-by j ≡ inner m → IntSkips (read-part w) u (split-by j) e base q b → IntSkips (read-part w) u (split-by j) q b q' b' → Skips (read-part w) l m at base q' b'
     unfolding step
-    skips-cmp o e j q b q' b' i hj x y =
-        let k = okay-at w false at (Cmp o e) size inside i in
-        ends (Cmp o e) i q' b' (rw (← hj, ← x .end, ← x .next) (y .end, y .next)) (omega (arith, k .0, x .start, y .start)) (y .inside) (y .low)
+    skips-cmp g o e j q b q' b' i hj x y =
+        let k = okay-at w g at (Cmp o e) size inside i in
+        ends g (Cmp o e) i q' b' (rw (← hj, ← x .end, ← x .next) (y .end, y .next)) (omega (arith, k .0, x .start, y .start)) (y .inside) (y .low)
 
-    pub skips-not : (e q b : ℕ) → Not e ≡ node-of (read-part w) false at (word (read-part w) at) → Skips (read-part w) u m e base q b → Skips (read-part w) l m at base q b
+    pub skips-not : (g : Bool) (e q b : ℕ) → Not e ≡ node-of (read-part w) g at (word (read-part w) at) → Skips (read-part w) u m e base q b → Skips (read-part w) l m at base q b
     unfolding step
-    skips-not e q b i s = let k = okay-at w false at (Not e) size inside i in ends (Not e) i q b (s .end true, s .next true) (omega (arith, k .0, s .start)) (s .inside) (s .low)
+    skips-not g e q b i s = let k = okay-at w g at (Not e) size inside i in ends g (Not e) i q b (s .end (not g), s .next (not g)) (omega (arith, k .0, s .start)) (s .inside) (s .low)
 
-    pub skips-join : (d : Bool) (k : ℕ) (x y : Bool) (e q b : ℕ) → Join d k x y e ≡ node-of (read-part w) false at (word (read-part w) at) → SkipsAll (read-part w) u m k e base q b → Skips (read-part w) l m at base q b
+    pub skips-join : (g : Bool) (d : Bool) (k : ℕ) (x y : Bool) (e q b : ℕ) → Join d k x y e ≡ node-of (read-part w) g at (word (read-part w) at) → SkipsAll (read-part w) u m k e base q b → Skips (read-part w) l m at base q b
     unfolding step
-    skips-join d k x y e q b i s = let o = okay-at w false at (Join d k x y e) size inside i in ends (Join d k x y e) i q b (s .end x y, s .next x y) (omega (arith, o .0, s .start)) (s .inside) (s .low)
+    skips-join g d k x y e q b i s = let o = okay-at w g at (Join d k x y e) size inside i in ends g (Join d k x y e) i q b (s .end x y, s .next x y) (omega (arith, o .0, s .start)) (s .inside) (s .low)
 
-    pub skips-cross : (h : Bool) (e j c q b : ℕ) → Cross h e ≡ node-of (read-part w) false at (word (read-part w) at) → split-by j ≡ inner m → c ≡ inside-of m base → SkipsAll (read-part w) u (split-by j) 2 e c q b → Skips (read-part w) l m at base q b
+    pub skips-cross : (g : Bool) (h : Bool) (e j c q b : ℕ) → Cross h e ≡ node-of (read-part w) g at (word (read-part w) at) → split-by j ≡ inner m → c ≡ inside-of m base → SkipsAll (read-part w) u (split-by j) 2 e c q b → Skips (read-part w) l m at base q b
     unfolding step
-    skips-cross h e j c q b i hj hc s =
-        let o = okay-at w false at (Cross h e) size inside i in
-        ends (Cross h e) i q b (cross-ends (read-part w) u m h e base j c q b hj hc s) (omega (arith, o .0, s .start)) (s .inside) (s .low)
+    skips-cross g h e j c q b i hj hc s =
+        let o = okay-at w g at (Cross h e) size inside i in
+        ends g (Cross h e) i q b (cross-ends (read-part w) u m h e base j c q b hj hc s) (omega (arith, o .0, s .start)) (s .inside) (s .low)
 
     -- ---- integer expressions; k: the code
 
@@ -211,6 +211,10 @@ module _ (ws : List ℤ) (l : ℕ) (m : Splitting) (k at base : ℕ) where
 
 -- ---- terms
 
+-- a term of three words
+abbrev pub LeafTerm : List ℤ → ℕ → ℕ → Type 0
+LeafTerm w l q = (l ≡ 0 → ⊥) × (q < 4605) × (word (read-part w) (q + 1) ≡ 22 → ⊥) × (word (read-part w) (q + 1) ≡ 23 → ⊥)
+
 pub record TermSkipping (ws : List ℤ) (l : ℕ) (m : Splitting) (k at base rest q b : ℕ) : Type 0 where
   pub end : many-terms ws (decode-int ws l m) rest q b .end ≡ many-terms ws (decode-int ws l m) k at base .end
   pub next : many-terms ws (decode-int ws l m) rest q b .next ≡ many-terms ws (decode-int ws l m) k at base .next
@@ -234,6 +238,10 @@ module _ (w : List ℤ) (l : ℕ) (m : Splitting) (k at base : ℕ) where
         inside = s .inside;
         low = s .low;
       }
+
+  pub terms-leaf : 4608 ≤ length w → (rest q b : ℕ) → TermSkipping (read-part w) l m k at base rest q b → (rest ≡ 0 → ⊥) → LeafTerm w l q → TermSkipping (read-part w) l m k at base (rest - 1) (q + 3) b
+  terms-leaf size rest q b x z h =
+      terms-next size rest q b (q + 1) (q + 3) b x z (omega (arith, h .1)) (int-leaf w size l m (q + 1) b (omega (arith, h .1)) (x .low) (l - 1) (h .0) refl (word (read-part w) (q + 1)) (q + 3) refl (h .2) (h .3) (omega (arith, h .1)))
 
   pub terms-last : (rest q b : ℕ) → TermSkipping (read-part w) l m k at base rest q b → rest ≡ 0 → TermSkips (read-part w) l m k at base q b
   unfolding many-terms

@@ -2,23 +2,31 @@
 // Nothing calls it yet: it takes survey's place when request 2.5 is complete.
 ghost use mathlib.Core.Path.{_≡_};
 ghost use mathlib.Core.Bool.{true};
-ghost use Prim.Native.Nat.{_+_, _≤_, _<_, min};
-ghost use lib.ListN.{length};
+ghost use Prim.Native.Nat.{_+_, _≤_, _<_};
 ghost use Rattle.walk.specs.Item.{limit};
 ghost use Rattle.walk.specs.Decode.{word as word-in, constant-node, read-part};
 ghost use Rattle.walks.specs.Tree.{inner as inner-of};
-ghost use Rattle.walks.specs.Item.{meets-bool, meets-int};
+ghost use Rattle.walks.specs.Item.{has-ifs as has-ifs-in, more-ints as more-ints-of, more-bools as more-bools-of, meets-bool, meets-int, cell as cell-of, seen-in};
 ghost use Rattle.walks.specs.Decode.{node-of};
-ghost use Rattle.scan.specs.Skip.{split-by, inside-of, Skips, SkipsAll, IntSkips, TermSkips};
+ghost use Rattle.scan.specs.Skip.{split-by, inside-of, Skips, SkipsAll, IntSkips, TermSkips, LeafTerm};
 use survey::Skipped;
 ghost use Rattle.scan.specs.LeafLaws.{counted, swapped as swapped-of, LeavesAt, LeavesAll};
+ghost use Rattle.scan.specs.IfLaws.{seen-code, seen-at, passed-at, Low};
+ghost use Rattle.scan.specs.SurveyLaws.{scanned, behind-at, Surveys, SurveysAll, IntSurveys, TermSurveys, Makes, named};
+use survey::add_member;
 use survey::below;
 use survey::bump;
+use survey::close_cross;
+use survey::close_disj;
 use survey::entry;
+use survey::fresh;
+use survey::longer;
+use survey::single;
 use survey::within;
 use survey::word;
 use walk::Counters;
 use walk::Node;
+use walk::Surveyed;
 
 // ---- nodes
 
@@ -114,6 +122,27 @@ pub fn skip(work: &[i32], at: usize, left: usize, m: usize, base: usize) -> Skip
     }
 }
 
+// Whether the term at a place, with levels left, is a constant or a variable: its three words are passed at once.
+fn is_leaf(work: &[i32], q: usize, left: usize) -> bool
+    requires { do ⌜ 4608 ≤ (← ⟦work.len()⟧) ⌝ }
+    ensures { λ r. ⌜ (r ≡ true → LeafTerm (now (work .entry)) left q) ⌝ }
+{
+    if left == 0 {
+        return false;
+    }
+    if q < 4605 {
+        let k = work[q + 1];
+        if k == 22 {
+            return false;
+        }
+        if k == 23 {
+            return false;
+        }
+        return true;
+    }
+    false
+}
+
 // So many terms.
 pub fn skip_terms(
     work: &[i32],
@@ -130,11 +159,15 @@ pub fn skip_terms(
     let mut b = base;
     let mut rest = count;
     while rest != 0 {
+        rest = rest - 1;
+        if is_leaf(work, q, left) {
+            q = q + 3;
+            continue;
+        }
         let p = within(q + 1);
         let s = skip_int(work, p, left, m, b);
         q = s.at;
         b = s.base;
-        rest = rest - 1;
     }
     Skipped { at: q, base: b }
 }
@@ -183,20 +216,103 @@ pub fn met(work: &[i32], v: usize, n: Counters) -> Counters
     n
 }
 
-// Behind a declared integer.
-pub fn met_int(work: &[i32], v: usize, n: Counters) -> Counters
-    requires { ⌜ (v < 256) × (n .ints ≤ limit) ⌝ }
-    ensures { λ r. ⌜ r ≡ meets-int (now (work .entry)) v n ⌝ }
+// Whether the folded statements have Ifs.
+pub fn has_ifs(work: &[i32]) -> bool
+    ensures { λ r. ⌜ r ≡ has-ifs-in (now (work .entry)) ⌝ }
 {
-    let i = n.ints;
-    if entry(work, 5120 + v) == i + 1 {
-        let k = bump(i, 1);
+    if 9476 < work.len() {
+        let z = work[9476];
+        if z == 0 {
+            return false;
+        }
+        return true;
+    }
+    false
+}
+
+// One integer more, where there are Ifs.
+pub fn more_ints(work: &[i32], n: Counters) -> Counters
+    ensures { λ r. ⌜ r ≡ more-ints-of (now (work .entry)) 1 n ⌝ }
+{
+    if has_ifs(work) {
+        let k = bump(n.ints, 1);
         return Counters {
             bools: n.bools,
             ints: k,
         };
     }
     n
+}
+
+// One Boolean more.
+pub fn more_bools(n: Counters) -> Counters
+    ensures { λ r. ⌜ r ≡ more-bools-of 1 n ⌝ }
+{
+    let k = bump(n.bools, 1);
+    Counters {
+        bools: k,
+        ints: n.ints,
+    }
+}
+
+// Behind a declared integer.
+pub fn met_int(work: &[i32], v: usize, n: Counters) -> Counters
+    requires { ⌜ (v < 256) × (n .ints ≤ limit) ⌝ }
+    ensures { λ r. ⌜ r ≡ meets-int (now (work .entry)) v n ⌝ }
+{
+    if entry(work, 5120 + v) == n.ints + 1 {
+        return more_ints(work, n);
+    }
+    n
+}
+
+// The cell of a place.
+pub fn cell(work: &[i32], p: usize) -> i32
+    requires { ⌜ p ≤ 4611 ⌝ }
+    ensures { λ r. ⌜ r ≡ cell-of (now (work .entry)) p ⌝ }
+{
+    let i = 4864 + p;
+    if i < work.len() {
+        return work[i];
+    }
+    0
+}
+
+// What a cell says of an If: 0 for nothing, 1 for constant branches, else its number plus 2.
+fn code_of(z: i32) -> usize
+    ensures { λ r. ⌜ r ≡ seen-code (seen-in z) ⌝ }
+{
+    if z < 0 {
+        let q = 0 - (z + 1);
+        return q as usize + 1;
+    }
+    if z > 0 {
+        return z as usize + 1;
+    }
+    0
+}
+
+// The same of the If at a place.
+pub fn seen(work: &[i32], at: usize) -> usize
+    requires { ⌜ at ≤ 4608 ⌝ }
+    ensures { λ r. ⌜ r ≡ seen-code (seen-at (now (work .entry)) at) ⌝ }
+{
+    code_of(cell(work, at + 1))
+}
+
+// Whether a visit that starts with so many integers passes over the If at a place.
+pub fn is_passed(work: &[i32], at: usize, ints: usize) -> bool
+    requires { ⌜ at ≤ 4608 ⌝ }
+    ensures { λ r. ⌜ r ≡ passed-at (now (work .entry)) at ints ⌝ }
+{
+    if has_ifs(work) {
+        let k = seen(work, at);
+        if k < 2 {
+            return false;
+        }
+        return k - 2 < ints;
+    }
+    true
 }
 
 // ---- leaves
@@ -298,5 +414,264 @@ pub fn leaves(work: &[i32], at: usize, left: usize, m: usize, base: usize) -> Le
             let s = skip(work, at, left, m, base);
             leaf_count(s.at, s.base, 4, 4)
         }
+    }
+}
+
+// ---- the survey
+
+// What a survey finds of an expression, or of so many members, with the Boolean counter behind it, and the integer counter behind it.
+pub struct Scanned {
+    pub part: Surveyed,
+    pub ints: usize,
+}
+
+// Where an integer expression ends, the splitting's next number and the counters behind it.
+pub struct Behind {
+    pub at: usize,
+    pub base: usize,
+    pub n: Counters,
+}
+
+fn behind_of(at: usize, base: usize, n: Counters) -> Behind
+    ensures { λ r. ⌜ r ≡ behind-at at base n ⌝ }
+{
+    Behind {
+        at: at,
+        base: base,
+        n: n,
+    }
+}
+
+fn with_ints(s: Surveyed, k: usize) -> Scanned
+    ensures { λ r. ⌜ r ≡ scanned s k ⌝ }
+{
+    Scanned { part: s, ints: k }
+}
+
+// The counters behind what a new Boolean stands for: the negated condition and the plain one, each in a list with its literal.
+fn name_condition(s: Scanned, u: Scanned) -> Counters
+    requires { ⌜ (s .part .lits ≤ 4608) × (u .part .lits ≤ 4608) ⌝ }
+    ensures { λ r. ⌜ r ≡ named s u ⌝ }
+{
+    let a = s.part;
+    let b = u.part;
+    let x = bump(b.n, fresh(a.longs, a.lits + 1, a.cmps));
+    let y = bump(x, fresh(b.longs, b.lits + 1, b.cmps));
+    Counters {
+        bools: y,
+        ints: u.ints,
+    }
+}
+
+// So many members, the first negated if g, the others if h.
+pub fn surveys(
+    work: &[i32],
+    at: usize,
+    left: usize,
+    m: usize,
+    count: usize,
+    base: usize,
+    g: bool,
+    h: bool,
+    n: Counters,
+) -> Scanned
+    requires { do ⌜ (4608 ≤ (← ⟦work.len()⟧)) × ((at ≤ 4608) × ((base ≤ limit) × Low n)) ⌝ }
+    ensures { λ r. ⌜ SurveysAll (now (work .entry)) left (split-by m) count g h at base n r ⌝ }
+{
+    let mut r = Surveyed {
+        at: at,
+        base: base,
+        n: n.bools,
+        longs: 0,
+        lits: 0,
+        cmps: 0,
+        lines: 0,
+        all: 0,
+    };
+    let mut ints = n.ints;
+    let mut rest = count;
+    let mut turned = g;
+    while rest != 0 {
+        let k = Counters {
+            bools: r.n,
+            ints: ints,
+        };
+        let s = survey(work, r.at, left, m, r.base, turned, k);
+        let p = s.part;
+        r = add_member(r, p);
+        ints = s.ints;
+        rest = rest - 1;
+        turned = h;
+    }
+    Scanned {
+        part: r,
+        ints: ints,
+    }
+}
+
+// The expression at a place, negated if g.
+pub fn survey(
+    work: &[i32],
+    at: usize,
+    left: usize,
+    m: usize,
+    base: usize,
+    g: bool,
+    n: Counters,
+) -> Scanned
+    requires { do ⌜ (4608 ≤ (← ⟦work.len()⟧)) × ((at ≤ 4608) × ((base ≤ limit) × Low n)) ⌝ }
+    ensures { λ r. ⌜ Surveys (now (work .entry)) left (split-by m) g at base n r ⌝ }
+{
+    if left == 0 {
+        return with_ints(single(at, base, n.bools, 0, 0), n.ints);
+    }
+    let under = left - 1;
+    match node_at(work, g, at) {
+        Node::Var(v, q) => {
+            let k = met(work, v, n);
+            with_ints(single(q, base, k.bools, 1, 0), k.ints)
+        }
+        Node::Cmp(_, q) => {
+            let j = inner(m);
+            let a = survey_int(work, q, under, j, base, n);
+            let b = survey_int(work, a.at, under, j, a.base, a.n);
+            let k = b.n;
+            with_ints(single(b.at, b.base, k.bools, 0, 1), k.ints)
+        }
+        Node::Not(q) => survey(work, q, under, m, base, !g, n),
+        Node::Join(d, k, a, b, q) => {
+            let s = surveys(work, q, under, m, k, base, a, b, n);
+            let p = s.part;
+            if d {
+                return with_ints(close_disj(p), s.ints);
+            }
+            with_ints(longer(p.at, p.base, p.n, p.all), s.ints)
+        }
+        Node::Cross(h, q) => {
+            let j = inner(m);
+            if m > 1 {
+                let s = skips(work, q, under, j, 2, bump(base, 2));
+                return with_ints(longer(s.at, s.base, n.bools, 2), n.ints);
+            }
+            let s = surveys(work, q, under, j, 2, base, false, h, n);
+            let p = s.part;
+            let k = Counters {
+                bools: p.n,
+                ints: s.ints,
+            };
+            let u = surveys(work, q, under, j, 2, base, true, !h, k);
+            let o = u.part;
+            with_ints(close_cross(p, o), u.ints)
+        }
+    }
+}
+
+// So many terms.
+pub fn survey_terms(
+    work: &[i32],
+    at: usize,
+    left: usize,
+    m: usize,
+    count: usize,
+    base: usize,
+    n: Counters,
+) -> Behind
+    requires { do ⌜ (4608 ≤ (← ⟦work.len()⟧)) × ((at ≤ 4608) × ((base ≤ limit) × Low n)) ⌝ }
+    ensures { λ r. ⌜ TermSurveys (now (work .entry)) left (split-by m) count at base n r ⌝ }
+{
+    let mut r = Behind {
+        at: at,
+        base: base,
+        n: n,
+    };
+    let mut rest = count;
+    while rest != 0 {
+        let p = within(r.at + 1);
+        r = survey_int(work, p, left, m, r.base, r.n);
+        rest = rest - 1;
+    }
+    r
+}
+
+// Behind the branches of the If at p, whose condition stands at c.
+fn make_if(
+    work: &[i32],
+    p: usize,
+    c: usize,
+    left: usize,
+    m: usize,
+    base: usize,
+    n: Counters,
+) -> Counters
+    requires { do ⌜ (4608 ≤ (← ⟦work.len()⟧)) × ((p ≤ 4608) × ((c ≤ 4608) × ((base ≤ limit) × Low n))) ⌝ }
+    ensures { λ r. ⌜ Makes (now (work .entry)) left (split-by m) p c base n r ⌝ }
+{
+    if seen(work, p) != 1 {
+        let i = more_ints(work, n);
+        let a = survey(work, c, left, m, base, false, i);
+        let q = a.part;
+        let k = Counters {
+            bools: q.n,
+            ints: a.ints,
+        };
+        let b = survey(work, c, left, m, base, true, k);
+        let o = b.part;
+        return more_bools(Counters {
+            bools: o.n,
+            ints: b.ints,
+        });
+    }
+    if word(work, c) == 11 {
+        let v = below(word(work, c + 1), 512);
+        return more_ints(work, met(work, v, n));
+    }
+    let a = survey(work, c, left, m, base, true, more_bools(n));
+    let q = a.part;
+    let k = Counters {
+        bools: q.n,
+        ints: a.ints,
+    };
+    let b = survey(work, c, left, m, base, false, k);
+    more_ints(work, name_condition(a, b))
+}
+
+// The integer expression at a place.
+pub fn survey_int(
+    work: &[i32],
+    at: usize,
+    left: usize,
+    m: usize,
+    base: usize,
+    n: Counters,
+) -> Behind
+    requires { do ⌜ (4608 ≤ (← ⟦work.len()⟧)) × ((at ≤ 4608) × ((base ≤ limit) × Low n)) ⌝ }
+    ensures { λ r. ⌜ IntSurveys (now (work .entry)) left (split-by m) at base n r ⌝ }
+{
+    if left == 0 {
+        return behind_of(at, base, n);
+    }
+    if !has_ifs(work) {
+        let s = skip_int(work, at, left, m, base);
+        return behind_of(s.at, s.base, n);
+    }
+    let under = left - 1;
+    let x = word(work, at + 1);
+    let one = within(at + 1);
+    let two = within(at + 2);
+    match word(work, at) {
+        21 => behind_of(two, base, met_int(work, below(x, 256), n)),
+        22 => survey_terms(work, two, under, m, x, base, n),
+        23 => {
+            if is_passed(work, at, n.ints) {
+                let s = skip_int(work, at, left, m, base);
+                return behind_of(s.at, s.base, n);
+            }
+            let d = skip(work, one, under, m, base);
+            let t = survey_int(work, d.at, under, m, d.base, n);
+            let f = survey_int(work, t.at, under, m, t.base, t.n);
+            let k = make_if(work, at, one, under, m, base, f.n);
+            behind_of(f.at, f.base, k)
+        }
+        _ => behind_of(two, base, n),
     }
 }

@@ -1,26 +1,29 @@
 -- The cells of Ifs in the work slice agree with a log: an If's cell has its number and bounds, or says that its branches are constant; where a place has
 -- none, an equal If may have one elsewhere (`complete`). Each step of the first walk keeps this.
 use mathlib.Core.Path.{_≡_, refl, sym, ap, _∙_, subst}
-use mathlib.Core.Bool.{Bool, true, false, cond}
+use mathlib.Core.Bool.{Bool, true, false, not, cond}
 use mathlib.Core.Option.{Option, none, some}
-use mathlib.Core.List.{List, [], _∷_}
+use mathlib.Core.List.{List, _∷_}
 use mathlib.Core.Logic.{_⊎_, inl, inr}
-use Prim.Native.Nat.{ℕ, suc, _+_, _≤_, _<_}
+use Prim.Native.Nat.{ℕ, _+_, _≤_, _<_}
 use native.Mathlib.Omega.{arith}
-use lib.IntN.{ℤ, pos, negsuc}
+use lib.IntN.{ℤ, pos}
 use lib.ListN.{length, set, length-set}
 use lib.Seq.{getD-set-same, getD-set-other}
 use lib.Dec.{eqb, ltb}
-use borrow.Author.Tests.{eq-eqb, eqb-true, eqb-false, ltb-true, ltb-false}
+use borrow.Author.Tests.{eqb-true, eqb-false, ltb-true, ltb-false}
+use Rattle.laws.specs.Bools.{never as no-bool}
+use Rattle.laws.specs.Ints.{is-zero}
 use Rattle.laws.specs.Same.{same-words, same-is, same-refl}
 use Rattle.laws.specs.Slices.{Has}
 use Rattle.syntax.specs.Syntax.{Domain, lower-bound, upper-bound, IntExpr, IConst, IVar, Linear, If, encode-int}
 use Rattle.syntax.specs.Unique.{int-unique, int-unique-words}
 use Rattle.clauses.specs.Log.{Log, known, next-int, get-if, made-ints, emitted-domains}
 use Rattle.clauses.specs.Emitted.{domain-at}
-use Rattle.clauses.specs.Since.{OnTop, over, here, top-domain}
-use Rattle.walks.specs.Item.{cells, cell, Seen, unseen, both-constant, numbered, seen-in}
-use Rattle.walks.specs.Meet.{set-cell, set-cells, number-word}
+use Rattle.clauses.specs.Since.{OnTop, top-domain}
+use Rattle.walks.specs.Item.{ifs-word, has-ifs, cells, cell, unseen, both-constant, numbered, seen-in}
+use Rattle.walks.specs.Distinct.{none-some, some-is, unseen-numbered, constant-numbered}
+use Rattle.walks.specs.Meet.{set-cells}
 
 -- ---- three cells set
 
@@ -66,20 +69,18 @@ cells-other w p x y z q h =
     ∙ getD-set-other a (cells + (p + 2)) (cells + q) y (pos 0) (λ e. off p q 2 (omega arith) (omega arith) h (sym e))
     ∙ getD-set-other w (cells + (p + 1)) (cells + q) x (pos 0) (λ e. off p q 1 (omega arith) (omega arith) h (sym e))
 
-no-false : {X : Type 0} → _≡_ {A = Bool} false true → X
-no-false e = absurd (let z : _≡_ {A = ℕ} 0 1 = cc in omega arith)
+-- ---- the word for Ifs lies behind the cells
 
-none-some : {A : Type 0} {x : A} → none ≡ some x → ⊥
-none-some e = absurd (let z : _≡_ {A = ℕ} 0 1 = cc in omega arith)
+pub word-kept : (w : List ℤ) (p : ℕ) (x : ℤ) → (ifs-word ≡ p → ⊥) → has-ifs (set w p x) ≡ has-ifs w
+unfolding has-ifs
+word-kept w p x h = ap (λ y. not (is-zero y)) (getD-set-other w p ifs-word x (pos 0) h)
 
-not-numbered : {X : Type 0} {v : ℕ} {b : Bool} → both-constant ≡ numbered v b → X
-not-numbered e = absurd (let z : _≡_ {A = ℕ} 0 1 = cc in omega arith)
-
-not-seen : {X : Type 0} {v : ℕ} {b : Bool} → unseen ≡ numbered v b → X
-not-seen e = absurd (let z : _≡_ {A = ℕ} 0 1 = cc in omega arith)
-
-some-is : {A : Type 0} {x y : A} → some x ≡ some y → x ≡ y
-some-is e = cc
+pub cells-word : (p : ℕ) (x y z : ℤ) (w : List ℤ) → p < 4608 → has-ifs (set-cells p x y z w) ≡ has-ifs w
+unfolding set-cells
+cells-word p x y z w h =
+    let a = set w (cells + (p + 1)) x in
+    let b = set a (cells + (p + 2)) y in
+    word-kept b (cells + (p + 3)) z (λ e. omega arith) ∙ word-kept a (cells + (p + 2)) y (λ e. omega arith) ∙ word-kept w (cells + (p + 1)) x (λ e. omega arith)
 
 ne-lt : (q p : ℕ) → (q ≡ p → ⊥) → p ≤ q → p < q
 ne-lt q p n l = omega arith
@@ -184,8 +185,8 @@ module _ (ds : List Domain) (F : List ℤ) (Plain : IntExpr → Type 0) (parted 
 
     key-unique : (q : ℕ) (e d : IntExpr) → Key q e → Key q d → e ≡ d
     key-unique q e d (whole t a) (whole u b) = int-unique F q e d (t .words) (u .words)
-    key-unique q e d (whole t a) (own k) = no-false (sym a ∙ P .parts q d k)
-    key-unique q e d (own k) (whole u b) = no-false (sym b ∙ P .parts q e k)
+    key-unique q e d (whole t a) (own k) = no-bool (sym a ∙ P .parts q d k)
+    key-unique q e d (own k) (whole u b) = no-bool (sym b ∙ P .parts q e k)
     key-unique q e d (own k) (own l) = some-is (sym k ∙ l)
 
     -- an If elsewhere has its cells elsewhere
@@ -311,14 +312,14 @@ module _ (ds : List Domain) (F : List ℤ) (Plain : IntExpr → Type 0) (parted 
             co q d k h true t =
                 let j : q ≡ p = eqb-true q p t in
                 let h' : both-constant ≡ numbered v b = sym (subst (λ x. seen-in (cell w' (x + 1)) ≡ both-constant) j h) ∙ num in
-                not-numbered h'
+                constant-numbered h'
             co q d k h false t = c .const q d k (sym (elsewhere q (key-stands q d k) (stands-of q d k) (eqb-false q p t)) ∙ h)
 
             fr : (q : ℕ) (d : IntExpr) → K q ≡ some d → seen-in (cell w' (q + 1)) ≡ unseen → (t : Bool) → eqb q p ≡ t → get-if d (known e v ∷ s) ≡ none
             fr q d k h true t =
                 let j : q ≡ p = eqb-true q p t in
                 let h' : unseen ≡ numbered v b = sym (subst (λ x. seen-in (cell w' (x + 1)) ≡ unseen) j h) ∙ num in
-                not-seen h'
+                unseen-numbered h'
             fr q d k h false t =
                 knows d (λ j. differs q d k (eqb-false q p t) j key) ∙ c .fresh q d k (sym (elsewhere q (P .under q d k) (P .stand q d k) (eqb-false q p t)) ∙ h)
               where
@@ -348,7 +349,7 @@ module _ (ds : List Domain) (F : List ℤ) (Plain : IntExpr → Type 0) (parted 
                 subst (λ x. Somewhere w' x u) (sym j) (subst (λ x. Somewhere w' e x) z
                 (record { place = p; stands = plain-stands l'; whole = plain-whole l'; shared = num ∙ ap (numbered v) (shares (plain-whole l')) }))
             sw d u l h false t =
-                let n : d ≡ e → ⊥ = λ j. no-false (sym t ∙ ap (λ x. same-words (encode-int x) (encode-int e)) j ∙ same-refl (encode-int e)) in
+                let n : d ≡ e → ⊥ = λ j. no-bool (sym t ∙ ap (λ x. same-words (encode-int x) (encode-int e)) j ∙ same-refl (encode-int e)) in
                 let x = c .complete d u l (sym (knows d n) ∙ h) in
                 so d u x n (eqb (x .place) p) refl
               where
@@ -361,5 +362,5 @@ module _ (ds : List Domain) (F : List ℤ) (Plain : IntExpr → Type 0) (parted 
                 let j : q ≡ p = eqb-true q p t in
                 let h' : numbered v b ≡ numbered u true = sym num ∙ subst (λ x. seen-in (cell w' (x + 1)) ≡ numbered u true) j h in
                 let z : b ≡ true = cc in
-                no-false (sym (keeps (subst (λ x. parted x ≡ true) j i)) ∙ z)
+                no-bool (sym (keeps (subst (λ x. parted x ≡ true) j i)) ∙ z)
             un q d u a i h false t = c .unshared q d u a i (sym (elsewhere q d a (eqb-false q p t)) ∙ h)

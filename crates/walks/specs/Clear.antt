@@ -1,13 +1,13 @@
 -- Before each pair of an AllDifferent the cells of its Ifs with split parts are cleared: each pair is split anew, so that such an If is not found again.
-use mathlib.Core.Path.{_≡_, refl, sym, ap, _∙_, subst}
-use mathlib.Core.Bool.{Bool, true, false, not, _||_, cond}
+use mathlib.Core.Path.{_≡_, refl, sym, ap, _∙_}
+use mathlib.Core.Bool.{Bool, true, false, not, cond}
 use mathlib.Core.Option.{Option}
 use mathlib.Core.List.{List, [], _∷_}
 use mathlib.Core.Logic.{inl, inr}
 use Prim.Native.Nat.{ℕ, _+_, _≤_, _<_}
 use native.Mathlib.Omega.{arith}
 use lib.IntN.{ℤ, pos}
-use lib.ListN.{length, getD, set, length-set}
+use lib.ListN.{length, getD, length-set}
 use lib.Seq.{getD-set-same, getD-set-other, take-set-le}
 use lib.Dec.{eqb}
 use borrow.Author.Tests.{eqb-true, eqb-false}
@@ -15,9 +15,10 @@ use Rattle.laws.specs.Bools.{never}
 use Rattle.syntax.specs.Syntax.{Domain, IntExpr}
 use Rattle.walk.specs.Decode.{read-part}
 use Rattle.walks.specs.Tree.{Place}
-use Rattle.walks.specs.Item.{cells, cell, unseen, numbered, seen-in}
+use Rattle.walks.specs.Item.{has-ifs, cells, cell, unseen, numbered, seen-in}
+use Rattle.walks.specs.Distinct.{unseen-numbered}
 use Rattle.walks.specs.Meet.{set-cell}
-use Rattle.walks.specs.Cells.{Off, Stands, Places, off-apart}
+use Rattle.walks.specs.Cells.{word-kept, Off, Stands, Places, off-apart}
 use Rattle.walks.specs.KeyAt.{is-parted, parted-here, parted-in}
 use Rattle.walks.specs.Next.{Reset, SameMaps}
 
@@ -54,6 +55,11 @@ unfolding clear-places clear-place
 clear-below none w q h = refl
 clear-below (one {p} {ps} l ls) w q h = clear-below ls (clear-place p w) q h ∙ either (λ (x : List ℤ). getD x q (pos 0) ≡ getD w q (pos 0)) (p .whole) w _ refl (getD-set-other w (cells + (p .at + 1)) q (pos 0) (pos 0) (λ e. omega arith))
 
+clear-word : {ps : List Place} → Each (λ p. p .at < 4608) ps → (w : List ℤ) → has-ifs (clear-places ps w) ≡ has-ifs w
+unfolding clear-places clear-place
+clear-word none w = refl
+clear-word (one {p} {ps} l ls) w = clear-word ls (clear-place p w) ∙ either (λ (x : List ℤ). has-ifs x ≡ has-ifs w) (p .whole) w _ refl (word-kept w (cells + (p .at + 1)) (pos 0) (λ e. omega arith))
+
 -- ---- one place
 
 -- among the folded words, and the slice is long enough
@@ -85,9 +91,6 @@ stays-or p w x r n X a b = go (p .whole) refl (eqb x (p .at + 1)) refl
     go false h true e = a (ap (λ y. seen-in (cell (clear-place p w) y)) (eqb-true x (p .at + 1) e) ∙ cleared p w h r n)
     go false h false e = b (away p w x (eqb-false x (p .at + 1) e))
 
-not-seen : {X : Type 0} {v : ℕ} {b : Bool} → unseen ≡ numbered v b → X
-not-seen e = absurd (let z : _≡_ {A = ℕ} 0 1 = cc in omega arith)
-
 -- ---- all of them
 
 long-more : (p : Place) (w : List ℤ) → Long w → Long (clear-place p w)
@@ -104,7 +107,7 @@ unfolding clear-places
 numbered-back w n none x v b h = h
 numbered-back w n (one {p} {ps} r rs) x v b h =
     let k = numbered-back (clear-place p w) (long-more p w n) rs x v b h in
-    stays-or p w x r n _ (λ u. not-seen (sym u ∙ k)) (λ e. ap seen-in (sym e) ∙ k)
+    stays-or p w x r n _ (λ u. unseen-numbered (sym u ∙ k)) (λ e. ap seen-in (sym e) ∙ k)
 
 unseen-stays : {ps : List Place} (w : List ℤ) → Long w → Each Low ps → (x : ℕ) → seen-in (cell w x) ≡ unseen → seen-in (cell (clear-places ps w) x) ≡ unseen
 unfolding clear-places
@@ -136,10 +139,7 @@ module _ (ds : List Domain) (F : List ℤ) (Plain : IntExpr → Type 0) (parted 
   stay-one p l w q e t h k a b = go (p .whole) refl
     where
       differ : p .whole ≡ false → q ≡ p .at → ⊥
-      differ i j = no-bool (sym h ∙ ap parted j ∙ l .agrees ∙ ap not i)
-        where
-          no-bool : _≡_ {A = Bool} false true → ⊥
-          no-bool z = absurd (let y : _≡_ {A = ℕ} 0 1 = cc in omega arith)
+      differ i j = never (sym h ∙ ap parted j ∙ l .agrees ∙ ap not i)
 
       off-is : Off (p .at) (q + k) → q + k ≡ p .at + 1 → ⊥
       off-is (inl m) z = omega arith
@@ -167,6 +167,7 @@ module _ (ds : List Domain) (F : List ℤ) (Plain : IntExpr → Type 0) (parted 
   clear-maps {ps} ls w = record {
     low = λ q l. clear-below (each-to (λ p x. x .stands .low) ls) w q l;
     words = clear-words ps w;
+    word = clear-word (each-to lies-low ls) w;
     size = clear-size ps w;
   }
 

@@ -25,27 +25,28 @@ use Rattle.walk.specs.Grow.{grow-added}
 use Rattle.walks.specs.Tree.{IntTree, never, splits-int, resolve-int, run-int}
 use Rattle.walks.specs.Form.{IntForm, const, ivar, sum, choice, int-form}
 use Rattle.walks.specs.Resolve.{column-runs, never-int}
-use Rattle.walks.specs.Item.{counters, cells, cell, unseen, numbered, seen-in, form-int-item}
+use Rattle.walks.specs.Item.{has-ifs, cells, cell, unseen, numbered, seen-in, form-int-item}
+use Rattle.walks.specs.Distinct.{unseen-numbered}
 use Rattle.walks.specs.Placed.{PlacedInt}
 use Rattle.walks.specs.Meet.{State, counters-of, with-work, set-cell, range-record, range-of, is-full, new-int, form-meet-int, meet-int}
-use Rattle.walks.specs.Implements.{ProperInt, at}
+use Rattle.walks.specs.Implements.{ProperInt}
 use Rattle.walks.specs.Ranges.{range-behind}
 use Rattle.walks.specs.Plain.{PlainInt}
 use Rattle.walks.specs.Apart.{int-apart}
 use Rattle.walks.specs.Constant.{Named}
-use Rattle.walks.specs.Cells.{IsIf, Stands, Key, Is, Cells, Places, key-stands, stands-of}
+use Rattle.walks.specs.Cells.{word-kept, IsIf, Stands, Key, Is, Cells, Places, key-stands, stands-of}
 use Rattle.walks.specs.Good.{Good, blanks, blanks-other, no-int, good-less, good-new}
 use Rattle.walks.specs.Leaves.{LeafyInt, words-of, grows-words, words-int}
 use Rattle.walks.specs.Legal.{LegalInt}
 use Rattle.walks.specs.ProperTrees.{SoundInt, sound-int}
-use Rattle.walks.specs.Visit.{Later, later-then, Outcome, full, good, good-ready, not-full}
+use Rattle.walks.specs.Visit.{Later, later-then, same-later, Outcome, full, good, good-counters, good-ready, not-full}
 use Rattle.walks.specs.Walked.{fixed, names, FactsInt, visit-int}
 use Rattle.walks.specs.Rules.{good-added}
 use Rattle.walks.specs.Keys.{keys-int, Every}
 use Rattle.walks.specs.KeyPlaces.{AgreesWith}
 use Rattle.walks.specs.TreeFacts.{column-facts}
 use Rattle.walks.specs.Near.{WithinInt, int-form-near, column-inside}
-use Rattle.walks.specs.Next.{Ahead, int-form-ahead, unseen-numbered}
+use Rattle.walks.specs.Next.{Ahead, int-form-ahead}
 
 -- ---- the walk; ds: the declared domains, rec: where the records begin, cap: the longest answer
 
@@ -106,8 +107,8 @@ module _ (ds : List Domain) (F : List ℤ) (Plain : IntExpr → Type 0) (parted 
           let i = c .number q e v b k h in
           record {
             found = i .found;
-            low = later q d t (λ z. unseen-numbered (sym z ∙ h)) 2 (omega arith) (omega arith) ∙ i .low;
-            high = later q d t (λ z. unseen-numbered (sym z ∙ h)) 3 (omega arith) (omega arith) ∙ i .high;
+            low = later .stay q d t (λ z. unseen-numbered (sym z ∙ h)) 2 (omega arith) (omega arith) ∙ i .low;
+            high = later .stay q d t (λ z. unseen-numbered (sym z ∙ h)) 3 (omega arith) (omega arith) ∙ i .high;
           }
 
 -- ---- the column's own cell; e stands at p
@@ -130,8 +131,14 @@ module _ (F : List ℤ) (e : IntExpr) (p : ℕ) (words : Has F p (encode-int e))
   abbrev Clear : List ℤ → Type 0
   Clear w = (q : ℕ) (d : IntExpr) → IsIf d → Has F q (encode-int d) → 512 ≤ q → q < 4608 → p ≤ q + 3 → q < p → seen-in (cell w (q + 1)) ≡ unseen
 
-  own-later : (ds : List Domain) (parted : ℕ → Bool) (K : ℕ → Option IntExpr) (fixed : IntExpr → Bool) (w : List ℤ) (x : ℤ) → Clear w → Later ds F PlainInt parted K fixed w (set-cell p x w)
-  own-later ds parted K fixed w x a q d t n k l m = own-cell w x (q + k) (λ z. n (a q d (t .is-if) (t .words) (t .low) (t .high) (omega arith) (omega arith)))
+  own-word : (w : List ℤ) (x : ℤ) → p < 4608 → has-ifs (set-cell p x w) ≡ has-ifs w
+  own-word w x h = word-kept w (cells + p) x (λ z. omega arith)
+
+  own-later : (ds : List Domain) (parted : ℕ → Bool) (K : ℕ → Option IntExpr) (fixed : IntExpr → Bool) (w : List ℤ) (x : ℤ) → p < 4608 → Clear w → Later ds F PlainInt parted K fixed w (set-cell p x w)
+  own-later ds parted K fixed w x h a = record {
+    stay = λ q d t n k l m. own-cell w x (q + k) (λ z. n (a q d (t .is-if) (t .words) (t .low) (t .high) (omega arith) (omega arith)));
+    word = own-word w x h;
+  }
 
   -- what stands behind it
   own-ahead : (b : ℕ) (w : List ℤ) (x : ℤ) → Ahead F b w → Ahead F b (set-cell p x w)
@@ -140,14 +147,14 @@ module _ (F : List ℤ) (e : IntExpr) (p : ℕ) (words : Has F p (encode-int e))
 -- ---- the state of a log
 
 -- as in Rules
-module _ (ds : List Domain) (F : List ℤ) (parted : ℕ → Bool) (K : ℕ → Option IntExpr) (rec cap : ℕ) (before : List ℤ) (P : Places ds F PlainInt parted K (fixed ds)) (low : cap < limit) where
+module _ (ds : List Domain) (F : List ℤ) (parted : ℕ → Bool) (K : ℕ → Option IntExpr) (rec cap : ℕ) (with-ifs : Bool) (before : List ℤ) (P : Places ds F PlainInt parted K (fixed ds)) (low : cap < limit) where
   abbrev GoodAt : ℕ → State → Log → Type 0
-  GoodAt = Good ds F PlainInt parted K (fixed ds) rec cap before (Named ds)
+  GoodAt = Good ds F PlainInt parted K (fixed ds) rec cap with-ifs before (Named ds)
 
   abbrev OutcomeAt : ℕ → ℕ → (List ℤ → Type 0) → State → State → Log → Type 0
-  OutcomeAt = Outcome ds F PlainInt parted K (fixed ds) rec cap before (Named ds)
+  OutcomeAt = Outcome ds F PlainInt parted K (fixed ds) rec cap with-ifs before (Named ds)
 
-  module _ (e : IntExpr) (p : ℕ) (words : Has F p (encode-int e)) (from : 512 ≤ p) where
+  module _ (e : IntExpr) (p : ℕ) (words : Has F p (encode-int e)) (from : 512 ≤ p) (to : p < 4608) where
     cell-good : (x : ℤ) (n : ℕ) (st : State) (s : Log) → Clear F e p words (st .work) → GoodAt n st s → GoodAt n (with-work (set-cell p x (st .work)) st) s
     unfolding bool-at int-entry read-part
     cell-good x n st s a g =
@@ -163,8 +170,9 @@ module _ (ds : List Domain) (F : List ℤ) (parted : ℕ → Bool) (K : ℕ → 
           low-int = g .low-int;
           size = rw length-set (g .size);
           words = take-set-le 4608 w (cells + p) x (omega arith) ∙ g .words;
+          word = own-word F e p words w x to ∙ g .word;
           records = g .records;
-          cells = cells-later ds F PlainInt parted K (fixed ds) P w (set-cell p x w) (λ q d t. own-same F e p words w x q d (t .is-if) (t .words)) (own-later F e p words ds parted K (fixed ds) w x a) s (g .cells);
+          cells = cells-later ds F PlainInt parted K (fixed ds) P w (set-cell p x w) (λ q d t. own-same F e p words w x q d (t .is-if) (t .words)) (own-later F e p words ds parted K (fixed ds) w x to a) s (g .cells);
           below = g .below;
           opens = g .opens;
           named = g .named;
@@ -178,8 +186,8 @@ module _ (ds : List Domain) (F : List ℤ) (parted : ℕ → Bool) (K : ℕ → 
     number-good x n st a g =
         let d = domain-of-sum ds (x .1) (x .0) in
         let w = with-work (set-cell p (pos (st .ints + 1)) (st .work)) st in
-        let h = good-new ds F PlainInt parted K (fixed ds) rec cap before (Named ds) (names ds) P (column (x .0) d) (λ v. refl) n w (x .1) (cell-good (pos (st .ints + 1)) (suc n) st (x .1) a g) in
-        good-added ds F parted K rec cap before P low (equals (x .0) (next-int (x .1)) ∷ []) n (new-int ds rec cap (range-record d) w) (int (column (x .0) d) ∷ x .1) h
+        let h = good-new ds F PlainInt parted K (fixed ds) rec cap with-ifs before (Named ds) (names ds) P (column (x .0) d) (λ v. refl) n w (x .1) (cell-good (pos (st .ints + 1)) (suc n) st (x .1) a g) in
+        good-added ds F parted K rec cap with-ifs before P low (equals (x .0) (next-int (x .1)) ∷ []) n (new-int ds rec cap (range-record d) w) (int (column (x .0) d) ∷ x .1) h
 
     column-words : (x : IntOut) → words-of (x .1) ≤ words-of (new-column ds x .log)
     unfolding new-column
@@ -188,11 +196,8 @@ module _ (ds : List Domain) (F : List ℤ) (parted : ℕ → Bool) (K : ℕ → 
         let y = int (column (x .0) d) ∷ x .1 in
         omega (arith, grows-words (grow-added (equals (x .0) (next-int (x .1)) ∷ []) y), words-int (column (x .0) d) (x .1))
 
-    both : {a b c d : ℕ} → a ≡ b → c ≡ d → counters a c ≡ counters b d
-    both h k = cc
-
     -- a tree that stands from p to b
-    module _ (t : IntTree) (proper : ProperInt t) (leafy : LeafyInt t) (facts : FactsInt ds F parted K rec cap before P low t) (b : ℕ) (inside : WithinInt p b (int-form t)) where
+    module _ (t : IntTree) (proper : ProperInt t) (leafy : LeafyInt t) (facts : FactsInt ds F parted K rec cap with-ifs before P low t) (b : ℕ) (inside : WithinInt p b (int-form t)) where
       abbrev visited : State → State
       visited st = meet-int ds rec cap t st
 
@@ -204,36 +209,36 @@ module _ (ds : List Domain) (F : List ℤ) (parted : ℕ → Bool) (K : ℕ → 
       range-good : (n m : ℕ) (st : State) (s : Log) → GoodAt n st s → GoodAt m (visited st) (run-int ds t s .1) → PlacedInt (visited st .work) ds t s
           → range-of (form-int-item ds (int-form t)) (visited st .work) (counters-of st) ≡ domain-of-sum ds (run-int ds t s .1) (run-int ds t s .0)
       range-good n m st s g h q =
-          let r = good-ready ds F PlainInt parted K (fixed ds) rec cap before (Named ds) (names ds) P low m (visited st) (run-int ds t s .1) h in
-          ap (range-of (form-int-item ds (int-form t)) (visited st .work)) (both (g .bools) (g .ints)) ∙ range-behind (visited st .work) ds t proper s r q
+          let r = good-ready ds F PlainInt parted K (fixed ds) rec cap with-ifs before (Named ds) (names ds) P low m (visited st) (run-int ds t s .1) h in
+          ap (range-of (form-int-item ds (int-form t)) (visited st .work)) (good-counters ds F PlainInt parted K (fixed ds) rec cap with-ifs before (Named ds) n st s (visited st .work) g (h .word)) ∙ range-behind (visited st .work) ds t proper s r q
 
       sum-visit : (k m : ℕ) (st : State) (s : Log) → Ahead F p (st .work) → GoodAt (suc m) st s → st .used ≤ words-of s + k
           → OutcomeAt k m (λ w. PlacedInt w ds t s) st (meet-sum ds rec cap p (int-form t) st) (new-column ds (run-int ds t s) .log)
       unfolding meet-sum
-      sum-visit k m st s a g u = go (visit-int ds F parted K rec cap before P low t proper leafy facts k (suc m) st s g u)
+      sum-visit k m st s a g u = go (visit-int ds F parted K rec cap with-ifs before P low t proper leafy facts k (suc m) st s g u)
         where
           go : OutcomeAt k (suc m) (λ w. PlacedInt w ds t s) st (visited st) (run-int ds t s .1) → OutcomeAt k m (λ w. PlacedInt w ds t s) st (meet-sum ds rec cap p (int-form t) st) (new-column ds (run-int ds t s) .log)
           go (full x y) =
               let f = lt-ltb cap (visited st .used) x in
               rw f (full x (omega (arith, y, column-words (run-int ds t s))))
           go (good h v r q) =
-              let f = not-full ds F PlainInt parted K (fixed ds) rec cap before (Named ds) (names ds) P low (visited st) (h .used) in
-              let z = range-good (suc m) (suc m) st s g h (q (visited st .work) (λ q e t n k l m. refl)) in
+              let f = not-full ds F PlainInt parted K (fixed ds) rec cap with-ifs before (Named ds) (names ds) P low (visited st) (h .used) in
+              let z = range-good (suc m) (suc m) st s g h (q (visited st .work) (same-later ds F PlainInt parted K (fixed ds) (visited st .work))) in
               let c = clear-behind st a in
               let w = set-cell p (pos (visited st .ints + 1)) (visited st .work) in
-              let o = own-later F e p words ds parted K (fixed ds) (visited st .work) (pos (visited st .ints + 1)) c in
+              let o = own-later F e p words ds parted K (fixed ds) (visited st .work) (pos (visited st .ints + 1)) to c in
               rw (f, z) (unfold number-column new-int in
               (good (number-good (run-int ds t s) m (visited st) c h) (omega (arith, v, column-words (run-int ds t s)))
               (later-then ds F PlainInt parted K (fixed ds) (st .work) (visited st .work) w r o) (λ w' l. q w' (later-then ds F PlainInt parted K (fixed ds) (visited st .work) w w' o l))))
 
-      number-kept : (d : Domain) (a : State) → 16384 ≤ length (a .work) → p < 4608 → cell (number-column ds rec cap p d a .work) p ≡ pos (a .ints + 1)
+      number-kept : (d : Domain) (a : State) → 16384 ≤ length (a .work) → cell (number-column ds rec cap p d a .work) p ≡ pos (a .ints + 1)
       unfolding number-column new-int cell
-      number-kept d a h l = getD-set-same (a .work) (cells + p) (pos (a .ints + 1)) (pos 0) (omega arith)
+      number-kept d a h = getD-set-same (a .work) (cells + p) (pos (a .ints + 1)) (pos 0) (omega arith)
 
-      sum-kept : (k m : ℕ) (st : State) (s : Log) → p < 4608 → GoodAt (suc m) st s → st .used ≤ words-of s + k → is-full ds rec cap (meet-sum ds rec cap p (int-form t) st) ≡ false
+      sum-kept : (k m : ℕ) (st : State) (s : Log) → GoodAt (suc m) st s → st .used ≤ words-of s + k → is-full ds rec cap (meet-sum ds rec cap p (int-form t) st) ≡ false
           → cell (meet-sum ds rec cap p (int-form t) st .work) p ≡ pos (next-int (run-int ds t s .1) + 1)
       unfolding meet-sum
-      sum-kept k m st s l g u i = go (visit-int ds F parted K rec cap before P low t proper leafy facts k (suc m) st s g u)
+      sum-kept k m st s g u i = go (visit-int ds F parted K rec cap with-ifs before P low t proper leafy facts k (suc m) st s g u)
         where
           go : OutcomeAt k (suc m) (λ w. PlacedInt w ds t s) st (visited st) (run-int ds t s .1) → cell (meet-sum ds rec cap p (int-form t) st .work) p ≡ pos (next-int (run-int ds t s .1) + 1)
           go (full x y) =
@@ -241,8 +246,8 @@ module _ (ds : List Domain) (F : List ℤ) (parted : ℕ → Bool) (K : ℕ → 
               let j : is-full ds rec cap (visited st) ≡ false = rw f at i in
               no-bool (sym j ∙ f)
           go (good h v r q) =
-              let f = not-full ds F PlainInt parted K (fixed ds) rec cap before (Named ds) (names ds) P low (visited st) (h .used) in
-              rw f (number-kept _ (visited st) (h .size) l ∙ ap (λ (x : ℕ). pos (x + 1)) (h .ints))
+              let f = not-full ds F PlainInt parted K (fixed ds) rec cap with-ifs before (Named ds) (names ds) P low (visited st) (h .used) in
+              rw f (number-kept _ (visited st) (h .size) ∙ ap (λ (x : ℕ). pos (x + 1)) (h .ints))
 
       either-ahead : (c : Bool) (x y : State) → Ahead F b (x .work) → Ahead F b (y .work) → Ahead F b (cond c x y .work)
       either-ahead true x y i j = i
@@ -261,10 +266,16 @@ module _ (ds : List Domain) (F : List ℤ) (parted : ℕ → Bool) (K : ℕ → 
 
   module _ (l p : ℕ) (from : 512 ≤ p) where
     abbrev pub StandsHere : IntExpr → Type 0
-    StandsHere e = LegalInt e l × Has F p (encode-int e) × (p + length (encode-int e) ≤ 4608) × Every (AgreesWith parted) (keys-int e never p 0)
+    StandsHere e = LegalInt e l × Has F p (encode-int e) × (p + length (encode-int e) ≤ 4608) × Every (AgreesWith parted with-ifs) (keys-int e never p 0)
 
-    column-know : (e : IntExpr) → StandsHere e → FactsInt ds F parted K rec cap before P low (column-tree e p)
-    column-know e h = column-facts ds F parted rec cap before low K e l p 0 (h .0) (h .1) from (h .2) (h .3) P
+    high : (e : IntExpr) → StandsHere e → p < 4608
+    high e h = below (length (encode-int e)) (int-long e) (h .2)
+      where
+        below : (n : ℕ) → 2 ≤ n → p + n ≤ 4608 → p < 4608
+        below n i j = omega arith
+
+    column-know : (e : IntExpr) → StandsHere e → FactsInt ds F parted K rec cap with-ifs before P low (column-tree e p)
+    column-know e h = column-facts ds F parted rec cap with-ifs before low K e l p 0 (h .0) (h .1) from (h .2) (h .3) P
 
     column-inner : (e : IntExpr) → LegalInt e l → WithinInt p (p + length (encode-int e)) (int-form (column-tree e p))
     column-inner e h = column-inside e l never p 0 h (none-split (splits-int e never) (never-int e))
@@ -273,21 +284,18 @@ module _ (ds : List Domain) (F : List ℤ) (parted : ℕ → Bool) (K : ℕ → 
         → OutcomeAt k m (λ w. PlacedInt w ds (column-tree e p) s) st (meet-sum ds rec cap p (int-form (column-tree e p)) st) (new-column ds (normalize-int-expr ds e s) .log)
     sum-column e h k m st s a g u =
         let q = column-sound e l p (h .0) in
-        rw (column-runs ds e p 0) (sum-visit e p (h .1) from (column-tree e p) (q .0) (q .1) (column-know e h) (p + length (encode-int e)) (column-inner e (h .0)) k m st s a g u)
+        rw (column-runs ds e p 0) (sum-visit e p (h .1) from (high e h) (column-tree e p) (q .0) (q .1) (column-know e h) (p + length (encode-int e)) (column-inner e (h .0)) k m st s a g u)
 
     sum-column-ahead : (e : IntExpr) → StandsHere e → (st : State) → let b = p + length (encode-int e) in Ahead F b (st .work) → Ahead F b (meet-sum ds rec cap p (int-form (column-tree e p)) st .work)
     sum-column-ahead e h st a =
         let q = column-sound e l p (h .0) in
-        sum-ahead e p (h .1) from (column-tree e p) (q .0) (q .1) (column-know e h) (p + length (encode-int e)) (column-inner e (h .0)) st a
-
-    high : (n : ℕ) → 2 ≤ n → p + n ≤ 4608 → p < 4608
-    high n h k = omega arith
+        sum-ahead e p (h .1) from (high e h) (column-tree e p) (q .0) (q .1) (column-know e h) (p + length (encode-int e)) (column-inner e (h .0)) st a
 
     sum-column-kept : (e : IntExpr) → StandsHere e → (k m : ℕ) (st : State) (s : Log) → GoodAt (suc m) st s → st .used ≤ words-of s + k → is-full ds rec cap (meet-sum ds rec cap p (int-form (column-tree e p)) st) ≡ false
         → cell (meet-sum ds rec cap p (int-form (column-tree e p)) st .work) p ≡ pos (next-int (normalize-int-expr ds e s .1) + 1)
     sum-column-kept e h k m st s g u f =
         let q = column-sound e l p (h .0) in
-        rw (column-runs ds e p 0) (sum-kept e p (h .1) from (column-tree e p) (q .0) (q .1) (column-know e h) (p + length (encode-int e)) (column-inner e (h .0)) k m st s (high (length (encode-int e)) (int-long e) (h .2)) g u f)
+        rw (column-runs ds e p 0) (sum-kept e p (h .1) from (high e h) (column-tree e p) (q .0) (q .1) (column-know e h) (p + length (encode-int e)) (column-inner e (h .0)) k m st s g u f)
 
     pub column-visit : (e : IntExpr) → StandsHere e → (k m : ℕ) (st : State) (s : Log) → Ahead F p (st .work) → GoodAt (suc m) st s → st .used ≤ words-of s + k
         → OutcomeAt k m (λ w. PlacedInt w ds (resolve-int e never p 0) s) st (meet-column ds rec cap p (int-form (resolve-int e never p 0)) st) (equivalent-int-var ds e s .log)
@@ -296,7 +304,7 @@ module _ (ds : List Domain) (F : List ℤ) (parted : ℕ → Bool) (K : ℕ → 
     column-visit (IVar v) h k m st s a g u =
         let q = column-sound (IVar v) l p (h .0) in
         unfold run-int normalize-int-var old-column in
-        visit-int ds F parted K rec cap before P low (column-tree (IVar v) p) (q .0) (q .1) (column-know (IVar v) h) k m st s (good-less ds F PlainInt parted K (fixed ds) rec cap before (Named ds) (suc m) m st s (omega arith) g) u
+        visit-int ds F parted K rec cap with-ifs before P low (column-tree (IVar v) p) (q .0) (q .1) (column-know (IVar v) h) k m st s (good-less ds F PlainInt parted K (fixed ds) rec cap with-ifs before (Named ds) (suc m) m st s (omega arith) g) u
     column-visit (Linear ts) h k m st s a g u = sum-column (Linear ts) h k m st s a g u
     column-visit (If i c t f) h k m st s a g u = sum-column (If i c t f) h k m st s a g u
 

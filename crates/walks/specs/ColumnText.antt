@@ -2,14 +2,14 @@
 -- sum; they are those of the clauses that the log has more (`column-written`). w: a work slice with the final maps and numbers by place.
 use mathlib.Core.Path.{_≡_, refl, ap, _∙_}
 use mathlib.Core.List.{List, [], _∷_, _++_}
-use Prim.Native.Nat.{ℕ, suc, _+_, _-_, _≤_}
+use Prim.Native.Nat.{ℕ, _+_, _-_}
 use native.Mathlib.Omega.{arith}
 use lib.IntN.{ℤ, pos}
 use Rattle.syntax.specs.Syntax.{Domain, IntExpr, IConst, IVar, Linear, If}
 use Rattle.clauses.specs.Log.{column, int, added, Log, next-int, clauses-of}
 use Rattle.clauses.specs.Normalize.{equals, domain-of-sum, normalize-int-var, normalize-int-expr}
 use Rattle.tables.specs.Tables.{new-column, old-column, equivalent-int-var}
-use Rattle.walk.specs.Item.{limit, bump, nat}
+use Rattle.walk.specs.Item.{bump, nat}
 use Rattle.walk.specs.declared.Counters.{Counters}
 use Rattle.walk.specs.Grow.{grow-added}
 use Rattle.walks.specs.Tree.{IntTree, never, resolve-int, run-int}
@@ -17,7 +17,7 @@ use Rattle.walks.specs.Form.{IntForm, const, ivar, sum, choice, int-form
 use Rattle.walks.specs.Resolve.{column-runs}
 use Rattle.walks.specs.Item.{more-ints, cell, IntItem, equal-item, block-words, block-lines, form-int-item, int-item}
 use Rattle.walks.specs.Placed.{PlacedInt}
-use Rattle.walks.specs.Implements.{ProperInt, at, counters-eq, Ready, ready-back, Registers, registers-then, registers-front, block-adds, equal-good, int-good}
+use Rattle.walks.specs.Implements.{ProperInt, at, int-more, Ready, ready-back, Registers, registers-then, registers-front, block-adds, equal-good, int-good}
 use Rattle.walks.specs.Grow.{grow-int}
 use Rattle.walks.specs.Legal.{LegalInt}
 use Rattle.walks.specs.Column.{IsSum, column-sound}
@@ -29,13 +29,13 @@ column-number w p = nat (cell w p) - 1
 module _ (ds : List Domain) (p : ℕ) where
   -- behind the sum, its integer's clause
   abbrev sum-end : IntItem → List ℤ → Counters → Counters
-  sum-end i w n = more-ints 1 (i .behind w n)
+  sum-end i w n = more-ints w 1 (i .behind w n)
 
   abbrev sum-words : IntItem → List ℤ → Counters → List ℤ
-  sum-words i w n = i .adds w n ++ block-words (equal-item (i .total w n) (column-number w p)) w (more-ints 1 (i .behind w n))
+  sum-words i w n = i .adds w n ++ block-words (equal-item (i .total w n) (column-number w p)) w (more-ints w 1 (i .behind w n))
 
   abbrev sum-lines : IntItem → List ℤ → Counters → ℕ
-  sum-lines i w n = bump (i .added w n) (block-lines (equal-item (i .total w n) (column-number w p)) w (more-ints 1 (i .behind w n)))
+  sum-lines i w n = bump (i .added w n) (block-lines (equal-item (i .total w n) (column-number w p)) w (more-ints w 1 (i .behind w n)))
 
   unfoldable pub column-end : IntForm → List ℤ → Counters → Counters
   column-end (const c) w n = sum-end (form-int-item ds (const c)) w n
@@ -56,14 +56,14 @@ module _ (ds : List Domain) (p : ℕ) where
   column-lines (choice q o c d t f) w n = sum-lines (form-int-item ds (choice q o c d t f)) w n
 
   pub record ColumnWrites (e : IntForm) (w : List ℤ) (s t : Log) : Type 0 where
-    pub adds : Registers (column-text e w (at s)) (column-lines e w (at s)) s t
-    pub behind : column-end e w (at s) ≡ at t
+    pub adds : Registers (column-text e w (at w s)) (column-lines e w (at w s)) s t
+    pub behind : column-end e w (at w s) ≡ at w t
 
   -- ---- any tree
 
   record SumWrites (i : IntItem) (w : List ℤ) (s t : Log) : Type 0 where
-    pub adds : Registers (sum-words i w (at s)) (sum-lines i w (at s)) s t
-    pub behind : sum-end i w (at s) ≡ at t
+    pub adds : Registers (sum-words i w (at w s)) (sum-lines i w (at w s)) s t
+    pub behind : sum-end i w (at w s) ≡ at w t
 
   kept-number : (w : List ℤ) (k : ℕ) → cell w p ≡ pos (k + 1) → column-number w p ≡ k
   unfolding column-number nat
@@ -80,16 +80,13 @@ module _ (ds : List Domain) (p : ℕ) where
       let u : Log = added (equals (x .0) v ∷ []) ∷ z in
       let rz : Ready w z = ready-back (grow-added (equals (x .0) v ∷ []) z) r in
       let g = int-good w ds t q .from s (ready-back (grow-int m (x .1) (λ k. refl)) rz) h in
-      let b : more-ints 1 (int-item ds t .behind w (at s)) ≡ at z = ap (more-ints 1) (g .behind) ∙ counters-eq _ _ _ _ refl (one-more v (rz .ints)) in
+      let b : more-ints w 1 (int-item ds t .behind w (at w s)) ≡ at w z = ap (more-ints w 1) (g .behind) ∙ int-more w _ v (rz .ints) in
       let k = equal-good w (x .0) v .from z rz tt in
       let j = block-adds w {t = u} k refl in
       record {
         adds = rw (g .total, kept-number w v c, b) (registers-then (g .adds) (registers-front refl j));
         behind = b;
       }
-    where
-      one-more : (v : ℕ) → suc v ≤ limit → bump v 1 ≡ suc v
-      one-more v h = omega arith
 
   -- ---- a column at p, from the log s
 

@@ -12,7 +12,7 @@ use Rattle.walk.specs.Decode.{word, past, below as index, constant-node}
 use Rattle.walk.specs.declared.Node.{Node}
 use Rattle.walk.specs.declared.Node.the-variants.{Var as VarAt, Cmp as CmpAt, Not as NotAt, Join, Cross}
 use Rattle.walks.specs.Tree.{Splitting, never, below, here, inner}
-use Rattle.walks.specs.Form.{Form, var, num, cmp, disj, cross, tied, Forms, nil, cons, pair, append, joined, crossed, sides-tied, IntForm, const, ivar, sum, choice, TermForms, none as no-terms, term}
+use Rattle.walks.specs.Form.{Form, var, num, cmp, disj, cross, tied, Forms, nil, cons, append, joined, crossed, sides-tied, IntForm, const, ivar, sum, choice, TermForms, none as no-terms, term}
 
 -- ---- nodes
 

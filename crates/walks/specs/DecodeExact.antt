@@ -1,7 +1,6 @@
 -- Where the words of a legal expression stand, the decoder reads its tree's form, its extras, its end and the splitting's next number.
 use mathlib.Core.Path.{_≡_, refl, ap, _∙_, subst}
 use mathlib.Core.Bool.{Bool, true, false, not}
-use mathlib.Core.Option.{none, some}
 use mathlib.Core.List.{List, [], _∷_, _++_}
 use Prim.Native.Nat.{ℕ, zero, suc, _+_, _-_, _≤_, _<_}
 use native.Mathlib.Omega.{arith}
@@ -14,7 +13,7 @@ use Rattle.syntax.specs.Syntax.{IfIsRead, CmpOp, Eq, Ne, Le, Lt, Ge, Gt, op-at,
 use Rattle.walk.specs.Item.{limit, bump, is-none, nat}
 use Rattle.walk.specs.Decode.{word, past}
 use Rattle.walks.specs.Tree.{Place, Tree, Trees, nil as no-trees, cons as more-trees, own-var, Splitting, never, below, here, inner, own-splits, splits, splits-members, splits-int, splits-terms, split-of, split-int, crossed-at as crossed-trees-at, resolve, resolves, resolve-int, resolve-terms, tie, sides-tied as trees-tied, append as append-trees, ties, ties-members, ties-int, ties-terms}
-use Rattle.walks.specs.Form.{Form, cmp, Forms, nil, cons, pair, append, joined, sides-tied, IntForm, choice, TermForms, form, forms, int-form, term-forms, form-joined, forms-append}
+use Rattle.walks.specs.Form.{Form, cmp, Forms, nil, cons, pair, append, sides-tied, IntForm, choice, TermForms, form, forms, int-form, term-forms, form-joined, forms-append}
 use Rattle.walks.specs.Resolve.{no-more, rule-trees, pair-trees, never-int}
 use Rattle.walks.specs.Legal.{LegalInt, LegalTerms, Legal, LegalMembers, LegalRule, true-rule, legal-rule}
 use Rattle.walks.specs.Decode.{own-at, node-of, Read, Reads, IntRead, TermReads, Reader, IntReader, many, cross-step, step, many-terms, if-step, int-step, decode, decode-int, Ties, many-ties, tie-at, cross-ties, ties-step, terms-ties, if-ties, int-ties-step, ties-at, ties-int-at}

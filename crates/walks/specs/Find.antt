@@ -1,14 +1,13 @@
 -- Looking for an equal If: what is found has the same words and a number that it shares; where nothing is found, there is none.
 use mathlib.Core.Path.{_≡_, refl, sym, ap, _∙_}
 use mathlib.Core.Bool.{Bool, true, false, _&&_, cond}
-use mathlib.Core.Option.{Option, none, some}
+use mathlib.Core.Option.{none, some}
 use mathlib.Core.List.{List}
 use Prim.Native.Nat.{ℕ, zero, suc, _+_, _≤_, _<_}
 use native.Mathlib.Omega.{arith}
 use lib.IntN.{ℤ}
 use lib.Dec.{eqb}
 use borrow.Author.Tests.{eqb-true, eqb-false}
-use Rattle.laws.specs.Bools.{and-l, and-r, and-i}
 use Rattle.laws.specs.Same.{same-words}
 use Rattle.walks.specs.Tree.{Place}
 use Rattle.walks.specs.Item.{cell, seen-in}

@@ -2,10 +2,10 @@
 use mathlib.Core.Path.{_≡_, refl, ap}
 use mathlib.Core.Bool.{Bool, true, false, not}
 use mathlib.Core.Option.{Option}
-use Prim.Native.Nat.{ℕ, suc}
+use Prim.Native.Nat.{ℕ}
 use lib.IntN.{ℤ}
 use Rattle.syntax.specs.Syntax.{CmpOp}
-use Rattle.walks.specs.Tree.{Place, Tree, Trees, IntTree, TermTrees, own-var, condition-of, Splitting, never, below, here, append as append-trees, joined as joined-trees, crossed-at as crossed-trees-at, sides-tied as trees-tied}
+use Rattle.walks.specs.Tree.{Place, Tree, Trees, IntTree, TermTrees, own-var, condition-of, Splitting, never, below, here, append as append-trees, joined as joined-trees}
 use Rattle.walks.specs.Tree.{var as tree-var, num as tree-num, cmp as tree-cmp, conj as tree-conj, disj as tree-disj, cross as tree-cross, tied as tree-tied, nil as no-trees, cons as more-trees, const as tree-const, ivar as tree-ivar, sum as tree-sum, choice as tree-choice, none as no-term-trees, term as tree-term}
 
 -- choice p o c d t f: the condition where it is a declared variable, the condition plain and negated, the branches

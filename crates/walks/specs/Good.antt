@@ -1,35 +1,33 @@
 -- The state of the first walk is that of a log: maps, counters, records, Ifs' cells; and there is room for the numbers to come (`budget`).
 -- Steps that make no If: declared variables, numbers of disjunctions, clauses.
-use mathlib.Core.Path.{_≡_, refl, sym, ap, _∙_, subst}
-use mathlib.Core.Bool.{Bool, true, false, _||_, cond}
+use mathlib.Core.Path.{_≡_, refl, sym, ap, _∙_}
+use mathlib.Core.Bool.{Bool, true, false, cond}
 use mathlib.Core.Option.{Option, none, some}
 use mathlib.Core.List.{List, [], _∷_, _++_, append-nil, map, map-append}
 use mathlib.Core.Logic.{_≢_}
 use Prim.Native.Nat.{ℕ, zero, suc, _+_, _-_, _*_, _≤_, _<_}
 use native.Mathlib.Omega.{arith}
 use native.Mathlib.Numerals.{add-one}
-use lib.IntN.{ℤ, pos, negsuc}
-use lib.ListN.{length, length-append, getD, set, length-set, take}
+use lib.IntN.{ℤ, pos}
+use lib.ListN.{length, length-append, getD, set, length-set}
 use lib.Seq.{sets, getD-set-same, getD-set-other, take-set-le}
-use lib.Dec.{eqb, ltb}
-use borrow.Author.Tests.{eq-eqb, ne-eqb, eqb-true, eqb-false}
+use lib.Dec.{eqb}
+use borrow.Author.Tests.{ne-eqb, eqb-true, eqb-false}
 use Rattle.laws.specs.Ints.{is-zero}
 use Rattle.laws.specs.Lists.{flat, flat-append}
 use Rattle.laws.specs.Writes.{sets-append}
-use Rattle.syntax.specs.Syntax.{IfIsRead, Domain, domain-of, IntExpr}
-use Rattle.sums.specs.LinearSum.{LinearSum}
+use Rattle.syntax.specs.Syntax.{Domain, domain-of, IntExpr}
 use Rattle.clauses.specs.Clause.{BoolLit, lit, Clause}
-use Rattle.clauses.specs.Log.{MadeBool, MadeInt, declared-int, column, chosen, binary, declared, bool, merged, int, added, defined, known, Log, number-of, next-bool, next-int, get-bool-var, get-int-var, get-if, is-declared-int, made-ints, bool-var-at, int-var-at, convert-bool-var, convert-int-var, clauses-of}
-use Rattle.clauses.specs.Grow.{get-bool-below, get-int-below}
+use Rattle.clauses.specs.Log.{MadeBool, MadeInt, declared-int, column, chosen, binary, declared, bool, merged, int, added, defined, known, Log, next-bool, next-int, get-bool-var, get-int-var, get-if, is-declared-int, made-ints, bool-var-at, int-var-at, convert-bool-var, convert-int-var}
 use Rattle.clauses.specs.Since.{OnTop, here, over}
 use Rattle.answer.specs.Answer.{bool-word}
-use Rattle.walk.specs.Item.{limit, bump, is-none, bool-map, int-map, nat, bool-at, bool-entry, int-entry}
+use Rattle.walk.specs.Item.{limit, bump, is-none, bool-map, int-map, nat, bool-at, int-entry}
 use Rattle.walk.specs.Decode.{read-part}
-use Rattle.walk.specs.Grow.{lit-word, Fit}
+use Rattle.walk.specs.Grow.{lit-word}
 use Rattle.walk.specs.Num.{code}
-use Rattle.walks.specs.Item.{cells, cell}
+use Rattle.walks.specs.Item.{has-ifs, cells, cell}
 use Rattle.walks.specs.Meet.{State, with-work, more-bools, spend, meet-bool, range-record, new-int, meet-int-var}
-use Rattle.walks.specs.Cells.{Cells, Below, Places, cells-kept}
+use Rattle.walks.specs.Cells.{word-kept, Cells, Below, Places, cells-kept}
 
 ne-less : (v k : ℕ) → v < suc k → (v ≡ k → ⊥) → v < k
 ne-less v k l n = omega arith
@@ -45,6 +43,11 @@ module _ (f : ℤ → Bool) (w : List ℤ) (at : ℕ) where
   unfolding blanks
   blanks-other p x zero h = refl
   blanks-other p x (suc k) h = rw (getD-set-other w p (at + k) x (pos 0) (h k (omega arith)), blanks-other p x k (λ v l. h v (omega arith))) refl
+
+  pub blanks-same : (w' : List ℤ) (k : ℕ) → ((v : ℕ) → v < k → getD w' (at + v) (pos 0) ≡ getD w (at + v) (pos 0)) → blanks f w' at k ≡ blanks f w at k
+  unfolding blanks
+  blanks-same w' zero h = refl
+  blanks-same w' (suc k) h = rw (h k (omega arith), blanks-same w' k (λ v l. h v (omega arith))) refl
 
   -- one less
   pub blanks-set : (v : ℕ) (x : ℤ) (k : ℕ) → v < k → at + k ≤ length w → f (getD w (at + v) (pos 0)) ≡ true → f x ≡ false → suc (blanks f (set w (at + v) x) at k) ≡ blanks f w at k
@@ -119,8 +122,8 @@ pub record Names (Named : Log → Type 0) : Type 0 where
   pub defined-named : (cs : List Clause) (s : Log) → Named s → Named (defined cs ∷ s)
   pub other-named : (m : MadeInt) → ((v : ℕ) → is-declared-int v m ≡ false) → (s : Log) → Named s → Named (int m ∷ s)
 
--- rec: where the records begin; cap: the longest answer; before: the output before the walk
-module _ (ds : List Domain) (F : List ℤ) (Plain : IntExpr → Type 0) (parted : ℕ → Bool) (K : ℕ → Option IntExpr) (fixed : IntExpr → Bool) (rec cap : ℕ) (before : List ℤ) (Named : Log → Type 0) where
+-- rec: where the records begin; cap: the longest answer; with-ifs: whether the folded statements have Ifs; before: the output before the walk
+module _ (ds : List Domain) (F : List ℤ) (Plain : IntExpr → Type 0) (parted : ℕ → Bool) (K : ℕ → Option IntExpr) (fixed : IntExpr → Bool) (rec cap : ℕ) (with-ifs : Bool) (before : List ℤ) (Named : Log → Type 0) where
   pub record Good (budget : ℕ) (st : State) (s : Log) : Type 0 where
     pub map : (v : ℕ) → v < 512 → bool-at (st .work) v ≡ bool-word (get-bool-var v s)
     pub map-int : (v : ℕ) → v < 256 → int-entry (st .work) v ≡ code (get-int-var v s)
@@ -130,6 +133,7 @@ module _ (ds : List Domain) (F : List ℤ) (Plain : IntExpr → Type 0) (parted 
     pub low-int : (v n : ℕ) → get-int-var v s ≡ some n → v < 256
     pub size : 16384 ≤ length (st .work)
     pub words : read-part (st .work) ≡ F
+    pub word : has-ifs (st .work) ≡ with-ifs
     pub records : st .out ≡ sets before rec (records-of ds s)
     pub cells : Cells ds F Plain parted K fixed (st .work) s
     pub below : Below ds F Plain parted K fixed s
@@ -148,6 +152,7 @@ module _ (ds : List Domain) (F : List ℤ) (Plain : IntExpr → Type 0) (parted 
     low-int = g .low-int;
     size = g .size;
     words = g .words;
+    word = g .word;
     records = g .records;
     cells = g .cells;
     below = g .below;
@@ -172,6 +177,7 @@ module _ (ds : List Domain) (F : List ℤ) (Plain : IntExpr → Type 0) (parted 
         low-int = λ v m h. g .low-int v m (sym (q .keep-int v) ∙ h);
         size = g .size;
         words = g .words;
+        word = g .word;
         records = g .records ∙ ap (λ x. sets before rec (flat (map (made-record ds) x))) (sym (q .made));
         cells = cells-kept ds F Plain parted K fixed (st .work) (st .work) s t (λ p l. refl) (q .ifs) (q .top) (g .below) P (g .cells);
         below = λ e v h. omega (arith, g .below e v (sym (q .ifs e) ∙ h), q .ints);
@@ -202,10 +208,9 @@ module _ (ds : List Domain) (F : List ℤ) (Plain : IntExpr → Type 0) (parted 
     int-other w p x u h = ap nat (getD-set-other w p (int-map + u) x (pos 0) h)
 
     -- a variable with a literal is passed over
-    old-bool : (v : ℕ) (st : State) (s : Log) (n : ℕ) (g : Good n st s) (l : BoolLit) → v < 512 → get-bool-var v s ≡ some l → is-zero (bool-at (st .work) v) || eqb (bool-entry (st .work) v) (st .bools + 1) ≡ false
-    unfolding bool-entry bool-at nat
-    old-bool v st s n g (lit k false) h e = rw (g .map v h ∙ ap bool-word e, ne-eqb (suc k) 0 (λ q. omega arith)) (ne-eqb (suc k) (st .bools + 1) (λ q. omega (arith, g .bools, get-bool-below s v (lit k false) e)))
-    old-bool v st s n g (lit k true) h e = rw (g .map v h ∙ ap bool-word e) (ne-eqb 0 (st .bools + 1) (λ q. omega arith))
+    old-bool : (v : ℕ) (st : State) (s : Log) (n : ℕ) (g : Good n st s) (l : BoolLit) → v < 512 → get-bool-var v s ≡ some l → is-zero (bool-at (st .work) v) ≡ false
+    old-bool v st s n g (lit k false) h e = rw (g .map v h ∙ ap bool-word e) (ne-eqb (suc k) 0 (λ q. omega arith))
+    old-bool v st s n g (lit k true) h e = rw (g .map v h ∙ ap bool-word e) refl
 
     new-bool : (v : ℕ) → v < 512 → (n : ℕ) (st : State) (s : Log) → get-bool-var v s ≡ none → bool-at (st .work) v ≡ pos 0 → Good n st s → Good n (more-bools 1 (with-work (set (st .work) (bool-map + v) (pos (st .bools + 1))) st)) (bool (declared v) ∷ s)
     unfolding get-bool-var get-int-var get-if bool-at records-of made-ints
@@ -223,6 +228,7 @@ module _ (ds : List Domain) (F : List ℤ) (Plain : IntExpr → Type 0) (parted 
           low-int = λ u m q. g .low-int u m q;
           size = rw length-set (g .size);
           words = keeps-words (st .work) (bool-map + v) (pos (st .bools + 1)) (omega arith) ∙ g .words;
+          word = word-kept (st .work) (bool-map + v) (pos (st .bools + 1)) (λ e. omega arith) ∙ g .word;
           records = g .records;
           cells = cells-kept ds F Plain parted K fixed (st .work) w s (bool (declared v) ∷ s) (λ p l. keeps-cells (st .work) (bool-map + v) (pos (st .bools + 1)) (omega arith) p l) (λ d. refl) (over (bool (declared v)) here) (g .below) P (g .cells);
           below = λ d u q. g .below d u q;
@@ -280,6 +286,7 @@ module _ (ds : List Domain) (F : List ℤ) (Plain : IntExpr → Type 0) (parted 
           low-int = λ u m q. lw u m (eqb u v) refl q;
           size = rw length-set (g .size);
           words = keeps-words (st .work) (int-map + v) x (omega arith) ∙ g .words;
+          word = word-kept (st .work) (int-map + v) x (λ e. omega arith) ∙ g .word;
           records = records-new (declared-int v) st s (g .records) (g .ints);
           cells = cells-kept ds F Plain parted K fixed (st .work) w s (int (declared-int v) ∷ s) (λ p l. keeps-cells (st .work) (int-map + v) x (omega arith) p l) (λ d. refl) (over (int (declared-int v)) here) (g .below) P (g .cells);
           below = λ d u q. omega (arith, g .below d u q);
@@ -306,7 +313,7 @@ module _ (ds : List Domain) (F : List ℤ) (Plain : IntExpr → Type 0) (parted 
     unfolding meet-int-var
     int-good v h n st s (some k) e g =
         let z : int-entry (st .work) v ≡ suc k = g .map-int v h ∙ ap code e in
-        rw z (rw (ne-eqb (suc k) (st .ints + 1) (λ q. omega (arith, g .ints, get-int-below s v k e))) g)
+        rw z g
     int-good v h n st s none e g =
         let z : int-entry (st .work) v ≡ 0 = g .map-int v h ∙ ap code e in
         rw z (new-declared v h n st s e z g)
@@ -329,6 +336,7 @@ module _ (ds : List Domain) (F : List ℤ) (Plain : IntExpr → Type 0) (parted 
           low-int = λ u k r. g .low-int u k (rw (q u) at r);
           size = g .size;
           words = g .words;
+          word = g .word;
           records = records-new m st s (g .records) (g .ints);
           cells = cells-kept ds F Plain parted K fixed (st .work) (st .work) s (int m ∷ s) (λ p l. refl) (λ e. refl) (over (int m) here) (g .below) P (g .cells);
           below = λ e u r. omega (arith, g .below e u r);
@@ -351,6 +359,7 @@ module _ (ds : List Domain) (F : List ℤ) (Plain : IntExpr → Type 0) (parted 
         low-int = g .low-int;
         size = g .size;
         words = g .words;
+        word = g .word;
         records = g .records;
         cells = g .cells;
         below = g .below;

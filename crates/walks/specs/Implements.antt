@@ -1,7 +1,7 @@
 -- The second walk's package of a tree is what the Rust makes of it: the counters, the words, the shape, and what its Ifs add.
 -- w: a work slice with the final maps and the Ifs' numbers by place. What a run needs of the log where it starts is a predicate beside it.
 use mathlib.Core.Path.{_≡_, refl, sym, ap, _∙_}
-use mathlib.Core.Bool.{Bool, true, false, _&&_, cond}
+use mathlib.Core.Bool.{Bool, true, false, not, _&&_, _||_, cond}
 use mathlib.Core.Option.{Option, none, some}
 use mathlib.Core.List.{List, [], _∷_, _++_, append-nil}
 use Prim.Native.Nat.{ℕ, suc, _+_, _-_, _≤_, _<_, min}
@@ -29,7 +29,7 @@ use Rattle.walk.specs.declared.Mode.{Mode}
 use Rattle.walk.specs.declared.Counters.{Counters}
 use Rattle.walks.specs.Tree.{own-var, Place, Tree, var, num, cmp, conj, disj, cross, tied, Trees, nil, cons, size, IntTree, const, ivar, sum, choice, TermTrees, none as no-terms, term, condition-of, run, runs, run-int, run-terms}
 use Rattle.walks.specs.Form.{form}
-use Rattle.walks.specs.Item.{form-item, counters, more-bools, more-ints, meets-bool, meets-int, Seen, unseen, both-constant, numbered, seen, known-in, constant-in, number-in, Item, IntItem, TermsItem, tallies, all-lines, counts, pools, texts, regs, reg-lines, long-texts, disj-text, var-item, num-item, comparison, cmp-item, equal-item, conj-item, disj-item, cross-item, tied-item, const-item, ivar-item, no-terms-item, term-item, sum-item, open-item, condition-item, Making, block-words, block-lines, constant-making, open-making, if-making, if-behind, if-number, choice-item, item, items, int-item, terms-item}
+use Rattle.walks.specs.Item.{form-item, counters, more-bools, has-ifs, int-count, more-ints, meets-bool, meets-int, Seen, unseen, both-constant, numbered, seen, known-in, constant-in, number-in, Item, IntItem, TermsItem, tallies, all-lines, counts, pools, texts, regs, reg-lines, long-texts, disj-text, var-item, num-item, comparison, cmp-item, equal-item, conj-item, disj-item, cross-item, tied-item, const-item, ivar-item, no-terms-item, term-item, sum-item, open-item, condition-item, Making, block-words, block-lines, constant-making, open-making, if-making, passed, if-behind, if-number, choice-item, item, items, int-item, terms-item}
 use Rattle.walks.specs.Placed.{HasNumber, Numbered, Visited, Either, Known, opened, either-domain, Placed, PlacedAll, PlacedInt, PlacedTerms}
 use Rattle.walks.specs.Grow.{grow-defined, grow-known, grow-int, two-valued-made, disjunction-grows, no-run-grows, then-grows, two-grow, conj-grows, disj-grows, cross-grows, num-grows, var-grows, comparison-grows, ivar-grows, term-grows, either-grows, if-constant-grows, if-open-grows, if-grows}
 
@@ -42,6 +42,14 @@ counters-eq a a' b b' p q = cc
 -- a counter with room for one more: laws of their own, because `omega` takes the empty witness of an If for a contradiction
 bump-one : (k : ℕ) → suc k ≤ limit → bump k 1 ≡ suc k
 bump-one k h = omega arith
+
+-- an integer more, where they are counted
+pub int-more : (w : List ℤ) (n k : ℕ) → suc k ≤ limit → more-ints w 1 (counters n (int-count w k)) ≡ counters n (int-count w (suc k))
+int-more w n k h = go (has-ifs w)
+  where
+    go : (b : Bool) → cond b (counters n (bump (cond b k 0) 1)) (counters n (cond b k 0)) ≡ counters n (cond b (suc k) 0)
+    go true = ap (counters n) (bump-one k h)
+    go false = refl
 
 one-less : (k : ℕ) → suc k - 1 ≡ k
 one-less k = omega arith
@@ -91,8 +99,8 @@ unfoldable mutual
 
 -- ---- the counters of a log, and a work slice with its maps
 
-abbrev pub at : Log → Counters
-at s = counters (next-bool s) (next-int s)
+abbrev pub at : List ℤ → Log → Counters
+at w s = counters (next-bool s) (int-count w (next-int s))
 
 pub record Ready (w : List ℤ) (s : Log) : Type 0 where
   pub fit : Fit w s
@@ -150,10 +158,10 @@ module _ (w : List ℤ) where
     many : 2 ≤ length cs → i .unit ≡ long (min (length cs) limit) → i .pool true w n ≡ [] → i .pool false w n ≡ [] → Shape i n cs
 
   pub record ImplementsAt (i : Item) (s : Log) (o : Out) : Type 0 where
-    pub count : i .count w (at s) ≡ at (o .1)
-    pub text : (suf : List ℤ) → i .text w (at s) suf ≡ layout suf (o .0)
-    pub shape : Shape i (at s) (o .0)
-    pub adds : Registers (i .reg w (at s)) (i .lines w (at s)) s (o .1)
+    pub count : i .count w (at w s) ≡ at w (o .1)
+    pub text : (suf : List ℤ) → i .text w (at w s) suf ≡ layout suf (o .0)
+    pub shape : Shape i (at w s) (o .0)
+    pub adds : Registers (i .reg w (at w s)) (i .lines w (at w s)) s (o .1)
 
   -- from every log where the needs are met
   pub record Implements (i : Item) (r : Run) (needs : Log → Type 0) : Type 0 where
@@ -170,15 +178,15 @@ module _ (w : List ℤ) where
     pub cx : List (List Clause)
     pub eq : sorted (o .0) ≡ pool ls ks cx
     pub tal : tallies is ≡ tally (length cx) (length ls) (length ks) (min (lengths cx) limit)
-    pub pl : pools is true w (at s) ≡ words ls
-    pub pk : pools is false w (at s) ≡ linears ks
-    pub longs : (d : Mode) (b : ℕ) (x : List ℤ) (k : ℕ) (suf : List ℤ) → long-texts d b x is w (at s) k suf ≡ long-layout (extra d b x) cx k suf
+    pub pl : pools is true w (at w s) ≡ words ls
+    pub pk : pools is false w (at w s) ≡ linears ks
+    pub longs : (d : Mode) (b : ℕ) (x : List ℤ) (k : ℕ) (suf : List ℤ) → long-texts d b x is w (at w s) k suf ≡ long-layout (extra d b x) cx k suf
     pub all-long : AllLong cx
-    pub count : counts is w (at s) ≡ at (o .1)
-    pub text : (suf : List ℤ) → texts is w (at s) suf ≡ layout suf (flat (o .0))
+    pub count : counts is w (at w s) ≡ at w (o .1)
+    pub text : (suf : List ℤ) → texts is w (at w s) suf ≡ layout suf (flat (o .0))
     pub lines : all-lines is ≡ min (length (flat (o .0))) limit
     pub size : length is ≤ length (flat (o .0))
-    pub adds : Registers (regs is w (at s)) (reg-lines is w (at s)) s (o .1)
+    pub adds : Registers (regs is w (at w s)) (reg-lines is w (at w s)) s (o .1)
 
   pub record Goods (is : List Item) (rs : Runs) (needs : Log → Type 0) : Type 0 where
     pub grows : (s : Log) → Grows s (rs s .1)
@@ -197,16 +205,16 @@ module _ (w : List ℤ) where
   unfolding sorted tallies all-lines counts pools texts regs reg-lines long-texts long-layout layout
   sorts-more i is s (zs, t) b g h = go zs (g .shape) (g .text)
     where
-      cnt : counts is w (i .count w (at s)) ≡ at (b .1)
+      cnt : counts is w (i .count w (at w s)) ≡ at w (b .1)
       cnt = ap (counts is w) (g .count) ∙ h .count
 
-      lin : (zs : List Clause) → Shape i (at s) zs → bump (lines-of (i .unit)) (all-lines is) ≡ min (length (zs ++ flat (b .0))) limit
+      lin : (zs : List Clause) → Shape i (at w s) zs → bump (lines-of (i .unit)) (all-lines is) ≡ min (length (zs ++ flat (b .0))) limit
       lin zs x = omega (arith, shape-lines x, h .lines, length-append zs (flat (b .0)))
 
-      add : Registers (i .reg w (at s) ++ regs is w (i .count w (at s))) (bump (i .lines w (at s)) (reg-lines is w (i .count w (at s)))) s (b .1)
+      add : Registers (i .reg w (at w s) ++ regs is w (i .count w (at w s))) (bump (i .lines w (at w s)) (reg-lines is w (i .count w (at w s)))) s (b .1)
       add = registers-after (regs is w) (reg-lines is w) (g .count) (g .adds) (h .adds)
 
-      go : (zs : List Clause) → Shape i (at s) zs → ((suf : List ℤ) → i .text w (at s) suf ≡ layout suf zs) → Sorts (i ∷ is) s (zs ∷ b .0, b .1)
+      go : (zs : List Clause) → Shape i (at w s) zs → ((suf : List ℤ) → i .text w (at w s) suf ≡ layout suf zs) → Sorts (i ∷ is) s (zs ∷ b .0, b .1)
       go zs (single ls ks e u p q) text = record {
         ls = ls ++ h .ls;
         ks = ks ++ h .ks;
@@ -275,7 +283,7 @@ module _ (w : List ℤ) where
 
   pub record DisjAt (is : List Item) (n : Counters) (s : Log) (o : Out) : Type 0 where
     pub text : (suf : List ℤ) → disj-text is w n (next-bool s) suf ≡ layout suf (o .0)
-    pub count : more-bools (fresh (tallies is)) (at s) ≡ at (o .1)
+    pub count : more-bools (fresh (tallies is)) (at w s) ≡ at w (o .1)
     pub lines : disj-lines (tallies is) ≡ min (length (o .0)) limit
     pub shape : Shape (disj-item is) n (o .0)
 
@@ -285,7 +293,7 @@ module _ (w : List ℤ) where
   disj-shape is n ls ks [] s t p q b l = single ls ks refl (rw t) (rw (t, p)) (rw (t, q))
   disj-shape is n ls ks (a ∷ cx) s t p q b l = many (finish-long a cx ls ks s (b .0)) (ap closed t ∙ ap long (ap disj-lines (sym t) ∙ l)) (rw t) (rw t)
 
-  pub disj-at : (is : List Item) (s : Log) (o : Outs) → Sorts is s o → (z : Log) → Ready w (normalize-disjunction (o .0) z .1) → DisjAt is (at s) z (normalize-disjunction (o .0) z)
+  pub disj-at : (is : List Item) (s : Log) (o : Outs) → Sorts is s o → (z : Log) → Ready w (normalize-disjunction (o .0) z .1) → DisjAt is (at w s) z (normalize-disjunction (o .0) z)
   unfolding finish-sorted disj-text
   disj-at is s o h z f =
       let e : normalize-disjunction (o .0) z ≡ finish-disjunction (h .cx) (h .ls) (h .ks) z = disjunction-finish (o .0) z ∙ rw (h .eq) in
@@ -295,9 +303,9 @@ module _ (w : List ℤ) where
       let l : disj-lines (tallies is) ≡ min (length (finish-disjunction (h .cx) (h .ls) (h .ks) z .0)) limit = rw (h .tal) (sym (finish-lines (h .cx) (h .ls) (h .ks) z)) in
       rw e (record {
         text = λ suf. rw (h .tal, h .pl, h .pk, h .longs _ (next-bool z) (words (h .ls)) 0 suf) (finish-words z suf (h .cx) (h .ls) (h .ks) k);
-        count = counters-eq _ _ _ _ (omega (arith, n, k)) (sym m);
+        count = counters-eq _ _ _ _ (omega (arith, n, k)) (ap (int-count w) (sym m));
         lines = l;
-        shape = disj-shape is (at s) (h .ls) (h .ks) (h .cx) z (h .tal) (h .pl) (h .pk) (h .all-long) l;
+        shape = disj-shape is (at w s) (h .ls) (h .ks) (h .cx) z (h .tal) (h .pl) (h .pk) (h .all-long) l;
       })
 
   pub conj-good : {is : List Item} {rs : Runs} {P : Log → Type 0} → Goods is rs P → 2 ≤ length is → Implements (conj-item is) (normalize-conjunction rs) P
@@ -337,7 +345,7 @@ module _ (w : List ℤ) where
         let y = hs .from (a .1) fb (n .1) in
         let p = disj-at is s a x (b .1) fc in
         let q = disj-at js (a .1) b y (c .1) f in
-        let k : counts js w (counts is w (at s)) ≡ at (b .1) = ap (counts js w) (x .count) ∙ y .count in
+        let k : counts js w (counts is w (at w s)) ≡ at w (b .1) = ap (counts js w) (x .count) ∙ y .count in
         let m : bump (next-bool (b .1)) (fresh (tallies is)) ≡ next-bool (c .1) = ap (λ (n : Counters). n .bools) (p .count) in
         let l : bump (disj-lines (tallies is)) (disj-lines (tallies js)) ≡ min (length (c .0 ++ d .0)) limit = omega (arith, p .lines, q .lines, length-append (c .0) (d .0)) in
         record {
@@ -356,7 +364,7 @@ module _ (w : List ℤ) where
   beside (clause ls ks ∷ []) l s h = rw (append-nil ks)
   beside (c ∷ d ∷ cs) l s h = refl
 
-  beside-text : (i : Item) (s : Log) (o : Out) (v : ℕ) (g : Bool) (suf : List ℤ) → v < limit → ImplementsAt i s o → i .text w (at s) (word-of (v + 1) g ∷ suf) ≡ layout suf (add-bool-each (lit v g) (o .0))
+  beside-text : (i : Item) (s : Log) (o : Out) (v : ℕ) (g : Bool) (suf : List ℤ) → v < limit → ImplementsAt i s o → i .text w (at w s) (word-of (v + 1) g ∷ suf) ≡ layout suf (add-bool-each (lit v g) (o .0))
   beside-text i s o v g suf h x = x .text (word-of (v + 1) g ∷ suf) ∙ ap (λ y. layout (y ∷ suf) (o .0)) (ap (λ n. word-of n g) (add-one v) ∙ word-lit v g h) ∙ sym (layout-add (lit v g) suf (o .0))
 
   pub tied-good : {i j : Item} {r q : Run} {P Q : Log → Type 0} (v : ℕ) → v < limit → Implements i r P → Implements j q Q
@@ -433,7 +441,7 @@ module _ (w : List ℤ) where
   -- the variable's literal behind it, and the counters
   pub record VarAt (v : ℕ) (s : Log) (l : BoolLit) (t : Log) : Type 0 where
     pub found : get-bool-var v t ≡ some l
-    pub count : meets-bool w v (at s) ≡ at t
+    pub count : meets-bool w v (at w s) ≡ at w t
     pub quiet : clauses-of t ≡ clauses-of s
 
   pub var-at : (v : ℕ) (s : Log) → Ready w (convert-bool-var v s .1) → VarAt v s (convert-bool-var v s .0) (convert-bool-var v s .1)
@@ -465,9 +473,9 @@ module _ (w : List ℤ) where
   -- ---- integers
 
   pub record IntImplementsAt (e : IntItem) (s : Log) (o : IntOut) : Type 0 where
-    pub behind : e .behind w (at s) ≡ at (o .1)
-    pub total : e .total w (at s) ≡ o .0
-    pub adds : Registers (e .adds w (at s)) (e .added w (at s)) s (o .1)
+    pub behind : e .behind w (at w s) ≡ at w (o .1)
+    pub total : e .total w (at w s) ≡ o .0
+    pub adds : Registers (e .adds w (at w s)) (e .added w (at w s)) s (o .1)
 
   pub record IntImplements (e : IntItem) (r : IntRun) (needs : Log → Type 0) : Type 0 where
     pub grows : (s : Log) → Grows s (r s .1)
@@ -475,9 +483,9 @@ module _ (w : List ℤ) where
 
   -- behind the sum l
   pub record TermsImplementAt (ts : TermsItem) (l : LinearSum) (s : Log) (o : IntOut) : Type 0 where
-    pub behind : ts .behind w (at s) ≡ at (o .1)
-    pub total : ts .total w (at s) l ≡ o .0
-    pub adds : Registers (ts .adds w (at s)) (ts .added w (at s)) s (o .1)
+    pub behind : ts .behind w (at w s) ≡ at w (o .1)
+    pub total : ts .total w (at w s) l ≡ o .0
+    pub adds : Registers (ts .adds w (at w s)) (ts .added w (at w s)) s (o .1)
 
   pub record TermsImplement (ts : TermsItem) (r : LinearSum → IntRun) (needs : Log → Type 0) : Type 0 where
     pub grows : (l : LinearSum) (s : Log) → Grows s (r l s .1)
@@ -487,8 +495,29 @@ module _ (w : List ℤ) where
   unfolding const-item
   const-good c = record { grows = λ s. same; from = λ s f n. record { behind = refl; total = refl; adds = registers-same s s refl } }
 
+  either-way : (b : Bool) (n : Counters) → cond b n n ≡ n
+  either-way true n = refl
+  either-way false n = refl
+
+  -- behind a declared integer: a new one has the counter's own number, an old one has another
+  new-met : (v n k : ℕ) → int-entry w v ≡ suc k → suc k ≤ limit → meets-int w v (counters n (int-count w k)) ≡ counters n (int-count w (suc k))
+  unfolding meets-int
+  new-met v n k e h = go (has-ifs w)
+    where
+      go : (b : Bool) → cond (eqb (int-entry w v) (cond b k 0 + 1)) (cond b (counters n (bump (cond b k 0) 1)) (counters n (cond b k 0))) (counters n (cond b k 0)) ≡ counters n (cond b (suc k) 0)
+      go true = rw (eq-eqb (int-entry w v) (k + 1) (omega arith)) (ap (counters n) (bump-one k h))
+      go false = either-way (eqb (int-entry w v) 1) (counters n 0)
+
+  old-met : (v n j k : ℕ) → int-entry w v ≡ suc j → j < k → meets-int w v (counters n (int-count w k)) ≡ counters n (int-count w k)
+  unfolding meets-int
+  old-met v n j k e h = go (has-ifs w)
+    where
+      go : (b : Bool) → cond (eqb (int-entry w v) (cond b k 0 + 1)) (cond b (counters n (bump (cond b k 0) 1)) (counters n (cond b k 0))) (counters n (cond b k 0)) ≡ counters n (cond b k 0)
+      go true = rw (ne-eqb (int-entry w v) (k + 1) (λ q. omega arith))
+      go false = either-way (eqb (int-entry w v) 1) (counters n 0)
+
   pub ivar-good : (ds : List Domain) (v : ℕ) → IntImplements (ivar-item ds v) (normalize-int-var v) (λ s. Unit {0})
-  unfolding ivar-item normalize-int-var convert-int-var meets-int clauses-of
+  unfolding ivar-item normalize-int-var convert-int-var clauses-of
   ivar-good ds v = record { grows = ivar-grows v; from = λ s f n. go s (get-int-var v s) refl f }
     where
       go : (s : Log) (o : Option ℕ) → get-int-var v s ≡ o → Ready w (int-var-at o v s .1) → IntImplementsAt (ivar-item ds v) s (singleton (int-var-at o v s .0), int-var-at o v s .1)
@@ -496,14 +525,14 @@ module _ (w : List ℤ) where
           let k = next-int s in
           let a = f .fit .agree-int v k (int-here v s) in
           record {
-            behind = rw (eq-eqb (int-entry w v) (k + 1) (omega (arith, a))) (counters-eq _ _ _ _ refl (omega (arith, f .ints)));
+            behind = new-met v (next-bool s) k a (f .ints);
             total = ap singleton (omega (arith, a));
             adds = registers-same s (int (declared-int v) ∷ s) refl;
           }
       go s (some k) e f =
           let a = f .fit .agree-int v k e in
           record {
-            behind = rw (ne-eqb (int-entry w v) (next-int s + 1) (λ q. omega (arith, a, get-int-below s v k e)));
+            behind = old-met v (next-bool s) k (next-int s) a (get-int-below s v k e);
             total = ap singleton (omega (arith, a));
             adds = registers-same s s refl;
           }
@@ -523,7 +552,7 @@ module _ (w : List ℤ) where
         let v = y .from m (a .1) f (n .1) in
         record {
           behind = ap (ts .behind w) (u .behind) ∙ v .behind;
-          total = ap (λ n. ts .total w n (add-sum l (mul-sum k (e .total w (at s))))) (u .behind) ∙ ap (λ z. ts .total w (at (a .1)) (add-sum l (mul-sum k z))) (u .total) ∙ v .total;
+          total = ap (λ n. ts .total w n (add-sum l (mul-sum k (e .total w (at w s))))) (u .behind) ∙ ap (λ z. ts .total w (at w (a .1)) (add-sum l (mul-sum k z))) (u .total) ∙ v .total;
           adds = registers-after (ts .adds w) (ts .added w) (u .behind) (u .adds) (v .adds);
         };
   }
@@ -545,7 +574,7 @@ module _ (w : List ℤ) where
         let u = x .from s (ready-back (y .grows (c .1)) f) (n .0) in
         let v = y .from (c .1) f (n .1) in
         let k = linear (negate-op-if g o) (sub-sum (c .0) (d .0)) in
-        let e : comparison w (at s) o a b g ≡ linear-words k = rw (u .total, u .behind, v .total) in
+        let e : comparison w (at w s) o a b g ≡ linear-words k = rw (u .total, u .behind, v .total) in
         record {
           count = ap (b .behind w) (u .behind) ∙ v .behind;
           text = λ suf. ap (clause-text [] suf 1) (e ∙ sym (append-nil (linear-words k))) ∙ sym (append-nil _);
@@ -571,6 +600,10 @@ module _ (w : List ℤ) where
   number-is both-constant v k h = absurd h
   number-is (numbered u b) v k h = h
 
+  passed-is : (p : Place) (s : Log) → has-ifs w ≡ true → passed w p (at w s) ≡ known-in (seen w p) (next-int s)
+  unfolding passed
+  passed-is p s h = ap (λ b. not b || known-in (seen w p) (cond b (next-int s) 0)) h
+
   pub open-is : (x : Seen) (v : ℕ) → HasNumber x v → constant-in x ≡ false
   open-is unseen v h = absurd h
   open-is both-constant v h = absurd h
@@ -578,12 +611,12 @@ module _ (w : List ℤ) where
 
   -- ---- the clauses that an If adds: an item's, with what its own Ifs add before them
 
-  pub block-adds : {i : Item} {s t : Log} {o : Out} → ImplementsAt i s o → Adds (o .1) t (o .0) → Registers (block-words i w (at s)) (block-lines i w (at s)) s t
+  pub block-adds : {i : Item} {s t : Log} {o : Out} → ImplementsAt i s o → Adds (o .1) t (o .0) → Registers (block-words i w (at w s)) (block-lines i w (at w s)) s t
   block-adds {i} {s} {t} {o} x a = registers-then (x .adds) (record { cs = o .0; eq = a; words = x .text []; lines = shape-lines (x .shape) })
 
   -- what a visit adds behind the branches, from s to t
   pub record Makes (m : Making) (s t : Log) : Type 0 where
-    pub end : m .end ≡ at t
+    pub end : m .end ≡ at w t
     pub adds : Registers (m .words) (m .lines) s t
 
   -- c and d: the condition's items, plain and negated
@@ -600,16 +633,16 @@ module _ (w : List ℤ) where
     unfolding condition-item run-then normalize-num no-run
     condition-good b h = implements-if (λ s n. ((tt, (n .0, tt)), (tt, (n .1, tt)))) (cross-good (more (num-good b false h) (more y goods-nil)) (more (num-good b true h) (more x goods-nil)))
 
-    own-makes : (i : IfIsRead) (v : ℕ) (j k : ℤ) (s : Log) → let a = convert-bool-var v s in let t = int (two-valued i (a .0) j k) ∷ a .1 in Ready w t → Makes (constant-making w c d (some v) (at s)) s t
+    own-makes : (i : IfIsRead) (v : ℕ) (j k : ℤ) (s : Log) → let a = convert-bool-var v s in let t = int (two-valued i (a .0) j k) ∷ a .1 in Ready w t → Makes (constant-making w c d (some v) (at w s)) s t
     unfolding clauses-of
     own-makes i v j k s f =
         let a = convert-bool-var v s in
         let m = two-valued i (a .0) j k in
         let u = var-at v s (ready-back (grow-int m (a .1) (two-valued-made i (a .0) j k)) f) in
-        record { end = ap (more-ints 1) (u .count) ∙ counters-eq _ _ _ _ refl (bump-one (next-int (a .1)) (f .ints)); adds = registers-same s (int m ∷ a .1) (u .quiet) }
+        record { end = ap (more-ints w 1) (u .count) ∙ int-more w _ (next-int (a .1)) (f .ints); adds = registers-same s (int m ∷ a .1) (u .quiet) }
 
     new-makes : (i : IfIsRead) (e : BoolExpr) (j k : ℤ) (s : Log)
-        → let z = bool (side e) ∷ s in let t = int (two-valued i (lit (next-bool s) false) j k) ∷ define (condition-run (next-bool s) z) in Ready w t → D z × C (rd z .1) → Makes (constant-making w c d none (at s)) s t
+        → let z = bool (side e) ∷ s in let t = int (two-valued i (lit (next-bool s) false) j k) ∷ define (condition-run (next-bool s) z) in Ready w t → D z × C (rd z .1) → Makes (constant-making w c d none (at w s)) s t
     unfolding define clauses-of
     new-makes i e j k s f n =
         let b = next-bool s in
@@ -618,15 +651,15 @@ module _ (w : List ℤ) where
         let m = condition-item c d b in
         let fo = ready-back (then (grow-defined (o .0) (o .1)) (grow-int _ (define o) (two-valued-made i (lit b false) j k))) f in
         let fz = ready-back (cross-grows _ _ (two-grow _ _ (num-grows b false) (y .grows)) (two-grow _ _ (num-grows b true) (x .grows)) z) fo in
-        let q : more-bools 1 (at s) ≡ at z = counters-eq _ _ _ _ (bump-one b (fz .fit .small)) refl in
+        let q : more-bools 1 (at w s) ≡ at w z = counters-eq _ _ _ _ (bump-one b (fz .fit .small)) refl in
         let g = condition-good b (room-below b (fz .fit .small)) .from z fo n in
         record {
-          end = ap (λ n. more-ints 1 (m .count w n)) q ∙ ap (more-ints 1) (g .count) ∙ counters-eq _ _ _ _ refl (bump-one (next-int (o .1)) (f .ints));
+          end = ap (λ n. more-ints w 1 (m .count w n)) q ∙ ap (more-ints w 1) (g .count) ∙ int-more w _ (next-int (o .1)) (f .ints);
           adds = registers-to (ap (block-words m w) q) (ap (block-lines m w) q) (registers-front refl (registers-behind refl (block-adds {t = define o} g refl)));
         }
 
     constant-makes : (ds : List Domain) (i : IfIsRead) (e : BoolExpr) → NoNumber e → (j k : ℤ) (s : Log) → Ready w (if-constant ds i e polarity j k s .1)
-        → Visited w (own-var e) (D (bool (side e) ∷ s) × C (rd (bool (side e) ∷ s) .1)) → Makes (constant-making w c d (own-var e) (at s)) s (if-constant ds i e polarity j k s .1)
+        → Visited w (own-var e) (D (bool (side e) ∷ s) × C (rd (bool (side e) ∷ s) .1)) → Makes (constant-making w c d (own-var e) (at w s)) s (if-constant ds i e polarity j k s .1)
     unfolding if-constant condition-literal
     constant-makes ds i (Var v) p j k s f n = own-makes i v j k s f
     constant-makes ds i (NVar v) p j k s f n = absurd p
@@ -650,7 +683,7 @@ module _ (w : List ℤ) where
         (disj-good (more (conj-good (more x (more (equal-good l v) goods-nil)) (omega arith)) (more (conj-good (more y (more (equal-good m v) goods-nil)) (omega arith)) goods-nil)))
 
     open-makes : (ds : List Domain) (i : IfIsRead) (e : IntExpr) (l m : LinearSum) (s : Log) → Ready w (if-open ds i e polarity l m s .1) → C (opened w ds i e l m s) × D (rc (opened w ds i e l m s) .1)
-        → Makes (open-making w c d l m (next-int s) (at s)) s (if-open ds i e polarity l m s .1)
+        → Makes (open-making w c d l m (next-int s) (at w s)) s (if-open ds i e polarity l m s .1)
     unfolding if-open define clauses-of disjunction-of normalize-conjunction run-then no-run
     open-makes ds i e l m s f n =
         let v = next-int s in
@@ -659,7 +692,7 @@ module _ (w : List ℤ) where
         let j = open-item c d l m v in
         let fo = ready-back (then (grow-defined (o .0) (o .1)) (grow-known e v (define o))) f in
         let fz = ready-back (open-good l m v .grows z) fo in
-        let k : more-ints 1 (at s) ≡ at z = counters-eq _ _ _ _ refl (bump-one v (fz .ints)) in
+        let k : more-ints w 1 (at w s) ≡ at w z = int-more w _ v (fz .ints) in
         let g = open-good l m v .from z fo n in
         record {
           end = ap (j .count w) k ∙ g .count;
@@ -668,49 +701,50 @@ module _ (w : List ℤ) where
 
     -- t and f: the branches' items
     module _ {t f : IntItem} {rt rf : IntRun} {T F : Log → Type 0} (tx : IntImplements t rt T) (fx : IntImplements f rf F) (p : Place) where
-      known-at : (o : Option ℕ) (s : Log) (v : ℕ) → v < next-int s → HasNumber (seen w p) v → IntImplementsAt (choice-item o p c d t f) s (singleton v, s)
+      known-at : (o : Option ℕ) (s : Log) (v : ℕ) → has-ifs w ≡ true → v < next-int s → HasNumber (seen w p) v → IntImplementsAt (choice-item o p c d t f) s (singleton v, s)
       unfolding choice-item if-behind if-number
-      known-at o s v l h =
-          let k = known-is (seen w p) v (next-int s) h l in
+      known-at o s v i l h =
+          let k = passed-is p s i ∙ known-is (seen w p) v (next-int s) h l in
           record {
-            behind = ap (λ q. cond q (at s) (if-making o p c d t f w (at s) .end)) k;
+            behind = ap (λ q. cond q (at w s) (if-making o p c d t f w (at w s) .end)) k;
             total = ap singleton (number-is (seen w p) v _ h);
-            adds = registers-to (ap (λ q. cond q [] (t .adds w (at s) ++ (f .adds w (t .behind w (at s)) ++ if-making o p c d t f w (at s) .words))) k)
-                (ap (λ q. cond q 0 (bump (t .added w (at s)) (bump (f .added w (t .behind w (at s))) (if-making o p c d t f w (at s) .lines)))) k) (registers-same s s refl);
+            adds = registers-to (ap (λ q. cond q [] (t .adds w (at w s) ++ (f .adds w (t .behind w (at w s)) ++ if-making o p c d t f w (at w s) .words))) k)
+                (ap (λ q. cond q 0 (bump (t .added w (at w s)) (bump (f .added w (t .behind w (at w s))) (if-making o p c d t f w (at w s) .lines)))) k) (registers-same s s refl);
           }
 
       -- made here: the branches, then m
-      made-at : (o : Option ℕ) (s z : Log) (v : ℕ) (m : Making) → IntImplementsAt t s (rt s) → IntImplementsAt f (rt s .1) (rf (rt s .1)) → known-in (seen w p) (next-int s) ≡ false → if-making o p c d t f w (at s) ≡ m
+      made-at : (o : Option ℕ) (s z : Log) (v : ℕ) (m : Making) → has-ifs w ≡ true → IntImplementsAt t s (rt s) → IntImplementsAt f (rt s .1) (rf (rt s .1)) → known-in (seen w p) (next-int s) ≡ false → if-making o p c d t f w (at w s) ≡ m
           → Makes m (rf (rt s .1) .1) z → number-in (seen w p) (next-int z) ≡ v → IntImplementsAt (choice-item o p c d t f) s (singleton v, z)
       unfolding choice-item if-behind if-number
-      made-at o s z v m x y k e h n =
-          let b : if-behind o p c d t f w (at s) ≡ at z = ap (λ q. cond q (at s) (if-making o p c d t f w (at s) .end)) k ∙ ap (λ (m : Making). m .end) e ∙ h .end in
+      made-at o s z v m i x y u e h n =
+          let k = passed-is p s i ∙ u in
+          let b : if-behind o p c d t f w (at w s) ≡ at w z = ap (λ q. cond q (at w s) (if-making o p c d t f w (at w s) .end)) k ∙ ap (λ (m : Making). m .end) e ∙ h .end in
           let r = registers-then (y .adds) (registers-to (ap (λ (m : Making). m .words) e) (ap (λ (m : Making). m .lines) e) (h .adds)) in
           record {
             behind = b;
-            total = ap singleton (ap (λ (q : Counters). number-in (seen w p) (q .ints)) b ∙ n);
-            adds = registers-to (ap (λ q. cond q [] (t .adds w (at s) ++ (f .adds w (t .behind w (at s)) ++ if-making o p c d t f w (at s) .words))) k)
-                (ap (λ q. cond q 0 (bump (t .added w (at s)) (bump (f .added w (t .behind w (at s))) (if-making o p c d t f w (at s) .lines)))) k)
-                (registers-after (λ n. f .adds w n ++ if-making o p c d t f w (at s) .words) (λ n. bump (f .added w n) (if-making o p c d t f w (at s) .lines)) (x .behind) (x .adds) r);
+            total = ap singleton (ap (λ (q : Counters). number-in (seen w p) (q .ints)) b ∙ ap (λ q. number-in (seen w p) (cond q (next-int z) 0)) i ∙ n);
+            adds = registers-to (ap (λ q. cond q [] (t .adds w (at w s) ++ (f .adds w (t .behind w (at w s)) ++ if-making o p c d t f w (at w s) .words))) k)
+                (ap (λ q. cond q 0 (bump (t .added w (at w s)) (bump (f .added w (t .behind w (at w s))) (if-making o p c d t f w (at w s) .lines)))) k)
+                (registers-after (λ n. f .adds w n ++ if-making o p c d t f w (at w s) .words) (λ n. bump (f .added w n) (if-making o p c d t f w (at w s) .lines)) (x .behind) (x .adds) r);
           }
 
-      making-constant : (o : Option ℕ) (s : Log) → IntImplementsAt t s (rt s) → IntImplementsAt f (rt s .1) (rf (rt s .1)) → seen w p ≡ both-constant → if-making o p c d t f w (at s) ≡ constant-making w c d o (at (rf (rt s .1) .1))
+      making-constant : (o : Option ℕ) (s : Log) → IntImplementsAt t s (rt s) → IntImplementsAt f (rt s .1) (rf (rt s .1)) → seen w p ≡ both-constant → if-making o p c d t f w (at w s) ≡ constant-making w c d o (at w (rf (rt s .1) .1))
       unfolding if-making
       making-constant o s x y e =
-          ap (λ (q : Seen). cond (constant-in q) (constant-making w c d o (f .behind w (t .behind w (at s)))) (open-making w c d (t .total w (at s)) (f .total w (t .behind w (at s))) (number-in (seen w p) 0) (f .behind w (t .behind w (at s))))) e
+          ap (λ (q : Seen). cond (constant-in q) (constant-making w c d o (f .behind w (t .behind w (at w s)))) (open-making w c d (t .total w (at w s)) (f .total w (t .behind w (at w s))) (number-in (seen w p) 0) (f .behind w (t .behind w (at w s))))) e
           ∙ ap (λ n. constant-making w c d o (f .behind w n)) (x .behind) ∙ ap (constant-making w c d o) (y .behind)
 
       making-open : (o : Option ℕ) (s : Log) (v : ℕ) → IntImplementsAt t s (rt s) → IntImplementsAt f (rt s .1) (rf (rt s .1)) → HasNumber (seen w p) v
-          → if-making o p c d t f w (at s) ≡ open-making w c d (rt s .0) (rf (rt s .1) .0) v (at (rf (rt s .1) .1))
+          → if-making o p c d t f w (at w s) ≡ open-making w c d (rt s .0) (rf (rt s .1) .0) v (at w (rf (rt s .1) .1))
       unfolding if-making
       making-open o s v x y h =
           let a = rt s in
           let b = rf (a .1) in
-          ap (λ (q : Bool). cond q (constant-making w c d o (f .behind w (t .behind w (at s)))) (open-making w c d (t .total w (at s)) (f .total w (t .behind w (at s))) (number-in (seen w p) 0) (f .behind w (t .behind w (at s))))) (open-is (seen w p) v h)
-          ∙ ap (λ n. open-making w c d (t .total w (at s)) (f .total w n) (number-in (seen w p) 0) (f .behind w n)) (x .behind)
-          ∙ ap (λ l. open-making w c d l (f .total w (at (a .1))) (number-in (seen w p) 0) (f .behind w (at (a .1)))) (x .total)
-          ∙ ap (λ m. open-making w c d (a .0) m (number-in (seen w p) 0) (f .behind w (at (a .1)))) (y .total)
-          ∙ ap (λ v. open-making w c d (a .0) (b .0) v (f .behind w (at (a .1)))) (number-is (seen w p) v 0 h)
+          ap (λ (q : Bool). cond q (constant-making w c d o (f .behind w (t .behind w (at w s)))) (open-making w c d (t .total w (at w s)) (f .total w (t .behind w (at w s))) (number-in (seen w p) 0) (f .behind w (t .behind w (at w s))))) (open-is (seen w p) v h)
+          ∙ ap (λ n. open-making w c d (t .total w (at w s)) (f .total w n) (number-in (seen w p) 0) (f .behind w n)) (x .behind)
+          ∙ ap (λ l. open-making w c d l (f .total w (at w (a .1))) (number-in (seen w p) 0) (f .behind w (at w (a .1)))) (x .total)
+          ∙ ap (λ m. open-making w c d (a .0) m (number-in (seen w p) 0) (f .behind w (at w (a .1)))) (y .total)
+          ∙ ap (λ v. open-making w c d (a .0) (b .0) v (f .behind w (at w (a .1)))) (number-is (seen w p) v 0 h)
           ∙ ap (open-making w c d (a .0) (b .0) v) (y .behind)
 
       -- e: the If as it is looked up; as `PlacedInt` says of a choice
@@ -735,9 +769,9 @@ module _ (w : List ℤ) where
             let b = rf (a .1) in
             cond q (if-constant ds i (condition-of e) polarity (constant-of (a .0)) (constant-of (b .0)) (b .1)) (if-open ds i e polarity (a .0) (b .0) (b .1))
 
-        made-good : (q : Bool) (s : Log) → Ready w (if-made q s .1) → MadeNeeds q s → IntImplementsAt IfItem s (if-made q s)
+        made-good : has-ifs w ≡ true → (q : Bool) (s : Log) → Ready w (if-made q s .1) → MadeNeeds q s → IntImplementsAt IfItem s (if-made q s)
         unfolding if-constant if-open
-        made-good true s r n =
+        made-good j true s r n =
             let a = rt s in
             let b = rf (a .1) in
             let rb = ready-back (if-constant-grows ds i (condition-of e) polarity (constant-of (a .0)) (constant-of (b .0)) (either-grows rc rd (x .grows) (y .grows)) (b .1)) r in
@@ -745,8 +779,8 @@ module _ (w : List ℤ) where
             let v = fx .from (a .1) rb (n .1) in
             let l = condition-literal (own-literal (condition-of e)) (condition-of e) polarity (b .1) in
             let m = constant-makes ds i (condition-of e) no-number (constant-of (a .0)) (constant-of (b .0)) (b .1) r (n .2 .1) in
-            made-at _ s _ (next-int (l .1)) _ u v (ap (λ q. known-in q (next-int s)) (n .2 .0)) (making-constant _ s u v (n .2 .0)) m (ap (λ q. number-in q (suc (next-int (l .1)))) (n .2 .0) ∙ one-less (next-int (l .1)))
-        made-good false s r n =
+            made-at _ s _ (next-int (l .1)) _ j u v (ap (λ q. known-in q (next-int s)) (n .2 .0)) (making-constant _ s u v (n .2 .0)) m (ap (λ q. number-in q (suc (next-int (l .1)))) (n .2 .0) ∙ one-less (next-int (l .1)))
+        made-good j false s r n =
             let a = rt s in
             let b = rf (a .1) in
             let k = next-int (b .1) in
@@ -755,19 +789,19 @@ module _ (w : List ℤ) where
             let v = fx .from (a .1) rb (n .1) in
             let h = n .2 .0 .number in
             let m = open-makes ds i e (a .0) (b .0) (b .1) r (n .2 .1, n .2 .2) in
-            made-at _ s _ k _ u v (unknown-is (seen w p) k (next-int s) h (then (tx .grows s) (fx .grows (a .1)) .ints)) (making-open _ s k u v h) m (number-is (seen w p) k _ h)
+            made-at _ s _ k _ j u v (unknown-is (seen w p) k (next-int s) h (then (tx .grows s) (fx .grows (a .1)) .ints)) (making-open _ s k u v h) m (number-is (seen w p) k _ h)
 
-        pub if-good : IntImplements IfItem (λ s. normalize-if ds i (get-if e s) e (condition-of e) polarity rt rf s) (λ s. Known w ds (get-if e s) p s (MadeNeeds (is-constant (rt s .0) && is-constant (rf (rt s .1) .0)) s))
+        pub if-good : IntImplements IfItem (λ s. normalize-if ds i (get-if e s) e (condition-of e) polarity rt rf s) (λ s. (has-ifs w ≡ true) × Known w ds (get-if e s) p s (MadeNeeds (is-constant (rt s .0) && is-constant (rf (rt s .1) .0)) s))
         unfolding normalize-if
         if-good = record {
           grows = λ s. if-grows ds i e (condition-of e) polarity rt rf (either-grows rc rd (x .grows) (y .grows)) (tx .grows) (fx .grows) (get-if e s) s;
-          from = λ s r n. go s (get-if e s) r n;
+          from = λ s r n. go (n .0) s (get-if e s) r (n .1);
         }
           where
-            go : (s : Log) (o : Option ℕ) → Ready w (normalize-if ds i o e (condition-of e) polarity rt rf s .1) → Known w ds o p s (MadeNeeds (is-constant (rt s .0) && is-constant (rf (rt s .1) .0)) s)
+            go : has-ifs w ≡ true → (s : Log) (o : Option ℕ) → Ready w (normalize-if ds i o e (condition-of e) polarity rt rf s .1) → Known w ds o p s (MadeNeeds (is-constant (rt s .0) && is-constant (rf (rt s .1) .0)) s)
                 → IntImplementsAt IfItem s (normalize-if ds i o e (condition-of e) polarity rt rf s)
-            go s (some v) r n = known-at _ s v (n .0) (n .1 .number)
-            go s none r n = made-good (is-constant (rt s .0) && is-constant (rf (rt s .1) .0)) s r n
+            go j s (some v) r n = known-at _ s v j (n .0) (n .1 .number)
+            go j s none r n = made-good j (is-constant (rt s .0) && is-constant (rf (rt s .1) .0)) s r n
 
   -- ---- trees; ds: the declared domains
 

@@ -1,13 +1,13 @@
 -- What the second walk computes of a tree, given the final maps: its tally, the counters behind it, its pool's words, its words, and what its Ifs add
 -- before them. w: the work slice with the final maps and the Ifs' numbers by place; counters stop at a limit.
-use mathlib.Core.Bool.{Bool, true, false, _&&_, cond}
+use mathlib.Core.Bool.{Bool, true, false, not, _||_, cond}
 use mathlib.Core.Option.{Option, none, some}
 use mathlib.Core.List.{List, [], _∷_, _++_}
 use Prim.Native.Nat.{ℕ, zero, suc, _+_, _-_}
 use lib.IntN.{ℤ, pos, negsuc}
 use lib.ListN.{getD}
 use lib.Dec.{eqb, ltb}
-use Rattle.laws.specs.Ints.{lower, higher}
+use Rattle.laws.specs.Ints.{is-zero, lower, higher}
 use Rattle.syntax.specs.Syntax.{Domain, Range, domain-of, CmpOp, Eq}
 use Rattle.sums.specs.LinearSum.{LinearSum, constant, singleton, add-sum, mul-sum, sub-sum}
 use Rattle.sums.specs.Rising.{constant-of}
@@ -28,15 +28,26 @@ counters n k = record { bools = n; ints = k }
 abbrev pub more-bools : ℕ → Counters → Counters
 more-bools k n = counters (bump (n .bools) k) (n .ints)
 
-abbrev pub more-ints : ℕ → Counters → Counters
-more-ints k n = counters (n .bools) (bump (n .ints) k)
+-- this word of the work slice is not 0 where the folded statements have Ifs; without, no integer's counter is asked for, and none is kept
+abbrev pub ifs-word : ℕ
+ifs-word = 9476
+
+unfoldable pub has-ifs : List ℤ → Bool
+has-ifs w = not (is-zero (getD w ifs-word (pos 0)))
+
+-- the next integer's number, as it is counted
+abbrev pub int-count : List ℤ → ℕ → ℕ
+int-count w k = cond (has-ifs w) k 0
+
+abbrev pub more-ints : List ℤ → ℕ → Counters → Counters
+more-ints w k n = cond (has-ifs w) (counters (n .bools) (bump (n .ints) k)) n
 
 -- behind a declared variable: one more where it has the counter's own number
 unfoldable pub meets-bool : List ℤ → ℕ → Counters → Counters
 meets-bool w v n = cond (eqb (bool-entry w v) (n .bools + 1)) (more-bools 1 n) n
 
 unfoldable pub meets-int : List ℤ → ℕ → Counters → Counters
-meets-int w v n = cond (eqb (int-entry w v) (n .ints + 1)) (more-ints 1 n) n
+meets-int w v n = cond (eqb (int-entry w v) (n .ints + 1)) (more-ints w 1 n) n
 
 -- ---- the numbers of Ifs by place
 
@@ -326,12 +337,12 @@ makes i w n e = record { end = e; words = block-words i w n; lines = block-lines
 module _ (w : List ℤ) (c d : Item) where
   -- constant branches: the literal of the condition, then the integer
   abbrev pub constant-making : Option ℕ → Counters → Making
-  constant-making (some v) n = no-making (more-ints 1 (meets-bool w v n))
-  constant-making none n = let i = condition-item c d (n .bools) in let k = more-bools 1 n in makes i w k (more-ints 1 (i .count w k))
+  constant-making (some v) n = no-making (more-ints w 1 (meets-bool w v n))
+  constant-making none n = let i = condition-item c d (n .bools) in let k = more-bools 1 n in makes i w k (more-ints w 1 (i .count w k))
 
   -- other branches l and m
   abbrev pub open-making : LinearSum → LinearSum → ℕ → Counters → Making
-  open-making l m v n = let i = open-item c d l m v in let k = more-ints 1 n in makes i w k (i .count w k)
+  open-making l m v n = let i = open-item c d l m v in let k = more-ints w 1 n in makes i w k (i .count w k)
 
 -- o: the condition, where it is a declared variable
 unfoldable pub if-making : Option ℕ → Place → Item → Item → IntItem → IntItem → List ℤ → Counters → Making
@@ -341,9 +352,13 @@ if-making o p c d t f w n =
     let s = seen w p in
     cond (constant-in s) (constant-making w c d o b) (open-making w c d (t .total w n) (f .total w a) (number-in s 0) b)
 
--- a visit that finds the If adds nothing
+-- a visit passes over the If: it was made before, or there are none
+unfoldable pub passed : List ℤ → Place → Counters → Bool
+passed w p n = not (has-ifs w) || known-in (seen w p) (n .ints)
+
+-- then it adds nothing
 unfoldable pub if-behind : Option ℕ → Place → Item → Item → IntItem → IntItem → List ℤ → Counters → Counters
-if-behind o p c d t f w n = cond (known-in (seen w p) (n .ints)) n (if-making o p c d t f w n .end)
+if-behind o p c d t f w n = cond (passed w p n) n (if-making o p c d t f w n .end)
 
 unfoldable pub if-number : Option ℕ → Place → Item → Item → IntItem → IntItem → List ℤ → Counters → ℕ
 if-number o p c d t f w n = number-in (seen w p) (if-behind o p c d t f w n .ints)
@@ -360,8 +375,8 @@ choice-item o p c d t f = record {
   behind = if-behind o p c d t f;
   total = λ w n. singleton (if-number o p c d t f w n);
   range = λ w n x. cond (eqb x (if-number o p c d t f w n)) (some (if-domain p t f w n)) none;
-  adds = λ w n. cond (known-in (seen w p) (n .ints)) [] (t .adds w n ++ (f .adds w (t .behind w n) ++ if-making o p c d t f w n .words));
-  added = λ w n. cond (known-in (seen w p) (n .ints)) 0 (bump (t .added w n) (bump (f .added w (t .behind w n)) (if-making o p c d t f w n .lines)));
+  adds = λ w n. cond (passed w p n) [] (t .adds w n ++ (f .adds w (t .behind w n) ++ if-making o p c d t f w n .words));
+  added = λ w n. cond (passed w p n) 0 (bump (t .added w n) (bump (f .added w (t .behind w n)) (if-making o p c d t f w n .lines)));
 }
 
 -- ds: the declared domains

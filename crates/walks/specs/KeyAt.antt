@@ -13,6 +13,7 @@ use Rattle.laws.specs.Bools.{never as no-bool, and-l, and-r}
 use Rattle.laws.specs.Slices.{Has}
 use Rattle.syntax.specs.Syntax.{IntExpr, IConst, IVar, Linear, If, Terms, tnil, tmore, BoolExpr, Const, Var, NVar, And, Or, Not, Xor, Iff, Imp, Cmp, Members, mnil, more, encode-int, encode-bool}
 use Rattle.clauses.specs.Bounds.{int-bound}
+use Rattle.walks.specs.Distinct.{none-some, some-is}
 use Rattle.walks.specs.Tree.{Place, Tree, IntTree, nil, cons, append, Splitting, below, here, inner, own-splits, splits, splits-int, split-int, resolve, ties, ties-int}
 use Rattle.walks.specs.Resolve.{rule-trees, pair-trees}
 use Rattle.walks.specs.Keys.{Key, keys, keys-members, keys-int, keys-terms, Every, every-none, every-more, every-map, Within, Differ, Distinct, distinct-more, Found, found, later, found-in, distinct-found, Written, ChoicesAll, Choices, choices-append, int-choices, ties-int-choices, every-append, wide, every-left, every-right, distinct-append, apart, keys-int-within, keys-int-distinct, resolve-choices, ties-choices, Makes}
@@ -33,12 +34,6 @@ parted-in (p ∷ ps) q = is-parted p q || parted-in ps q
 
 abbrev pub places : List Key → List Place
 places xs = map (λ x. x .place) xs
-
-none-some : {A X : Type 0} {x : A} → none ≡ some x → X
-none-some e = absurd (let z : _≡_ {A = ℕ} 0 1 = cc in omega arith)
-
-some-is : {A : Type 0} {x y : A} → some x ≡ some y → x ≡ y
-some-is e = cc
 
 not-false : (b : Bool) → not b ≡ true → b ≡ false
 not-false false h = refl

@@ -162,19 +162,19 @@ module _ (ds : List Domain) (F : List ℤ) (parted : ℕ → Bool) (fixed : IntE
     odd = numbered;
   }
 
--- parted agrees with the list
-abbrev pub AgreesWith : (ℕ → Bool) → Key → Type 0
-AgreesWith parted x = parted (x .place .at) ≡ not (x .place .whole)
+-- of an If of the list: parted says whether it has split parts, and with-ifs that there are Ifs
+abbrev pub AgreesWith : (ℕ → Bool) → Bool → Key → Type 0
+AgreesWith parted with-ifs x = (parted (x .place .at) ≡ not (x .place .whole)) × (with-ifs ≡ true)
 
-pub parted-agrees : (parted : ℕ → Bool) {xs : List Key} → Every (AgreesWith parted) xs → (q : ℕ) → parted-in (places xs) q ≡ true → parted q ≡ true
+pub parted-agrees : (parted : ℕ → Bool) (with-ifs : Bool) {xs : List Key} → Every (AgreesWith parted with-ifs) xs → (q : ℕ) → parted-in (places xs) q ≡ true → parted q ≡ true
 unfolding parted-in
-parted-agrees parted every-none q h = no-bool h
-parted-agrees parted (every-more {x} {xs} a ks) q h = go (is-parted (x .place) q) refl (parted-agrees parted ks q)
+parted-agrees parted with-ifs every-none q h = no-bool h
+parted-agrees parted with-ifs (every-more {x} {xs} a ks) q h = go (is-parted (x .place) q) refl (parted-agrees parted with-ifs ks q)
   where
     go : (b : Bool) → is-parted (x .place) q ≡ b → (parted-in (places xs) q ≡ true → parted q ≡ true) → parted q ≡ true
     go true i r =
         let j = parted-here (x .place) q i in
-        ap parted (sym (j .0)) ∙ a ∙ ap not (j .1)
+        ap parted (sym (j .0)) ∙ a .0 ∙ ap not (j .1)
     go false i r = r (rw i at h)
 
 -- the key of each with split parts is looked up at its place

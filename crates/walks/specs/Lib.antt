@@ -1,6 +1,7 @@
 pub mod Tree
 pub mod Form
 pub mod Item
+pub mod Distinct
 pub mod Placed
 pub mod Meet
 pub mod Cells
@@ -16,6 +17,7 @@ pub mod Legal
 pub mod Decode
 pub mod DecodeExact
 pub mod NoTies
+pub mod Off
 pub mod Ends
 pub mod Leaves
 pub mod ProperTrees

@@ -2,17 +2,16 @@
 use mathlib.Core.Path.{_≡_, refl, sym, ap, _∙_, subst}
 use mathlib.Core.Bool.{Bool, true, false, not, _&&_, _||_, cond}
 use mathlib.Core.Option.{Option, none, some}
-use mathlib.Core.List.{List, [], _∷_}
-use Prim.Native.Nat.{ℕ, zero, suc, _+_, _-_, _*_, _≤_, _<_}
+use mathlib.Core.List.{List}
+use Prim.Native.Nat.{ℕ, _+_, _≤_, _<_}
 use native.Mathlib.Omega.{arith}
-use lib.IntN.{ℤ, pos, negsuc}
+use lib.IntN.{ℤ, pos}
 use lib.ListN.{length, getD, set, length-set, take, drop}
 use lib.Seq.{getD-set-other, take-set-le}
-use lib.Dec.{eqb, ltb}
-use borrow.Author.Tests.{eqb-true, eqb-false, ltb-true, ltb-false, lt-ltb}
-use Rattle.laws.specs.Bools.{and-l, and-r, and-i}
+use lib.Dec.{eqb}
+use borrow.Author.Tests.{eqb-true, eqb-false, lt-ltb}
+use Rattle.laws.specs.Bools.{never as no-bool, and-l, and-r, and-i}
 use Rattle.laws.specs.Same.{same-words, same-is, same-refl}
-use Rattle.laws.specs.Slices.{Has}
 use Rattle.laws.specs.Ints.{is-zero}
 use Rattle.syntax.specs.Syntax.{Domain, lower-bound, upper-bound, IntExpr, encode-int}
 use Rattle.clauses.specs.Log.{Log, next-int, get-if}
@@ -20,30 +19,17 @@ use Rattle.clauses.specs.Emitted.{domain-at}
 use Rattle.walk.specs.Item.{limit, bool-map, int-map, nat, bool-at, int-entry}
 use Rattle.walk.specs.Decode.{read-part}
 use Rattle.walks.specs.Tree.{Place}
-use Rattle.walks.specs.Item.{cells, cell, Seen, unseen, both-constant, numbered, seen-in, seen, known-in}
+use Rattle.walks.specs.Item.{has-ifs, cells, cell, Seen, unseen, both-constant, numbered, seen-in, seen, known-in}
+use Rattle.walks.specs.Distinct.{none-some, some-is, unseen-numbered, constant-numbered}
 use Rattle.walks.specs.Placed.{HasNumber, Numbered}
 use Rattle.walks.specs.Meet.{State, with-work, is-unseen, is-shared, words-at, equal-from, find-equal, set-cells, copied, Parts, is-full, meet-unknown, meet-new, meet-if}
-use Rattle.walks.specs.Cells.{cells-first, cells-second, cells-third, cells-other, Off, Stands, Key, whole, own, Is, Somewhere, Cells, Places, Only, stands-of, key-stands, off-apart, cells-at}
-use Rattle.walks.specs.Good.{blanks, no-int, Names, Good}
+use Rattle.walks.specs.Cells.{cells-first, cells-second, cells-third, cells-other, cells-word, Stands, Key, whole, own, Is, Somewhere, Cells, Places, Only, stands-of, key-stands, off-apart, cells-at}
+use Rattle.walks.specs.Good.{blanks-same, no-int, Names, Good}
 use Rattle.walks.specs.Find.{Equal, FoundAt, equal-some, equal-none}
 use Rattle.walks.specs.Leaves.{words-of}
-use Rattle.walks.specs.Visit.{Later, Outcome, full, good, outcome-to, not-full}
-
-no-false : {X : Type 0} → _≡_ {A = Bool} false true → X
-no-false e = absurd (let z : _≡_ {A = ℕ} 0 1 = cc in omega arith)
-
-none-some : {A X : Type 0} {x : A} → none ≡ some x → X
-none-some e = absurd (let z : _≡_ {A = ℕ} 0 1 = cc in omega arith)
-
-some-is : {A : Type 0} {x y : A} → some x ≡ some y → x ≡ y
-some-is e = cc
+use Rattle.walks.specs.Visit.{Later, same-later, Outcome, good, outcome-to, not-full}
 
 -- ---- a store into cells
-
-pub blanks-same : (f : ℤ → Bool) (w w' : List ℤ) (at k : ℕ) → ((v : ℕ) → v < k → getD w' (at + v) (pos 0) ≡ getD w (at + v) (pos 0)) → blanks f w' at k ≡ blanks f w at k
-unfolding blanks
-blanks-same f w w' at zero h = refl
-blanks-same f w w' at (suc k) h = rw (h k (omega arith), blanks-same f w w' at k (λ v l. h v (omega arith))) refl
 
 pub cells-length : (p : ℕ) (x y z : ℤ) (w : List ℤ) → length (set-cells p x y z w) ≡ length w
 unfolding set-cells
@@ -92,19 +78,19 @@ step-unknown ds rec cap q st o f h e =
     ∙ ap (λ b. cond b st (meet-unknown ds rec cap q (find-equal (st .work) (q .place)) st)) h
     ∙ ap (λ x. meet-unknown ds rec cap q x st) e
 
-module _ (ds : List Domain) (F : List ℤ) (Plain : IntExpr → Type 0) (parted : ℕ → Bool) (K : ℕ → Option IntExpr) (fixed : IntExpr → Bool) (rec cap : ℕ) (before : List ℤ) (Named : Log → Type 0) where
+module _ (ds : List Domain) (F : List ℤ) (Plain : IntExpr → Type 0) (parted : ℕ → Bool) (K : ℕ → Option IntExpr) (fixed : IntExpr → Bool) (rec cap : ℕ) (with-ifs : Bool) (before : List ℤ) (Named : Log → Type 0) where
   abbrev GoodAt : ℕ → State → Log → Type 0
-  GoodAt = Good ds F Plain parted K fixed rec cap before Named
+  GoodAt = Good ds F Plain parted K fixed rec cap with-ifs before Named
 
   abbrev CellsAt : List ℤ → Log → Type 0
   CellsAt = Cells ds F Plain parted K fixed
 
   -- cells alone change
-  pub good-cells : (n : ℕ) (st : State) (s : Log) (w : List ℤ) → length w ≡ length (st .work) → ((q : ℕ) → q < 5376 → getD w q (pos 0) ≡ getD (st .work) q (pos 0)) → read-part w ≡ read-part (st .work) → CellsAt w s → GoodAt n st s → GoodAt n (with-work w st) s
+  pub good-cells : (n : ℕ) (st : State) (s : Log) (w : List ℤ) → length w ≡ length (st .work) → ((q : ℕ) → q < 5376 → getD w q (pos 0) ≡ getD (st .work) q (pos 0)) → read-part w ≡ read-part (st .work) → has-ifs w ≡ has-ifs (st .work) → CellsAt w s → GoodAt n st s → GoodAt n (with-work w st) s
   unfolding bool-at int-entry
-  good-cells n st s w l h r c g =
-      let i = blanks-same is-zero (st .work) w bool-map 512 (λ v m. h (bool-map + v) (omega arith)) in
-      let j = blanks-same no-int (st .work) w int-map 256 (λ v m. h (int-map + v) (omega arith)) in
+  good-cells n st s w l h r o c g =
+      let i = blanks-same is-zero (st .work) bool-map w 512 (λ v m. h (bool-map + v) (omega arith)) in
+      let j = blanks-same no-int (st .work) int-map w 256 (λ v m. h (int-map + v) (omega arith)) in
       record {
         map = λ v m. h (bool-map + v) (omega arith) ∙ g .map v m;
         map-int = λ v m. ap nat (h (int-map + v) (omega arith)) ∙ g .map-int v m;
@@ -114,6 +100,7 @@ module _ (ds : List Domain) (F : List ℤ) (Plain : IntExpr → Type 0) (parted 
         low-int = g .low-int;
         size = omega (arith, g .size);
         words = r ∙ g .words;
+        word = o ∙ g .word;
         records = g .records;
         cells = c;
         below = g .below;
@@ -142,12 +129,19 @@ module _ (ds : List Domain) (F : List ℤ) (Plain : IntExpr → Type 0) (parted 
       where
         go : (b : Bool) → p .whole ≡ b → b ≡ true
         go true x = refl
-        go false x = no-false (sym h ∙ nd .kind ∙ ap not x)
+        go false x = no-bool (sym h ∙ nd .kind ∙ ap not x)
 
-    pub under : IntExpr
+    pub not-whole : parted (p .at) ≡ true → p .whole ≡ false
+    not-whole h = go (p .whole) refl
+      where
+        go : (b : Bool) → p .whole ≡ b → b ≡ false
+        go true x = no-bool (ap not (sym x) ∙ sym (nd .kind) ∙ h)
+        go false x = refl
+
+    under : IntExpr
     under = key-stands ds F Plain parted K fixed P (p .at) e (nd .key)
 
-    pub place-stands : Stands ds F Plain parted K fixed (p .at) under
+    place-stands : Stands ds F Plain parted K fixed (p .at) under
     unfolding under
     place-stands = stands-of ds F Plain parted K fixed P (p .at) e (nd .key)
 
@@ -179,28 +173,25 @@ module _ (ds : List Domain) (F : List ℤ) (Plain : IntExpr → Type 0) (parted 
           not-parted x v t h false y = y
 
       shared-is : (o : Seen) → is-shared o ≡ true → (X : Type 0) → ((v : ℕ) → o ≡ numbered v true → X) → X
-      shared-is unseen h X k = no-false h
-      shared-is both-constant h X k = no-false h
+      shared-is unseen h X k = no-bool h
+      shared-is both-constant h X k = no-bool h
       shared-is (numbered v true) h X k = k v refl
-      shared-is (numbered v false) h X k = no-false h
+      shared-is (numbered v false) h X k = no-bool h
 
       -- ---- known
 
       -- the cells of a later slice
-      pub later-numbered : (w₁ w₂ : List ℤ) (v : ℕ) (b : Bool) → Later ds F Plain parted K fixed w₁ w₂ → seen-in (cell w₁ (p .at + 1)) ≡ numbered v b → cell w₁ (p .at + 2) ≡ lower-bound (domain-at ds s v) → cell w₁ (p .at + 3) ≡ upper-bound (domain-at ds s v)
+      later-numbered : (w₁ w₂ : List ℤ) (v : ℕ) (b : Bool) → Later ds F Plain parted K fixed w₁ w₂ → seen-in (cell w₁ (p .at + 1)) ≡ numbered v b → cell w₁ (p .at + 2) ≡ lower-bound (domain-at ds s v) → cell w₁ (p .at + 3) ≡ upper-bound (domain-at ds s v)
           → Numbered w₂ p v (domain-at ds s v)
       unfolding seen
       later-numbered w₁ w₂ v b l h x y =
-          let ne : seen-in (cell w₁ (p .at + 1)) ≡ unseen → ⊥ = λ q. not-seen (sym q ∙ h) in
-          let go : (k : ℕ) → 1 ≤ k → k ≤ 3 → cell w₂ (p .at + k) ≡ cell w₁ (p .at + k) = λ k a c. l (p .at) under place-stands ne k a c in
+          let ne : seen-in (cell w₁ (p .at + 1)) ≡ unseen → ⊥ = λ q. unseen-numbered (sym q ∙ h) in
+          let go : (k : ℕ) → 1 ≤ k → k ≤ 3 → cell w₂ (p .at + k) ≡ cell w₁ (p .at + k) = λ k a c. l .stay (p .at) under place-stands ne k a c in
           record {
             number = subst (λ o. HasNumber o v) (sym (ap seen-in (go 1 (omega arith) (omega arith)) ∙ h)) refl;
             low = go 2 (omega arith) (omega arith) ∙ x;
             high = go 3 (omega arith) (omega arith) ∙ y;
           }
-        where
-          not-seen : {v : ℕ} {b : Bool} → unseen ≡ numbered v b → ⊥
-          not-seen e = absurd (let z : _≡_ {A = ℕ} 0 1 = cc in omega arith)
 
       -- an equal If's cells are copied
       module _ (t : Stands ds F Plain parted K fixed (p .at) e) (c : parted (p .at) ≡ false) (un : seen-in (cell w (p .at + 1)) ≡ unseen) (x v : ℕ) (h : seen-in (cell w (x + 1)) ≡ numbered v true) (i : Is ds F Plain parted K fixed w s x e v) where
@@ -225,37 +216,34 @@ module _ (ds : List Domain) (F : List ℤ) (Plain : IntExpr → Type 0) (parted 
         after-cells : CellsAt after s
         after-cells = cells-at ds F Plain parted K fixed P (p .at) e (whole t c) w after after-only s
             (λ u b z. subst (λ y. Is ds F Plain parted K fixed after s (p .at) e y) (other-number u b z) (record { found = i .found; low = after-second; high = after-third }))
-            (λ z. no-const (sym z ∙ after-first))
-            (λ k z. no-unseen (sym z ∙ after-first))
-            (λ y u z. no-false (sym c ∙ y))
-            (λ u z. no-unseen (sym un ∙ z))
+            (λ z. constant-numbered (sym z ∙ after-first))
+            (λ k z. unseen-numbered (sym z ∙ after-first))
+            (λ y u z. no-bool (sym c ∙ y))
+            (λ u z. unseen-numbered (sym un ∙ z))
             (g .cells)
-          where
-            no-const : {X : Type 0} {u : ℕ} {b : Bool} → both-constant ≡ numbered u b → X
-            no-const e = absurd (let z : _≡_ {A = ℕ} 0 1 = cc in omega arith)
 
-            no-unseen : {X : Type 0} {u : ℕ} {b : Bool} → unseen ≡ numbered u b → X
-            no-unseen e = absurd (let z : _≡_ {A = ℕ} 0 1 = cc in omega arith)
+        after-word : has-ifs after ≡ has-ifs w
+        after-word = cells-word (p .at) (cell w (x + 1)) (cell w (x + 2)) (cell w (x + 3)) w (t .high)
 
         after-later : Later ds F Plain parted K fixed w after
-        after-later q d a ne k l m = go (eqb q (p .at)) refl
+        after-later = record { stay = λ q d a ne k l m. go q d a ne k l m (eqb q (p .at)) refl; word = after-word }
           where
-            go : (b : Bool) → eqb q (p .at) ≡ b → cell after (q + k) ≡ cell w (q + k)
-            go true z = absurd (ne (ap (λ y. seen-in (cell w (y + 1))) (eqb-true q (p .at) z) ∙ un))
-            go false z = after-only (q + k) (off-apart ds F Plain parted K fixed P q (p .at) k d e a t (eqb-false q (p .at) z) l m)
+            go : (q : ℕ) (d : IntExpr) → Stands ds F Plain parted K fixed q d → (seen-in (cell w (q + 1)) ≡ unseen → ⊥) → (k : ℕ) → 1 ≤ k → k ≤ 3 → (b : Bool) → eqb q (p .at) ≡ b → cell after (q + k) ≡ cell w (q + k)
+            go q d a ne k l m true z = absurd (ne (ap (λ y. seen-in (cell w (y + 1))) (eqb-true q (p .at) z) ∙ un))
+            go q d a ne k l m false z = after-only (q + k) (off-apart ds F Plain parted K fixed P q (p .at) k d e a t (eqb-false q (p .at) z) l m)
 
-        pub copied-outcome : (k : ℕ) → st .used ≤ words-of s + k → Outcome ds F Plain parted K fixed rec cap before Named k n (λ w'. Numbered w' p v (domain-at ds s v)) st (with-work after st) s
+        pub copied-outcome : (k : ℕ) → st .used ≤ words-of s + k → Outcome ds F Plain parted K fixed rec cap with-ifs before Named k n (λ w'. Numbered w' p v (domain-at ds s v)) st (with-work after st) s
         copied-outcome k u = good
-            (good-cells n st s after (cells-length (p .at) (cell w (x + 1)) (cell w (x + 2)) (cell w (x + 3)) w) (λ q l. cells-below (p .at) (cell w (x + 1)) (cell w (x + 2)) (cell w (x + 3)) w q (t .low) l) (cells-words (p .at) (cell w (x + 1)) (cell w (x + 2)) (cell w (x + 3)) w) after-cells g)
+            (good-cells n st s after (cells-length (p .at) (cell w (x + 1)) (cell w (x + 2)) (cell w (x + 3)) w) (λ q l. cells-below (p .at) (cell w (x + 1)) (cell w (x + 2)) (cell w (x + 3)) w q (t .low) l) (cells-words (p .at) (cell w (x + 1)) (cell w (x + 2)) (cell w (x + 3)) w) after-word after-cells g)
             u after-later (λ w' l. later-numbered after w' v true l after-first after-second after-third)
 
       -- the If of the number v: by its own cells, or copied
       free : is-full ds rec cap st ≡ false
-      free = not-full ds F Plain parted K fixed rec cap before Named N P low st (g .used)
+      free = not-full ds F Plain parted K fixed rec cap with-ifs before Named N P low st (g .used)
 
       module _ (v : ℕ) (h : get-if e s ≡ some v) (k : ℕ) (u : st .used ≤ words-of s + k) where
         abbrev Result : State → Type 0
-        Result st' = Outcome ds F Plain parted K fixed rec cap before Named k n (λ w'. (v < next-int s) × Numbered w' p v (domain-at ds s v)) st st' s
+        Result st' = Outcome ds F Plain parted K fixed rec cap with-ifs before Named k n (λ w'. (v < next-int s) × Numbered w' p v (domain-at ds s v)) st st' s
 
         below : v < next-int s
         below = g .below e v h
@@ -267,7 +255,7 @@ module _ (ds : List Domain) (F : List ℤ) (Plain : IntExpr → Type 0) (parted 
             let i' : Is ds F Plain parted K fixed w s (p .at) e v = subst (λ a. Is ds F Plain parted K fixed w s (p .at) e a) y i in
             let z' : seen-in (cell w (p .at + 1)) ≡ numbered v b = z ∙ ap (λ a. numbered a b) y in
             let kn : known-in (seen-in (cell w (p .at + 1))) (st .ints) ≡ true = ap (λ o. known-in o (st .ints)) z' ∙ lt-ltb v (st .ints) (omega (arith, below, g .ints)) in
-            subst Result (sym (step-known ds rec cap q st kn)) (good g u (λ a d c ne j l m. refl) (λ w' l. (below, later-numbered w w' v b l z' (i' .low) (i' .high))))
+            subst Result (sym (step-known ds rec cap q st kn)) (good g u (same-later ds F Plain parted K fixed w) (λ w' l. (below, later-numbered w w' v b l z' (i' .low) (i' .high))))
 
         same-here : Stands ds F Plain parted K fixed (p .at) e → parted (p .at) ≡ false → (x : Somewhere ds F Plain parted K fixed w e v) → same-words (words-at w (x .place) (p .size)) (words-at w (p .at) (p .size)) ≡ true
         same-here t c x = rw (nd .size (is-whole c), stands-words (x .place) (x .stands), stands-words (p .at) t) (same-refl (encode-int e))
@@ -275,13 +263,13 @@ module _ (ds : List Domain) (F : List ℤ) (Plain : IntExpr → Type 0) (parted 
         from : Stands ds F Plain parted K fixed (p .at) e → parted (p .at) ≡ false → seen-in (cell w (p .at + 1)) ≡ unseen → (x a : ℕ) → seen-in (cell w (x + 1)) ≡ numbered a true → Is ds F Plain parted K fixed w s x e a → Result (meet-unknown ds rec cap q (some x) st)
         from t c z x a m i =
             let y : a ≡ v = some-is (sym (i .found) ∙ h) in
-            outcome-to ds F Plain parted K fixed rec cap before Named (λ w' l. (below, l)) (copied-outcome t c z x v (m ∙ ap (λ b. numbered b true) y) (subst (λ b. Is ds F Plain parted K fixed w s x e b) y i) k u)
+            outcome-to ds F Plain parted K fixed rec cap with-ifs before Named (λ w' l. (below, l)) (copied-outcome t c z x v (m ∙ ap (λ b. numbered b true) y) (subst (λ b. Is ds F Plain parted K fixed w s x e b) y i) k u)
 
         elsewhere : Stands ds F Plain parted K fixed (p .at) e → parted (p .at) ≡ false → seen-in (cell w (p .at + 1)) ≡ unseen → (o : Option ℕ) → equal-from w p 4096 512 ≡ o → Result (meet-unknown ds rec cap q o st)
         elsewhere t c z none y =
             let x = g .cells .complete e v (t .plain) h in
             let m : Equal w p (x .place) ≡ true = and-i (is-shared (seen-in (cell w (x .place + 1)))) _ (ap is-shared (x .shared)) (same-here t c x) in
-            no-false (sym (equal-none w p 4096 512 y (x .place) (x .stands .low) (omega (arith, x .stands .high))) ∙ m)
+            no-bool (sym (equal-none w p 4096 512 y (x .place) (x .stands .low) (omega (arith, x .stands .high))) ∙ m)
         elsewhere t c z (some x) y =
             let f = equal-some w p 4096 512 x y in
             let tx = found-stands t (nd .size (is-whole c)) x f in
@@ -293,7 +281,7 @@ module _ (ds : List Domain) (F : List ℤ) (Plain : IntExpr → Type 0) (parted 
             let f : find-equal w p ≡ equal-from w p 4096 512 = find-by w p true (and-on (is-unseen (seen w p)) (p .whole) (ap is-unseen z) (is-whole c)) in
             subst Result (sym (step-unknown ds rec cap q st (equal-from w p 4096 512) free (ap (λ o. known-in o (st .ints)) z) f)) (elsewhere t c z (equal-from w p 4096 512) refl)
         by-seen unseen z (own y) = none-some (sym (g .cells .fresh (p .at) e y z) ∙ h)
-        by-seen both-constant z y = no-false (sym (g .opens e v h) ∙ g .cells .const (p .at) e y z)
+        by-seen both-constant z y = no-bool (sym (g .opens e v h) ∙ g .cells .const (p .at) e y z)
         by-seen (numbered a b) z y = here a b z (g .cells .number (p .at) e a b y z)
 
         pub known-outcome : Result (meet-if ds rec cap q st)
@@ -309,13 +297,6 @@ module _ (ds : List Domain) (F : List ℤ) (Plain : IntExpr → Type 0) (parted 
             let tx = found-stands t (nd .size (is-whole c)) x f in
             shared-is (seen-in (cell w (x + 1))) (and-l (is-shared (seen-in (cell w (x + 1)))) _ (f .test)) _ (λ a m. none-some (sym h ∙ found-number x a tx m .found))
 
-        not-whole : parted (p .at) ≡ true → p .whole ≡ false
-        not-whole x = by (p .whole) refl
-          where
-            by : (b : Bool) → p .whole ≡ b → b ≡ false
-            by true y = no-false (ap not (sym y) ∙ sym (nd .kind) ∙ x)
-            by false y = refl
-
         new-by : (o : Seen) → seen-in (cell w (p .at + 1)) ≡ o → KeyAt (p .at) e → meet-if ds rec cap q st ≡ meet-new ds rec cap q st
         unfolding seen
         new-by unseen z (whole t c) =
@@ -327,7 +308,3 @@ module _ (ds : List Domain) (F : List ℤ) (Plain : IntExpr → Type 0) (parted 
 
         pub new-outcome : meet-if ds rec cap q st ≡ meet-new ds rec cap q st
         new-outcome = new-by (seen-in (cell w (p .at + 1))) refl (nd .key)
-
-        -- no number in its cells
-        pub not-numbered : (a : ℕ) (b : Bool) → seen-in (cell w (p .at + 1)) ≡ numbered a b → ⊥
-        not-numbered a b z = none-some (sym h ∙ g .cells .number (p .at) e a b (nd .key) z .found)

@@ -1,72 +1,52 @@
 -- An If that the first walk makes: its cells, and the state behind it. No witness of an If is in scope here, so that arithmetic proves nothing by it:
 -- the logs are given by what they have more than those before.
 use mathlib.Core.Path.{_≡_, refl, sym, ap, _∙_, subst}
-use mathlib.Core.Bool.{Bool, true, false, not, _&&_, _||_, cond}
+use mathlib.Core.Bool.{Bool, true, false, cond}
 use mathlib.Core.Option.{Option, none, some}
 use mathlib.Core.Logic.{inl, inr}
 use mathlib.Core.List.{List, [], _∷_}
-use Prim.Native.Nat.{ℕ, zero, suc, _+_, _-_, _*_, _≤_, _<_, min}
+use Prim.Native.Nat.{ℕ, zero, suc, _+_, _*_, _≤_, _<_, min}
 use native.Mathlib.Omega.{arith}
 use lib.IntN.{ℤ, pos, negsuc}
-use lib.ListN.{length, getD, set, length-set}
+use lib.ListN.{length, getD, length-set}
 use lib.Seq.{getD-set-other, getD-set-same, take-set-le}
 use lib.Dec.{eqb, ltb}
 use borrow.Author.Tests.{eqb-true, eqb-false, ltb-true, ltb-false, lt-ltb}
-use Rattle.laws.specs.Same.{same-words, same-is, same-refl}
+use Rattle.laws.specs.Bools.{never as no-bool}
+use Rattle.laws.specs.Same.{same-words, same-is}
 use Rattle.syntax.specs.Syntax.{Domain, lower-bound, upper-bound, IntExpr, encode-int}
 use Rattle.syntax.specs.Unique.{int-unique-words}
-use Rattle.clauses.specs.Log.{MadeInt, is-declared-int, bool, int, defined, known, Log, next-bool, next-int, get-bool-var, get-int-var, get-if, made-ints, convert-bool-var}
+use Rattle.clauses.specs.Log.{MadeInt, is-declared-int, int, known, Log, next-int, get-bool-var, get-int-var, get-if, made-ints, convert-bool-var}
 use Rattle.clauses.specs.Emitted.{domain-at}
-use Rattle.clauses.specs.Since.{OnTop}
 use Rattle.laws.specs.Ints.{is-zero}
 use Rattle.walk.specs.Item.{limit, bump, fresh, bool-map, int-map, nat, bool-at, int-entry}
-use Rattle.walk.specs.Grow.{Grows}
 use Rattle.walk.specs.Decode.{read-part}
 use Rattle.walks.specs.Tree.{Place}
-use Rattle.walks.specs.Item.{tallies, num-item, cells, cell, Seen, unseen, both-constant, numbered, seen-in, seen}
+use Rattle.walks.specs.Item.{has-ifs, tallies, num-item, cells, cell, Seen, unseen, both-constant, numbered, seen-in, seen}
+use Rattle.walks.specs.Distinct.{none-some, unseen-numbered, unseen-constant, constant-numbered}
 use Rattle.walks.specs.Placed.{HasNumber, Numbered}
-use Rattle.walks.specs.Meet.{State, with-work, more-bools, spend, set-cell, set-cells, number-word, stored, range-record, two-record, Parts, is-full, new-int, meet-bool, meet-open, meet-constant, meet-branches, meet-new}
-use Rattle.walks.specs.Cells.{cells-first, cells-second, cells-third, cells-other, Off, Stands, Key, whole, own, Is, Cells, Places, Only, stands-of, key-stands, off-apart, cells-at, cells-new}
-use Rattle.walks.specs.Good.{no-int, made-record, records-of, Quiet, Names, Good, good-less, good-quiet, good-bool, good-new, good-spend}
+use Rattle.walks.specs.Meet.{State, with-work, more-bools, spend, set-cell, number-word, stored, range-record, two-record, Parts, is-full, new-int, meet-bool, meet-open, meet-constant, meet-branches, meet-new}
+use Rattle.walks.specs.Cells.{cells-first, cells-second, cells-third, cells-other, word-kept, cells-word, Stands, whole, Cells, Places, Only, stands-of, key-stands, off-apart, cells-at, cells-new}
+use Rattle.walks.specs.Good.{blanks-same, no-int, made-record, records-of, Quiet, Names, Good, good-less, good-quiet, good-bool, good-new, good-spend}
 use Rattle.walks.specs.Implements.{Ready}
 use Rattle.walks.specs.Leaves.{words-of, words-int}
-use Rattle.walks.specs.Visit.{bool-spends, bool-later, Later, later-then, Outcome, full, good, outcome-then, good-ready, not-full}
-use Rattle.walks.specs.Lookup.{blanks-same, cells-length, cells-below, cells-words, good-cells, Node, is-whole, place-stands, under, later-numbered, not-numbered}
+use Rattle.walks.specs.Visit.{bool-spends, bool-later, Later, later-then, same-later, Outcome, full, good, outcome-then, good-ready, not-full}
+use Rattle.walks.specs.Lookup.{cells-length, cells-below, cells-words, good-cells, Node, is-whole, not-whole}
 
-no-false : {X : Type 0} → _≡_ {A = Bool} false true → X
-no-false e = absurd (let z : _≡_ {A = ℕ} 0 1 = cc in omega arith)
-
-none-some : {A X : Type 0} {x : A} → none ≡ some x → X
-none-some e = absurd (let z : _≡_ {A = ℕ} 0 1 = cc in omega arith)
-
-module _ (ds : List Domain) (F : List ℤ) (Plain : IntExpr → Type 0) (parted : ℕ → Bool) (K : ℕ → Option IntExpr) (fixed : IntExpr → Bool) (rec cap : ℕ) (before : List ℤ) (Named : Log → Type 0) (N : Names Named) (P : Places ds F Plain parted K fixed) (low : cap < limit) where
+module _ (ds : List Domain) (F : List ℤ) (Plain : IntExpr → Type 0) (parted : ℕ → Bool) (K : ℕ → Option IntExpr) (fixed : IntExpr → Bool) (rec cap : ℕ) (with-ifs : Bool) (before : List ℤ) (Named : Log → Type 0) (N : Names Named) (P : Places ds F Plain parted K fixed) (low : cap < limit) where
   abbrev GoodAt : ℕ → State → Log → Type 0
-  GoodAt = Good ds F Plain parted K fixed rec cap before Named
+  GoodAt = Good ds F Plain parted K fixed rec cap with-ifs before Named
 
   abbrev OutcomeAt : ℕ → ℕ → (List ℤ → Type 0) → State → State → Log → Type 0
-  OutcomeAt = Outcome ds F Plain parted K fixed rec cap before Named
+  OutcomeAt = Outcome ds F Plain parted K fixed rec cap with-ifs before Named
 
-  module _ (q : Parts) (e : IntExpr) (nd : Node ds F Plain parted K fixed rec cap before Named (q .place) e) where
+  module _ (q : Parts) (e : IntExpr) (nd : Node ds F Plain parted K fixed rec cap with-ifs before Named (q .place) e) where
     abbrev p : Place
     p = q .place
 
     seen-word : (b : Bool) (v : ℕ) → seen-in (number-word b v) ≡ numbered v b
     seen-word true v = refl
     seen-word false v = refl
-
-    kind-false : parted (p .at) ≡ false → p .whole ≡ true
-    kind-false h = go (p .whole) refl
-      where
-        go : (b : Bool) → p .whole ≡ b → b ≡ true
-        go true x = refl
-        go false x = no-false (sym h ∙ nd .kind ∙ ap not x)
-
-    kind-true : parted (p .at) ≡ true → p .whole ≡ false
-    kind-true h = go (p .whole) refl
-      where
-        go : (b : Bool) → p .whole ≡ b → b ≡ false
-        go true x = no-false (ap not (sym x) ∙ sym (nd .kind) ∙ h)
-        go false x = refl
 
     -- ---- the number kept
 
@@ -96,7 +76,7 @@ module _ (ds : List Domain) (F : List ℤ) (Plain : IntExpr → Type 0) (parted 
       only x o = cells-other w (p .at) (number-word (p .whole) v) (lower-bound d) (upper-bound d) x o
 
       new-cells : Cells ds F Plain parted K fixed w' (known e v ∷ s)
-      new-cells = cells-new ds F Plain parted K fixed P (p .at) e (nd .key) w w' only s v (p .whole) none-yet first kind-false kind-true second third (g .cells)
+      new-cells = cells-new ds F Plain parted K fixed P (p .at) e (nd .key) w w' only s v (p .whole) none-yet first (is-whole ds F Plain parted K fixed rec cap with-ifs before Named N P low q e nd) (not-whole ds F Plain parted K fixed rec cap with-ifs before Named N P low q e nd) second third (g .cells)
 
       -- it had none
       blank : seen-in (cell w (p .at + 1)) ≡ unseen
@@ -104,15 +84,18 @@ module _ (ds : List Domain) (F : List ℤ) (Plain : IntExpr → Type 0) (parted 
         where
           go : (o : Seen) → seen-in (cell w (p .at + 1)) ≡ o → o ≡ unseen
           go unseen z = refl
-          go both-constant z = no-false (sym opened ∙ g .cells .const (p .at) e (nd .key) z)
+          go both-constant z = no-bool (sym opened ∙ g .cells .const (p .at) e (nd .key) z)
           go (numbered a b) z = none-some (sym none-yet ∙ g .cells .number (p .at) e a b (nd .key) z .found)
 
+      new-word : has-ifs w' ≡ has-ifs w
+      new-word = cells-word (p .at) (number-word (p .whole) v) (lower-bound d) (upper-bound d) w (at-place .high)
+
       new-later : Later ds F Plain parted K fixed w w'
-      new-later x a t ne k l m = go (eqb x (p .at)) refl
+      new-later = record { stay = λ x a t ne k l m. go x a t ne k l m (eqb x (p .at)) refl; word = new-word }
         where
-          go : (b : Bool) → eqb x (p .at) ≡ b → cell w' (x + k) ≡ cell w (x + k)
-          go true z = absurd (ne (ap (λ y. seen-in (cell w (y + 1))) (eqb-true x (p .at) z) ∙ blank))
-          go false z = only (x + k) (off-apart ds F Plain parted K fixed P x (p .at) k a (key-stands ds F Plain parted K fixed P (p .at) e (nd .key)) t at-place (eqb-false x (p .at) z) l m)
+          go : (x : ℕ) (a : IntExpr) → Stands ds F Plain parted K fixed x a → (seen-in (cell w (x + 1)) ≡ unseen → ⊥) → (k : ℕ) → 1 ≤ k → k ≤ 3 → (b : Bool) → eqb x (p .at) ≡ b → cell w' (x + k) ≡ cell w (x + k)
+          go x a t ne k l m true z = absurd (ne (ap (λ y. seen-in (cell w (y + 1))) (eqb-true x (p .at) z) ∙ blank))
+          go x a t ne k l m false z = only (x + k) (off-apart ds F Plain parted K fixed P x (p .at) k a (key-stands ds F Plain parted K fixed P (p .at) e (nd .key)) t at-place (eqb-false x (p .at) z) l m)
 
       -- the If is known from here on
       found-as : (a : IntExpr) (u : ℕ) → get-if a (known e v ∷ s) ≡ some u → (X : Type 0) → (a ≡ e → v ≡ u → X) → (get-if a s ≡ some u → X) → X
@@ -129,8 +112,8 @@ module _ (ds : List Domain) (F : List ℤ) (Plain : IntExpr → Type 0) (parted 
       pub known-log : GoodAt n (with-work w' st) (known e v ∷ s)
       unfolding get-bool-var get-int-var made-ints records-of bool-at int-entry
       known-log =
-          let i = blanks-same is-zero w w' bool-map 512 (λ x m. kept-below (bool-map + x) (omega arith)) in
-          let j = blanks-same no-int w w' int-map 256 (λ x m. kept-below (int-map + x) (omega arith)) in
+          let i = blanks-same is-zero w bool-map w' 512 (λ x m. kept-below (bool-map + x) (omega arith)) in
+          let j = blanks-same no-int w int-map w' 256 (λ x m. kept-below (int-map + x) (omega arith)) in
           record {
             map = λ x m. kept-below (bool-map + x) (omega arith) ∙ g .map x m;
             map-int = λ x m. ap nat (kept-below (int-map + x) (omega arith)) ∙ g .map-int x m;
@@ -140,6 +123,7 @@ module _ (ds : List Domain) (F : List ℤ) (Plain : IntExpr → Type 0) (parted 
             low-int = λ x m h. g .low-int x m h;
             size = omega (arith, g .size, cells-length (p .at) (number-word (p .whole) v) (lower-bound d) (upper-bound d) w);
             words = cells-words (p .at) (number-word (p .whole) v) (lower-bound d) (upper-bound d) w ∙ g .words;
+            word = new-word ∙ g .word;
             records = g .records;
             cells = new-cells;
             below = λ a u h. found-as a u h (u < next-int s) (λ x y. omega arith) (λ z. g .below a u z);
@@ -153,16 +137,13 @@ module _ (ds : List Domain) (F : List ℤ) (Plain : IntExpr → Type 0) (parted 
       pub known-numbered : (w₂ : List ℤ) → Later ds F Plain parted K fixed w' w₂ → Numbered w₂ p v d
       unfolding seen
       known-numbered w₂ l =
-          let ne : seen-in (cell w' (p .at + 1)) ≡ unseen → ⊥ = λ z. not-seen (sym z ∙ first) in
-          let go : (k : ℕ) → 1 ≤ k → k ≤ 3 → cell w₂ (p .at + k) ≡ cell w' (p .at + k) = λ k a c. l (p .at) _ at-place ne k a c in
+          let ne : seen-in (cell w' (p .at + 1)) ≡ unseen → ⊥ = λ z. unseen-numbered (sym z ∙ first) in
+          let go : (k : ℕ) → 1 ≤ k → k ≤ 3 → cell w₂ (p .at + k) ≡ cell w' (p .at + k) = λ k a c. l .stay (p .at) _ at-place ne k a c in
           record {
             number = subst (λ o. HasNumber o v) (sym (ap seen-in (go 1 (omega arith) (omega arith)) ∙ first)) refl;
             low = go 2 (omega arith) (omega arith) ∙ second ∙ ap lower-bound dom;
             high = go 3 (omega arith) (omega arith) ∙ third ∙ ap upper-bound dom;
           }
-        where
-          not-seen : {v : ℕ} {b : Bool} → unseen ≡ numbered v b → ⊥
-          not-seen e = absurd (let z : _≡_ {A = ℕ} 0 1 = cc in omega arith)
 
     -- ---- open branches
 
@@ -192,7 +173,7 @@ module _ (ds : List Domain) (F : List ℤ) (Plain : IntExpr → Type 0) (parted 
       open-done : (st : State) → OutcomeAt (k + q .leaves) (1 + n) (λ w. A w × B w) spent st x₂ → Done (with-work (stored p (next-int z) d (st .work)) (more-bools 1 st))
       open-done st (full x y) = full x (omega (arith, y, leaves-few, g₃))
       open-done st (good g u r f) =
-          let h = good-quiet ds F Plain parted K fixed rec cap before Named P 1 n st x₂ x₃ one g in
+          let h = good-quiet ds F Plain parted K fixed rec cap with-ifs before Named P 1 n st x₂ x₃ one g in
           let l : next-int z < next-int x₃ = omega (arith, i₁, one .ints) in
           let v = next-int z in
           let st' = more-bools 1 st in
@@ -209,7 +190,7 @@ module _ (ds : List Domain) (F : List ℤ) (Plain : IntExpr → Type 0) (parted 
       open-outcome gb ub = go (ltb cap (spent .used)) refl
         where
           g₀ : GoodAt (15 + n) (new-int ds rec cap (range-record d) b) (int m ∷ z)
-          g₀ = subst (λ (r : List ℤ). GoodAt (15 + n) (new-int ds rec cap r b) (int m ∷ z)) rec-is (good-new ds F Plain parted K fixed rec cap before Named N P m undeclared (15 + n) b z (good-less ds F Plain parted K fixed rec cap before Named (16 + n) (suc (15 + n)) b z (omega arith) gb))
+          g₀ = subst (λ (r : List ℤ). GoodAt (15 + n) (new-int ds rec cap r b) (int m ∷ z)) rec-is (good-new ds F Plain parted K fixed rec cap with-ifs before Named N P m undeclared (15 + n) b z (good-less ds F Plain parted K fixed rec cap with-ifs before Named (16 + n) (suc (15 + n)) b z (omega arith) gb))
 
           w₀ : b .used ≤ words-of (int m ∷ z) + k
           w₀ = omega (arith, ub, words-int m z)
@@ -220,10 +201,10 @@ module _ (ds : List Domain) (F : List ℤ) (Plain : IntExpr → Type 0) (parted 
           go false y =
               let l : bump (b .used) (q .leaves) ≤ cap = ltb-false cap (spent .used) y in
               let ex = exact-leaves l in
-              let g₄ = good-spend ds F Plain parted K fixed rec cap before Named (q .leaves) (15 + n) (new-int ds rec cap (range-record d) b) (int m ∷ z) low l g₀ in
-              let g₅ = good-less ds F Plain parted K fixed rec cap before Named (4 * q .leaves + (15 + n)) (wc + (wd + (1 + n))) spent (int m ∷ z) (omega (arith, light, ex)) g₄ in
+              let g₄ = good-spend ds F Plain parted K fixed rec cap with-ifs before Named (q .leaves) (15 + n) (new-int ds rec cap (range-record d) b) (int m ∷ z) low l g₀ in
+              let g₅ = good-less ds F Plain parted K fixed rec cap with-ifs before Named (4 * q .leaves + (15 + n)) (wc + (wd + (1 + n))) spent (int m ∷ z) (omega (arith, light, ex)) g₄ in
               let o = plain (k + q .leaves) (wd + (1 + n)) spent g₅ (omega (arith, w₀)) in
-              let o' = outcome-then ds F Plain parted K fixed rec cap before Named (k + q .leaves) (wd + (1 + n)) (1 + n) A B spent (q .meet-plain spent) (q .meet-negated (q .meet-plain spent)) x₁ x₂ (frozen (q .meet-plain spent)) g₁ o (λ g u. negated (k + q .leaves) (1 + n) (q .meet-plain spent) g u) in
+              let o' = outcome-then ds F Plain parted K fixed rec cap with-ifs before Named (k + q .leaves) (wd + (1 + n)) (1 + n) A B spent (q .meet-plain spent) (q .meet-negated (q .meet-plain spent)) x₁ x₂ (frozen (q .meet-plain spent)) g₁ o (λ g u. negated (k + q .leaves) (1 + n) (q .meet-plain spent) g u) in
               subst (λ y. Done (with-work (stored p y d (q .meet-negated (q .meet-plain spent) .work)) (more-bools 1 (q .meet-negated (q .meet-plain spent))))) (sym (gb .ints)) (open-done (q .meet-negated (q .meet-plain spent)) o')
 
     -- ---- constant branches
@@ -248,15 +229,9 @@ module _ (ds : List Domain) (F : List ℤ) (Plain : IntExpr → Type 0) (parted 
       const-seen : seen-in (cell marked (p .at + 1)) ≡ both-constant
       const-seen = ap seen-in marked-here
 
-      no-number : {X : Type 0} {v : ℕ} {b : Bool} → both-constant ≡ numbered v b → X
-      no-number x = absurd (let y : _≡_ {A = ℕ} 0 1 = cc in omega arith)
-
-      no-unseen : {X : Type 0} → both-constant ≡ unseen → X
-      no-unseen x = absurd (let y : _≡_ {A = ℕ} 0 1 = cc in omega arith)
-
       marked-cells : Cells ds F Plain parted K fixed marked s
       marked-cells = cells-at ds F Plain parted K fixed P (p .at) e (nd .key) (st .work) marked marked-only s
-          (λ v b x. no-number (sym const-seen ∙ x)) (λ x. closed) (λ x y. none-yet) (λ x v y. no-number (sym const-seen ∙ y))
+          (λ v b x. constant-numbered (sym const-seen ∙ x)) (λ x. closed) (λ x y. none-yet) (λ x v y. constant-numbered (sym const-seen ∙ y))
           (λ v x. none-some (sym none-yet ∙ g .cells .number (p .at) e v true (nd .key) x .found)) (g .cells)
 
       marked-below : (x : ℕ) → x < 5376 → getD marked x (pos 0) ≡ getD (st .work) x (pos 0)
@@ -266,11 +241,14 @@ module _ (ds : List Domain) (F : List ℤ) (Plain : IntExpr → Type 0) (parted 
       unfolding read-part
       marked-words = take-set-le 4608 (st .work) (cells + (p .at + 1)) (negsuc 0) (omega arith)
 
+      marked-word : has-ifs marked ≡ has-ifs (st .work)
+      marked-word = word-kept (st .work) (cells + (p .at + 1)) (negsuc 0) (λ y. omega (arith, stand .high))
+
       pub marked-good : GoodAt n (with-work marked st) s
-      marked-good = good-cells ds F Plain parted K fixed rec cap before Named n st s marked (length-set (st .work) (cells + (p .at + 1)) (negsuc 0)) marked-below marked-words marked-cells g
+      marked-good = good-cells ds F Plain parted K fixed rec cap with-ifs before Named n st s marked (length-set (st .work) (cells + (p .at + 1)) (negsuc 0)) marked-below marked-words marked-word marked-cells g
 
       pub marked-later : Later ds F Plain parted K fixed (st .work) marked
-      marked-later x a t ne k l m = go (eqb x (p .at)) refl
+      marked-later = record { stay = λ x a t ne k l m. go x a t ne k l m (eqb x (p .at)) refl; word = marked-word }
         where
           seen-const : (y : ℤ) → seen-in y ≡ both-constant → y ≡ negsuc 0
           seen-const (pos zero) h = absurd (let z : _≡_ {A = ℕ} 0 1 = cc in omega arith)
@@ -289,9 +267,9 @@ module _ (ds : List Domain) (F : List ℤ) (Plain : IntExpr → Type 0) (parted 
           own-cells (suc zero) l m f = again (seen-in (cell (st .work) (p .at + 1))) refl f
           own-cells (suc (suc k)) l m f = unfold cell in getD-set-other (st .work) (cells + (p .at + 1)) (cells + (p .at + suc (suc k))) (negsuc 0) (pos 0) (λ y. omega arith)
 
-          go : (b : Bool) → eqb x (p .at) ≡ b → cell marked (x + k) ≡ cell (st .work) (x + k)
-          go false y = marked-only (x + k) (off-apart ds F Plain parted K fixed P x (p .at) k a (key-stands ds F Plain parted K fixed P (p .at) e (nd .key)) t stand (eqb-false x (p .at) y) l m)
-          go true y =
+          go : (x : ℕ) (a : IntExpr) → Stands ds F Plain parted K fixed x a → (seen-in (cell (st .work) (x + 1)) ≡ unseen → ⊥) → (k : ℕ) → 1 ≤ k → k ≤ 3 → (b : Bool) → eqb x (p .at) ≡ b → cell marked (x + k) ≡ cell (st .work) (x + k)
+          go x a t ne k l m false y = marked-only (x + k) (off-apart ds F Plain parted K fixed P x (p .at) k a (key-stands ds F Plain parted K fixed P (p .at) e (nd .key)) t stand (eqb-false x (p .at) y) l m)
+          go x a t ne k l m true y =
               let j : x ≡ p .at = eqb-true x (p .at) y in
               subst (λ y. cell marked (y + k) ≡ cell (st .work) (y + k)) (sym j) (own-cells k l m (λ r. ne (ap (λ y. seen-in (cell (st .work) (y + 1))) j ∙ r)))
 
@@ -300,7 +278,7 @@ module _ (ds : List Domain) (F : List ℤ) (Plain : IntExpr → Type 0) (parted 
     unfolding seen
     marked-seen n st s g closed none-yet w₂ l =
         let c = const-seen n st s g closed none-yet in
-        ap seen-in (l (p .at) _ (stand n st s g closed none-yet) (λ y. no-unseen n st s g closed none-yet (sym c ∙ y)) 1 (omega arith) (omega arith)) ∙ c
+        ap seen-in (l .stay (p .at) _ (stand n st s g closed none-yet) (λ y. unseen-constant (sym y ∙ c)) 1 (omega arith) (omega arith)) ∙ c
 
     -- the condition is a declared variable
     module _ (k n : ℕ) (b : State) (z t : Log) (m : MadeInt) (x y : ℤ) (v : ℕ) (under-512 : v < 512) (closed : fixed e ≡ true) (none-yet : get-if e z ≡ none)
@@ -309,14 +287,14 @@ module _ (ds : List Domain) (F : List ℤ) (Plain : IntExpr → Type 0) (parted 
       st₀ = with-work (marked (16 + n) b z gb closed none-yet) b
 
       pub own-good : GoodAt (16 + n) (meet-bool v st₀) t
-      own-good = subst (λ s. GoodAt (16 + n) (meet-bool v st₀) s) var-is (good-bool ds F Plain parted K fixed rec cap before Named N P v under-512 (16 + n) st₀ z (marked-good (16 + n) b z gb closed none-yet))
+      own-good = subst (λ s. GoodAt (16 + n) (meet-bool v st₀) s) var-is (good-bool ds F Plain parted K fixed rec cap with-ifs before Named N P v under-512 (16 + n) st₀ z (marked-good (16 + n) b z gb closed none-yet))
 
       pub own-outcome : (rec-is : made-record ds m ≡ two-record (bool-at (meet-bool v st₀ .work) v) x y) → b .used ≤ words-of z + (k + 4) → words-of z ≤ words-of t
           → OutcomeAt k n (λ w. (seen w p ≡ both-constant) × Unit {0}) b (meet-constant ds rec cap q x y (some v) st₀) (int m ∷ t)
       unfolding meet-constant new-int
       own-outcome rec-is u gw =
-          let g₁ = good-new ds F Plain parted K fixed rec cap before Named N P m undeclared (15 + n) (meet-bool v st₀) t (good-less ds F Plain parted K fixed rec cap before Named (16 + n) (suc (15 + n)) (meet-bool v st₀) t (omega arith) own-good) in
-          let g₂ = good-less ds F Plain parted K fixed rec cap before Named (15 + n) n _ (int m ∷ t) (omega arith) g₁ in
+          let g₁ = good-new ds F Plain parted K fixed rec cap with-ifs before Named N P m undeclared (15 + n) (meet-bool v st₀) t (good-less ds F Plain parted K fixed rec cap with-ifs before Named (16 + n) (suc (15 + n)) (meet-bool v st₀) t (omega arith) own-good) in
+          let g₂ = good-less ds F Plain parted K fixed rec cap with-ifs before Named (15 + n) n _ (int m ∷ t) (omega arith) g₁ in
           let l₁ = marked-later (16 + n) b z gb closed none-yet in
           let l₂ = bool-later ds F Plain parted K fixed v under-512 st₀ in
           good (subst (λ (r : List ℤ). GoodAt n (new-int ds rec cap r (meet-bool v st₀)) (int m ∷ t)) rec-is g₂)
@@ -357,11 +335,11 @@ module _ (ds : List Domain) (F : List ℤ) (Plain : IntExpr → Type 0) (parted 
       unfolding new-int
       constant-done st (full c d) = full c (omega (arith, d, few, g₃))
       constant-done st (good g u r f) =
-          let v = f (st .work) (λ q e t n k l m. refl) in
-          let y = good-ready ds F Plain parted K fixed rec cap before Named N P low (jn + (jp + suc n)) st x₂ g in
-          let h₁ = good-quiet ds F Plain parted K fixed rec cap before Named P jn (jp + suc n) st x₂ x₃ (first-new (st .work) y (v .0) (v .1)) g in
-          let h₂ = good-quiet ds F Plain parted K fixed rec cap before Named P jp (suc n) (more-bools jn st) x₃ x₄ (second-new (st .work) y (v .0) (v .1)) h₁ in
-          let h₃ = good-new ds F Plain parted K fixed rec cap before Named N P m undeclared n (more-bools jp (more-bools jn st)) x₄ h₂ in
+          let v = f (st .work) (same-later ds F Plain parted K fixed (st .work)) in
+          let y = good-ready ds F Plain parted K fixed rec cap with-ifs before Named N P low (jn + (jp + suc n)) st x₂ g in
+          let h₁ = good-quiet ds F Plain parted K fixed rec cap with-ifs before Named P jn (jp + suc n) st x₂ x₃ (first-new (st .work) y (v .0) (v .1)) g in
+          let h₂ = good-quiet ds F Plain parted K fixed rec cap with-ifs before Named P jp (suc n) (more-bools jn st) x₃ x₄ (second-new (st .work) y (v .0) (v .1)) h₁ in
+          let h₃ = good-new ds F Plain parted K fixed rec cap with-ifs before Named N P m undeclared n (more-bools jp (more-bools jn st)) x₄ h₂ in
           good (subst (λ (w : List ℤ). GoodAt n (new-int ds rec cap w (more-bools jp (more-bools jn st))) (int m ∷ x₄)) rec-is h₃)
           (omega (arith, u, few, g₃))
           (later-then ds F Plain parted K fixed (b .work) (begun .work) (st .work) l₀ r)
@@ -378,12 +356,12 @@ module _ (ds : List Domain) (F : List ℤ) (Plain : IntExpr → Type 0) (parted 
               let l : bump (b .used) (q .leaves) ≤ cap = ltb-false cap (begun .used) c in
               let ex : q .leaves ≡ ec + ed = omega (arith, leaf, low) in
               let st₀ = with-work (marked (16 + n) b z gb closed none-yet) b in
-              let a₁ = good-spend ds F Plain parted K fixed rec cap before Named (q .leaves) (16 + n) st₀ z low l (marked-good (16 + n) b z gb closed none-yet) in
-              let a₂ = good-less ds F Plain parted K fixed rec cap before Named (4 * q .leaves + (16 + n)) (1 + (wd + (wc + (jn + (jp + suc n))))) begun z (omega (arith, light, light', ex)) a₁ in
-              let a₃ = good-quiet ds F Plain parted K fixed rec cap before Named P 1 (wd + (wc + (jn + (jp + suc n)))) begun z x₀ number a₂ in
+              let a₁ = good-spend ds F Plain parted K fixed rec cap with-ifs before Named (q .leaves) (16 + n) st₀ z low l (marked-good (16 + n) b z gb closed none-yet) in
+              let a₂ = good-less ds F Plain parted K fixed rec cap with-ifs before Named (4 * q .leaves + (16 + n)) (1 + (wd + (wc + (jn + (jp + suc n))))) begun z (omega (arith, light, light', ex)) a₁ in
+              let a₃ = good-quiet ds F Plain parted K fixed rec cap with-ifs before Named P 1 (wd + (wc + (jn + (jp + suc n)))) begun z x₀ number a₂ in
               let s₁ = more-bools 1 begun in
               let o₁ = negated (k + 4 + q .leaves) (wc + (jn + (jp + suc n))) s₁ a₃ (omega (arith, ub, g₀)) in
-              let o₂ = outcome-then ds F Plain parted K fixed rec cap before Named (k + 4 + q .leaves) (wc + (jn + (jp + suc n))) (jn + (jp + suc n)) B A s₁ (q .meet-negated s₁) (q .meet-plain (q .meet-negated s₁)) x₁ x₂ (frozen (q .meet-negated s₁)) g₂ o₁ (λ g u. plain (k + 4 + q .leaves) (jn + (jp + suc n)) (q .meet-negated s₁) g u) in
+              let o₂ = outcome-then ds F Plain parted K fixed rec cap with-ifs before Named (k + 4 + q .leaves) (wc + (jn + (jp + suc n))) (jn + (jp + suc n)) B A s₁ (q .meet-negated s₁) (q .meet-plain (q .meet-negated s₁)) x₁ x₂ (frozen (q .meet-negated s₁)) g₂ o₁ (λ g u. plain (k + 4 + q .leaves) (jn + (jp + suc n)) (q .meet-negated s₁) g u) in
               constant-done (q .meet-plain (q .meet-negated s₁)) o₂
 
     -- ---- an If that is new: its branches, then either
@@ -411,7 +389,7 @@ module _ (ds : List Domain) (F : List ℤ) (Plain : IntExpr → Type 0) (parted 
       second-step gs ga la fa (full c d) = rw (lt-ltb cap (b₁ .used) c) (full c (omega (arith, d, g₂)))
       second-step gs ga la fa (good gb u lb fb) =
           let f : (w : List ℤ) → Later ds F Plain parted K fixed (b₁ .work) w → A w × B w = λ w t. (fa w (later-then ds F Plain parted K fixed (a₁ .work) (b₁ .work) w lb t), fb w t) in
-          rw (not-full ds F Plain parted K fixed rec cap before Named N P low b₁ (gb .used)) (last-step (later-then ds F Plain parted K fixed (st .work) (a₁ .work) (b₁ .work) la lb) f _ (finish a₁ b₁ gs ga gb u f))
+          rw (not-full ds F Plain parted K fixed rec cap with-ifs before Named N P low b₁ (gb .used)) (last-step (later-then ds F Plain parted K fixed (st .work) (a₁ .work) (b₁ .work) la lb) f _ (finish a₁ b₁ gs ga gb u f))
 
       first-step : GoodAt (16 + n) (spend 4 st) s → OutcomeAt (k + 4) (16 + n) A (spend 4 st) a₁ x₁ → Whole (cond (ltb cap (b₁ .used)) b₁ (meet-branches ds rec cap q (spend 4 st) a₁ b₁))
       first-step gs (full c d) =
@@ -428,5 +406,5 @@ module _ (ds : List Domain) (F : List ℤ) (Plain : IntExpr → Type 0) (parted 
           go true c = full (ltb-true cap (spend 4 st .used) c) (omega (arith, u, g₀, g₁, g₂))
           go false c =
               let l : bump (st .used) 4 ≤ cap = ltb-false cap (spend 4 st .used) c in
-              let gs = good-spend ds F Plain parted K fixed rec cap before Named 4 n st s low l g in
+              let gs = good-spend ds F Plain parted K fixed rec cap with-ifs before Named 4 n st s low l g in
               first-step gs (first-visit (k + 4) (16 + n) (spend 4 st) gs (omega (arith, u)))

@@ -1,27 +1,27 @@
 -- What the first walk does: the numbers of declared variables and Ifs at first meeting, the numbers that disjunctions make, the records of the
--- emitted integers. With the final maps it gives the same numbers again. It stops at an If once the answer is known to be longer than `cap`.
+-- emitted integers. It stops at an If once the answer is known to be longer than `cap`.
 use mathlib.Core.Bool.{Bool, true, false, _&&_, _||_, cond}
 use mathlib.Core.Option.{Option, none, some}
 use mathlib.Core.List.{List, [], _∷_}
-use Prim.Native.Nat.{ℕ, zero, suc, _+_, _-_, _*_}
+use Prim.Native.Nat.{ℕ, zero, suc, _+_, _*_}
 use lib.IntN.{ℤ, pos, negsuc, negℤ}
 use lib.Signed.{ltZ}
 use lib.ListN.{take, drop, set}
 use lib.Seq.{sets}
-use lib.Dec.{eqb, ltb}
+use lib.Dec.{ltb}
 use Rattle.laws.specs.Ints.{eqZ, is-zero}
 use Rattle.laws.specs.Same.{same-words}
 use Rattle.syntax.specs.Syntax.{Domain, Range, lower-bound, upper-bound, domain-of}
-use Rattle.sums.specs.LinearSum.{LinearSum, is-constant, get-domain-linear-sum}
+use Rattle.sums.specs.LinearSum.{is-constant, get-domain-linear-sum}
 use Rattle.sums.specs.Rising.{constant-of}
 use Rattle.clauses.specs.Normalize.{hull}
 use Rattle.answer.specs.Answer.{domain-words}
-use Rattle.walk.specs.Item.{bump, is-none, bool-map, int-map, bool-at, bool-entry, int-entry, fresh}
+use Rattle.walk.specs.Item.{bump, is-none, bool-map, int-map, bool-at, int-entry, fresh}
 use Rattle.walk.specs.Decode.{read-part}
 use Rattle.walk.specs.declared.Counters.{Counters}
 use Rattle.walks.specs.Tree.{Place, Tree, Trees, IntTree, TermTrees}
 use Rattle.walks.specs.Form.{Form, var, num, cmp, conj, disj, cross, tied, Forms, nil, cons, IntForm, const, ivar, sum, choice, TermForms, none as no-terms, term, form, forms, int-form, term-forms}
-use Rattle.walks.specs.Item.{counters, cells, cell, Seen, unseen, both-constant, numbered, seen-in, seen, known-in, Item, IntItem, tallies, num-item, form-item, form-items, form-int-item}
+use Rattle.walks.specs.Item.{counters, int-count, cells, cell, Seen, unseen, both-constant, numbered, seen-in, seen, known-in, Item, IntItem, tallies, num-item, form-item, form-items, form-int-item}
 
 -- the work slice, the output, the next Boolean's and the next integer's number, and words of the answer that are sure to come
 pub record State : Type 0 where
@@ -31,8 +31,9 @@ pub record State : Type 0 where
   pub ints : ℕ
   pub used : ℕ
 
+-- as the second walk counts
 abbrev pub counters-of : State → Counters
-counters-of st = counters (st .bools) (st .ints)
+counters-of st = counters (st .bools) (int-count (st .work) (st .ints))
 
 abbrev pub with-work : List ℤ → State → State
 with-work w st = record { work = w; out = st .out; bools = st .bools; ints = st .ints; used = st .used }
@@ -45,10 +46,9 @@ spend k st = record { work = st .work; out = st .out; bools = st .bools; ints = 
 
 -- ---- declared Booleans
 
--- not numbered yet, or with the counter's own number
 unfoldable pub meet-bool : ℕ → State → State
 meet-bool v st =
-    cond (is-zero (bool-at (st .work) v) || eqb (bool-entry (st .work) v) (st .bools + 1))
+    cond (is-zero (bool-at (st .work) v))
     (more-bools 1 (with-work (set (st .work) (bool-map + v) (pos (st .bools + 1))) st))
     st
 
@@ -165,7 +165,7 @@ module _ (ds : List Domain) (rec cap : ℕ) where
 
   unfoldable pub meet-int-var : ℕ → State → State
   meet-int-var v st =
-      cond (is-none (int-entry (st .work) v) || eqb (int-entry (st .work) v) (st .ints + 1))
+      cond (is-none (int-entry (st .work) v))
       (new-int (range-record (domain-of ds v)) (with-work (set (st .work) (int-map + v) (pos (st .ints + 1))) st))
       st
 

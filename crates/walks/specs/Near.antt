@@ -10,11 +10,10 @@ use native.Mathlib.Omega.{arith}
 use lib.IntN.{ℤ, pos, negsuc}
 use lib.ListN.{length, length-append, set}
 use lib.Seq.{getD-set-other}
-use lib.Dec.{eqb}
 use Rattle.laws.specs.Ints.{is-zero}
 use Rattle.syntax.specs.Syntax.{Domain, lower-bound, upper-bound, IntExpr, IConst, IVar, Linear, If, Terms, tnil, tmore, BoolExpr, Const, Var, NVar, And, Or, Not, Xor, Iff, Imp, Cmp, Members, mnil, more, encode-bool, encode-members, encode-int, encode-terms}
 use Rattle.sums.specs.LinearSum.{is-constant}
-use Rattle.walk.specs.Item.{limit, is-none, bool-map, int-map, bool-at, bool-entry, int-entry}
+use Rattle.walk.specs.Item.{limit, is-none, bool-map, int-map, bool-at, int-entry}
 use Rattle.walks.specs.Tree.{Place, Tree, Trees, IntTree, TermTrees, Splitting, below, here, inner, own-splits, splits, splits-int, split-int, resolve-int}
 use Rattle.walks.specs.Tree.{var as tree-var, num as tree-num, cmp as tree-cmp, conj as tree-conj, disj as tree-disj, cross as tree-cross, tied as tree-tied, nil as no-trees, cons as more-trees, const as tree-const, ivar as tree-ivar, sum as tree-sum, choice as tree-choice, none as no-term-trees, term as tree-term}
 use Rattle.walks.specs.Form.{Form, var, num, cmp, conj, disj, cross, tied, Forms, nil, cons, IntForm, const, ivar, sum, choice, TermForms, none as no-terms, term, form, forms, int-form, term-forms}
@@ -91,12 +90,12 @@ module _ (q : ℕ) where
 
   pub bool-near : 512 ≤ q → (v : ℕ) → v < 512 → (st : State) → cell (meet-bool v st .work) q ≡ cell (st .work) q
   unfolding meet-bool
-  bool-near l v h st = either-cell (is-zero (bool-at (st .work) v) || eqb (bool-entry (st .work) v) (st .bools + 1)) (st .work) _ st (map-cell (st .work) (bool-map + v) (pos (st .bools + 1)) (omega arith) l) refl
+  bool-near l v h st = either-cell (is-zero (bool-at (st .work) v)) (st .work) _ st (map-cell (st .work) (bool-map + v) (pos (st .bools + 1)) (omega arith) l) refl
 
 module _ (ds : List Domain) (rec cap : ℕ) (a b q : ℕ) (out : Outside a b q) where
   int-near : (v : ℕ) → v < 256 → (st : State) → cell (meet-int-var ds rec cap v st .work) q ≡ cell (st .work) q
   unfolding meet-int-var new-int
-  int-near v h st = either-cell q (is-none (int-entry (st .work) v) || eqb (int-entry (st .work) v) (st .ints + 1)) (st .work) _ st (map-cell q (st .work) (int-map + v) (pos (st .ints + 1)) (omega arith) (out .0)) refl
+  int-near v h st = either-cell q (is-none (int-entry (st .work) v)) (st .work) _ st (map-cell q (st .work) (int-map + v) (pos (st .ints + 1)) (omega arith) (out .0)) refl
 
   abbrev Same : (State → State) → Type 0
   Same m = (st : State) → cell (m st .work) q ≡ cell (st .work) q

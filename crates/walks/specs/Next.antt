@@ -5,7 +5,7 @@ use mathlib.Core.Bool.{Bool, true, false}
 use mathlib.Core.Option.{Option, none, some}
 use mathlib.Core.List.{List}
 use mathlib.Core.Logic.{inr}
-use Prim.Native.Nat.{ℕ, zero, suc, _+_, _≤_, _<_}
+use Prim.Native.Nat.{ℕ, _+_, _≤_, _<_}
 use native.Mathlib.Omega.{arith}
 use lib.IntN.{ℤ, pos}
 use lib.ListN.{length, getD}
@@ -19,11 +19,12 @@ use Rattle.walk.specs.Item.{bool-map, int-map, nat, bool-at, int-entry}
 use Rattle.walk.specs.Decode.{read-part}
 use Rattle.walks.specs.Tree.{Place}
 use Rattle.walks.specs.Form.{Forms, IntForm}
-use Rattle.walks.specs.Item.{cell, unseen, both-constant, numbered, seen-in}
+use Rattle.walks.specs.Item.{has-ifs, cell, unseen, both-constant, numbered, seen-in}
+use Rattle.walks.specs.Distinct.{unseen-numbered, unseen-constant}
 use Rattle.walks.specs.Meet.{State, with-work, form-meets, form-meet-int}
 use Rattle.walks.specs.Plain.{PlainInt}
 use Rattle.walks.specs.Cells.{IsIf, Stands, Key as KeyAt, whole, own, Is, Cells}
-use Rattle.walks.specs.Good.{Good, blanks, no-int}
+use Rattle.walks.specs.Good.{Good, blanks, blanks-same, no-int}
 use Rattle.walks.specs.Visit.{Later}
 use Rattle.walks.specs.Keys.{Key, Every, Within, Written, found-in, found-new}
 use Rattle.walks.specs.KeyAt.{looked-up, looked-up-found}
@@ -54,17 +55,6 @@ module _ (F : List ℤ) where
 
 -- ---- other keys
 
-blanks-same : (f : ℤ → Bool) (w w' : List ℤ) (at k : ℕ) → ((v : ℕ) → v < k → getD w' (at + v) (pos 0) ≡ getD w (at + v) (pos 0)) → blanks f w' at k ≡ blanks f w at k
-unfolding blanks
-blanks-same f w w' at zero h = refl
-blanks-same f w w' at (suc k) h = rw (h k (omega arith), blanks-same f w w' at k (λ v l. h v (omega arith))) refl
-
-pub unseen-numbered : {X : Type 0} {v : ℕ} {b : Bool} → unseen ≡ numbered v b → X
-unseen-numbered e = absurd (let z : _≡_ {A = ℕ} 0 1 = cc in omega arith)
-
-unseen-constant : {X : Type 0} → unseen ≡ both-constant → X
-unseen-constant e = absurd (let z : _≡_ {A = ℕ} 0 1 = cc in omega arith)
-
 -- K, L: what is looked up so far, and from here on
 module _ (ds : List Domain) (F : List ℤ) (Plain : IntExpr → Type 0) (parted : ℕ → Bool) (K L : ℕ → Option IntExpr) (fixed : IntExpr → Bool) where
   -- what stands at a place is the same
@@ -72,7 +62,7 @@ module _ (ds : List Domain) (F : List ℤ) (Plain : IntExpr → Type 0) (parted 
   stands-next q e t = record { is-if = t .is-if; plain = t .plain; words = t .words; low = t .low; high = t .high }
 
   pub later-next : (w w' : List ℤ) → Later ds F Plain parted L fixed w w' → Later ds F Plain parted K fixed w w'
-  later-next w w' l q e t = l q e (stands-next q e t)
+  later-next w w' l = record { stay = λ q e t. l .stay q e (stands-next q e t); word = l .word }
 
 module _ (ds : List Domain) (F : List ℤ) (Plain : IntExpr → Type 0) (parted : ℕ → Bool) (K L : ℕ → Option IntExpr) (fixed : IntExpr → Bool) where
   -- the new keys are unseen and unknown
@@ -112,18 +102,19 @@ module _ (ds : List Domain) (F : List ℤ) (Plain : IntExpr → Type 0) (parted 
   pub cells-next : (w : List ℤ) (s : Log) → Unmet w s → Cells ds F Plain parted K fixed w s → Cells ds F Plain parted L fixed w s
   cells-next w s u c = cells-reset w w s (record { stay = λ q e t d k l m. refl; split = λ q e v t d h. h }) u c
 
-  -- a slice with the same maps and words; such is one in which the cells of Ifs with split parts are cleared, as before each pair
+  -- a slice with the same maps and words, and the word for Ifs; such is one in which the cells of Ifs with split parts are cleared, as before each pair
   pub record SameMaps (w w' : List ℤ) : Type 0 where
     pub low : (q : ℕ) → q < 5376 → getD w' q (pos 0) ≡ getD w q (pos 0)
     pub words : read-part w' ≡ read-part w
+    pub word : has-ifs w' ≡ has-ifs w
     pub size : length w' ≡ length w
 
-  pub good-reset : (rec cap : ℕ) (before : List ℤ) (Named : Log → Type 0) (n : ℕ) (st : State) (w : List ℤ) (s : Log) → SameMaps (st .work) w → Reset (st .work) w → Unmet w s
-      → Good ds F Plain parted K fixed rec cap before Named n st s → Good ds F Plain parted L fixed rec cap before Named n (with-work w st) s
+  pub good-reset : (rec cap : ℕ) (with-ifs : Bool) (before : List ℤ) (Named : Log → Type 0) (n : ℕ) (st : State) (w : List ℤ) (s : Log) → SameMaps (st .work) w → Reset (st .work) w → Unmet w s
+      → Good ds F Plain parted K fixed rec cap with-ifs before Named n st s → Good ds F Plain parted L fixed rec cap with-ifs before Named n (with-work w st) s
   unfolding bool-at int-entry
-  good-reset rec cap before Named n st w s m r u g =
-      let b : blanks is-zero w bool-map 512 ≡ blanks is-zero (st .work) bool-map 512 = blanks-same is-zero (st .work) w bool-map 512 (λ v l. m .low (bool-map + v) (omega arith)) in
-      let c : blanks no-int w int-map 256 ≡ blanks no-int (st .work) int-map 256 = blanks-same no-int (st .work) w int-map 256 (λ v l. m .low (int-map + v) (omega arith)) in
+  good-reset rec cap with-ifs before Named n st w s m r u g =
+      let b : blanks is-zero w bool-map 512 ≡ blanks is-zero (st .work) bool-map 512 = blanks-same is-zero (st .work) bool-map w 512 (λ v l. m .low (bool-map + v) (omega arith)) in
+      let c : blanks no-int w int-map 256 ≡ blanks no-int (st .work) int-map 256 = blanks-same no-int (st .work) int-map w 256 (λ v l. m .low (int-map + v) (omega arith)) in
       record {
         map = λ v l. m .low (bool-map + v) (omega arith) ∙ g .map v l;
         map-int = λ v l. ap nat (m .low (int-map + v) (omega arith)) ∙ g .map-int v l;
@@ -133,6 +124,7 @@ module _ (ds : List Domain) (F : List ℤ) (Plain : IntExpr → Type 0) (parted 
         low-int = g .low-int;
         size = omega (arith, m .size, g .size);
         words = m .words ∙ g .words;
+        word = m .word ∙ g .word;
         records = g .records;
         cells = cells-reset (st .work) w s r u (g .cells);
         below = g .below;
@@ -142,9 +134,9 @@ module _ (ds : List Domain) (F : List ℤ) (Plain : IntExpr → Type 0) (parted 
         room = omega (arith, g .room, b, c);
       }
 
-  pub good-next : (rec cap : ℕ) (before : List ℤ) (Named : Log → Type 0) (n : ℕ) (st : State) (s : Log) → Unmet (st .work) s → Good ds F Plain parted K fixed rec cap before Named n st s → Good ds F Plain parted L fixed rec cap before Named n st s
-  good-next rec cap before Named n st s u g =
-      good-reset rec cap before Named n st (st .work) s (record { low = λ q l. refl; words = refl; size = refl }) (record { stay = λ q e t d k l m. refl; split = λ q e v t d h. h }) u g
+  pub good-next : (rec cap : ℕ) (with-ifs : Bool) (before : List ℤ) (Named : Log → Type 0) (n : ℕ) (st : State) (s : Log) → Unmet (st .work) s → Good ds F Plain parted K fixed rec cap with-ifs before Named n st s → Good ds F Plain parted L fixed rec cap with-ifs before Named n st s
+  good-next rec cap with-ifs before Named n st s u g =
+      good-reset rec cap with-ifs before Named n st (st .work) s (record { low = λ q l. refl; words = refl; word = refl; size = refl }) (record { stay = λ q e t d k l m. refl; split = λ q e v t d h. h }) u g
 
 -- ---- the keys of a list
 
@@ -174,6 +166,6 @@ module _ (ds : List Domain) (F : List ℤ) (parted : ℕ → Bool) (K : ℕ → 
     unknown = list-unknown s l;
   }
 
-  pub list-next : (rec cap : ℕ) (before : List ℤ) (Named : Log → Type 0) (k : ℕ) (st : State) (s : Log) → Ahead F at (st .work) → LowIfs n s
-      → Good ds F PlainInt parted K fixed rec cap before Named k st s → Good ds F PlainInt parted (looked-up xs) fixed rec cap before Named k st s
-  list-next rec cap before Named k st s a l g = good-next ds F PlainInt parted K (looked-up xs) fixed rec cap before Named k st s (list-unmet (st .work) s a l) g
+  pub list-next : (rec cap : ℕ) (with-ifs : Bool) (before : List ℤ) (Named : Log → Type 0) (k : ℕ) (st : State) (s : Log) → Ahead F at (st .work) → LowIfs n s
+      → Good ds F PlainInt parted K fixed rec cap with-ifs before Named k st s → Good ds F PlainInt parted (looked-up xs) fixed rec cap with-ifs before Named k st s
+  list-next rec cap with-ifs before Named k st s a l g = good-next ds F PlainInt parted K (looked-up xs) fixed rec cap with-ifs before Named k st s (list-unmet (st .work) s a l) g

@@ -1,5 +1,5 @@
--- What a work slice w says of the Ifs of a tree whose run starts at a log: each If's number by its place, whether it was known before or is made by the
--- run; what stands inside a known one is not visited. Given this and the maps, the second walk finds every number again (`Implements`).
+-- What a work slice w says of the Ifs of a tree whose run starts at a log: that there are Ifs, each one's number by its place, whether it was known before or
+-- is made by the run; what stands inside a known one is not visited. Given this and the maps, the second walk finds every number again (`Implements`).
 use mathlib.Core.Path.{_≡_}
 use mathlib.Core.Bool.{Bool, true, false, _&&_}
 use mathlib.Core.Option.{Option, none, some}
@@ -11,8 +11,8 @@ use Rattle.sums.specs.LinearSum.{LinearSum, is-constant}
 use Rattle.clauses.specs.Log.{side, chosen, bool, int, Log, next-int, get-if}
 use Rattle.clauses.specs.Emitted.{domain-at}
 use Rattle.clauses.specs.Normalize.{hull, domain-of-sum}
-use Rattle.walks.specs.Tree.{own-var, Place, Tree, var, num, cmp, conj, disj, cross, tied, Trees, nil, cons, IntTree, const, ivar, sum, choice, TermTrees, none as no-terms, term, condition-of, run, runs, run-int, run-terms}
-use Rattle.walks.specs.Item.{cell, Seen, unseen, both-constant, numbered, seen}
+use Rattle.walks.specs.Tree.{own-var, Place, Tree, var, num, cmp, conj, disj, cross, tied, Trees, nil, cons, IntTree, const, ivar, sum, choice, TermTrees, none as no-terms, term, condition-of, run, runs, run-int}
+use Rattle.walks.specs.Item.{has-ifs, cell, Seen, unseen, both-constant, numbered, seen}
 
 abbrev pub HasNumber : Seen → ℕ → Type 0
 HasNumber unseen v = ⊥
@@ -71,7 +71,7 @@ module _ (w : List ℤ) where
           let b = run-int ds f (a .1) in
           let x = bool (side (condition-of e)) ∷ b .1 in
           let y = opened i e (a .0) (b .0) (b .1) in
-          Known (get-if e s) p s (
+          (has-ifs w ≡ true) × Known (get-if e s) p s (
           PlacedInt t s × PlacedInt f (a .1) ×
           Either (is-constant (a .0) && is-constant (b .0))
           ((seen w p ≡ both-constant) × Visited (own-var (condition-of e)) (Placed d x × Placed c (run ds d x .1)))

@@ -198,7 +198,7 @@ module _ (w : List ℤ) (ds : List Domain) where
       number : ℕ
       only : o .0 ≡ singleton number
       below : number < next-int (o .1)
-      bounds : SameBounds (if-domain p (int-item ds t) (int-item ds f) w (at s)) (domain-at ds (o .1) number)
+      bounds : SameBounds (if-domain p (int-item ds t) (int-item ds f) w (at w s)) (domain-at ds (o .1) number)
 
     made-right : ProperInt t → ProperInt f → (q : Bool) (s : Log) → Ready w (if-made q s .1) → MadeNeeds q s → RightNumber s (if-made q s)
     unfolding if-constant if-open
@@ -216,7 +216,7 @@ module _ (w : List ℤ) (ds : List Domain) where
           only = refl;
           below = last-below (next-int (l .1));
           bounds = bounds-eq _ _ (
-              constant-domain p (int-item ds t) (int-item ds f) (at s) (a .0) (b .0) (n .2 .0) (u .total) (ap (int-item ds f .total w) (u .behind) ∙ v .total)
+              constant-domain p (int-item ds t) (int-item ds f) (at w s) (a .0) (b .0) (n .2 .0) (u .total) (ap (int-item ds f .total w) (u .behind) ∙ v .total)
               ∙ two-bounds x y ∙ sym (two-made ds i (l .0) x y) ∙ sym (new-domain ds (two-valued i (l .0) x y) (l .1))
               );
         }
@@ -230,19 +230,19 @@ module _ (w : List ℤ) (ds : List Domain) where
           number = v;
           only = refl;
           below = below-later v z (if-open ds i e polarity (a .0) (b .0) (b .1) .1) g (last-below v);
-          bounds = bounds-to (known-domain p (int-item ds t) (int-item ds f) (at s) v (either-domain w ds (a .0) (b .0) (b .1)) (n .2 .0)) (
+          bounds = bounds-to (known-domain p (int-item ds t) (int-item ds f) (at w s) v (either-domain w ds (a .0) (b .0) (b .1)) (n .2 .0)) (
               sym (new-domain ds (chosen i e (a .0) (b .0) (either-domain w ds (a .0) (b .0) (b .1))) (b .1)) ∙ sym (top-domain ds (g .top) v (last-below v))
               );
         }
 
     if-right : ProperInt t → ProperInt f → (o : Option ℕ) (s : Log) → Ready w (if-run o s .1) → Known w ds o p s (MadeNeeds (is-constant (run-int ds t s .0) && is-constant (run-int ds f (run-int ds t s .1) .0)) s) → RightNumber s (if-run o s)
     unfolding normalize-if
-    if-right pt pf (some v) s r n = record { number = v; only = refl; below = n .0; bounds = known-domain p (int-item ds t) (int-item ds f) (at s) v (domain-at ds s v) (n .1) }
+    if-right pt pf (some v) s r n = record { number = v; only = refl; below = n .0; bounds = known-domain p (int-item ds t) (int-item ds f) (at w s) v (domain-at ds s v) (n .1) }
     if-right pt pf none s r n = made-right pt pf (is-constant (run-int ds t s .0) && is-constant (run-int ds f (run-int ds t s .1) .0)) s r n
 
   -- ---- trees: what is found is right
 
-  ivar-right : (v : ℕ) (s : Log) → Ready w (normalize-int-var v s .1) → (x : ℕ) → RightAt ds (normalize-int-var v s .1) x (ivar-item ds v .range w (at s) x)
+  ivar-right : (v : ℕ) (s : Log) → Ready w (normalize-int-var v s .1) → (x : ℕ) → RightAt ds (normalize-int-var v s .1) x (ivar-item ds v .range w (at w s) x)
   unfolding normalize-int-var convert-int-var ivar-item
   ivar-right v s r = go (get-int-var v s) refl (ivar-good w ds v .from s r tt .total)
     where
@@ -253,16 +253,16 @@ module _ (w : List ℤ) (ds : List Domain) where
   mutual
     unfolding run-int ProperInt PlacedInt form-item form const-item sum-item choice-item no-terms-item term-item normalize-term
 
-    range-right : (e : IntTree) → ProperInt e → (s : Log) → Ready w (run-int ds e s .1) → PlacedInt w ds e s → (x : ℕ) → RightAt ds (run-int ds e s .1) x (int-item ds e .range w (at s) x)
+    range-right : (e : IntTree) → ProperInt e → (s : Log) → Ready w (run-int ds e s .1) → PlacedInt w ds e s → (x : ℕ) → RightAt ds (run-int ds e s .1) x (int-item ds e .range w (at w s) x)
     range-right (const c) p s r n x = tt
     range-right (ivar v) p s r n x = ivar-right v s r x
     range-right (sum ts) p s r n x = terms-right ts p (constant (pos 0)) s r n x
     range-right (choice i q e c d t f) p s r n x =
-        let h = if-right i q e c d t f (p .3) (p .4) (get-if e s) s r n in
+        let h = if-right i q e c d t f (p .3) (p .4) (get-if e s) s r (n .1) in
         let u = int-good w ds (choice i q e c d t f) p .from s r n in
         single-right ds _ _ _ (h .number) (u .total ∙ h .only) (h .below) (h .bounds) x
 
-    terms-right : (ts : TermTrees) → ProperTerms ts → (l : LinearSum) (s : Log) → Ready w (run-terms ds ts l s .1) → PlacedTerms w ds ts s → (x : ℕ) → RightAt ds (run-terms ds ts l s .1) x (terms-item ds ts .range w (at s) x)
+    terms-right : (ts : TermTrees) → ProperTerms ts → (l : LinearSum) (s : Log) → Ready w (run-terms ds ts l s .1) → PlacedTerms w ds ts s → (x : ℕ) → RightAt ds (run-terms ds ts l s .1) x (terms-item ds ts .range w (at w s) x)
     terms-right no-terms p l s r n x = tt
     terms-right (term-tree k e ts) p l s r n x =
         let a = run-int ds e s in
@@ -270,7 +270,7 @@ module _ (w : List ℤ) (ds : List Domain) where
         let g = terms-grow ds ts m (a .1) in
         let re = ready-back g r in
         let b = int-good w ds e (p .0) .from s re (n .0) .behind in
-        rw b (right-either ds _ x (int-item ds e .range w (at s) x) (terms-item ds ts .range w (at (a .1)) x) (right-later ds (a .1) _ x (int-item ds e .range w (at s) x) g (range-right e (p .0) s re (n .0) x)) (terms-right ts (p .1) m (a .1) r (n .1) x))
+        rw b (right-either ds _ x (int-item ds e .range w (at w s) x) (terms-item ds ts .range w (at w (a .1)) x) (right-later ds (a .1) _ x (int-item ds e .range w (at w s) x) g (range-right e (p .0) s re (n .0) x)) (terms-right ts (p .1) m (a .1) r (n .1) x))
 
   -- ---- trees: every number of the sum is found
 
@@ -280,14 +280,14 @@ module _ (w : List ℤ) (ds : List Domain) where
   mutual
     unfolding run-int ProperInt PlacedInt form-item form normalize-int-var ivar-item sum-item choice-item no-terms-item term-item normalize-term
 
-    range-found : (e : IntTree) → ProperInt e → (s : Log) → Ready w (run-int ds e s .1) → PlacedInt w ds e s → AllFound (int-item ds e .range w (at s)) (run-int ds e s .0)
-    range-found (const c) p s r n = constant-each (λ x. IsFound (int-item ds (const c) .range w (at s) x)) c
+    range-found : (e : IntTree) → ProperInt e → (s : Log) → Ready w (run-int ds e s .1) → PlacedInt w ds e s → AllFound (int-item ds e .range w (at w s)) (run-int ds e s .0)
+    range-found (const c) p s r n = constant-each (λ x. IsFound (int-item ds (const c) .range w (at w s) x)) c
     range-found (ivar v) p s r n = single-found (domain-of ds v) (int-number w v) _ (ivar-good w ds v .from s r tt .total)
-    range-found (sum ts) p s r n = let o = terms-item ds ts .range w (at s) in terms-found ts p o (constant (pos 0)) s r n (constant-each (λ x. IsFound (o x)) (pos 0)) (λ x h. h)
+    range-found (sum ts) p s r n = let o = terms-item ds ts .range w (at w s) in terms-found ts p o (constant (pos 0)) s r n (constant-each (λ x. IsFound (o x)) (pos 0)) (λ x h. h)
     range-found (choice i q e c d t f) p s r n = single-found _ _ _ (int-good w ds (choice i q e c d t f) p .from s r n .total)
 
     -- behind a sum whose numbers are found in o, where those found here are
-    terms-found : (ts : TermTrees) → ProperTerms ts → (o : ℕ → Option Domain) (l : LinearSum) (s : Log) → Ready w (run-terms ds ts l s .1) → PlacedTerms w ds ts s → AllFound o l → ((x : ℕ) → IsFound (terms-item ds ts .range w (at s) x) → IsFound (o x))
+    terms-found : (ts : TermTrees) → ProperTerms ts → (o : ℕ → Option Domain) (l : LinearSum) (s : Log) → Ready w (run-terms ds ts l s .1) → PlacedTerms w ds ts s → AllFound o l → ((x : ℕ) → IsFound (terms-item ds ts .range w (at w s) x) → IsFound (o x))
         → AllFound o (run-terms ds ts l s .0)
     terms-found no-terms p o l s r n h f = h
     terms-found (term-tree k e ts) p o l s r n h f =
@@ -296,22 +296,22 @@ module _ (w : List ℤ) (ds : List Domain) where
         let m = add-sum l (mul-sum k (a .0)) in
         let re = ready-back (terms-grow ds ts m (a .1)) r in
         let b = int-good w ds e (p .0) .from s re (n .0) .behind in
-        let u = int-item ds e .range w (at s) in
-        let z = terms-item ds ts .range w (int-item ds e .behind w (at s)) in
+        let u = int-item ds e .range w (at w s) in
+        let z = terms-item ds ts .range w (int-item ds e .behind w (at w s)) in
         let own = each-map (λ x. IsFound (u x)) P (terms-of (a .0)) (λ x y. f x (found-first (u x) (z x) y)) (range-found e (p .0) s re (n .0)) in
         terms-found ts (p .1) o m (a .1) r (n .1) (add-sum-each P l (mul-sum k (a .0)) h (mul-sum-each P k (a .0) own)) (λ x y. f x (found-second (u x) (z x) (rw b y)))
 
   -- ---- the domain of the tree's sum, at a log t over the one behind it
 
-  pub range-is : (e : IntTree) → ProperInt e → (s : Log) → Ready w (run-int ds e s .1) → PlacedInt w ds e s → (t : Log) → OnTop (run-int ds e s .1) t → range-of (int-item ds e) w (at s) ≡ domain-of-sum ds t (run-int ds e s .0)
+  pub range-is : (e : IntTree) → ProperInt e → (s : Log) → Ready w (run-int ds e s .1) → PlacedInt w ds e s → (t : Log) → OnTop (run-int ds e s .1) t → range-of (int-item ds e) w (at w s) ≡ domain-of-sum ds t (run-int ds e s .0)
   unfolding range-of domain-of-sum
   range-is e p s r n t o =
       let a = run-int ds e s in
-      let x : ℕ → Domain = λ v. found (int-item ds e .range w (at s) v) in
+      let x : ℕ → Domain = λ v. found (int-item ds e .range w (at w s) v) in
       ap (get-domain-linear-sum x) (int-good w ds e p .from s r n .total)
       ∙ domain-same x (domain-at ds t) (a .0)
-      (each-map (λ v. IsFound (int-item ds e .range w (at s) v)) (λ v. SameBounds (x v) (domain-at ds t v)) (terms-of (a .0)) (λ v h. found-right ds (a .1) t o v (int-item ds e .range w (at s) v) h (range-right e p s r n v)) (range-found e p s r n))
+      (each-map (λ v. IsFound (int-item ds e .range w (at w s) v)) (λ v. SameBounds (x v) (domain-at ds t v)) (terms-of (a .0)) (λ v h. found-right ds (a .1) t o v (int-item ds e .range w (at w s) v) h (range-right e p s r n v)) (range-found e p s r n))
 
   -- at the log behind it, as for a column
-  pub range-behind : (e : IntTree) → ProperInt e → (s : Log) → Ready w (run-int ds e s .1) → PlacedInt w ds e s → range-of (int-item ds e) w (at s) ≡ domain-of-sum ds (run-int ds e s .1) (run-int ds e s .0)
+  pub range-behind : (e : IntTree) → ProperInt e → (s : Log) → Ready w (run-int ds e s .1) → PlacedInt w ds e s → range-of (int-item ds e) w (at w s) ≡ domain-of-sum ds (run-int ds e s .1) (run-int ds e s .0)
   range-behind e p s r n = range-is e p s r n (run-int ds e s .1) here

@@ -1,7 +1,8 @@
 -- The linear sums of the forms: their sizes and their terms, by what refusals 9 and 10 count of a form, and what each addition on the way asks.
--- Nothing is assumed of the work slice and the counters; only the numbers of a sum's terms are words where the entries that are read are.
+-- Nothing is assumed of the work slice and the counters; only the numbers of a sum's terms are words where the entries that are read are (and, where there
+-- are no Ifs, the counter is within the limit).
 use mathlib.Core.Path.{_≡_, refl}
-use mathlib.Core.Bool.{Bool, true, false, cond}
+use mathlib.Core.Bool.{Bool, true, false, not, _||_, cond}
 use mathlib.Core.Option.{Option, none, some}
 use mathlib.Core.List.{List, [], _∷_, _++_, map}
 use Prim.Native.Nat.{ℕ, zero, suc, _+_, _*_, _≤_, _<_, _^_, max, zero-le}
@@ -27,7 +28,8 @@ use Rattle.walk.specs.Item.{limit, int-number, int-entry}
 use Rattle.walk.specs.declared.Counters.{Counters}
 use Rattle.walks.specs.Tree.{Place}
 use Rattle.walks.specs.Form.{IntForm, const, ivar, sum, choice, TermForms, none as no-terms, term}
-use Rattle.walks.specs.Item.{Item, IntItem, const-item, ivar-item, sum-item, choice-item, no-terms-item, term-item, Making, constant-making, if-making, if-behind, if-number, if-domain, seen-in, known-in, constant-in, number-in, cell, seen, form-item, form-int-item, form-terms-item}
+use Rattle.walks.specs.Item.{has-ifs, more-ints, Item, IntItem, const-item, ivar-item, sum-item, choice-item, no-terms-item, term-item, Making, constant-making, if-making, passed, if-behind, if-number, if-domain, seen-in, known-in, constant-in, number-in, cell, seen, form-item, form-int-item, form-terms-item}
+use Rattle.walks.specs.Off.{int-form-off}
 
 -- ---- what is counted of a form
 
@@ -383,20 +385,32 @@ module _ (ds : List Domain) (w : List ℤ) where
       reads-all-terms no-terms = tt
       reads-all-terms (term k e ts) = (reads-all e, reads-all-terms ts)
 
+  -- where no integer's counter is kept, it is any number within the limit
+  abbrev pub Low : Counters → Type 0
+  Low n = has-ifs w ≡ false → n .ints ≤ limit
+
   -- by an If's cell: made by each visit, its number is below the counter behind it
-  low-number : (z : ℤ) (n : Counters) (a b : Making) → natAbs z ≤ 2147483648 → a .end .ints ≤ limit → number-in (seen-in z) (cond (known-in (seen-in z) (n .ints)) n (cond (constant-in (seen-in z)) a b .end) .ints) < 2147483648
-  low-number (pos zero) n a b h l = omega arith
-  low-number (pos (suc v)) n a b h l = omega arith
-  low-number (negsuc zero) n a b h l = omega arith
-  low-number (negsuc (suc v)) n a b h l = omega arith
+  low-number : (c : Bool) (z : ℤ) (n : Counters) (a b : Making) → natAbs z ≤ 2147483648 → (c ≡ false → n .ints ≤ limit) → (c ≡ true → a .end .ints ≤ limit)
+      → number-in (seen-in z) (cond (not c || known-in (seen-in z) (n .ints)) n (cond (constant-in (seen-in z)) a b .end) .ints) < 2147483648
+  low-number c (pos zero) n a b h i l = omega arith
+  low-number c (pos (suc v)) n a b h i l = omega arith
+  low-number true (negsuc zero) n a b h i l = omega (arith, l refl)
+  low-number false (negsuc zero) n a b h i l = omega (arith, i refl)
+  low-number c (negsuc (suc v)) n a b h i l = omega arith
 
-  constant-low : (c d : Item) (o : Option ℕ) (n : Counters) → constant-making w c d o n .end .ints ≤ limit
-  constant-low c d (some v) n = omega arith
-  constant-low c d none n = omega arith
+  more-low : (n : Counters) → has-ifs w ≡ true → more-ints w 1 n .ints ≤ limit
+  more-low n h = rw h (omega arith)
 
-  if-low : (o : Option ℕ) (p : Place) (c d : Item) (t f : IntItem) (n : Counters) → natAbs (cell w (p .at + 1)) ≤ 2147483648 → if-number o p c d t f w n < 2147483648
-  unfolding if-number if-behind if-making seen
-  if-low o p c d t f n h = low-number (cell w (p .at + 1)) n _ _ h (constant-low c d o (f .behind w (t .behind w n)))
+  constant-low : (c d : Item) (o : Option ℕ) (n : Counters) → has-ifs w ≡ true → constant-making w c d o n .end .ints ≤ limit
+  constant-low c d (some v) n h = more-low _ h
+  constant-low c d none n h = more-low _ h
+
+  if-low : (o : Option ℕ) (p : Place) (c d : Item) (t f : IntItem) (n : Counters) → natAbs (cell w (p .at + 1)) ≤ 2147483648 → Low n → if-number o p c d t f w n < 2147483648
+  unfolding if-number if-behind if-making passed seen
+  if-low o p c d t f n h i = low-number (has-ifs w) (cell w (p .at + 1)) n _ _ h i (constant-low c d o (f .behind w (t .behind w n)))
+
+  behind-low : (e : IntForm) (n : Counters) → Low n → Low (behind-of e n)
+  behind-low e n h off = rw (int-form-off w off ds e .behind n) (h off)
 
   declared-low : (v : ℕ) → int-entry w v ≤ 2147483648 → int-number w v < 2147483648
   declared-low v h = omega arith
@@ -404,24 +418,24 @@ module _ (ds : List Domain) (w : List ℤ) where
   mutual
     unfolding form-int-item const-item ivar-item sum-item choice-item no-terms-item term-item Reads
 
-    pub total-words : (e : IntForm) (n : Counters) → Reads e → Each Word (terms-of (total-of e n))
-    total-words (const c) n h = constant-each Word c
-    total-words (ivar v) n h = singleton-each Word (int-number w v) (declared-low v h)
-    total-words (sum ts) n h = terms-total-words ts n (constant (pos 0)) (constant-each Word (pos 0)) h
-    total-words (choice p o c d t f) n h =
-        singleton-each Word (if-number o p (form-item ds c) (form-item ds d) (form-int-item ds t) (form-int-item ds f) w n) (if-low o p (form-item ds c) (form-item ds d) (form-int-item ds t) (form-int-item ds f) n h)
+    pub total-words : (e : IntForm) (n : Counters) → Low n → Reads e → Each Word (terms-of (total-of e n))
+    total-words (const c) n i h = constant-each Word c
+    total-words (ivar v) n i h = singleton-each Word (int-number w v) (declared-low v h)
+    total-words (sum ts) n i h = terms-total-words ts n i (constant (pos 0)) (constant-each Word (pos 0)) h
+    total-words (choice p o c d t f) n i h =
+        singleton-each Word (if-number o p (form-item ds c) (form-item ds d) (form-int-item ds t) (form-int-item ds f) w n) (if-low o p (form-item ds c) (form-item ds d) (form-int-item ds t) (form-int-item ds f) n h i)
 
-    pub terms-total-words : (ts : TermForms) (n : Counters) (l : LinearSum) → Each Word (terms-of l) → ReadsTerms ts → Each Word (terms-of (terms-total ts n l))
-    terms-total-words no-terms n l g h = g
-    terms-total-words (term k e ts) n l g h =
-        terms-total-words ts (behind-of e n) (add-sum l (mul-sum k (total-of e n))) (add-sum-each Word l (mul-sum k (total-of e n)) g (mul-sum-each Word k (total-of e n) (total-words e n (h .0)))) (h .1)
+    pub terms-total-words : (ts : TermForms) (n : Counters) → Low n → (l : LinearSum) → Each Word (terms-of l) → ReadsTerms ts → Each Word (terms-of (terms-total ts n l))
+    terms-total-words no-terms n i l g h = g
+    terms-total-words (term k e ts) n i l g h =
+        terms-total-words ts (behind-of e n) (behind-low e n i) (add-sum l (mul-sum k (total-of e n))) (add-sum-each Word l (mul-sum k (total-of e n)) g (mul-sum-each Word k (total-of e n) (total-words e n i (h .0)))) (h .1)
 
   -- a comparison's, and an equation's with a number that is a word
-  pub comparison-words : (a b : IntForm) (n : Counters) → Reads a → Reads b → Each Word (terms-of (sub-sum (total-of a n) (total-of b (behind-of a n))))
-  comparison-words a b n h k = sub-sum-each Word (total-of a n) (total-of b (behind-of a n)) (total-words a n h) (total-words b (behind-of a n) k)
+  pub comparison-words : (a b : IntForm) (n : Counters) → Low n → Reads a → Reads b → Each Word (terms-of (sub-sum (total-of a n) (total-of b (behind-of a n))))
+  comparison-words a b n i h k = sub-sum-each Word (total-of a n) (total-of b (behind-of a n)) (total-words a n i h) (total-words b (behind-of a n) (behind-low a n i) k)
 
-  pub equation-words : (e : IntForm) (n : Counters) (v : ℕ) → Reads e → Word v → Each Word (terms-of (sub-sum (total-of e n) (singleton v)))
-  equation-words e n v h k = sub-sum-each Word (total-of e n) (singleton v) (total-words e n h) (singleton-each Word v k)
+  pub equation-words : (e : IntForm) (n : Counters) (v : ℕ) → Low n → Reads e → Word v → Each Word (terms-of (sub-sum (total-of e n) (singleton v)))
+  equation-words e n v i h k = sub-sum-each Word (total-of e n) (singleton v) (total-words e n i h) (singleton-each Word v k)
 
   -- ---- the bounds of a sum's domain, after i terms and at last; domain: of each emitted number, no larger than its variable or its If weighs
 

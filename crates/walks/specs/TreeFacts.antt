@@ -1,7 +1,7 @@
 -- What the first walk has to know of every If of the trees of a rule, a pair or a column (`Facts`): from the list of their keys.
 use mathlib.Core.Path.{_≡_, refl, sym, ap, _∙_, subst}
 use mathlib.Core.Bool.{Bool, true, false, not}
-use mathlib.Core.Option.{Option, none, some}
+use mathlib.Core.Option.{Option, some}
 use mathlib.Core.List.{List}
 use Prim.Native.Nat.{ℕ, _+_, _-_, _≤_, _<_}
 use native.Mathlib.Omega.{arith}
@@ -16,6 +16,7 @@ use Rattle.clauses.specs.Normalize.{Run, IntRun, normalize-bool-expr, normalize
 use Rattle.clauses.specs.Once.{int-stays, bool-stays}
 use Rattle.walk.specs.Item.{limit, is-none}
 use Rattle.walks.specs.Tree.{own-var, Place, Tree, var, num, cmp, conj, disj, cross, tied, Trees, nil, cons, IntTree, const, ivar, sum, choice, TermTrees, none as no-terms, term, Splitting, never, below, here, inner, own-splits, splits, splits-int, split-of, split-int, condition-of, resolve, resolve-int, run, run-int}
+use Rattle.walks.specs.Distinct.{none-some}
 use Rattle.walks.specs.Thirds.{fewer-first, fewer-second, fewer-third}
 use Rattle.walks.specs.Resolve.{bool-runs, int-runs, rule-trees, pair-trees, never-int}
 use Rattle.walks.specs.Plain.{PlainInt}
@@ -39,9 +40,6 @@ none-behind n k e = omega arith
 -- of an If as written: where its condition is a declared variable, that is within the limit
 abbrev pub LowVar : IntExpr → Type 0
 LowVar e = (v : ℕ) → own-var (condition-of e) ≡ some v → v < 512
-
-none-some : {A X : Type 0} {x : A} → none ≡ some x → X
-none-some e = absurd (let z : _≡_ {A = ℕ} 0 1 = cc in omega arith)
 
 low-condition : (c : BoolExpr) (l v : ℕ) → Legal c l → own-var c ≡ some v → v < 512
 unfolding Legal
@@ -113,17 +111,18 @@ int-run-stays : (e : IntExpr) (r r' : IntRun) → r ≡ r' → ((s : Log) → ge
 int-run-stays e r r' i h s = subst (λ (x : IntRun). get-if e (x s .1) ≡ get-if e s) i (h s)
 
 -- as in Walked
-module _ (ds : List Domain) (F : List ℤ) (parted : ℕ → Bool) (K : ℕ → Option IntExpr) (rec cap : ℕ) (before : List ℤ) (P : Places ds F PlainInt parted K (fixed ds)) (low : cap < limit) where
+module _ (ds : List Domain) (F : List ℤ) (parted : ℕ → Bool) (K : ℕ → Option IntExpr) (rec cap : ℕ) (with-ifs : Bool) (before : List ℤ) (P : Places ds F PlainInt parted K (fixed ds)) (low : cap < limit) where
   abbrev NodeAt : Place → IntExpr → Type 0
-  NodeAt = Node ds F PlainInt parted K (fixed ds) rec cap before (Named ds)
+  NodeAt = Node ds F PlainInt parted K (fixed ds) rec cap with-ifs before (Named ds)
 
   abbrev ChoiceAt : Place → IntExpr → Tree → Tree → IntTree → IntTree → Type 0
-  ChoiceAt = Choice ds F parted K rec cap before P low
+  ChoiceAt = Choice ds F parted K rec cap with-ifs before P low
 
-  -- of a key: what is known of its place; a condition that is a declared variable is one within the limit
+  -- of a key: what is known of its place; a condition that is a declared variable is one within the limit; there are Ifs
   pub record Known (x : Key) : Type 0 where
     pub node : NodeAt (x .place) (x .key)
     pub low-var : LowVar (x .written)
+    pub some-ifs : with-ifs ≡ true
 
   make-choice : Makes ChoiceAt Known
   unfolding encode-int split-int
@@ -142,12 +141,13 @@ module _ (ds : List Domain) (F : List ℤ) (parted : ℕ → Bool) (K : ℕ → 
         stays-first = int-run-stays e (normalize-int-expr ds t') (run-int ds (resolve-int t m p k)) (int-runs ds t m p k) (int-stays ds e t' (fewer-second x y z));
         stays-second = int-run-stays e (normalize-int-expr ds f') (run-int ds (resolve-int f m r l)) (int-runs ds f m r l) (int-stays ds e f' (fewer-third x y z));
         low-var = λ v h. q .low-var v (own-split c m n v h);
+        some-ifs = q .some-ifs;
       }
 
   mutual
     unfolding Choices Facts
 
-    facts-of : (t : Tree) → Choices ChoiceAt t → Facts ds F parted K rec cap before P low t
+    facts-of : (t : Tree) → Choices ChoiceAt t → Facts ds F parted K rec cap with-ifs before P low t
     facts-of (var v g) h = tt
     facts-of (num n g) h = tt
     facts-of (cmp o a b g) h = (int-facts-of a (h .0), int-facts-of b (h .1))
@@ -156,32 +156,33 @@ module _ (ds : List Domain) (F : List ℤ) (parted : ℕ → Bool) (K : ℕ → 
     facts-of (cross ts us) h = (all-facts-of ts (h .0), all-facts-of us (h .1))
     facts-of (tied v t u) h = (facts-of t (h .0), facts-of u (h .1))
 
-    all-facts-of : (ts : Trees) → ChoicesAll ChoiceAt ts → FactsAll ds F parted K rec cap before P low ts
+    all-facts-of : (ts : Trees) → ChoicesAll ChoiceAt ts → FactsAll ds F parted K rec cap with-ifs before P low ts
     all-facts-of nil h = tt
     all-facts-of (cons t ts) h = (facts-of t (h .0), all-facts-of ts (h .1))
 
-    int-facts-of : (e : IntTree) → ChoicesInt ChoiceAt e → FactsInt ds F parted K rec cap before P low e
+    int-facts-of : (e : IntTree) → ChoicesInt ChoiceAt e → FactsInt ds F parted K rec cap with-ifs before P low e
     int-facts-of (const c) h = tt
     int-facts-of (ivar v) h = tt
     int-facts-of (sum ts) h = term-facts-of ts h
     int-facts-of (choice i p e c d t f) h = (h .0, facts-of c (h .1), facts-of d (h .2), int-facts-of t (h .3), int-facts-of f (h .4))
 
-    term-facts-of : (ts : TermTrees) → ChoicesTerms ChoiceAt ts → FactsTerms ds F parted K rec cap before P low ts
+    term-facts-of : (ts : TermTrees) → ChoicesTerms ChoiceAt ts → FactsTerms ds F parted K rec cap with-ifs before P low ts
     term-facts-of no-terms h = tt
     term-facts-of (term k e ts) h = (int-facts-of e (h .0), term-facts-of ts (h .1))
 
   -- ---- from a list
 
   module _ {xs : List Key} {at stop n next size : ℕ} (within : Every (Within at stop n next size) xs) (written : Every (Written F) xs) (plain : Every PlainIf xs) (vars : Every (λ x. LowVar (x .written)) xs)
-      (from : 512 ≤ at) (to : stop ≤ 4608) (agree : Every (AgreesWith parted) xs) (keyed : Every (λ x. x .place .whole ≡ false → K (x .place .at) ≡ some (x .key)) xs) where
-    known-one : (x : Key) → Within at stop n next size x → Written F x → PlainIf x → LowVar (x .written) → parted (x .place .at) ≡ not (x .place .whole) → (x .place .whole ≡ false → K (x .place .at) ≡ some (x .key)) → Known x
+      (from : 512 ≤ at) (to : stop ≤ 4608) (agree : Every (AgreesWith parted with-ifs) xs) (keyed : Every (λ x. x .place .whole ≡ false → K (x .place .at) ≡ some (x .key)) xs) where
+    known-one : (x : Key) → Within at stop n next size x → Written F x → PlainIf x → LowVar (x .written) → AgreesWith parted with-ifs x → (x .place .whole ≡ false → K (x .place .at) ≡ some (x .key)) → Known x
     known-one x w r p v a k = record {
       node = record {
         key = key-by (x .place .whole) refl;
-        kind = a;
+        kind = a .0;
         size = λ h. r .size ∙ ap (λ (e : IntExpr). length (encode-int e)) (sym (r .as-written h));
       };
       low-var = v;
+      some-ifs = a .1;
     }
       where
         key-by : (b : Bool) → x .place .whole ≡ b → KeyAt ds F PlainInt parted K (fixed ds) (x .place .at) (x .key)
@@ -193,7 +194,7 @@ module _ (ds : List Domain) (F : List ℤ) (parted : ℕ → Bool) (K : ℕ → 
               words = subst (λ (z : IntExpr). Has F (x .place .at) (encode-int z)) (sym e) (r .stands);
               low = at-least at (x .place .at) (x .place .at) refl from (w .from);
               high = at-most stop (x .place .at) (x .place .at) refl to (w .to);
-            }) (a ∙ ap not h)
+            }) (a .0 ∙ ap not h)
         key-by false h = own (k h)
 
     pub list-known : Every Known xs
@@ -201,37 +202,37 @@ module _ (ds : List Domain) (F : List ℤ) (parted : ℕ → Bool) (K : ℕ → 
 
 -- ---- a rule, a pair, a column
 
-module _ (ds : List Domain) (F : List ℤ) (parted : ℕ → Bool) (rec cap : ℕ) (before : List ℤ) (low : cap < limit) where
+module _ (ds : List Domain) (F : List ℤ) (parted : ℕ → Bool) (rec cap : ℕ) (with-ifs : Bool) (before : List ℤ) (low : cap < limit) where
   abbrev PlacesOf : List Key → Type 0
   PlacesOf xs = Places ds F PlainInt parted (looked-up xs) (fixed ds)
 
-  pub rule-facts : (e : BoolExpr) (l at n : ℕ) → Legal e l → Has F at (encode-bool e) → 512 ≤ at → at + length (encode-bool e) ≤ 4608 → Every (AgreesWith parted) (keys e below at n)
-      → (P : PlacesOf (keys e below at n)) → FactsAll ds F parted (looked-up (keys e below at n)) rec cap before P low (rule-trees e at n)
+  pub rule-facts : (e : BoolExpr) (l at n : ℕ) → Legal e l → Has F at (encode-bool e) → 512 ≤ at → at + length (encode-bool e) ≤ 4608 → Every (AgreesWith parted with-ifs) (keys e below at n)
+      → (P : PlacesOf (keys e below at n)) → FactsAll ds F parted (looked-up (keys e below at n)) rec cap with-ifs before P low (rule-trees e at n)
   rule-facts e l at n h d i j a P =
       let xs = keys e below at n in
       let b = legal-bound e l h in
-      let k = list-known ds F parted (looked-up xs) rec cap before P low (keys-within e below at n b) (keys-written F e below at n d) (keys-plain e below at n (legal-plain e l h)) (keys-low e l below at n h) i j a (list-keyed xs (keys-distinct e below at n b)) in
-      all-facts-of ds F parted (looked-up xs) rec cap before P low (rule-trees e at n) (rule-choices (ChoiceAt ds F parted (looked-up xs) rec cap before P low) (Known ds F parted (looked-up xs) rec cap before P low) (make-choice ds F parted (looked-up xs) rec cap before P low) e at n k)
+      let k = list-known ds F parted (looked-up xs) rec cap with-ifs before P low (keys-within e below at n b) (keys-written F e below at n d) (keys-plain e below at n (legal-plain e l h)) (keys-low e l below at n h) i j a (list-keyed xs (keys-distinct e below at n b)) in
+      all-facts-of ds F parted (looked-up xs) rec cap with-ifs before P low (rule-trees e at n) (rule-choices (ChoiceAt ds F parted (looked-up xs) rec cap with-ifs before P low) (Known ds F parted (looked-up xs) rec cap with-ifs before P low) (make-choice ds F parted (looked-up xs) rec cap with-ifs before P low) e at n k)
 
   -- p and q: where its sides stand
-  pub pair-facts : (a b : IntExpr) (l p q n : ℕ) → LegalInt a l → LegalInt b l → Has F p (encode-int a) → Has F q (encode-int b) → 512 ≤ p → p + length (encode-int a) ≤ q → q + length (encode-int b) ≤ 4608 → Every (AgreesWith parted) (pair-keys a b p q n)
-      → (P : PlacesOf (pair-keys a b p q n)) → FactsAll ds F parted (looked-up (pair-keys a b p q n)) rec cap before P low (pair-trees a b p q n)
+  pub pair-facts : (a b : IntExpr) (l p q n : ℕ) → LegalInt a l → LegalInt b l → Has F p (encode-int a) → Has F q (encode-int b) → 512 ≤ p → p + length (encode-int a) ≤ q → q + length (encode-int b) ≤ 4608 → Every (AgreesWith parted with-ifs) (pair-keys a b p q n)
+      → (P : PlacesOf (pair-keys a b p q n)) → FactsAll ds F parted (looked-up (pair-keys a b p q n)) rec cap with-ifs before P low (pair-trees a b p q n)
   pair-facts a b l p q n h g d c i o j w P =
       let xs = pair-keys a b p q n in
       let u = legal-int-bound a l h in let v = legal-int-bound b l g in
       let m = n + splits-int a here in
-      let k = list-known ds F parted (looked-up xs) rec cap before P low (pair-within a b p q n u v o) (every-append (keys-int-written F a here p n d) (keys-int-written F b here q m c))
+      let k = list-known ds F parted (looked-up xs) rec cap with-ifs before P low (pair-within a b p q n u v o) (every-append (keys-int-written F a here p n d) (keys-int-written F b here q m c))
       (every-append (keys-int-plain a here p n (legal-int-plain a l h)) (keys-int-plain b here q m (legal-int-plain b l g))) (every-append (keys-int-low a l here p n h) (keys-int-low b l here q m g)) i j w (list-keyed xs (pair-distinct a b p q n u v o)) in
-      all-facts-of ds F parted (looked-up xs) rec cap before P low (pair-trees a b p q n) (pair-choices (ChoiceAt ds F parted (looked-up xs) rec cap before P low) (Known ds F parted (looked-up xs) rec cap before P low) (make-choice ds F parted (looked-up xs) rec cap before P low) a b p q n k)
+      all-facts-of ds F parted (looked-up xs) rec cap with-ifs before P low (pair-trees a b p q n) (pair-choices (ChoiceAt ds F parted (looked-up xs) rec cap with-ifs before P low) (Known ds F parted (looked-up xs) rec cap with-ifs before P low) (make-choice ds F parted (looked-up xs) rec cap with-ifs before P low) a b p q n k)
 
   -- nothing of a column is split: each If is looked up as written, whatever else is
   none-split : (e : IntExpr) (at n : ℕ) → int-bound e ≤ 0 → Every (λ x. x .place .whole ≡ true) (keys-int e never at n)
   none-split e at n b = every-map (λ x w. w .flag ∙ ap is-none (uncount n (n + splits-int e never) (x .first) (x .count) (w .low) (w .high) (none-behind n (splits-int e never) (never-int e)))) (keys-int-within e never at n b)
 
-  pub column-facts : (K : ℕ → Option IntExpr) (e : IntExpr) (l at n : ℕ) → LegalInt e l → Has F at (encode-int e) → 512 ≤ at → at + length (encode-int e) ≤ 4608 → Every (AgreesWith parted) (keys-int e never at n)
-      → (P : Places ds F PlainInt parted K (fixed ds)) → FactsInt ds F parted K rec cap before P low (resolve-int e never at n)
+  pub column-facts : (K : ℕ → Option IntExpr) (e : IntExpr) (l at n : ℕ) → LegalInt e l → Has F at (encode-int e) → 512 ≤ at → at + length (encode-int e) ≤ 4608 → Every (AgreesWith parted with-ifs) (keys-int e never at n)
+      → (P : Places ds F PlainInt parted K (fixed ds)) → FactsInt ds F parted K rec cap with-ifs before P low (resolve-int e never at n)
   column-facts K e l at n h d i j a P =
       let b = legal-int-bound e l h in
-      let k = list-known ds F parted K rec cap before P low (keys-int-within e never at n b) (keys-int-written F e never at n d) (keys-int-plain e never at n (legal-int-plain e l h)) (keys-int-low e l never at n h) i j a
+      let k = list-known ds F parted K rec cap with-ifs before P low (keys-int-within e never at n b) (keys-int-written F e never at n d) (keys-int-plain e never at n (legal-int-plain e l h)) (keys-int-low e l never at n h) i j a
       (every-map (λ x w z. no-bool (sym z ∙ w)) (none-split e at n b)) in
-      int-facts-of ds F parted K rec cap before P low (resolve-int e never at n) (int-choices (ChoiceAt ds F parted K rec cap before P low) (Known ds F parted K rec cap before P low) (make-choice ds F parted K rec cap before P low) e never at n k)
+      int-facts-of ds F parted K rec cap with-ifs before P low (resolve-int e never at n) (int-choices (ChoiceAt ds F parted K rec cap with-ifs before P low) (Known ds F parted K rec cap with-ifs before P low) (make-choice ds F parted K rec cap with-ifs before P low) e never at n k)

@@ -1,37 +1,35 @@
 -- The first walk over a tree: from the state of a log to the state of the log behind the tree's run, with every visited If's number kept for the
 -- second walk (Placed); or it is full, and then the answer is longer than the cap.
-use mathlib.Core.Path.{_≡_, refl, sym, ap, _∙_, subst}
-use mathlib.Core.Bool.{Bool, true, false, not, _&&_, _||_, cond}
-use mathlib.Core.Option.{Option, none, some}
-use mathlib.Core.List.{List, [], _∷_, _++_}
-use Prim.Native.Nat.{ℕ, zero, suc, _+_, _-_, _*_, _≤_, _<_}
+use mathlib.Core.Path.{_≡_, refl, sym, ap, _∙_}
+use mathlib.Core.Bool.{Bool, true, false, cond}
+use mathlib.Core.Option.{Option, some}
+use mathlib.Core.List.{List}
+use Prim.Native.Nat.{ℕ, zero, suc, _+_, _≤_, _<_}
 use native.Mathlib.Omega.{arith}
-use lib.IntN.{ℤ, pos, negsuc}
-use lib.ListN.{length, set}
+use lib.IntN.{ℤ, pos}
+use lib.ListN.{set}
 use lib.Seq.{getD-set-other}
-use lib.Dec.{eqb, ltb}
-use borrow.Author.Tests.{ltb-true, ltb-false, lt-ltb}
+use lib.Dec.{ltb}
+use borrow.Author.Tests.{ltb-true, lt-ltb}
 use Rattle.laws.specs.Ints.{is-zero}
-use Rattle.syntax.specs.Syntax.{Domain, IntExpr, encode-int}
-use Rattle.sums.specs.LinearSum.{LinearSum, is-constant}
-use Rattle.clauses.specs.Clause.{BoolLit, lit, Clause}
-use Rattle.clauses.specs.Log.{MadeBool, aux, side, bool, added, defined, Log, next-bool, next-int, get-bool-var, get-int-var, get-if, made-ints, clauses-of}
-use Rattle.clauses.specs.Disjunction.{Outs, normalize-disjunction, finish-disjunction, finish-sorted}
-use Rattle.clauses.specs.Since.{OnTop, here, over, top-then}
-use Rattle.walk.specs.Item.{limit, bump, is-none, bool-map, int-map, bool-at, bool-entry, int-entry, fresh}
+use Rattle.syntax.specs.Syntax.{Domain, IntExpr}
+use Rattle.clauses.specs.Clause.{BoolLit, lit}
+use Rattle.clauses.specs.Log.{aux, bool, Log, next-bool, next-int, get-bool-var, get-int-var, get-if, made-ints}
+use Rattle.clauses.specs.Disjunction.{Outs, normalize-disjunction, finish-sorted}
+use Rattle.clauses.specs.Since.{here, over, top-then}
+use Rattle.walk.specs.Item.{limit, is-none, bool-map, int-map, bool-at, int-entry, fresh}
 use Rattle.answer.specs.Answer.{bool-word}
-use Rattle.walk.specs.Grow.{Grows, Fit, lit-word}
+use Rattle.walk.specs.Grow.{lit-word}
 use Rattle.walk.specs.Num.{code}
 use Rattle.walk.specs.Texts.{Auxed, here as no-aux, above, disjunction-auxed, disjunction-finish, finish-count}
-use Rattle.walks.specs.Tree.{Place, Tree, var, num, cmp, conj, disj, cross, tied, Trees, nil, cons, IntTree, const, ivar, sum, choice, TermTrees, none as no-terms, term, condition-of, run, runs, run-int, run-terms}
+use Rattle.walks.specs.Tree.{Tree, var, num, cmp, conj, disj, cross, tied, Trees, nil, cons, IntTree, const, ivar, sum, choice, TermTrees, none as no-terms, term}
 use Rattle.walks.specs.Form.{form}
-use Rattle.walks.specs.Item.{cells, cell, unseen, seen-in, Item, tallies, items, item, int-item}
-use Rattle.walks.specs.Placed.{Placed, PlacedAll, PlacedInt, PlacedTerms}
-use Rattle.walks.specs.Meet.{form-meet, State, counters-of, with-work, more-bools, meet-bool, Parts, is-full, new-int, meet-int-var, meet-if, meet, meets, meet-int, meet-terms}
-use Rattle.walks.specs.Cells.{Stands, Places}
-use Rattle.walks.specs.Good.{Quiet, Names, Good, good-quiet, good-bool, good-int}
-use Rattle.walks.specs.Implements.{Proper, Propers, ProperInt, ProperTerms, Ready, Sorts, item-good, items-good, int-good, terms-good}
-use Rattle.walks.specs.Leaves.{exact, leaves-low, Leafy, Leafies, LeafyInt, LeafyTerms, weight, weights, weight-low, words-of, grows-words, words-int}
+use Rattle.walks.specs.Item.{has-ifs, int-count, cells, cell, unseen, seen-in, Item, tallies}
+use Rattle.walks.specs.Meet.{form-meet, State, counters-of, more-bools, meet-bool, Parts, is-full, new-int, meet-int-var, meet-if, meet, meets, meet-int, meet-terms}
+use Rattle.walks.specs.Cells.{word-kept, Stands, Places}
+use Rattle.walks.specs.Good.{Quiet, Names, Good, good-quiet}
+use Rattle.walks.specs.Implements.{at, counters-eq, Ready, Sorts}
+use Rattle.walks.specs.Leaves.{words-of}
 
 -- ---- a full walk spends nothing more
 
@@ -42,11 +40,11 @@ either-used false x y k p q = q
 module _ (ds : List Domain) (rec cap : ℕ) where
   pub bool-spends : (v : ℕ) (st : State) → meet-bool v st .used ≡ st .used
   unfolding meet-bool
-  bool-spends v st = either-used (is-zero (bool-at (st .work) v) || eqb (bool-entry (st .work) v) (st .bools + 1)) _ st (st .used) refl refl
+  bool-spends v st = either-used (is-zero (bool-at (st .work) v)) _ st (st .used) refl refl
 
   pub int-spends : (v : ℕ) (st : State) → meet-int-var ds rec cap v st .used ≡ st .used
   unfolding meet-int-var new-int
-  int-spends v st = either-used (is-none (int-entry (st .work) v) || eqb (int-entry (st .work) v) (st .ints + 1)) _ st (st .used) refl refl
+  int-spends v st = either-used (is-none (int-entry (st .work) v)) _ st (st .used) refl refl
 
   if-spends : (q : Parts) (st : State) → is-full ds rec cap st ≡ true → meet-if ds rec cap q st .used ≡ st .used
   unfolding meet-if
@@ -106,40 +104,44 @@ word-some (lit n true) o e = rw e
 -- ---- what a visit leaves
 
 module _ (ds : List Domain) (F : List ℤ) (Plain : IntExpr → Type 0) (parted : ℕ → Bool) (K : ℕ → Option IntExpr) (fixed : IntExpr → Bool) where
-  -- cells that are set stay
-  abbrev pub Later : List ℤ → List ℤ → Type 0
-  Later w w' = (q : ℕ) (e : IntExpr) → Stands ds F Plain parted K fixed q e → (seen-in (cell w (q + 1)) ≡ unseen → ⊥) → (k : ℕ) → 1 ≤ k → k ≤ 3 → cell w' (q + k) ≡ cell w (q + k)
+  -- cells that are set stay, and so does the word for Ifs
+  pub record Later (w w' : List ℤ) : Type 0 where
+    pub stay : (q : ℕ) (e : IntExpr) → Stands ds F Plain parted K fixed q e → (seen-in (cell w (q + 1)) ≡ unseen → ⊥) → (k : ℕ) → 1 ≤ k → k ≤ 3 → cell w' (q + k) ≡ cell w (q + k)
+    pub word : has-ifs w' ≡ has-ifs w
 
   pub later-then : (a b c : List ℤ) → Later a b → Later b c → Later a c
-  later-then a b c x y q e t n k l m =
-      let h : cell b (q + 1) ≡ cell a (q + 1) = x q e t n 1 (omega arith) (omega arith) in
-      y q e t (λ z. n (ap seen-in (sym h) ∙ z)) k l m ∙ x q e t n k l m
-
-  later-same : (w w' : List ℤ) → ((q : ℕ) → 512 < q → cell w' q ≡ cell w q) → Later w w'
-  later-same w w' h q e t n k l m = h (q + k) (omega (arith, t .low))
+  later-then a b c x y = record {
+    stay = λ q e t n k l m.
+        let h : cell b (q + 1) ≡ cell a (q + 1) = x .stay q e t n 1 (omega arith) (omega arith) in
+        y .stay q e t (λ z. n (ap seen-in (sym h) ∙ z)) k l m ∙ x .stay q e t n k l m;
+    word = y .word ∙ x .word;
+  }
 
   -- the stores of declared variables lie below the cells
   map-later : (w : List ℤ) (p : ℕ) (x : ℤ) → p < 5376 → Later w (set w p x)
-  map-later w p x h = later-same w (set w p x) (λ q l. unfold cell in getD-set-other w p (cells + q) x (pos 0) (λ e. omega arith))
+  map-later w p x h = record {
+    stay = λ q e t n k l m. unfold cell in getD-set-other w p (cells + (q + k)) x (pos 0) (λ e. omega (arith, t .low));
+    word = word-kept w p x (λ e. omega arith);
+  }
 
   either-later : (c : Bool) (w : List ℤ) (x y : State) → Later w (x .work) → Later w (y .work) → Later w (cond c x y .work)
   either-later true w x y p q = p
   either-later false w x y p q = q
 
-  same-later : (w : List ℤ) → Later w w
-  same-later w q e t n k l m = refl
+  pub same-later : (w : List ℤ) → Later w w
+  same-later w = record { stay = λ q e t n k l m. refl; word = refl }
 
   pub bool-later : (v : ℕ) → v < 512 → (st : State) → Later (st .work) (meet-bool v st .work)
   unfolding meet-bool
-  bool-later v h st = either-later (is-zero (bool-at (st .work) v) || eqb (bool-entry (st .work) v) (st .bools + 1)) (st .work) _ st (map-later (st .work) (bool-map + v) (pos (st .bools + 1)) (omega arith)) (same-later (st .work))
+  bool-later v h st = either-later (is-zero (bool-at (st .work) v)) (st .work) _ st (map-later (st .work) (bool-map + v) (pos (st .bools + 1)) (omega arith)) (same-later (st .work))
 
   pub int-later : (ds' : List Domain) (rec cap v : ℕ) → v < 256 → (st : State) → Later (st .work) (meet-int-var ds' rec cap v st .work)
   unfolding meet-int-var new-int
-  int-later ds' rec cap v h st = either-later (is-none (int-entry (st .work) v) || eqb (int-entry (st .work) v) (st .ints + 1)) (st .work) _ st (map-later (st .work) (int-map + v) (pos (st .ints + 1)) (omega arith)) (same-later (st .work))
+  int-later ds' rec cap v h st = either-later (is-none (int-entry (st .work) v)) (st .work) _ st (map-later (st .work) (int-map + v) (pos (st .ints + 1)) (omega arith)) (same-later (st .work))
 
-  module _ (rec cap : ℕ) (before : List ℤ) (Named : Log → Type 0) where
+  module _ (rec cap : ℕ) (with-ifs : Bool) (before : List ℤ) (Named : Log → Type 0) where
     abbrev GoodAt : ℕ → State → Log → Type 0
-    GoodAt = Good ds F Plain parted K fixed rec cap before Named
+    GoodAt = Good ds F Plain parted K fixed rec cap with-ifs before Named
 
     -- k: spent for what is not made yet. A visit that is full shows an answer longer than the cap
     pub data Outcome (k n : ℕ) (A : List ℤ → Type 0) (st st' : State) (s : Log) : Type 0 where
@@ -158,6 +160,15 @@ module _ (ds : List Domain) (F : List ℤ) (Plain : IntExpr → Type 0) (parted 
     pub outcome-to : {k n : ℕ} {A B : List ℤ → Type 0} {st a : State} {s : Log} → ((w : List ℤ) → A w → B w) → Outcome k n A st a s → Outcome k n B st a s
     outcome-to f (full x y) = full x y
     outcome-to f (good g u r p) = good g u r (λ w l. f w (p w l))
+
+    -- there are Ifs
+    pub outcome-with : {k n : ℕ} {A : List ℤ → Type 0} {st a : State} {s : Log} → with-ifs ≡ true → Outcome k n A st a s → Outcome k n (λ w. (has-ifs w ≡ true) × A w) st a s
+    outcome-with h (full x y) = full x y
+    outcome-with h (good g u r p) = good g u r (λ w l. (l .word ∙ g .word ∙ h, p w l))
+
+    -- the counters of a state are those of its log, for every slice of the walk
+    pub good-counters : (n : ℕ) (st : State) (s : Log) (w : List ℤ) → GoodAt n st s → has-ifs w ≡ with-ifs → counters-of st ≡ at w s
+    good-counters n st s w g h = counters-eq _ _ _ _ (g .bools) (ap (int-count (st .work)) (g .ints) ∙ ap (λ b. cond b (next-int s) 0) (g .word ∙ sym h))
 
     -- ---- the work slice is ready for the second walk
 
@@ -193,4 +204,4 @@ module _ (ds : List Domain) (F : List ℤ) (Plain : IntExpr → Type 0) (parted 
       fresh-outcome k n A st a s t j q l (full x y) = full x (omega (arith, y))
       fresh-outcome k n A st a s t j q l (good g u r p) =
           let x = q (a .work) (good-ready (j + n) a s g) (p (a .work) (same-later (a .work))) in
-          good (good-quiet ds F Plain parted K fixed rec cap before Named P j n a s t x g) (omega (arith, u)) r p
+          good (good-quiet ds F Plain parted K fixed rec cap with-ifs before Named P j n a s t x g) (omega (arith, u)) r p

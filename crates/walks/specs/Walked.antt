@@ -1,46 +1,43 @@
 -- The first walk over every tree: `visit`. Where an If's witness is in scope, only laws are applied: arithmetic would prove anything by it.
 use mathlib.Core.Path.{_≡_, refl, sym, ap, _∙_, subst}
-use mathlib.Core.Bool.{Bool, true, false, not, _&&_, _||_, cond}
+use mathlib.Core.Bool.{Bool, true, false, _&&_, cond}
 use mathlib.Core.Option.{Option, none, some}
 use mathlib.Core.List.{List, [], _∷_, _++_}
-use Prim.Native.Nat.{ℕ, zero, suc, _+_, _-_, _*_, _≤_, _<_, min}
+use Prim.Native.Nat.{ℕ, suc, _+_, _*_, _≤_, _<_, min}
 use native.Mathlib.Omega.{arith}
 use native.Mathlib.Numerals.{add-one}
 use lib.IntN.{ℤ, pos, negsuc, negℤ}
 use lib.Signed.{ltZ}
 use lib.ListN.{length}
-use lib.Dec.{eqb, ltb}
 use borrow.Author.Tests.{eq-eqb}
 use Rattle.laws.specs.Ints.{eqZ}
 use Rattle.syntax.specs.Syntax.{IfIsRead, Domain, Range, CmpOp, IntExpr, IConst, IVar, Linear, If, BoolExpr, Const, Var, NVar, And, Or, Not, Xor, Iff, Imp, Cmp}
 use Rattle.sums.specs.LinearSum.{LinearSum, constant, is-constant, add-sum, mul-sum}
 use Rattle.sums.specs.Rising.{constant-of}
-use Rattle.clauses.specs.Clause.{BoolLit, lit, Clause, clause}
-use Rattle.clauses.specs.Log.{MadeBool, MadeInt, declared-int, column, chosen, binary, aux, side, bool, int, added, defined, known, Log, negate-lit, next-bool, next-int, is-declared-int, get-bool-var, get-int-var, get-if, made-ints, bool-var-at, convert-bool-var, convert-int-var}
-use Rattle.clauses.specs.Disjunction.{Outs, normalize-disjunction, finish-disjunction, finish-sorted, sorted}
+use Rattle.clauses.specs.Clause.{BoolLit, lit, Clause}
+use Rattle.clauses.specs.Log.{MadeInt, declared-int, column, chosen, binary, aux, side, bool, int, defined, known, Log, negate-lit, next-bool, next-int, is-declared-int, get-bool-var, get-int-var, get-if, made-ints, bool-var-at, convert-bool-var}
+use Rattle.clauses.specs.Disjunction.{normalize-disjunction, finish-disjunction, finish-sorted, sorted}
 use Rattle.clauses.specs.Normalize.{Run, two, define, no-run, run-then, cross as cross-run, normalize-num, lit-clauses, normalize-var, normalize-comparison, normalize-conjunction, disjunction-of, normalize-int-var, normalize-term, equals, own-literal, condition-literal, two-valued, hull, domain-of-sum, if-constant, if-open, normalize-if}
 use Rattle.clauses.specs.Emitted.{domain-at, new-domain}
 use Rattle.clauses.specs.Since.{OnTop, here, over, top-then, top-domain}
 use Rattle.walk.specs.Item.{limit, bump, fresh, bool-at}
 use Rattle.answer.specs.Answer.{bool-word}
 use Rattle.walk.specs.Grow.{Grows, same, lit-word, bool-here}
-use Rattle.walk.specs.Texts.{disjunction-auxed}
-use Rattle.walk.specs.declared.Counters.{Counters}
 use Rattle.walks.specs.Tree.{own-var, Place, Tree, var, num, cmp, conj, disj, cross, tied, Trees, nil, cons, IntTree, const, ivar, sum, choice, TermTrees, none as no-terms, term, condition-of, run, runs, run-int, run-terms}
 use Rattle.walks.specs.Form.{form}
-use Rattle.walks.specs.Item.{counters, both-constant, seen, Item, IntItem, tallies, items, item, int-item, num-item}
+use Rattle.walks.specs.Item.{has-ifs, both-constant, seen, Item, tallies, items, item, int-item, num-item}
 use Rattle.walks.specs.Placed.{Known, Either, Visited, Numbered, opened, either-domain, Placed, PlacedAll, PlacedInt, PlacedTerms}
-use Rattle.walks.specs.Meet.{form-meet, State, counters-of, with-work, more-bools, spend, leaves, two-record, range-record, range-of, Parts, is-full, meet-if, meet-new, meet-branches, meet-open, meet-constant, set-cell, meet, meets, meet-int, meet-terms}
+use Rattle.walks.specs.Meet.{form-meet, State, counters-of, with-work, spend, leaves, two-record, range-record, range-of, Parts, meet-if, meet-new, meet-branches, meet-open, meet-constant, set-cell, meet, meets, meet-int, meet-terms}
 use Rattle.walks.specs.Grow.{disjunction-grows, int-var-grows, grow-side, two-valued-made, bool-var-grows, run-grow, runs-grow, int-grow, terms-grow}
-use Rattle.walks.specs.Implements.{Proper, Propers, ProperInt, ProperTerms, NoNumber, at, Ready, ready-back, Sorts, more, goods-nil, num-good, item-good, items-good, int-good, terms-good, beside, shape-some}
+use Rattle.walks.specs.Implements.{Proper, Propers, ProperInt, ProperTerms, NoNumber, at, Ready, ready-back, Sorts, more, goods-nil, num-good, item-good, items-good, int-good, beside}
 use Rattle.walks.specs.Ranges.{range-is}
 use Rattle.walks.specs.Plain.{PlainInt}
-use Rattle.walks.specs.Named.{choice as choice-key, key-at, key-new, top-key, NamedBy}
+use Rattle.walks.specs.Named.{key-new, top-key}
 use Rattle.walks.specs.Constant.{constant-expr, OpenIf, Named}
 use Rattle.walks.specs.Cells.{Places}
 use Rattle.walks.specs.Good.{made-record, Quiet, Names, Good, good-less, good-bool, good-int}
-use Rattle.walks.specs.Leaves.{exact, leaves-min, Leafy, Leafies, LeafyInt, LeafyTerms, weight, weights, weight-low, beside-low, some-clause, words-of, grows-words, words-int, choice-constant, choice-open, made-words, constant-behind, open-behind}
-use Rattle.walks.specs.Visit.{bool-spends, int-spends, meet-spends, meets-spends, int-meet-spends, terms-meet-spends, auxed-quiet, Later, later-then, bool-later, int-later, Outcome, full, good, outcome-then, outcome-to, fresh-outcome, good-ready, disj-quiet}
+use Rattle.walks.specs.Leaves.{exact, leaves-min, Leafy, Leafies, LeafyInt, LeafyTerms, weight, weights, weight-low, beside-low, some-clause, words-of, grows-words, choice-constant, choice-open, made-words, constant-behind, open-behind}
+use Rattle.walks.specs.Visit.{bool-spends, int-spends, meet-spends, meets-spends, int-meet-spends, terms-meet-spends, Later, same-later, bool-later, int-later, Outcome, good, outcome-then, outcome-to, outcome-with, good-counters, fresh-outcome, good-ready, disj-quiet}
 use Rattle.walks.specs.Lookup.{Node, known-outcome, new-outcome}
 use Rattle.walks.specs.Make.{own-good, own-outcome, constant-outcome, open-outcome, new-whole}
 
@@ -170,19 +167,19 @@ own-some (Cmp o a b) v h = absurd (let z : _≡_ {A = ℕ} 0 1 = cc in omega ari
 
 -- ---- the walk; F: the folded words, parted and K: the Ifs with split parts and what is looked up for them, rec and cap as in Meet
 
-module _ (ds : List Domain) (F : List ℤ) (parted : ℕ → Bool) (K : ℕ → Option IntExpr) (rec cap : ℕ) (before : List ℤ) (P : Places ds F PlainInt parted K (fixed ds)) (low : cap < limit) where
+module _ (ds : List Domain) (F : List ℤ) (parted : ℕ → Bool) (K : ℕ → Option IntExpr) (rec cap : ℕ) (with-ifs : Bool) (before : List ℤ) (P : Places ds F PlainInt parted K (fixed ds)) (low : cap < limit) where
   abbrev GoodAt : ℕ → State → Log → Type 0
-  GoodAt = Good ds F PlainInt parted K (fixed ds) rec cap before (Named ds)
+  GoodAt = Good ds F PlainInt parted K (fixed ds) rec cap with-ifs before (Named ds)
 
   abbrev OutcomeAt : ℕ → ℕ → (List ℤ → Type 0) → State → State → Log → Type 0
-  OutcomeAt = Outcome ds F PlainInt parted K (fixed ds) rec cap before (Named ds)
+  OutcomeAt = Outcome ds F PlainInt parted K (fixed ds) rec cap with-ifs before (Named ds)
 
   abbrev LaterAt : List ℤ → List ℤ → Type 0
   LaterAt = Later ds F PlainInt parted K (fixed ds)
 
-  -- what is known of an If of a tree: its place, whether it is constant, and that it is not made inside itself
+  -- what is known of an If of a tree: its place, whether it is constant, that it is not made inside itself, and that there are Ifs
   pub record Choice (p : Place) (e : IntExpr) (c d : Tree) (t f : IntTree) : Type 0 where
-    pub node : Node ds F PlainInt parted K (fixed ds) rec cap before (Named ds) p e
+    pub node : Node ds F PlainInt parted K (fixed ds) rec cap with-ifs before (Named ds) p e
     pub decided : (s : Log) → Named ds s → is-constant (run-int ds t s .0) && is-constant (run-int ds f (run-int ds t s .1) .0) ≡ fixed ds e
     pub opens : fixed ds e ≡ false → OpenIf ds e
     pub stays-plain : (s : Log) → get-if e (run ds c s .1) ≡ get-if e s
@@ -190,6 +187,7 @@ module _ (ds : List Domain) (F : List ℤ) (parted : ℕ → Bool) (K : ℕ → 
     pub stays-first : (s : Log) → get-if e (run-int ds t s .1) ≡ get-if e s
     pub stays-second : (s : Log) → get-if e (run-int ds f s .1) ≡ get-if e s
     pub low-var : (v : ℕ) → own-var (condition-of e) ≡ some v → v < 512
+    pub some-ifs : with-ifs ≡ true
 
   unfoldable mutual
     pub Facts : Tree → Type 0
@@ -221,15 +219,11 @@ module _ (ds : List Domain) (F : List ℤ) (parted : ℕ → Bool) (K : ℕ → 
   abbrev pub VisitsInt : IntTree → Type 0
   VisitsInt e = (k n : ℕ) (st : State) (s : Log) → GoodAt n st s → st .used ≤ words-of s + k → OutcomeAt k n (λ w. PlacedInt w ds e s) st (meet-int ds rec cap e st) (run-int ds e s .1)
 
-  -- the counters of a state are those of its log
-  counters-good : (n : ℕ) (st : State) (s : Log) → GoodAt n st s → counters-of st ≡ at s
-  counters-good n st s g = both (g .bools) (g .ints)
-    where
-      both : {a b c d : ℕ} → a ≡ b → c ≡ d → counters a c ≡ counters b d
-      both p q = cc
+  counters-good : (n : ℕ) (st : State) (s : Log) (w : List ℤ) → GoodAt n st s → has-ifs w ≡ with-ifs → counters-of st ≡ at w s
+  counters-good n st s w g h = good-counters ds F PlainInt parted K (fixed ds) rec cap with-ifs before (Named ds) n st s w g h
 
   ready : (n : ℕ) (st : State) (s : Log) → GoodAt n st s → Ready (st .work) s
-  ready n st s g = good-ready ds F PlainInt parted K (fixed ds) rec cap before (Named ds) (names ds) P low n st s g
+  ready n st s g = good-ready ds F PlainInt parted K (fixed ds) rec cap with-ifs before (Named ds) (names ds) P low n st s g
 
   -- ---- an If
 
@@ -263,16 +257,16 @@ module _ (ds : List Domain) (F : List ℤ) (parted : ℕ → Bool) (K : ℕ → 
         ready-b = ready m b (fb .1) gb
 
         first-total : int-item ds t .total (b .work) (counters-of st) ≡ ta .0
-        first-total = ap (int-item ds t .total (b .work)) (counters-good m st s gs) ∙ int-good (b .work) ds t pt .from s (ready-back (int-grow ds f (ta .1)) ready-b) (placed .0) .total
+        first-total = ap (int-item ds t .total (b .work)) (counters-good m st s (b .work) gs (gb .word)) ∙ int-good (b .work) ds t pt .from s (ready-back (int-grow ds f (ta .1)) ready-b) (placed .0) .total
 
         second-total : int-item ds f .total (b .work) (counters-of a) ≡ fb .0
-        second-total = ap (int-item ds f .total (b .work)) (counters-good m a (ta .1) ga) ∙ int-good (b .work) ds f pf .from (ta .1) ready-b (placed .1) .total
+        second-total = ap (int-item ds f .total (b .work)) (counters-good m a (ta .1) (b .work) ga (gb .word)) ∙ int-good (b .work) ds f pf .from (ta .1) ready-b (placed .1) .total
 
         first-range : range-of (int-item ds t) (b .work) (counters-of st) ≡ domain-of-sum ds (fb .1) (ta .0)
-        first-range = ap (range-of (int-item ds t) (b .work)) (counters-good m st s gs) ∙ range-is (b .work) ds t pt s (ready-back (int-grow ds f (ta .1)) ready-b) (placed .0) (fb .1) (int-grow ds f (ta .1) .top)
+        first-range = ap (range-of (int-item ds t) (b .work)) (counters-good m st s (b .work) gs (gb .word)) ∙ range-is (b .work) ds t pt s (ready-back (int-grow ds f (ta .1)) ready-b) (placed .0) (fb .1) (int-grow ds f (ta .1) .top)
 
         second-range : range-of (int-item ds f) (b .work) (counters-of a) ≡ domain-of-sum ds (fb .1) (fb .0)
-        second-range = ap (range-of (int-item ds f) (b .work)) (counters-good m a (ta .1) ga) ∙ range-is (b .work) ds f pf (ta .1) ready-b (placed .1) (fb .1) here
+        second-range = ap (range-of (int-item ds f) (b .work)) (counters-good m a (ta .1) (b .work) ga (gb .word)) ∙ range-is (b .work) ds f pf (ta .1) ready-b (placed .1) (fb .1) here
 
         -- so the walk goes on as the run does
         branches-go : meet-branches ds rec cap parts st a b ≡ cond (is-constant (ta .0) && is-constant (fb .0))
@@ -314,12 +308,12 @@ module _ (ds : List Domain) (F : List ℤ) (parted : ℕ → Bool) (K : ℕ → 
 
       first-quiet : (w : List ℤ) → Ready w (x₂ .1) → Placed w ds d x₀ → Quiet (Named ds) (x₂ .1) (x₃ .1) (fresh (tallies (num-item c₀ false ∷ item ds d ∷ [])))
       unfolding run-then normalize-num no-run
-      first-quiet w r pl = disj-quiet ds F PlainInt parted K (fixed ds) rec cap before (Named ds) (names ds) P low w (num-item c₀ false ∷ item ds d ∷ []) x₀ (two (normalize-num c₀ false) (run ds d) x₀) (first-sorts w r pl) (x₂ .1)
+      first-quiet w r pl = disj-quiet ds F PlainInt parted K (fixed ds) rec cap with-ifs before (Named ds) (names ds) P low w (num-item c₀ false ∷ item ds d ∷ []) x₀ (two (normalize-num c₀ false) (run ds d) x₀) (first-sorts w r pl) (x₂ .1)
 
       second-quiet : (w : List ℤ) → Ready w (x₂ .1) → Placed w ds c (x₁ .1) → Quiet (Named ds) (x₃ .1) (defined (x₃ .0 ++ x₄ .0) ∷ x₄ .1) (fresh (tallies (num-item c₀ true ∷ item ds c ∷ [])))
       unfolding run-then normalize-num no-run
       second-quiet w r pl = defined-quiet (Named ds) (names ds) _ (x₃ .0 ++ x₄ .0) (x₃ .1) (x₄ .1)
-          (disj-quiet ds F PlainInt parted K (fixed ds) rec cap before (Named ds) (names ds) P low w (num-item c₀ true ∷ item ds c ∷ []) (x₁ .1) (two (normalize-num c₀ true) (run ds c) (x₁ .1)) (second-sorts w r pl) (x₃ .1))
+          (disj-quiet ds F PlainInt parted K (fixed ds) rec cap with-ifs before (Named ds) (names ds) P low w (num-item c₀ true ∷ item ds c ∷ []) (x₁ .1) (two (normalize-num c₀ true) (run ds c) (x₁ .1)) (second-sorts w r pl) (x₃ .1))
 
       number-word : (b : State) (m : ℕ) → GoodAt m b (fb .1) → pos (b .bools + 1) ≡ lit-word (lit c₀ false)
       number-word b m g = ap pos (add-one (b .bools) ∙ ap suc (g .bools))
@@ -398,8 +392,8 @@ module _ (ds : List Domain) (F : List ℤ) (parted : ℕ → Bool) (K : ℕ → 
           unfolding open-placed
           open-finish a b gs ga gb u f' =
               subst (λ (x : State). OutcomeAt k n open-placed b x (known e (next-int (fb .1)) ∷ y₃))
-              (sym (branches-go (16 + n) (spend 4 st) a b gs ga gb (f' (b .work) (λ q e t n k l m. refl)) ∙ ap (λ r. cond r (meet-constant ds rec cap parts (constant-of (ta .0)) (constant-of (fb .0)) (own-var (condition-of e)) (with-work (set-cell (p .at + 1) (negsuc 0) (b .work)) b)) (meet-open ds rec cap parts dom b)) h))
-              (open-outcome ds F PlainInt parted K (fixed ds) rec cap before (Named ds) (names ds) P low parts e (ch .node) k n b (fb .1) (chosen i e (ta .0) (fb .0) dom) dom (y₁ .1) (y₂ .1) y₃ (λ w. Placed w ds c y₀) (λ w. Placed w ds d (y₁ .1)) (exact c) (exact d) (weight ds c) (weight ds d)
+              (sym (branches-go (16 + n) (spend 4 st) a b gs ga gb (f' (b .work) (same-later ds F PlainInt parted K (fixed ds) (b .work))) ∙ ap (λ r. cond r (meet-constant ds rec cap parts (constant-of (ta .0)) (constant-of (fb .0)) (own-var (condition-of e)) (with-work (set-cell (p .at + 1) (negsuc 0) (b .work)) b)) (meet-open ds rec cap parts dom b)) h))
+              (open-outcome ds F PlainInt parted K (fixed ds) rec cap with-ifs before (Named ds) (names ds) P low parts e (ch .node) k n b (fb .1) (chosen i e (ta .0) (fb .0) dom) dom (y₁ .1) (y₂ .1) y₃ (λ w. Placed w ds c y₀) (λ w. Placed w ds d (y₁ .1)) (exact c) (exact d) (weight ds c) (weight ds d)
               (λ v. refl) refl (leaves-both c d) (weights-both ds c d pc lc pd ld) (λ k n st. visit-c k n st y₀) (λ k n st. visit-d k n st (y₁ .1)) (λ st x. meet-spends ds rec cap d st x) open-one open-none closed open-domain (open-named closed)
               (grows-words (run-grow ds d (y₁ .1))) (grows-words (run-grow ds c y₀)) (made-behind h) (ints-then (run-grow ds c y₀) (run-grow ds d (y₁ .1))) gb u)
             where
@@ -407,7 +401,7 @@ module _ (ds : List Domain) (F : List ℤ) (parted : ℕ → Bool) (K : ℕ → 
               ints-then g h = Rattle.walk.specs.Grow.then g h .ints
 
           open-whole : GoodAt n st s → st .used ≤ words-of s + k → OutcomeAt k n (λ w. PlacedInt w ds t s × PlacedInt w ds f (ta .1) × open-placed w) st (meet-new ds rec cap parts st) (known e (next-int (fb .1)) ∷ y₃)
-          open-whole g u = new-whole ds F PlainInt parted K (fixed ds) rec cap before (Named ds) (names ds) P low parts e (ch .node) k n st s (ta .1) (fb .1) (known e (next-int (fb .1)) ∷ y₃) (λ w. PlacedInt w ds t s) (λ w. PlacedInt w ds f (ta .1)) open-placed
+          open-whole g u = new-whole ds F PlainInt parted K (fixed ds) rec cap with-ifs before (Named ds) (names ds) P low parts e (ch .node) k n st s (ta .1) (fb .1) (known e (next-int (fb .1)) ∷ y₃) (λ w. PlacedInt w ds t s) (λ w. PlacedInt w ds f (ta .1)) open-placed
               (λ k n st. visit-t k n st s) (λ k n st. visit-f k n st (ta .1)) (λ st x. int-meet-spends ds rec cap f st x) (grows-words (int-grow ds t s)) (grows-words (int-grow ds f (ta .1))) (made-least h) open-finish g u
 
         -- ---- constant branches, the condition a declared variable
@@ -426,14 +420,14 @@ module _ (ds : List Domain) (F : List ℤ) (parted : ℕ → Bool) (K : ℕ → 
           constant-whole : (o : Option ℕ) → own-var (condition-of e) ≡ o → (C : List ℤ → Type 0) → (l : Log) → 4 + words-of (fb .1) ≤ words-of l
               → ((b : State) (gb : GoodAt (16 + n) b (fb .1)) → b .used ≤ words-of (fb .1) + (k + 4) → OutcomeAt k n C b (meet-constant ds rec cap parts jx jy o (with-work (set-cell (p .at + 1) (negsuc 0) (b .work)) b)) l)
               → GoodAt n st s → st .used ≤ words-of s + k → OutcomeAt k n (λ w. PlacedInt w ds t s × PlacedInt w ds f (ta .1) × C w) st (meet-new ds rec cap parts st) l
-          constant-whole o oe C l wl fin g u = new-whole ds F PlainInt parted K (fixed ds) rec cap before (Named ds) (names ds) P low parts e (ch .node) k n st s (ta .1) (fb .1) l (λ w. PlacedInt w ds t s) (λ w. PlacedInt w ds f (ta .1)) C
+          constant-whole o oe C l wl fin g u = new-whole ds F PlainInt parted K (fixed ds) rec cap with-ifs before (Named ds) (names ds) P low parts e (ch .node) k n st s (ta .1) (fb .1) l (λ w. PlacedInt w ds t s) (λ w. PlacedInt w ds f (ta .1)) C
               (λ k n st. visit-t k n st s) (λ k n st. visit-f k n st (ta .1)) (λ st x. int-meet-spends ds rec cap f st x) (grows-words (int-grow ds t s)) (grows-words (int-grow ds f (ta .1))) wl finish g u
             where
               finish : (a b : State) → GoodAt (16 + n) (spend 4 st) s → GoodAt (16 + n) a (ta .1) → GoodAt (16 + n) b (fb .1) → b .used ≤ words-of (fb .1) + (k + 4)
                   → ((w : List ℤ) → LaterAt (b .work) w → PlacedInt w ds t s × PlacedInt w ds f (ta .1)) → OutcomeAt k n C b (meet-branches ds rec cap parts (spend 4 st) a b) l
               finish a b gs ga gb u f' =
                   subst (λ (x : State). OutcomeAt k n C b x l)
-                  (sym (branches-go (16 + n) (spend 4 st) a b gs ga gb (f' (b .work) (λ q e t n k l m. refl))
+                  (sym (branches-go (16 + n) (spend 4 st) a b gs ga gb (f' (b .work) (same-later ds F PlainInt parted K (fixed ds) (b .work)))
                   ∙ ap (λ r. cond r (meet-constant ds rec cap parts jx jy (own-var (condition-of e)) (with-work (set-cell (p .at + 1) (negsuc 0) (b .work)) b)) (meet-open ds rec cap parts dom b)) h
                   ∙ ap (λ r. meet-constant ds rec cap parts jx jy r (with-work (set-cell (p .at + 1) (negsuc 0) (b .work)) b)) oe))
                   (fin b gb u)
@@ -449,9 +443,9 @@ module _ (ds : List Domain) (F : List ℤ) (parted : ℕ → Bool) (K : ℕ → 
               → OutcomeAt k n (λ w. (seen w p ≡ both-constant) × Unit {0}) b (meet-constant ds rec cap parts jx jy (some v) (with-work (set-cell (p .at + 1) (negsuc 0) (b .work)) b)) (own-log v)
           own-finish v l b gb u =
               let m = two-valued i (convert-bool-var v (fb .1) .0) jx jy in
-              let g' = own-good ds F PlainInt parted K (fixed ds) rec cap before (Named ds) (names ds) P low parts e (ch .node) k n b (fb .1) (convert-bool-var v (fb .1) .1) m jx jy v l closed new-behind (two-valued-made i (convert-bool-var v (fb .1) .0) jx jy) refl gb in
+              let g' = own-good ds F PlainInt parted K (fixed ds) rec cap with-ifs before (Named ds) (names ds) P low parts e (ch .node) k n b (fb .1) (convert-bool-var v (fb .1) .1) m jx jy v l closed new-behind (two-valued-made i (convert-bool-var v (fb .1) .0) jx jy) refl gb in
               let z = own-word v l (16 + n) _ g' in
-              own-outcome ds F PlainInt parted K (fixed ds) rec cap before (Named ds) (names ds) P low parts e (ch .node) k n b (fb .1) (convert-bool-var v (fb .1) .1) m jx jy v l closed new-behind (two-valued-made i (convert-bool-var v (fb .1) .0) jx jy) refl gb
+              own-outcome ds F PlainInt parted K (fixed ds) rec cap with-ifs before (Named ds) (names ds) P low parts e (ch .node) k n b (fb .1) (convert-bool-var v (fb .1) .1) m jx jy v l closed new-behind (two-valued-made i (convert-bool-var v (fb .1) .0) jx jy) refl gb
               (two-made i ds (convert-bool-var v (fb .1) .0) _ jx jy z (neg-lit (convert-bool-var v (fb .1) .0) _ z)) u (grows-words (bool-var-grows v (fb .1)))
 
           -- ---- another condition
@@ -471,7 +465,7 @@ module _ (ds : List Domain) (F : List ℤ) (parted : ℕ → Bool) (K : ℕ → 
           cond-finish q r b gb u =
               let w' = number-word b (16 + n) gb in
               let to : (g : Bool) (x : Item) → num-item c₀ g ∷ x ∷ [] ≡ num-item (b .bools) g ∷ x ∷ [] = λ g x. ap (λ a. num-item a g ∷ x ∷ []) (sym (gb .bools)) in
-              constant-outcome ds F PlainInt parted K (fixed ds) rec cap before (Named ds) (names ds) P low parts e (ch .node) k n b (fb .1) (two-valued i (lit c₀ false) jx jy) jx jy x₀ (x₁ .1) (x₂ .1) (x₃ .1) (defined (x₃ .0 ++ x₄ .0) ∷ x₄ .1)
+              constant-outcome ds F PlainInt parted K (fixed ds) rec cap with-ifs before (Named ds) (names ds) P low parts e (ch .node) k n b (fb .1) (two-valued i (lit c₀ false) jx jy) jx jy x₀ (x₁ .1) (x₂ .1) (x₃ .1) (defined (x₃ .0 ++ x₄ .0) ∷ x₄ .1)
               (λ w. Placed w ds c (x₁ .1)) (λ w. Placed w ds d x₀) (exact c) (exact d) (weight ds c) (weight ds d) closed new-behind (two-valued-made i (lit c₀ false) jx jy) (two-made i ds (lit c₀ false) _ jx jy w' (neg-lit (lit c₀ false) _ w'))
               (leaves-both c d) (beside-low ds (b .bools) true c pc lc) (beside-low ds (b .bools) false d pd ld) (λ k n st. visit-d k n st x₀) (λ k n st. visit-c k n st (x₁ .1)) (λ st y. meet-spends ds rec cap c st y)
               (side-quiet (Named ds) (names ds) (condition-of e) (fb .1))
@@ -506,7 +500,7 @@ module _ (ds : List Domain) (F : List ℤ) (parted : ℕ → Bool) (K : ℕ → 
         by-test k n st nm true h g u = by-own k n st h (sym (ch .decided s nm) ∙ h) (own-var (condition-of e)) refl g u
         by-test k n st nm false h g u =
             subst (λ (l : Log). OutcomeAt k n (RestAt i false) st (meet-new ds rec cap parts st) l) (sym open-log)
-            (outcome-to ds F PlainInt parted K (fixed ds) rec cap before (Named ds) (λ w x. (x .0, x .1, open-is w (x .2))) (open-whole k n st h (sym (ch .decided s nm) ∙ h) g u))
+            (outcome-to ds F PlainInt parted K (fixed ds) rec cap with-ifs before (Named ds) (λ w x. (x .0, x .1, open-is w (x .2))) (open-whole k n st h (sym (ch .decided s nm) ∙ h) g u))
           where
             open-is : (w : List ℤ) → open-placed w → Numbered w p (next-int (fb .1)) dom × Placed w ds c y₀ × Placed w ds d (y₁ .1)
             open-is w x = let y : Numbered w p (next-int (fb .1)) dom × (Placed w ds c y₀ × Placed w ds d (y₁ .1)) = unfold open-placed in x in (y .0, y .1 .0, y .1 .1)
@@ -515,30 +509,30 @@ module _ (ds : List Domain) (F : List ℤ) (parted : ℕ → Bool) (K : ℕ → 
 
     if-visit : (i : IfIsRead) → VisitsInt (choice i p e c d t f)
     unfolding form-meet form run-int PlacedInt normalize-if
-    if-visit i k n st s g u = go (get-if e s) refl
+    if-visit i k n st s g u = outcome-with ds F PlainInt parted K (fixed ds) rec cap with-ifs before (Named ds) (ch .some-ifs) (go (get-if e s) refl)
       where
         go : (o : Option ℕ) → get-if e s ≡ o
             → OutcomeAt k n (λ w. Known w ds o p s (RestAt s i (is-constant (run-int ds t s .0) && is-constant (run-int ds f (run-int ds t s .1) .0)) w)) st (meet-if ds rec cap parts st) (normalize-if ds i o e (condition-of e) (λ g s. cond g (run ds d s) (run ds c s)) (run-int ds t) (run-int ds f) s .1)
-        go (some v) h = known-outcome ds F PlainInt parted K (fixed ds) rec cap before (Named ds) (names ds) P low parts e (ch .node) n st s g v h k u
-        go none h = subst (λ (x : State). OutcomeAt k n (RestAt s i (is-constant (run-int ds t s .0) && is-constant (run-int ds f (run-int ds t s .1) .0))) st x (normalize-if ds i none e (condition-of e) (λ g s. cond g (run ds d s) (run ds c s)) (run-int ds t) (run-int ds f) s .1)) (sym (new-outcome ds F PlainInt parted K (fixed ds) rec cap before (Named ds) (names ds) P low parts e (ch .node) n st s g h)) (by-test s i h k n st (g .named) _ refl g u)
+        go (some v) h = known-outcome ds F PlainInt parted K (fixed ds) rec cap with-ifs before (Named ds) (names ds) P low parts e (ch .node) n st s g v h k u
+        go none h = subst (λ (x : State). OutcomeAt k n (RestAt s i (is-constant (run-int ds t s .0) && is-constant (run-int ds f (run-int ds t s .1) .0))) st x (normalize-if ds i none e (condition-of e) (λ g s. cond g (run ds d s) (run ds c s)) (run-int ds t) (run-int ds f) s .1)) (sym (new-outcome ds F PlainInt parted K (fixed ds) rec cap with-ifs before (Named ds) (names ds) P low parts e (ch .node) n st s g h)) (by-test s i h k n st (g .named) _ refl g u)
 
   -- ---- steps of trees
 
   var-visit : (v : ℕ) (g : Bool) → v < 512 → Visits (var v g)
   unfolding form-meet form run Placed normalize-var weight
   var-visit v g h k n st s gd u = good
-      (good-bool ds F PlainInt parted K (fixed ds) rec cap before (Named ds) (names ds) P v h n st s (good-less ds F PlainInt parted K (fixed ds) rec cap before (Named ds) (0 + n) n st s (omega arith) gd))
+      (good-bool ds F PlainInt parted K (fixed ds) rec cap with-ifs before (Named ds) (names ds) P v h n st s (good-less ds F PlainInt parted K (fixed ds) rec cap with-ifs before (Named ds) (0 + n) n st s (omega arith) gd))
       (omega (arith, u, bool-spends ds rec cap v st, grows-words (bool-var-grows v s))) (bool-later ds F PlainInt parted K (fixed ds) v h st) (λ w l. tt)
 
   ivar-visit : (v : ℕ) → v < 256 → VisitsInt (ivar v)
   unfolding form-meet form run-int PlacedInt normalize-int-var
-  ivar-visit v h k n st s gd u = good (good-int ds F PlainInt parted K (fixed ds) rec cap before (Named ds) (names ds) P v h n st s gd) (omega (arith, u, int-spends ds rec cap v st, grows-words (int-var-grows v s))) (int-later ds F PlainInt parted K (fixed ds) ds rec cap v h st) (λ w l. tt)
+  ivar-visit v h k n st s gd u = good (good-int ds F PlainInt parted K (fixed ds) rec cap with-ifs before (Named ds) (names ds) P v h n st s gd) (omega (arith, u, int-spends ds rec cap v st, grows-words (int-var-grows v s))) (int-later ds F PlainInt parted K (fixed ds) ds rec cap v h st) (λ w l. tt)
 
   stay : (k n : ℕ) (st : State) (s : Log) → GoodAt n st s → st .used ≤ words-of s + k → OutcomeAt k n (λ w. Unit {0}) st st s
-  stay k n st s g u = good g u (λ q e t n k l m. refl) (λ w l. tt)
+  stay k n st s g u = good g u (same-later ds F PlainInt parted K (fixed ds) (st .work)) (λ w l. tt)
 
   less : (m n : ℕ) (st : State) (s : Log) → n ≤ m → GoodAt m st s → GoodAt n st s
-  less m n st s h g = good-less ds F PlainInt parted K (fixed ds) rec cap before (Named ds) m n st s h g
+  less m n st s h g = good-less ds F PlainInt parted K (fixed ds) rec cap with-ifs before (Named ds) m n st s h g
 
   abbrev VisitsAll : Trees → Type 0
   VisitsAll ts = (k n : ℕ) (st : State) (s : Log) → GoodAt (weights ds ts + n) st s → st .used ≤ words-of s + k → OutcomeAt k n (λ w. PlacedAll w ds ts s) st (meets ds rec cap ts st) (runs ds ts s .1)
@@ -549,31 +543,31 @@ module _ (ds : List Domain) (F : List ℤ) (parted : ℕ → Bool) (K : ℕ → 
   cons-visit : (t : Tree) (ts : Trees) → Visits t → VisitsAll ts → VisitsAll (cons t ts)
   unfolding form-meet form runs PlacedAll weights run-then
   cons-visit t ts x y k n st s g u =
-      outcome-then ds F PlainInt parted K (fixed ds) rec cap before (Named ds) k (weights ds ts + n) n (λ w. Placed w ds t s) (λ w. PlacedAll w ds ts (run ds t s .1)) st (meet ds rec cap t st) (meets ds rec cap ts (meet ds rec cap t st)) (run ds t s .1) (runs ds ts (run ds t s .1) .1)
+      outcome-then ds F PlainInt parted K (fixed ds) rec cap with-ifs before (Named ds) k (weights ds ts + n) n (λ w. Placed w ds t s) (λ w. PlacedAll w ds ts (run ds t s .1)) st (meet ds rec cap t st) (meets ds rec cap ts (meet ds rec cap t st)) (run ds t s .1) (runs ds ts (run ds t s .1) .1)
       (λ h. meets-spends ds rec cap ts (meet ds rec cap t st) h) (grows-words (runs-grow ds ts (run ds t s .1))) (x k (weights ds ts + n) st s (less _ _ st s (omega arith) g) u) (λ g' u'. y k n (meet ds rec cap t st) (run ds t s .1) g' u')
 
   cmp-visit : (o : CmpOp) (a b : IntTree) (g : Bool) → VisitsInt a → VisitsInt b → Visits (cmp o a b g)
   unfolding form-meet form run Placed weight normalize-comparison
   cmp-visit o a b g x y k n st s gd u =
-      outcome-then ds F PlainInt parted K (fixed ds) rec cap before (Named ds) k n n (λ w. PlacedInt w ds a s) (λ w. PlacedInt w ds b (run-int ds a s .1)) st (meet-int ds rec cap a st) (meet-int ds rec cap b (meet-int ds rec cap a st)) (run-int ds a s .1) (run-int ds b (run-int ds a s .1) .1)
+      outcome-then ds F PlainInt parted K (fixed ds) rec cap with-ifs before (Named ds) k n n (λ w. PlacedInt w ds a s) (λ w. PlacedInt w ds b (run-int ds a s .1)) st (meet-int ds rec cap a st) (meet-int ds rec cap b (meet-int ds rec cap a st)) (run-int ds a s .1) (run-int ds b (run-int ds a s .1) .1)
       (λ h. int-meet-spends ds rec cap b (meet-int ds rec cap a st) h) (grows-words (int-grow ds b (run-int ds a s .1))) (x k n st s (less _ _ st s (omega arith) gd) u) (λ g' u'. y k n (meet-int ds rec cap a st) (run-int ds a s .1) g' u')
 
   term-visit : (c : ℤ) (e : IntTree) (ts : TermTrees) → VisitsInt e → VisitsTerms ts → VisitsTerms (term c e ts)
   unfolding form-meet form run-terms PlacedTerms normalize-term
   term-visit c e ts x y k n st l s g u =
       let l' = add-sum l (mul-sum c (run-int ds e s .0)) in
-      outcome-then ds F PlainInt parted K (fixed ds) rec cap before (Named ds) k n n (λ w. PlacedInt w ds e s) (λ w. PlacedTerms w ds ts (run-int ds e s .1)) st (meet-int ds rec cap e st) (meet-terms ds rec cap ts (meet-int ds rec cap e st)) (run-int ds e s .1) (run-terms ds ts l' (run-int ds e s .1) .1)
+      outcome-then ds F PlainInt parted K (fixed ds) rec cap with-ifs before (Named ds) k n n (λ w. PlacedInt w ds e s) (λ w. PlacedTerms w ds ts (run-int ds e s .1)) st (meet-int ds rec cap e st) (meet-terms ds rec cap ts (meet-int ds rec cap e st)) (run-int ds e s .1) (run-terms ds ts l' (run-int ds e s .1) .1)
       (λ h. terms-meet-spends ds rec cap ts (meet-int ds rec cap e st) h) (grows-words (terms-grow ds ts l' (run-int ds e s .1))) (x k n st s g u) (λ g' u'. y k n (meet-int ds rec cap e st) l' (run-int ds e s .1) g' u')
 
   -- the numbers of a disjunction of visited members, at a later log
   members-quiet : (ts : Trees) → Propers ts → (s z : Log) → Grows (runs ds ts s .1) z → (w : List ℤ) → Ready w z → PlacedAll w ds ts s → Quiet (Named ds) z (normalize-disjunction (runs ds ts s .0) z .1) (fresh (tallies (items ds ts)))
-  members-quiet ts p s z gr w r pl = disj-quiet ds F PlainInt parted K (fixed ds) rec cap before (Named ds) (names ds) P low w (items ds ts) s (runs ds ts s) (items-good w ds ts p .from s (ready-back gr r) pl) z
+  members-quiet ts p s z gr w r pl = disj-quiet ds F PlainInt parted K (fixed ds) rec cap with-ifs before (Named ds) (names ds) P low w (items ds ts) s (runs ds ts s) (items-good w ds ts p .from s (ready-back gr r) pl) z
 
   disj-visit : (ts : Trees) → Propers ts → VisitsAll ts → Visits (disj ts)
   unfolding form-meet form run Placed weight disjunction-of
   disj-visit ts p x k n st s g u =
       let j = fresh (tallies (items ds ts)) in
-      fresh-outcome ds F PlainInt parted K (fixed ds) rec cap before (Named ds) (names ds) P low k n (λ w. PlacedAll w ds ts s) st (meets ds rec cap ts st) (runs ds ts s .1) (normalize-disjunction (runs ds ts s .0) (runs ds ts s .1) .1) j
+      fresh-outcome ds F PlainInt parted K (fixed ds) rec cap with-ifs before (Named ds) (names ds) P low k n (λ w. PlacedAll w ds ts s) st (meets ds rec cap ts st) (runs ds ts s .1) (normalize-disjunction (runs ds ts s .0) (runs ds ts s .1) .1) j
       (λ w r pl. members-quiet ts p s (runs ds ts s .1) same w r pl) (grows-words (disjunction-grows (runs ds ts s .0) (runs ds ts s .1))) (x k (j + n) st s (less _ _ st s (omega arith) g) u)
 
   cross-visit : (ts us : Trees) → Propers ts → Propers us → VisitsAll ts → VisitsAll us → Visits (cross ts us)
@@ -584,11 +578,11 @@ module _ (ds : List Domain) (F : List ℤ) (parted : ℕ → Bool) (K : ℕ → 
       let a = runs ds ts s in
       let b = runs ds us (a .1) in
       let c = normalize-disjunction (a .0) (b .1) in
-      let both = outcome-then ds F PlainInt parted K (fixed ds) rec cap before (Named ds) k (weights ds us + (jt + (ju + n))) (jt + (ju + n)) (λ w. PlacedAll w ds ts s) (λ w. PlacedAll w ds us (a .1)) st (meets ds rec cap ts st) (meets ds rec cap us (meets ds rec cap ts st)) (a .1) (b .1)
+      let both = outcome-then ds F PlainInt parted K (fixed ds) rec cap with-ifs before (Named ds) k (weights ds us + (jt + (ju + n))) (jt + (ju + n)) (λ w. PlacedAll w ds ts s) (λ w. PlacedAll w ds us (a .1)) st (meets ds rec cap ts st) (meets ds rec cap us (meets ds rec cap ts st)) (a .1) (b .1)
       (λ h. meets-spends ds rec cap us (meets ds rec cap ts st) h) (grows-words (runs-grow ds us (a .1))) (x k (weights ds us + (jt + (ju + n))) st s (less _ _ st s (omega arith) g) u) (λ g' u'. y k (jt + (ju + n)) (meets ds rec cap ts st) (a .1) g' u') in
-      let first = fresh-outcome ds F PlainInt parted K (fixed ds) rec cap before (Named ds) (names ds) P low k (ju + n) (λ w. PlacedAll w ds ts s × PlacedAll w ds us (a .1)) st (meets ds rec cap us (meets ds rec cap ts st)) (b .1) (c .1) jt
+      let first = fresh-outcome ds F PlainInt parted K (fixed ds) rec cap with-ifs before (Named ds) (names ds) P low k (ju + n) (λ w. PlacedAll w ds ts s × PlacedAll w ds us (a .1)) st (meets ds rec cap us (meets ds rec cap ts st)) (b .1) (c .1) jt
       (λ w r pl. members-quiet ts p s (b .1) (runs-grow ds us (a .1)) w r (pl .0)) (grows-words (disjunction-grows (a .0) (b .1))) both in
-      fresh-outcome ds F PlainInt parted K (fixed ds) rec cap before (Named ds) (names ds) P low k n (λ w. PlacedAll w ds ts s × PlacedAll w ds us (a .1)) st _ (c .1) (normalize-disjunction (b .0) (c .1) .1) ju
+      fresh-outcome ds F PlainInt parted K (fixed ds) rec cap with-ifs before (Named ds) (names ds) P low k n (λ w. PlacedAll w ds ts s × PlacedAll w ds us (a .1)) st _ (c .1) (normalize-disjunction (b .0) (c .1) .1) ju
       (λ w r pl. members-quiet us q (a .1) (c .1) (disjunction-grows (a .0) (b .1)) w r (pl .1)) (grows-words (disjunction-grows (b .0) (c .1))) first
 
   tied-visit : (v : ℕ) (t t' : Tree) → Proper t → Leafy t → Proper t' → Leafy t' → Visits t → Visits t' → Visits (tied v t t')
@@ -597,7 +591,7 @@ module _ (ds : List Domain) (F : List ℤ) (parted : ℕ → Bool) (K : ℕ → 
       let a = run ds t s in
       let b = run ds t' (a .1) in
       rw (beside [] (a .0) (lit v true) (b .1) (some-clause ds t p l s), beside [] (b .0) (lit v false) (b .1) (some-clause ds t' p' l' (a .1)))
-      (outcome-then ds F PlainInt parted K (fixed ds) rec cap before (Named ds) k (weight ds t' + n) n (λ w. Placed w ds t s) (λ w. Placed w ds t' (a .1)) st (meet ds rec cap t st) (meet ds rec cap t' (meet ds rec cap t st)) (a .1) (b .1)
+      (outcome-then ds F PlainInt parted K (fixed ds) rec cap with-ifs before (Named ds) k (weight ds t' + n) n (λ w. Placed w ds t s) (λ w. Placed w ds t' (a .1)) st (meet ds rec cap t st) (meet ds rec cap t' (meet ds rec cap t st)) (a .1) (b .1)
       (λ h. meet-spends ds rec cap t' (meet ds rec cap t st) h) (grows-words (run-grow ds t' (a .1))) (x k (weight ds t' + n) st s (less _ _ st s (omega arith) g) u) (λ g' u'. y k n (meet ds rec cap t st) (a .1) g' u'))
 
   num-visit : (m : ℕ) (g : Bool) → Visits (num m g)

@@ -36,13 +36,13 @@ module _ (w : List ℤ) (ds : List Domain) where
   unfolding Proper PlacedRegisters
   first-at t ts p s r n = item-good w ds t (p .0) .from s (ready-back (register-grow ds t ts s) r) (n .0)
 
-  pub written-counts : (ts : Trees) → Propers ts → (s : Log) → Ready w (registers ds ts s) → PlacedRegisters ts s → counts (items ds ts) w (at s) ≡ at (registers ds ts s)
+  pub written-counts : (ts : Trees) → Propers ts → (s : Log) → Ready w (registers ds ts s) → PlacedRegisters ts s → counts (items ds ts) w (at w s) ≡ at w (registers ds ts s)
   unfolding Proper PlacedRegisters form-item form counts registers register
   written-counts nil p s r n = refl
   written-counts (cons t ts) p s r n = ap (counts (items ds ts) w) (first-at t ts p s r n .count) ∙ written-counts ts (p .1) (register (run ds t s)) r (n .1)
 
   pub written-adds : (ts : Trees) → Propers ts → (s : Log) → Ready w (registers ds ts s) → PlacedRegisters ts s
-      → Registers (written (items ds ts) w (at s)) (written-lines (items ds ts) w (at s)) s (registers ds ts s)
+      → Registers (written (items ds ts) w (at w s)) (written-lines (items ds ts) w (at w s)) s (registers ds ts s)
   unfolding Proper PlacedRegisters form-item form written written-lines registers register clauses-of
   written-adds nil p s r n = registers-same s s refl
   written-adds (cons t ts) p s r n =

@@ -126,7 +126,7 @@ leaves-leaf-count-requires-5 : (t : ℕ) → leaves-lts.Need-leaf-count-requires
 leaves-leaf-count-requires-5 t c κs = search needs
 
 leaves-returns-2 : (t : ℕ) → leaves-lts.Need-returns-2 (leaves-claims t) (leaves-at t) leaves.Post
-leaves-returns-2 t c = as-counted _ _ _ _ _ _ _ _ _ _ (c .leaf-count5 .ensures) (leaves-cross _ _ _ _ _ _ _ (skips-cross ((c .before .before .before .before .before .before .before .before .before .before) .args .work .now) ((c .before .before .before .before .before .before .before .before .before .before) .pre .1 .0) _ _ _ _ ((c .before .before .before .before .before .before .before .before .before .before) .pre .1 .1 .0) ((c .before .before .before .before .before .before .before .before .before .before) .pre .1 .1 .1) _ (c .before .before .before .before .before .before .before .before .before .if1 .left) refl _ _ _ _ _ _ (sym (c .before .before .before .before .before .before .h .given .1) ∙ c .before .before .before .before .before .before .before .before .node-at .ensures) (c .before .before .before .inner2 .ensures) (inside-same ((c .before .before .before .before .before .before .before .before .before .before) .args .m) _ (omega (arith, c .before .before .before .before .if2 .taken))) (c .before .before .leaves-all2 .ensures .skips)) _ (c .before .before .before .before .before .before .before .before .before .if1 .left) refl _ _ _ _ _ _ _ _ (c .before .bump .ensures) (not-here ((c .before .before .before .before .before .before .before .before .before .before) .args .m) (omega (arith, c .before .before .before .before .if2 .taken))) (sym (c .before .before .before .before .before .before .h .given .1) ∙ c .before .before .before .before .before .before .before .before .node-at .ensures) (c .before .before .before .inner2 .ensures) (c .before .before .leaves-all2 .ensures))
+leaves-returns-2 t c = as-counted _ _ _ _ _ _ _ _ _ _ (c .leaf-count5 .ensures) (leaves-cross _ _ _ _ _ _ _ (skips-cross ((c .before .before .before .before .before .before .before .before .before .before) .args .work .now) ((c .before .before .before .before .before .before .before .before .before .before) .pre .1 .0) _ _ _ _ ((c .before .before .before .before .before .before .before .before .before .before) .pre .1 .1 .0) ((c .before .before .before .before .before .before .before .before .before .before) .pre .1 .1 .1) _ (c .before .before .before .before .before .before .before .before .before .if1 .left) refl false _ _ _ _ _ _ (sym (c .before .before .before .before .before .before .h .given .1) ∙ c .before .before .before .before .before .before .before .before .node-at .ensures) (c .before .before .before .inner2 .ensures) (inside-same ((c .before .before .before .before .before .before .before .before .before .before) .args .m) _ (omega (arith, c .before .before .before .before .if2 .taken))) (c .before .before .leaves-all2 .ensures .skips)) _ (c .before .before .before .before .before .before .before .before .before .if1 .left) refl _ _ _ _ _ _ _ _ (c .before .bump .ensures) (not-here ((c .before .before .before .before .before .before .before .before .before .before) .args .m) (omega (arith, c .before .before .before .before .if2 .taken))) (sym (c .before .before .before .before .before .before .h .given .1) ∙ c .before .before .before .before .before .before .before .before .node-at .ensures) (c .before .before .before .inner2 .ensures) (c .before .before .leaves-all2 .ensures))
 
 leaves-skip-requires : (t : ℕ) → leaves-lts.Need-skip-requires (leaves-claims t) (leaves-at t) leaves.Post
 leaves-skip-requires t c κs = (((c .before .before .before .before .before .before) .pre .1 .0), (((c .before .before .before .before .before .before) .pre .1 .1 .0), ((c .before .before .before .before .before .before) .pre .1 .1 .1)))
@@ -135,16 +135,16 @@ leaves-leaf-count-requires-6 : (t : ℕ) → leaves-lts.Need-leaf-count-requires
 leaves-leaf-count-requires-6 t c κs = search needs
 
 leaves-returns-3 : (t : ℕ) → leaves-lts.Need-returns-3 (leaves-claims t) (leaves-at t) leaves.Post
-leaves-returns-3 t c = as-counted _ _ _ _ _ _ _ _ _ _ (c .leaf-count2 .ensures) (leaves-var _ _ _ _ _ _ _ (skips-var ((c .before .before .before .before .before .before) .args .work .now) ((c .before .before .before .before .before .before) .pre .1 .0) _ _ _ _ ((c .before .before .before .before .before .before) .pre .1 .1 .0) ((c .before .before .before .before .before .before) .pre .1 .1 .1) _ (c .before .before .before .before .before .if1 .left) refl _ _ (sym (c .before .before .q .given .1) ∙ c .before .before .before .before .node-at .ensures)) _ (c .before .before .before .before .before .if1 .left) refl _ _ (sym (c .before .before .q .given .1) ∙ c .before .before .before .before .node-at .ensures))
+leaves-returns-3 t c = as-counted _ _ _ _ _ _ _ _ _ _ (c .leaf-count2 .ensures) (leaves-var _ _ _ _ _ _ _ (skips-var ((c .before .before .before .before .before .before) .args .work .now) ((c .before .before .before .before .before .before) .pre .1 .0) _ _ _ _ ((c .before .before .before .before .before .before) .pre .1 .1 .0) ((c .before .before .before .before .before .before) .pre .1 .1 .1) _ (c .before .before .before .before .before .if1 .left) refl false _ _ (sym (c .before .before .q .given .1) ∙ c .before .before .before .before .node-at .ensures)) _ (c .before .before .before .before .before .if1 .left) refl _ _ (sym (c .before .before .q .given .1) ∙ c .before .before .before .before .node-at .ensures))
 
 leaves-returns-4 : (t : ℕ) → leaves-lts.Need-returns-4 (leaves-claims t) (leaves-at t) leaves.Post
-leaves-returns-4 t c = as-counted _ _ _ _ _ _ _ _ _ _ (c .leaf-count3 .ensures) (leaves-cmp _ _ _ _ _ _ _ (skips-cmp ((c .before .before .before .before .before .before .before .before .before) .args .work .now) ((c .before .before .before .before .before .before .before .before .before) .pre .1 .0) _ _ _ _ ((c .before .before .before .before .before .before .before .before .before) .pre .1 .1 .0) ((c .before .before .before .before .before .before .before .before .before) .pre .1 .1 .1) _ (c .before .before .before .before .before .before .before .before .if1 .left) refl _ _ _ _ _ _ _ (sym (c .before .before .before .before .before .q2 .given .1) ∙ c .before .before .before .before .before .before .before .node-at .ensures) (c .before .before .before .inner .ensures) (c .before .before .skip-int .ensures) (c .before .skip-int2 .ensures)) _ (c .before .before .before .before .before .before .before .before .if1 .left) refl _ _ (sym (c .before .before .before .before .before .q2 .given .1) ∙ c .before .before .before .before .before .before .before .node-at .ensures))
+leaves-returns-4 t c = as-counted _ _ _ _ _ _ _ _ _ _ (c .leaf-count3 .ensures) (leaves-cmp _ _ _ _ _ _ _ (skips-cmp ((c .before .before .before .before .before .before .before .before .before) .args .work .now) ((c .before .before .before .before .before .before .before .before .before) .pre .1 .0) _ _ _ _ ((c .before .before .before .before .before .before .before .before .before) .pre .1 .1 .0) ((c .before .before .before .before .before .before .before .before .before) .pre .1 .1 .1) _ (c .before .before .before .before .before .before .before .before .if1 .left) refl false _ _ _ _ _ _ _ (sym (c .before .before .before .before .before .q2 .given .1) ∙ c .before .before .before .before .before .before .before .node-at .ensures) (c .before .before .before .inner .ensures) (c .before .before .skip-int .ensures) (c .before .skip-int2 .ensures)) _ (c .before .before .before .before .before .before .before .before .if1 .left) refl _ _ (sym (c .before .before .before .before .before .q2 .given .1) ∙ c .before .before .before .before .before .before .before .node-at .ensures))
 
 leaves-returns-5 : (t : ℕ) → leaves-lts.Need-returns-5 (leaves-claims t) (leaves-at t) leaves.Post
-leaves-returns-5 t c = as-counted _ _ _ _ _ _ _ _ _ _ (c .leaf-count4 .ensures) (leaves-not _ _ _ _ _ _ _ (skips-not ((c .before .before .before .before .before .before .before) .args .work .now) ((c .before .before .before .before .before .before .before) .pre .1 .0) _ _ _ _ ((c .before .before .before .before .before .before .before) .pre .1 .1 .0) ((c .before .before .before .before .before .before .before) .pre .1 .1 .1) _ (c .before .before .before .before .before .before .if1 .left) refl _ _ _ (sym (c .before .before .before .q3 .given .1) ∙ c .before .before .before .before .before .node-at .ensures) (c .before .leaves .ensures .skips)) _ (c .before .before .before .before .before .before .if1 .left) refl _ _ _ _ _ (sym (c .before .before .before .q3 .given .1) ∙ c .before .before .before .before .before .node-at .ensures) (c .before .leaves .ensures))
+leaves-returns-5 t c = as-counted _ _ _ _ _ _ _ _ _ _ (c .leaf-count4 .ensures) (leaves-not _ _ _ _ _ _ _ (skips-not ((c .before .before .before .before .before .before .before) .args .work .now) ((c .before .before .before .before .before .before .before) .pre .1 .0) _ _ _ _ ((c .before .before .before .before .before .before .before) .pre .1 .1 .0) ((c .before .before .before .before .before .before .before) .pre .1 .1 .1) _ (c .before .before .before .before .before .before .if1 .left) refl false _ _ _ (sym (c .before .before .before .q3 .given .1) ∙ c .before .before .before .before .before .node-at .ensures) (c .before .leaves .ensures .skips)) _ (c .before .before .before .before .before .before .if1 .left) refl _ _ _ _ _ (sym (c .before .before .before .q3 .given .1) ∙ c .before .before .before .before .before .node-at .ensures) (c .before .leaves .ensures))
 
 leaves-returns-6 : (t : ℕ) → leaves-lts.Need-returns-6 (leaves-claims t) (leaves-at t) leaves.Post
-leaves-returns-6 t c = leaves-join _ _ _ _ _ _ _ (skips-join ((c .before .before .before .before .before .before) .args .work .now) ((c .before .before .before .before .before .before) .pre .1 .0) _ _ _ _ ((c .before .before .before .before .before .before) .pre .1 .1 .0) ((c .before .before .before .before .before .before) .pre .1 .1 .1) _ (c .before .before .before .before .before .if1 .left) refl _ _ _ _ _ _ _ (sym (c .before .before .k .given .1) ∙ c .before .before .before .before .node-at .ensures) (c .leaves-all .ensures .skips)) _ (c .before .before .before .before .before .if1 .left) refl _ _ _ _ _ _ _ _ _ (sym (c .before .before .k .given .1) ∙ c .before .before .before .before .node-at .ensures) (c .leaves-all .ensures)
+leaves-returns-6 t c = leaves-join _ _ _ _ _ _ _ (skips-join ((c .before .before .before .before .before .before) .args .work .now) ((c .before .before .before .before .before .before) .pre .1 .0) _ _ _ _ ((c .before .before .before .before .before .before) .pre .1 .1 .0) ((c .before .before .before .before .before .before) .pre .1 .1 .1) _ (c .before .before .before .before .before .if1 .left) refl false _ _ _ _ _ _ _ (sym (c .before .before .k .given .1) ∙ c .before .before .before .before .node-at .ensures) (c .leaves-all .ensures .skips)) _ (c .before .before .before .before .before .if1 .left) refl _ _ _ _ _ _ _ _ _ (sym (c .before .before .k .given .1) ∙ c .before .before .before .before .node-at .ensures) (c .leaves-all .ensures)
 
 leaves-returns-7 : (t : ℕ) → leaves-lts.Need-returns-7 (leaves-claims t) (leaves-at t) leaves.Post
 leaves-returns-7 t c = as-counted _ _ _ _ _ _ _ _ _ _ (c .leaf-count6 .ensures) (leaves-split _ _ _ _ _ _ _ (c .before .skip .ensures) _ (c .before .before .before .before .before .before .before .if1 .left) refl _ _ (split-here ((c .before .before .before .before .before .before .before .before) .args .m) (omega (arith, c .before .before .if2 .left))) (sym (c .before .before .before .before .h .given .1) ∙ c .before .before .before .before .before .before .node-at .ensures))

@@ -15,6 +15,7 @@ use Rattle.scan.proofs.skips.Kinds as skips-kinds
 use Rattle.scan.proofs.+skip+skip_int+skip_terms+skips.Lts-skips as skips-lts
 use Rattle.scan.proofs.inner.Reads as inner-reads
 use Rattle.scan.proofs.inside_base.Reads as inside-base-reads
+use Rattle.scan.proofs.is_leaf.Reads as is-leaf-reads
 use Rattle.scan.proofs.node_at.Reads as node-at-reads
 use Rattle.survey.proofs.within.Reads as within-reads
 use Rattle.survey.proofs.word.Reads as word-reads
@@ -26,7 +27,7 @@ use mathlib.Core.Bool.{false}
 use native.Mathlib.Omega.{arith}
 use Rattle.walk.specs.Decode.{read-part}
 use Rattle.scan.specs.Nodes.{part-length, okay-at}
-use Rattle.scan.specs.Skip.{split-by, inside-low, skips-none, skips-var, skips-cmp, skips-not, skips-join, skips-cross, int-none, int-leaf, int-sum, int-if, Skipping, skipping-first, skipping-next, skipping-last, TermSkipping, terms-first, terms-next, terms-last}
+use Rattle.scan.specs.Skip.{split-by, inside-low, skips-none, skips-var, skips-cmp, skips-not, skips-join, skips-cross, int-none, int-leaf, int-sum, int-if, Skipping, skipping-first, skipping-next, skipping-last, TermSkipping, terms-first, terms-next, terms-leaf, terms-last}
 
 abbrev μ-skip : Measures 1 skip-kinds.ps ℕ
 μ-skip κs a = 2 * a .1 .1 .0
@@ -74,7 +75,7 @@ abbrev skip-int-claims : ℕ → skip-int-lts.Claims
 skip-int-claims t = (word-reads.Asked, word-reads.Learnt, within-reads.Asked, within-reads.Learnt, skip-terms-below t, skip-terms.Post, skip-below t, skip.Post, skip-int-below t, skip-int.Post)
 
 abbrev skip-terms-claims : ℕ → skip-terms-lts.Claims
-skip-terms-claims t = (within-reads.Asked, within-reads.Learnt, skip-int-below t, skip-int.Post)
+skip-terms-claims t = (is-leaf-reads.Asked, is-leaf-reads.Learnt, within-reads.Asked, within-reads.Learnt, skip-int-below t, skip-int.Post)
 
 abbrev skips-claims : ℕ → skips-lts.Claims
 skips-claims t = (skip-below t, skip.Post)
@@ -144,19 +145,19 @@ skip-skips-requires-2 t c κs = let o = okay-at ((c .before .before .before .bef
     (omega (arith, (c .before .before .before .before .before .before .before) .pre .0, c .before .before .before .before .before .before .if1 .left), (((c .before .before .before .before .before .before .before) .pre .1 .0), (omega (arith, o .1, part-length ((c .before .before .before .before .before .before .before) .args .work .now) ((c .before .before .before .before .before .before .before) .pre .1 .0)), inside-low (split-by ((c .before .before .before .before .before .before .before) .args .m)) _ _ (c .inside-base .ensures) ((c .before .before .before .before .before .before .before) .pre .1 .1 .1))))
 
 skip-returns-2 : (t : ℕ) → skip-lts.Need-returns-2 (skip-claims t) (skip-at t) skip.Post
-skip-returns-2 t c = skips-var ((c .before .before .before .before .before) .args .work .now) ((c .before .before .before .before .before) .pre .1 .0) _ _ _ _ ((c .before .before .before .before .before) .pre .1 .1 .0) ((c .before .before .before .before .before) .pre .1 .1 .1) _ (c .before .before .before .before .if1 .left) refl _ _ (sym (c .before .q .given .1) ∙ c .before .before .before .node-at .ensures)
+skip-returns-2 t c = skips-var ((c .before .before .before .before .before) .args .work .now) ((c .before .before .before .before .before) .pre .1 .0) _ _ _ _ ((c .before .before .before .before .before) .pre .1 .1 .0) ((c .before .before .before .before .before) .pre .1 .1 .1) _ (c .before .before .before .before .if1 .left) refl false _ _ (sym (c .before .q .given .1) ∙ c .before .before .before .node-at .ensures)
 
 skip-returns-3 : (t : ℕ) → skip-lts.Need-returns-3 (skip-claims t) (skip-at t) skip.Post
-skip-returns-3 t c = skips-cmp ((c .before .before .before .before .before .before .before .before) .args .work .now) ((c .before .before .before .before .before .before .before .before) .pre .1 .0) _ _ _ _ ((c .before .before .before .before .before .before .before .before) .pre .1 .1 .0) ((c .before .before .before .before .before .before .before .before) .pre .1 .1 .1) _ (c .before .before .before .before .before .before .before .if1 .left) refl _ _ _ _ _ _ _ (sym (c .before .before .before .before .q2 .given .1) ∙ c .before .before .before .before .before .before .node-at .ensures) (c .before .before .inner .ensures) (c .before .skip-int .ensures) (c .skip-int2 .ensures)
+skip-returns-3 t c = skips-cmp ((c .before .before .before .before .before .before .before .before) .args .work .now) ((c .before .before .before .before .before .before .before .before) .pre .1 .0) _ _ _ _ ((c .before .before .before .before .before .before .before .before) .pre .1 .1 .0) ((c .before .before .before .before .before .before .before .before) .pre .1 .1 .1) _ (c .before .before .before .before .before .before .before .if1 .left) refl false _ _ _ _ _ _ _ (sym (c .before .before .before .before .q2 .given .1) ∙ c .before .before .before .before .before .before .node-at .ensures) (c .before .before .inner .ensures) (c .before .skip-int .ensures) (c .skip-int2 .ensures)
 
 skip-returns-4 : (t : ℕ) → skip-lts.Need-returns-4 (skip-claims t) (skip-at t) skip.Post
-skip-returns-4 t c = skips-not ((c .before .before .before .before .before .before) .args .work .now) ((c .before .before .before .before .before .before) .pre .1 .0) _ _ _ _ ((c .before .before .before .before .before .before) .pre .1 .1 .0) ((c .before .before .before .before .before .before) .pre .1 .1 .1) _ (c .before .before .before .before .before .if1 .left) refl _ _ _ (sym (c .before .before .q3 .given .1) ∙ c .before .before .before .before .node-at .ensures) (c .skip .ensures)
+skip-returns-4 t c = skips-not ((c .before .before .before .before .before .before) .args .work .now) ((c .before .before .before .before .before .before) .pre .1 .0) _ _ _ _ ((c .before .before .before .before .before .before) .pre .1 .1 .0) ((c .before .before .before .before .before .before) .pre .1 .1 .1) _ (c .before .before .before .before .before .if1 .left) refl false _ _ _ (sym (c .before .before .q3 .given .1) ∙ c .before .before .before .before .node-at .ensures) (c .skip .ensures)
 
 skip-returns-5 : (t : ℕ) → skip-lts.Need-returns-5 (skip-claims t) (skip-at t) skip.Post
-skip-returns-5 t c = skips-join ((c .before .before .before .before .before .before) .args .work .now) ((c .before .before .before .before .before .before) .pre .1 .0) _ _ _ _ ((c .before .before .before .before .before .before) .pre .1 .1 .0) ((c .before .before .before .before .before .before) .pre .1 .1 .1) _ (c .before .before .before .before .before .if1 .left) refl _ _ _ _ _ _ _ (sym (c .before .before .k .given .1) ∙ c .before .before .before .before .node-at .ensures) (c .skips .ensures)
+skip-returns-5 t c = skips-join ((c .before .before .before .before .before .before) .args .work .now) ((c .before .before .before .before .before .before) .pre .1 .0) _ _ _ _ ((c .before .before .before .before .before .before) .pre .1 .1 .0) ((c .before .before .before .before .before .before) .pre .1 .1 .1) _ (c .before .before .before .before .before .if1 .left) refl false _ _ _ _ _ _ _ (sym (c .before .before .k .given .1) ∙ c .before .before .before .before .node-at .ensures) (c .skips .ensures)
 
 skip-returns-6 : (t : ℕ) → skip-lts.Need-returns-6 (skip-claims t) (skip-at t) skip.Post
-skip-returns-6 t c = skips-cross ((c .before .before .before .before .before .before .before .before) .args .work .now) ((c .before .before .before .before .before .before .before .before) .pre .1 .0) _ _ _ _ ((c .before .before .before .before .before .before .before .before) .pre .1 .1 .0) ((c .before .before .before .before .before .before .before .before) .pre .1 .1 .1) _ (c .before .before .before .before .before .before .before .if1 .left) refl _ _ _ _ _ _ (sym (c .before .before .before .before .q4 .given .1) ∙ c .before .before .before .before .before .before .node-at .ensures) (c .before .before .inner2 .ensures) (c .before .inside-base .ensures) (c .skips2 .ensures)
+skip-returns-6 t c = skips-cross ((c .before .before .before .before .before .before .before .before) .args .work .now) ((c .before .before .before .before .before .before .before .before) .pre .1 .0) _ _ _ _ ((c .before .before .before .before .before .before .before .before) .pre .1 .1 .0) ((c .before .before .before .before .before .before .before .before) .pre .1 .1 .1) _ (c .before .before .before .before .before .before .before .if1 .left) refl false _ _ _ _ _ _ (sym (c .before .before .before .before .q4 .given .1) ∙ c .before .before .before .before .before .before .node-at .ensures) (c .before .before .inner2 .ensures) (c .before .inside-base .ensures) (c .skips2 .ensures)
 
 skip-int-returns : (t : ℕ) → skip-int-lts.Need-returns (skip-int-claims t) (skip-int-at t) skip-int.Post
 skip-int-returns t c = int-none ((c .before) .args .work .now) ((c .before) .pre .1 .0) _ _ _ _ ((c .before) .pre .1 .1 .0) ((c .before) .pre .1 .1 .1) (c .if1 .taken)
@@ -209,6 +210,21 @@ skip-int-returns-4 t c = int-leaf ((c .before .before .before .before .before .b
 skip-terms-loop-holds : (t : ℕ) → skip-terms-lts.Need-loop-holds (skip-terms-claims t) (skip-terms-at t) skip-terms.Post skip-terms-Inv-loop skip-terms-μ-loop
 skip-terms-loop-holds t c = terms-first _ _ _ _ _ _ (c .pre .1 .1 .0) (c .pre .1 .1 .1)
 
+skip-terms-sub-rest : (t : ℕ) → skip-terms-lts.Need-sub-rest (skip-terms-claims t) (skip-terms-at t) skip-terms.Post skip-terms-Inv-loop skip-terms-μ-loop
+skip-terms-sub-rest t c = search needs
+
+skip-terms-is-leaf-requires : (t : ℕ) → skip-terms-lts.Need-is-leaf-requires (skip-terms-claims t) (skip-terms-at t) skip-terms.Post skip-terms-Inv-loop skip-terms-μ-loop
+skip-terms-is-leaf-requires t c κs = (c .before .before) .pre .1 .0
+
+skip-terms-add-q : (t : ℕ) → skip-terms-lts.Need-add-q (skip-terms-claims t) (skip-terms-at t) skip-terms.Post skip-terms-Inv-loop skip-terms-μ-loop
+skip-terms-add-q t c = omega (arith, c .before .is-leaf .ensures (c .if1 .taken) .1)
+
+skip-terms-loop-less : (t : ℕ) → skip-terms-lts.Need-loop-less (skip-terms-claims t) (skip-terms-at t) skip-terms.Post skip-terms-Inv-loop skip-terms-μ-loop
+skip-terms-loop-less t c = search needs
+
+skip-terms-loop-again : (t : ℕ) → skip-terms-lts.Need-loop-again (skip-terms-claims t) (skip-terms-at t) skip-terms.Post skip-terms-Inv-loop skip-terms-μ-loop
+skip-terms-loop-again t c = terms-leaf _ _ _ _ _ _ ((c .before .before .before .before) .pre .1 .0) _ _ _ (c .before .before .before .loop .inv) (c .before .before .loop-test .taken) (c .before .is-leaf .ensures (c .if1 .taken))
+
 skip-terms-add-within : (t : ℕ) → skip-terms-lts.Need-add-within (skip-terms-claims t) (skip-terms-at t) skip-terms.Post skip-terms-Inv-loop skip-terms-μ-loop
 skip-terms-add-within t c = search needs
 
@@ -216,16 +232,13 @@ skip-terms-within-requires : (t : ℕ) → skip-terms-lts.Need-within-requires (
 skip-terms-within-requires t c κs = search needs
 
 skip-terms-skip-int-requires : (t : ℕ) → skip-terms-lts.Need-skip-int-requires (skip-terms-claims t) (skip-terms-at t) skip-terms.Post skip-terms-Inv-loop skip-terms-μ-loop
-skip-terms-skip-int-requires t c κs = (omega (arith, (c .before .before .before) .pre .0), (((c .before .before .before) .pre .1 .0), (omega (arith, c .within .ensures), c .before .before .loop .inv .low)))
+skip-terms-skip-int-requires t c κs = (omega (arith, (c .before .before .before .before .before) .pre .0), (((c .before .before .before .before .before) .pre .1 .0), (omega (arith, c .within .ensures), c .before .before .before .before .loop .inv .low)))
 
-skip-terms-sub-rest : (t : ℕ) → skip-terms-lts.Need-sub-rest (skip-terms-claims t) (skip-terms-at t) skip-terms.Post skip-terms-Inv-loop skip-terms-μ-loop
-skip-terms-sub-rest t c = search needs
+skip-terms-loop-less-2 : (t : ℕ) → skip-terms-lts.Need-loop-less-2 (skip-terms-claims t) (skip-terms-at t) skip-terms.Post skip-terms-Inv-loop skip-terms-μ-loop
+skip-terms-loop-less-2 t c = search needs
 
-skip-terms-loop-less : (t : ℕ) → skip-terms-lts.Need-loop-less (skip-terms-claims t) (skip-terms-at t) skip-terms.Post skip-terms-Inv-loop skip-terms-μ-loop
-skip-terms-loop-less t c = search needs
-
-skip-terms-loop-again : (t : ℕ) → skip-terms-lts.Need-loop-again (skip-terms-claims t) (skip-terms-at t) skip-terms.Post skip-terms-Inv-loop skip-terms-μ-loop
-skip-terms-loop-again t c = terms-next _ _ _ _ _ _ ((c .before .before .before .before) .pre .1 .0) _ _ _ _ _ _ (c .before .before .before .loop .inv) (c .before .before .loop-test .taken) (c .before .within .ensures) (c .skip-int .ensures)
+skip-terms-loop-again-2 : (t : ℕ) → skip-terms-lts.Need-loop-again-2 (skip-terms-claims t) (skip-terms-at t) skip-terms.Post skip-terms-Inv-loop skip-terms-μ-loop
+skip-terms-loop-again-2 t c = terms-next _ _ _ _ _ _ ((c .before .before .before .before .before .before) .pre .1 .0) _ _ _ _ _ _ (c .before .before .before .before .before .loop .inv) (c .before .before .before .before .loop-test .taken) (c .before .within .ensures) (c .skip-int .ensures)
 
 skip-terms-returns : (t : ℕ) → skip-terms-lts.Need-returns (skip-terms-claims t) (skip-terms-at t) skip-terms.Post skip-terms-Inv-loop skip-terms-μ-loop
 skip-terms-returns t c = terms-last _ _ _ _ _ _ _ _ _ (c .before .loop .inv) (c .loop-test .left)
@@ -292,12 +305,16 @@ pub +skip+skip-int+skip-terms+skips-spec : {M : Type 1} → statement M
     (skip-int-returns-4 t))
     (λ t. skip-terms-lts.spec (skip-terms-claims t) (skip-terms-at t) skip-terms.Post skip-terms-Inv-loop skip-terms-μ-loop
     (skip-terms-loop-holds t)
+    (skip-terms-sub-rest t)
+    (skip-terms-is-leaf-requires t)
+    (skip-terms-add-q t)
+    (skip-terms-loop-less t)
+    (skip-terms-loop-again t)
     (skip-terms-add-within t)
     (skip-terms-within-requires t)
     (skip-terms-skip-int-requires t)
-    (skip-terms-sub-rest t)
-    (skip-terms-loop-less t)
-    (skip-terms-loop-again t)
+    (skip-terms-loop-less-2 t)
+    (skip-terms-loop-again-2 t)
     (skip-terms-returns t))
     (λ t. skips-lts.spec (skips-claims t) (skips-at t) skips.Post skips-Inv-loop skips-μ-loop
     (skips-loop-holds t)

@@ -7,7 +7,6 @@ use Rattle.survey.proofs.below.Reads as below-reads
 use Rattle.scan.proofs.constant_at.Reads as constant-at-reads
 use Rattle.survey.proofs.within.Reads as within-reads
 use Rattle.survey.proofs.word.Reads as word-reads
-use native.Mathlib.Omega.{arith}
 use Rattle.scan.proofs.NodeLaws.{node-const, node-var, node-and, node-or, node-not, node-xor, node-iff, node-imp, node-cmp, node-other}
 
 add-word : tie.Need-add-word

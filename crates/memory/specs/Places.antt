@@ -1,0 +1,24 @@
+-- The work slice's places that no walk's definition names: `bool-map` and `int-map` are in walk/Item, `cells` and `ifs-word` in walks/Item.
+-- Assumes nothing.
+use Prim.Native.Nat.{ℕ}
+
+-- one word for each declared Boolean
+abbrev pub fixed-values : ℕ
+fixed-values = 0
+
+abbrev pub folded : ℕ
+folded = 512
+
+abbrev pub folded-end : ℕ
+folded-end = 4608
+
+-- three words for each declared integer
+abbrev pub declared-domains : ℕ
+declared-domains = 9480
+
+-- three words for each column of the table at hand
+abbrev pub columns : ℕ
+columns = 12032
+
+abbrev pub work-length : ℕ
+work-length = 16384

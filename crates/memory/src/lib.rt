@@ -1,0 +1,99 @@
+// The work slice with Ifs: its places, and what is put there before the walks.
+ghost use mathlib.Core.Path.{_≡_};
+ghost use Prim.Native.Nat.{_-_, _≤_, _<_};
+ghost use lib.ListN.{length};
+ghost use lib.Seq.{sets, slice};
+ghost use Rattle.laws.specs.Lists.{any};
+ghost use Rattle.laws.specs.Slices.{zeros};
+ghost use Rattle.walks.specs.Item.{ifs-word};
+ghost use Rattle.memory.specs.Places.{folded, declared-domains};
+ghost use Rattle.memory.specs.Mark.{is-if, marked};
+ghost use Rattle.memory.specs.DomainTable.{Table-room, Table-post};
+
+// The fixed values, a word for each declared Boolean.
+pub const FIXED_VALUES: usize = 0;
+
+pub const FOLDED: usize = 512;
+
+pub const FOLDED_END: usize = 4608;
+
+// The maps hold number plus 1, or 0.
+pub const BOOL_MAP: usize = 4608;
+
+pub const INT_MAP: usize = 5120;
+
+// The cell of the folded word at p is at CELLS + p.
+pub const CELLS: usize = 4864;
+
+// Not 0 where the folded statements have Ifs.
+pub const IFS_WORD: usize = 9476;
+
+// Three words for each declared integer: lowest, highest, number of values less 1.
+pub const DECLARED_DOMAINS: usize = 9480;
+
+// Three words for each column of the table at hand.
+pub const COLUMNS: usize = 12032;
+
+pub const WORK_LENGTH: usize = 16384;
+
+// The words from `from` to `to` become 0; the others stay.
+pub fn clear_words(work: &mut [i32], from: usize, to: usize)
+    requires { ⌜ to ≤ length (now work) ⌝ }
+    ensures { λ _. ⌜ now (work .exit) ≡ sets (now (work .entry)) from (zeros (to - from)) ⌝ }
+{
+    let mut i = from;
+    while i < to {
+        work[i] = 0;
+        i += 1;
+    }
+}
+
+// Whether an If's code is among the words from FOLDED to `end`.
+fn finds_if(work: &[i32], end: usize) -> bool
+    requires { ⌜ end ≤ length (now work) ⌝ }
+    ensures { λ r. ⌜ r ≡ any is-if (slice folded end (now (work .entry))) ⌝ }
+{
+    let mut i = FOLDED;
+    while i < end {
+        let w = work[i];
+        if w == 23 {
+            return true;
+        }
+        i += 1;
+    }
+    false
+}
+
+// The word for Ifs, of the folded statements up to `end`.
+pub fn mark_ifs(work: &mut [i32], end: usize)
+    requires { ⌜ (end ≤ length (now work)) × (ifs-word < length (now work)) ⌝ }
+    ensures { λ _. ⌜ now (work .exit) ≡ marked (now (work .entry)) end ⌝ }
+{
+    if finds_if(work, end) {
+        work[IFS_WORD] = 1;
+        return;
+    }
+    work[IFS_WORD] = 0;
+}
+
+// The table of the set's n domains, which stand from `d` on.
+pub fn write_domains(set: &[i32], d: usize, n: usize, work: &mut [i32])
+    requires { ⌜ Table-room (now set) d n (now work) declared-domains ⌝ }
+    ensures { λ _. ⌜ Table-post (now (set .entry)) d n (now (work .entry)) declared-domains (now (work .exit)) ⌝ }
+{
+    let mut at = d;
+    let mut p = DECLARED_DOMAINS;
+    let mut rest = n;
+    while rest != 0 {
+        let low = domains::lower_bound(set, at);
+        let high = domains::upper_bound(set, at);
+        let many = domains::num_candidates(set, at);
+        let less = many - 1;
+        work[p] = low;
+        work[p + 1] = high;
+        work[p + 2] = less;
+        at = domains::domain_end(set, at);
+        p = p + 3;
+        rest = rest - 1;
+    }
+}
