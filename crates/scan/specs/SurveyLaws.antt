@@ -111,27 +111,19 @@ closed-more s x h = go (s .longs) h
     go : (y : ℕ) → y ≡ suc x → cond (is-none y) (surveyed (s .at) (s .base) (s .n) 0 (s .lits) (s .cmps) (s .lines) 1) (surveyed (s .at) (s .base) (bump (s .n) (fresh-of s)) 1 0 0 (lines-in-of s) (lines-in-of s)) ≡ surveyed (s .at) (s .base) (bump (s .n) (fresh-of s)) 1 0 0 (lines-in-of s) (lines-in-of s)
     go y e = rw e
 
-closed-at : (s : Surveyed) → closed-disj s .at ≡ s .at
-unfolding closed-disj
-closed-at s = go (is-none (s .longs))
-  where
-    go : (b : Bool) → cond b (surveyed (s .at) (s .base) (s .n) 0 (s .lits) (s .cmps) (s .lines) 1) (surveyed (s .at) (s .base) (bump (s .n) (fresh-of s)) 1 0 0 (lines-in-of s) (lines-in-of s)) .at ≡ s .at
-    go true = refl
-    go false = refl
-
-closed-base : (s : Surveyed) → closed-disj s .base ≡ s .base
-unfolding closed-disj
-closed-base s = go (is-none (s .longs))
-  where
-    go : (b : Bool) → cond b (surveyed (s .at) (s .base) (s .n) 0 (s .lits) (s .cmps) (s .lines) 1) (surveyed (s .at) (s .base) (bump (s .n) (fresh-of s)) 1 0 0 (lines-in-of s) (lines-in-of s)) .base ≡ s .base
-    go true = refl
-    go false = refl
-
 cross-whole : (p : Splitting → Reader) (m : Splitting) (h : Bool) (e n : ℕ) → (m ≡ here → ⊥) → cross-step p m h e n .tree ≡ cross (many (p (inner m)) 2 false h e n .trees) (many (p (inner m)) 2 true (not h) e n .trees)
 unfolding cross-step
 cross-whole p never h e n z = refl
 cross-whole p below h e n z = refl
 cross-whole p here h e n z = absurd (z refl)
+
+-- a single member, and a disjunction (if d) or a conjunction of members
+unfoldable pub single-of : ℕ → ℕ → Counters → ℕ → ℕ → Scanned
+single-of at base n lits cmps = scanned (surveyed at base (n .bools) 0 lits cmps 0 1) (n .ints)
+
+unfoldable pub joined-of : Bool → Scanned → Scanned
+joined-of true s = scanned (closed-disj (s .part)) (s .ints)
+joined-of false s = scanned (surveyed (s .part .at) (s .part .base) (s .part .n) 1 0 0 (s .part .all) (s .part .all)) (s .ints)
 
 -- the counters behind what a new Boolean stands for
 abbrev pub with-literal : Surveyed → ℕ
@@ -140,14 +132,28 @@ with-literal s = fresh-in (mode-in (s .longs) (s .lits + 1) (s .cmps)) (s .longs
 unfoldable pub named : Scanned → Scanned → Counters
 named s u = counters (bump (bump (u .part .n) (with-literal (s .part))) (with-literal (u .part))) (u .ints)
 
+-- a disjunction ends where its members do
+closed-ends : (s : Surveyed) → (closed-disj s .at ≡ s .at) × (closed-disj s .base ≡ s .base)
+unfolding closed-disj
+closed-ends s = go (is-none (s .longs))
+  where
+    go : (b : Bool) → (let r = cond b (surveyed (s .at) (s .base) (s .n) 0 (s .lits) (s .cmps) (s .lines) 1) (surveyed (s .at) (s .base) (bump (s .n) (fresh-of s)) 1 0 0 (lines-in-of s) (lines-in-of s)) in (r .at ≡ s .at) × (r .base ≡ s .base))
+    go true = (refl, refl)
+    go false = (refl, refl)
+
+joined-ends : (d : Bool) (s : Scanned) → (joined-of d s .part .at ≡ s .part .at) × (joined-of d s .part .base ≡ s .part .base)
+unfolding joined-of
+joined-ends true s = closed-ends (s .part)
+joined-ends false s = (refl, refl)
+
 -- one integer expression behind another
 two-behind : (w : List ℤ) (l : ℕ) (m : Splitting) (at base : ℕ) (n : Counters) (x y : Behind) → IntSurveys w l m at base n x → IntSurveys w l m (x .at) (x .base) (x .n) y → (ds : List Domain)
     → (let a = decode-int (read-part w) l m at base in y .n ≡ form-int-item ds (decode-int (read-part w) l m (a .end) (a .next) .tree) .behind w (form-int-item ds (a .tree) .behind w n))
 two-behind w l m at base n x y f h ds = rw (← f .skips .end, ← f .skips .next, ← f .behind ds) (h .behind ds)
 
 module _ (w : List ℤ) (size : 4608 ≤ length w) (l : ℕ) (m : Splitting) (g : Bool) (at base : ℕ) (n : Counters) (inside : at ≤ 4608) (low : Low n) where
-  pub survey-none : (r : Scanned) → l ≡ 0 → Skips (read-part w) l m at base at base → r ≡ scanned (surveyed at base (n .bools) 0 0 0 0 1) (n .ints) → Surveys w l m g at base n r
-  unfolding decode form-item disj-item closed tallies counts lines-of
+  pub survey-none : (r : Scanned) → l ≡ 0 → Skips (read-part w) l m at base at base → r ≡ single-of at base n 0 0 → Surveys w l m g at base n r
+  unfolding single-of decode form-item disj-item closed tallies counts lines-of
   survey-none r e s f = rw f (record {
     skips = s;
     found = rw e (record {
@@ -172,8 +178,8 @@ module _ (w : List ℤ) (size : 4608 ≤ length w) (l : ℕ) (m : Splitting) (g 
     carry : (r s : Scanned) (N : Node) → Asks N → r ≡ s → Skips (read-part w) l m at base (s .part .at) (s .part .base) → Stepped N s → Surveys w l m g at base n r
     carry r s N e i k f = rw i (record { skips = k; found = subst (λ (d : Read). Found w n (d .tree) at s) (sym (level (read-part w) l u m g at base N z hu e)) f })
 
-    pub survey-var : (r : Scanned) (v q : ℕ) (k : Counters) → Asks (Var v q) → Skips (read-part w) l m at base q base → k ≡ meets-bool w v n → r ≡ scanned (surveyed q base (k .bools) 0 1 0 0 1) (k .ints) → Surveys w l m g at base n r
-    unfolding step form-item var-item lines-of
+    pub survey-var : (r : Scanned) (v q : ℕ) (k : Counters) → Asks (Var v q) → Skips (read-part w) l m at base q base → k ≡ meets-bool w v n → r ≡ single-of q base k 1 0 → Surveys w l m g at base n r
+    unfolding single-of step form-item var-item lines-of
     survey-var r v q k e s f i =
         let o = okay-at w g at (Var v q) size inside e in
         carry r (scanned (surveyed q base (k .bools) 0 1 0 0 1) (k .ints)) (Var v q) e i s (record {
@@ -187,8 +193,8 @@ module _ (w : List ℤ) (size : 4608 ≤ length w) (l : ℕ) (m : Splitting) (g 
         })
 
     pub survey-cmp : (r : Scanned) (o e j : ℕ) (x y : Behind) → Asks (Cmp o e) → split-by j ≡ inner m → IntSurveys w u (split-by j) e base n x → IntSurveys w u (split-by j) (x .at) (x .base) (x .n) y → Skips (read-part w) l m at base (y .at) (y .base)
-        → r ≡ scanned (surveyed (y .at) (y .base) (y .n .bools) 0 0 1 0 1) (y .n .ints) → Surveys w l m g at base n r
-    unfolding step form-item cmp-item lines-of
+        → r ≡ single-of (y .at) (y .base) (y .n) 0 1 → Surveys w l m g at base n r
+    unfolding single-of step form-item cmp-item lines-of
     survey-cmp r o e j x y i hj f h s k =
         let d = okay-at w g at (Cmp o e) size inside i in
         carry r (scanned (surveyed (y .at) (y .base) (y .n .bools) 0 0 1 0 1) (y .n .ints)) (Cmp o e) i k s (record {
@@ -215,13 +221,12 @@ module _ (w : List ℤ) (size : 4608 ≤ length w) (l : ℕ) (m : Splitting) (g 
           low-all = f .found .low-all;
         })
 
-    pub survey-conj : (r s : Scanned) (k : ℕ) (a b : Bool) (q : ℕ) → Asks (Join false k a b q) → SurveysAll w u m k a b q base n s → Skips (read-part w) l m at base (s .part .at) (s .part .base)
-        → r ≡ scanned (surveyed (s .part .at) (s .part .base) (s .part .n) 1 0 0 (s .part .all) (s .part .all)) (s .ints) → Surveys w l m g at base n r
-    unfolding step form-item conj-item lines-of
-    survey-conj r s k a b q e x v i =
+    conj-of : (s : Scanned) (k : ℕ) (a b : Bool) (q : ℕ) → Asks (Join false k a b q) → SurveysAll w u m k a b q base n s → Stepped (Join false k a b q) (joined-of false s)
+    unfolding joined-of step form-item conj-item lines-of
+    conj-of s k a b q e x =
         let f = x .found in
         let o = okay-at w g at (Join false k a b q) size inside e in
-        carry r (scanned (surveyed (s .part .at) (s .part .base) (s .part .n) 1 0 0 (s .part .all) (s .part .all)) (s .ints)) (Join false k a b q) e i v (record {
+        record {
           count = f .count;
           unit = λ ds. ap long (f .all ds);
           all = f .all;
@@ -229,7 +234,7 @@ module _ (w : List ℤ) (size : 4608 ≤ length w) (l : ℕ) (m : Splitting) (g 
           low = f .low;
           low-lines = f .low-all;
           low-all = f .low-all;
-        })
+        }
 
     disj-of : (s : Scanned) (k : ℕ) (a b : Bool) (q x : ℕ) → Asks (Join true k a b q) → SurveysAll w u m k a b q base n s → s .part .longs ≡ x → Stepped (Join true k a b q) (scanned (closed-disj (s .part)) (s .ints))
     unfolding step form-item disj-item closed-disj lines-of
@@ -264,10 +269,13 @@ module _ (w : List ℤ) (size : 4608 ≤ length w) (l : ℕ) (m : Splitting) (g 
           low-all = lines-low (mode-in (p .longs) (p .lits) (p .cmps)) (p .lines) (f .low-lines);
         })
 
-    pub survey-disj : (r s : Scanned) (p : Surveyed) (k : ℕ) (a b : Bool) (q : ℕ) → Asks (Join true k a b q) → SurveysAll w u m k a b q base n s → Skips (read-part w) l m at base (s .part .at) (s .part .base) → p ≡ closed-disj (s .part) → r ≡ scanned p (s .ints)
-        → Surveys w l m g at base n r
-    survey-disj r s p k a b q e f v i j =
-        carry r (scanned (closed-disj (s .part)) (s .ints)) (Join true k a b q) e (j ∙ rw i) (rw (closed-at (s .part), closed-base (s .part)) v) (disj-of s k a b q (s .part .longs) e f refl)
+    join-of : (d : Bool) (s : Scanned) (k : ℕ) (a b : Bool) (q : ℕ) → Asks (Join d k a b q) → SurveysAll w u m k a b q base n s → Stepped (Join d k a b q) (joined-of d s)
+    unfolding joined-of
+    join-of true s k a b q e f = disj-of s k a b q (s .part .longs) e f refl
+    join-of false s k a b q e f = conj-of s k a b q e f
+
+    pub survey-join : (r s : Scanned) (d : Bool) (k : ℕ) (a b : Bool) (q : ℕ) → Asks (Join d k a b q) → SurveysAll w u m k a b q base n s → Skips (read-part w) l m at base (s .part .at) (s .part .base) → r ≡ joined-of d s → Surveys w l m g at base n r
+    survey-join r s d k a b q e f v i = carry r (joined-of d s) (Join d k a b q) e i (rw (joined-ends d s .0, joined-ends d s .1) v) (join-of d s k a b q e f)
 
     split-found : (h : Bool) (e q b : ℕ) → m ≡ here → at < e → e ≤ q → Stepped (Cross h e) (scanned (surveyed q b (n .bools) 1 0 0 2 2) (n .ints))
     unfolding step cross-step form-item cross-item num-item lines-of tallies counts

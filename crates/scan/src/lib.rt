@@ -12,7 +12,7 @@ ghost use Rattle.scan.specs.Skip.{split-by, inside-of, Skips, SkipsAll, 
 use survey::Skipped;
 ghost use Rattle.scan.specs.LeafLaws.{counted, swapped as swapped-of, LeavesAt, LeavesAll};
 ghost use Rattle.scan.specs.IfLaws.{seen-code, seen-at, passed-at, Low};
-ghost use Rattle.scan.specs.SurveyLaws.{scanned, behind-at, Surveys, SurveysAll, IntSurveys, TermSurveys, Makes, named};
+ghost use Rattle.scan.specs.SurveyLaws.{scanned, single-of, joined-of, behind-at, Surveys, SurveysAll, IntSurveys, TermSurveys, Makes, named};
 use survey::add_member;
 use survey::below;
 use survey::bump;
@@ -448,6 +448,24 @@ fn with_ints(s: Surveyed, k: usize) -> Scanned
     Scanned { part: s, ints: k }
 }
 
+// A single member of so many literals and comparisons.
+fn single_at(at: usize, base: usize, n: Counters, lits: usize, cmps: usize) -> Scanned
+    ensures { λ r. ⌜ r ≡ single-of at base n lits cmps ⌝ }
+{
+    with_ints(single(at, base, n.bools, lits, cmps), n.ints)
+}
+
+// A disjunction of what is found of its members, or a conjunction.
+fn join(d: bool, s: Scanned) -> Scanned
+    ensures { λ r. ⌜ r ≡ joined-of d s ⌝ }
+{
+    let p = s.part;
+    if d {
+        return with_ints(close_disj(p), s.ints);
+    }
+    with_ints(longer(p.at, p.base, p.n, p.all), s.ints)
+}
+
 // The counters behind what a new Boolean stands for: the negated condition and the plain one, each in a list with its literal.
 fn name_condition(s: Scanned, u: Scanned) -> Counters
     requires { ⌜ (s .part .lits ≤ 4608) × (u .part .lits ≤ 4608) ⌝ }
@@ -523,29 +541,21 @@ pub fn survey(
     ensures { λ r. ⌜ Surveys (now (work .entry)) left (split-by m) g at base n r ⌝ }
 {
     if left == 0 {
-        return with_ints(single(at, base, n.bools, 0, 0), n.ints);
+        return single_at(at, base, n, 0, 0);
     }
     let under = left - 1;
     match node_at(work, g, at) {
-        Node::Var(v, q) => {
-            let k = met(work, v, n);
-            with_ints(single(q, base, k.bools, 1, 0), k.ints)
-        }
+        Node::Var(v, q) => single_at(q, base, met(work, v, n), 1, 0),
         Node::Cmp(_, q) => {
             let j = inner(m);
             let a = survey_int(work, q, under, j, base, n);
             let b = survey_int(work, a.at, under, j, a.base, a.n);
-            let k = b.n;
-            with_ints(single(b.at, b.base, k.bools, 0, 1), k.ints)
+            single_at(b.at, b.base, b.n, 0, 1)
         }
         Node::Not(q) => survey(work, q, under, m, base, !g, n),
         Node::Join(d, k, a, b, q) => {
             let s = surveys(work, q, under, m, k, base, a, b, n);
-            let p = s.part;
-            if d {
-                return with_ints(close_disj(p), s.ints);
-            }
-            with_ints(longer(p.at, p.base, p.n, p.all), s.ints)
+            join(d, s)
         }
         Node::Cross(h, q) => {
             let j = inner(m);

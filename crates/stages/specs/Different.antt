@@ -1,42 +1,42 @@
 -- AllDifferent in both walks with Ifs: its pairs (Pairs), then a clause for each value where the values are used up. Then all its expressions are variables,
 -- which have numbers behind the pairs, so that these clauses make none (`different-walk`, `different-steps`, `different-known`).
 use mathlib.Core.Path.{_≡_, refl, sym, ap, _∙_, subst}
-use mathlib.Core.Bool.{Bool, true, false, _&&_, cond}
+use mathlib.Core.Bool.{Bool, true, false, cond}
 use mathlib.Core.List.{List, [], _∷_, _++_, map, append-nil}
 use mathlib.Core.Logic.{_⊎_, inl, inr}
 use Prim.Native.Nat.{ℕ, suc, _+_, _-_, _*_, _≤_, _<_}
 use native.Mathlib.Omega.{arith}
 use lib.IntN.{ℤ}
 use lib.ListN.{length}
-use Rattle.laws.specs.Bools.{never, and-l, and-r}
-use Rattle.laws.specs.Lists.{all, flat}
-use Rattle.syntax.specs.Syntax.{Domain, enumerate, domain-of, Eq, Ne, IntExpr, IConst, IVar, Linear, If, BoolExpr, Or, Cmp, Members}
+use Rattle.laws.specs.Bools.{never, and-r}
+use Rattle.laws.specs.Lists.{all}
+use Rattle.syntax.specs.Syntax.{Domain, enumerate, domain-of, Ne, IntExpr, IConst, IVar, Linear, If, BoolExpr, Or, Cmp, Members}
 use Rattle.words.specs.Exact.{Each}
 use Rattle.sums.specs.Linear.{linear-of}
 use Rattle.clauses.specs.Clause.{LinearLit, Clause, clause}
-use Rattle.clauses.specs.Log.{added, Log, next-bool, get-int-var, get-if, convert-int-var, clauses-of}
+use Rattle.clauses.specs.Log.{added, Log, get-if, convert-int-var, clauses-of}
 use Rattle.clauses.specs.Disjunction.{Out, Outs, Sorted, pool, sorted, each-longer, finish-disjunction, finish-sorted, normalize-disjunction}
 use Rattle.clauses.specs.Normalize.{register, normalize-int-expr, normalize-int-var, no-run, run-then, disjunction-of, normalize-comparison, normalize-bool-expr, normalize-members}
 use Rattle.clauses.specs.Split.{Split, unsplit, split-one, split-two, tseitin-transformation-bool, tseitin-transformation-members, register-each, normalize-and-register-expr}
 use Rattle.answer.specs.Answer.{clause-words}
 use Rattle.different.specs.Different.{pair-rules, each-equals, value-rule, is-like, values-of-first, values-used-up, different-rules, normalize-rules}
-use Rattle.walk.specs.Item.{limit, int-number}
+use Rattle.walk.specs.Item.{limit}
 use Rattle.walk.specs.Texts.{layout-words}
 use Rattle.walk.specs.Grow.{Grows, same, then, grow-added, Fit, back}
 use Rattle.walk.specs.Ints.{var-found}
 use Rattle.walks.specs.Grow.{int-var-grows}
 use Rattle.walks.specs.Meet.{State}
-use Rattle.walks.specs.Implements.{Ready, Registers}
+use Rattle.walks.specs.Implements.{Registers}
 use Rattle.walks.specs.Constant.{Named}
 use Rattle.walks.specs.Plain.{PlainInt}
-use Rattle.walks.specs.Leaves.{words-of, grows-words}
+use Rattle.walks.specs.Leaves.{grows-words}
 use Rattle.walks.specs.Visit.{good-ready}
 use Rattle.walks.specs.Walked.{fixed, names}
 use Rattle.walks.specs.Rules.{good-added}
 use Rattle.statements.specs.Different.{value-literal, value-clause, Found}
-use Rattle.stages.specs.StatementsParts.{Stage, steps, rooms, AllKnown, Chains, chains-less, chains-more, Standing, good as passed-good, Walks, AllWalk, standing-less}
+use Rattle.stages.specs.StatementsParts.{Stage, steps, rooms, AllKnown, Chains, chains-less, chains-more, UpTo, Standing, good as passed-good, Walks, AllWalk, standing-less}
 use Rattle.stages.specs.StatementsTrees.{rule-grows}
-use Rattle.stages.specs.Pairs.{rules-append, pairs-stages, pairs-steps, pairs-known, sides-words, pairs-chains, pairs-rooms, SidesStand, pairs-walk}
+use Rattle.stages.specs.Pairs.{rules-append, pairs-stages, pairs-steps, pairs-known, sides-words, pairs-chains, pairs-up-to, pairs-rooms, SidesStand, pairs-walk}
 
 -- ---- where the values are used up all are variables
 
@@ -198,7 +198,7 @@ module _ (ds : List Domain) (F : List ℤ) (parted : ℕ → Bool) (rec cap : �
 -- ---- variables have numbers behind the pairs
 
 module _ (ds : List Domain) where
-  pub rules-grow : (es : List BoolExpr) (s : Log) → Grows s (normalize-rules ds es s)
+  rules-grow : (es : List BoolExpr) (s : Log) → Grows s (normalize-rules ds es s)
   unfolding normalize-rules
   rules-grow [] s = same
   rules-grow (e ∷ es) s = then (rule-grows ds e s) (rules-grow es (normalize-and-register-expr ds e s))
@@ -206,7 +206,7 @@ module _ (ds : List Domain) where
   found-later : {s t : Log} → Grows s t → (v : ℕ) → Found s v → Found t v
   found-later g v h = record { number = h .number; is = g .keep-int v (h .number) (h .is) }
 
-  pub all-later : {s t : Log} → Grows s t → (vs : List ℕ) → Each (Found s) vs → Each (Found t) vs
+  all-later : {s t : Log} → Grows s t → (vs : List ℕ) → Each (Found s) vs → Each (Found t) vs
   all-later g [] h = tt
   all-later g (v ∷ vs) h = (found-later g v (h .0), all-later g vs (h .1))
 
@@ -229,7 +229,7 @@ module _ (ds : List Domain) where
       (found-later (rules-grow (map (Cmp Ne (IVar a)) (map IVar vs)) t) v (pair-found a v s .1), row-found a vs t)
 
   -- two of them, and those behind
-  pub pairs-found : (a b : ℕ) (vs : List ℕ) (s : Log) → Each (Found (normalize-rules ds (pair-rules (map IVar (a ∷ b ∷ vs))) s)) (a ∷ b ∷ vs)
+  pairs-found : (a b : ℕ) (vs : List ℕ) (s : Log) → Each (Found (normalize-rules ds (pair-rules (map IVar (a ∷ b ∷ vs))) s)) (a ∷ b ∷ vs)
   unfolding pair-rules
   pairs-found a b vs s =
       let row = map (Cmp Ne (IVar a)) (map IVar (b ∷ vs)) in
@@ -282,6 +282,11 @@ module _ (ds : List Domain) where
     values-chains [] h = h
     values-chains (x ∷ xs) h = chains-more (value-stage ds es stop x) (values-stages xs) (values-chains xs h)
 
+    values-up-to : (b : ℕ) → stop ≤ b → UpTo b ys → (xs : List ℤ) → UpTo b (values-stages xs)
+    unfolding values-stages
+    values-up-to b l h [] = h
+    values-up-to b l h (x ∷ xs) = (l, values-up-to b l h xs)
+
     values-rooms : (xs : List ℤ) → rooms (values-stages xs) ≡ rooms ys
     unfolding values-stages rooms
     values-rooms [] = refl
@@ -328,6 +333,10 @@ module _ (ds : List Domain) where
     pub different-chains : p + length (sides-words es) ≤ stop → Chains stop stop ys → Chains p stop different-stages
     unfolding different-stages
     different-chains l h = pairs-chains ds rec cap stop es p values (chains-less stop stop (p + length (sides-words es)) stop values l (omega arith) (values-chains es stop ys (values-used-up ds es) h))
+
+    pub different-up-to : (b : ℕ) → stop ≤ b → UpTo b ys → UpTo b different-stages
+    unfolding different-stages
+    different-up-to b l h = pairs-up-to ds rec cap stop b l es p values (values-up-to es stop ys b l h (values-used-up ds es))
 
     pub different-rooms : rooms different-stages ≤ 12 * (length es * length (sides-words es)) + rooms ys
     unfolding different-stages

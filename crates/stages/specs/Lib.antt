@@ -16,3 +16,10 @@ pub mod TableRoom
 pub mod StatementsPlaces
 pub mod Statements
 pub mod Start
+pub mod Whole
+pub mod StartLegal
+pub mod StartTies
+pub mod StatementsEach
+pub mod StatementsKnown
+pub mod StartFits
+pub mod WholeSet

@@ -2,7 +2,7 @@
 -- (`pair-stage`, `pair-stage-walks`; all pairs of expressions that stand one behind another: `pairs-walk`). F: the folded words.
 use mathlib.Core.Path.{_≡_, refl, sym, ap, _∙_, subst}
 use mathlib.Core.Bool.{Bool, true, false, not, cond}
-use mathlib.Core.Option.{Option, some}
+use mathlib.Core.Option.{Option}
 use mathlib.Core.List.{List, [], _∷_, _++_, map}
 use mathlib.Core.Logic.{_⊎_, inl, inr}
 use Prim.Native.Nat.{ℕ, _+_, _*_, _≤_, _<_}
@@ -40,7 +40,7 @@ use Rattle.walks.specs.Next.{ahead-same}
 use Rattle.walks.specs.Clear.{clear-place, clear-places, Each as EachPlace, none, one, Lies, clear-reset, clear-maps, clear-unseen}
 use Rattle.walks.specs.Rule.{pair-key, pair-written, pair-walks}
 use Rattle.stages.specs.Room.{splits-int-low, pair-room, pair-weight}
-use Rattle.stages.specs.StatementsParts.{Stage, steps, rooms, AllKnown, Chains, chains-less, chains-more, Standing, Walks, AllWalk}
+use Rattle.stages.specs.StatementsParts.{Stage, steps, rooms, AllKnown, Chains, chains-less, chains-more, UpTo, Standing, Walks, AllWalk}
 use Rattle.stages.specs.StatementsTrees.{Never, no-keys, meet-trees, trees-stage, Visited, Facts, trees-walk}
 
 -- ---- rules one after another
@@ -144,7 +144,7 @@ module _ (ds : List Domain) (F : List ℤ) (parted : ℕ → Bool) (rec cap : �
     pair-facts = record {
       ifs = λ s h. pair-low ds a b s (legal-int-bound a 64 first) (legal-int-bound b 64 second) h;
       clears = λ n st. refl;
-      without = λ none n. pair-choices Never (λ x. ⊥) (λ i c t f m at k h. h) a b p q n (no-keys F none (within n) (stand n) (plain n) from inside);
+      without = λ none n. pair-choices Never (λ x. ⊥) (λ i c t f m at k h. h) a b p q n (no-keys F stop none (within n) (stand n) (plain n) from to);
       writes = λ w s i r h. pair-written ds F parted rec cap with-ifs before low a b 64 p q first second words others from then inside s (agree (next-bool s)) w i r h;
       visits = visits;
     }
@@ -209,6 +209,16 @@ module _ (ds : List Domain) (rec cap stop : ℕ) where
       let l = length-append (encode-int e) (sides-words es) in
       row-chains e p es q (pairs-stages es q xs) (chains-less q stop p stop (pairs-stages es q xs) (omega arith) (omega arith) (pairs-chains es q xs (chains-less (p + length (sides-words (e ∷ es))) stop (q + length (sides-words es)) stop xs (omega (arith, l)) (omega arith) h)))
 
+  row-up-to : (b : ℕ) → stop ≤ b → (a : IntExpr) (p : ℕ) (bs : List IntExpr) (q : ℕ) (xs : List Stage) → UpTo b xs → UpTo b (row-stages a p bs q xs)
+  unfolding row-stages
+  row-up-to b l a p [] q xs h = h
+  row-up-to b l a p (c ∷ bs) q xs h = (l, row-up-to b l a p bs (q + length (encode-int c)) xs h)
+
+  pub pairs-up-to : (b : ℕ) → stop ≤ b → (es : List IntExpr) (p : ℕ) (xs : List Stage) → UpTo b xs → UpTo b (pairs-stages es p xs)
+  unfolding pairs-stages
+  pairs-up-to b l [] p xs h = h
+  pairs-up-to b l (e ∷ es) p xs h = let q = p + length (encode-int e) in row-up-to b l e p es q (pairs-stages es q xs) (pairs-up-to b l es q xs h)
+
   row-rooms : (a : IntExpr) (p : ℕ) (bs : List IntExpr) (q : ℕ) (xs : List Stage) → rooms (row-stages a p bs q xs) ≡ 12 * (length bs * length (encode-int a) + length (sides-words bs)) + rooms xs
   unfolding row-stages rooms
   row-rooms a p [] q xs = rw (zero-mul (length (encode-int a))) (omega arith)
@@ -246,7 +256,7 @@ module _ (F : List ℤ) (parted : ℕ → Bool) (with-ifs : Bool) (stop : ℕ) w
     pub to : p + length (sides-words es) ≤ stop
     pub agree : Every (AgreesWith parted with-ifs) (sides-keys es p)
 
-  pub sides-rest : (e : IntExpr) (es : List IntExpr) (p : ℕ) → SidesStand (e ∷ es) p → SidesStand es (p + length (encode-int e))
+  sides-rest : (e : IntExpr) (es : List IntExpr) (p : ℕ) → SidesStand (e ∷ es) p → SidesStand es (p + length (encode-int e))
   unfolding sides-keys
   sides-rest e es p h = record {
     legal = h .legal .1;

@@ -1,7 +1,7 @@
 -- How many Boolean numbers the first walk may take outside Ifs: at most ten for each word of a rule, twelve for each word of a pair of an AllDifferent.
 use mathlib.Core.Path.{_≡_, refl}
 use mathlib.Core.Bool.{Bool, true, false, not}
-use mathlib.Core.List.{List, _++_}
+use mathlib.Core.List.{List}
 use Prim.Native.Nat.{ℕ, suc, _+_, _-_, _*_, _≤_}
 use native.Mathlib.Omega.{arith}
 use lib.ListN.{length, length-append}

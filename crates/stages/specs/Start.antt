@@ -11,7 +11,7 @@ use lib.ListN.{length, getD}
 use Rattle.laws.specs.Ints.{is-zero}
 use Rattle.syntax.specs.Syntax.{Domain, IntExpr}
 use Rattle.clauses.specs.Clause.{BoolLit}
-use Rattle.clauses.specs.Log.{declared, aux, side, bool, merged, int, added, defined, known, Log, next-bool, next-int, get-bool-var, get-int-var, get-if, made-ints}
+use Rattle.clauses.specs.Log.{declared, aux, side, bool, merged, int, added, defined, known, Log, next-bool, get-bool-var, get-int-var, get-if, made-ints}
 use Rattle.clauses.specs.Merge.{WellMerged, merged-no-ints, merged-no-ifs}
 use Rattle.answer.specs.Answer.{bool-word}
 use Rattle.walk.specs.Item.{limit, bool-map, int-map, bool-at, int-entry}
@@ -22,7 +22,7 @@ use Rattle.walks.specs.Meet.{State}
 use Rattle.walks.specs.Plain.{PlainInt}
 use Rattle.walks.specs.Constant.{Named}
 use Rattle.walks.specs.Distinct.{none-some, unseen-numbered, unseen-constant}
-use Rattle.walks.specs.Cells.{Stands, Key, whole, own, Is, Cells}
+use Rattle.walks.specs.Cells.{Key, whole, own, Cells}
 use Rattle.walks.specs.Good.{blanks, no-int, records-of}
 use Rattle.walks.specs.Walked.{fixed}
 use Rattle.walks.specs.KeyAt.{looked-up}
@@ -60,7 +60,7 @@ no-made (added cs ∷ s) h = absurd h
 no-made (defined cs ∷ s) h = absurd h
 no-made (known e n ∷ s) h = absurd h
 
-no-int-var : (s : Log) → WellMerged s → (v : ℕ) → get-int-var v s ≡ none
+pub no-int-var : (s : Log) → WellMerged s → (v : ℕ) → get-int-var v s ≡ none
 unfolding get-int-var
 no-int-var [] h v = refl
 no-int-var (bool (declared x) ∷ s) h v = no-int-var s (h .1) v

@@ -1,8 +1,8 @@
 -- The folded statements as parts that both walks take one after another (`stmts-stages`): their log is that of `normalize-stmts` (`stmts-steps`), and each
 -- part holds what the walks ask (`stmts-walk`, `stmts-known`, `stmts-chains`, `stmts-rooms`). F: the folded words, in which they stand from a place on.
-use mathlib.Core.Path.{_≡_, refl, sym, ap, _∙_, subst}
+use mathlib.Core.Path.{_≡_, refl, _∙_}
 use mathlib.Core.Bool.{Bool}
-use mathlib.Core.List.{List, [], _∷_, _++_, map}
+use mathlib.Core.List.{List, [], _∷_}
 use Prim.Native.Nat.{ℕ, _+_, _*_, _≤_, _<_}
 use native.Mathlib.Omega.{arith}
 use native.Mathlib.Nat.{mul-le-mul-right}
@@ -16,13 +16,13 @@ use Rattle.clauses.specs.Log.{Log}
 use Rattle.answer.specs.Answer.{normalize-stmt, normalize-stmts}
 use Rattle.walk.specs.Item.{limit}
 use Rattle.statements.specs.Statements.{table-words, table-length}
-use Rattle.stages.specs.StatementsParts.{Stage, steps, rooms, AllKnown, Chains, chains-less, chains-more, AllWalk}
+use Rattle.stages.specs.StatementsParts.{Stage, steps, rooms, AllKnown, Chains, chains-less, chains-more, UpTo, AllWalk}
 use Rattle.stages.specs.StatementsPlaces.{stmts-words, LegalStmt, PartedFrom, parted-rest, Marked, rule-agrees, sides-agree, columns-agree-here}
 use Rattle.stages.specs.StatementsRules.{rule-stage, rule-stage-walks}
 use Rattle.stages.specs.TableRoom.{table-room}
 use Rattle.stages.specs.TableStage.{table-stage, table-stage-walks}
 use Rattle.stages.specs.Pairs.{sides-words}
-use Rattle.stages.specs.Different.{different-stages, different-steps, different-known, different-chains, different-rooms, different-walk}
+use Rattle.stages.specs.Different.{different-stages, different-steps, different-known, different-chains, different-up-to, different-rooms, different-walk}
 
 -- ---- the parts
 
@@ -40,7 +40,7 @@ module _ (ds : List Domain) (rec cap : ℕ) (F : List ℤ) where
 
   -- ---- their log
 
-  stmt-steps : (at : ℕ) (t : Stmt) (xs : List Stage) (s : Log) → steps (stmt-stages at t xs) s ≡ steps xs (normalize-stmt ds t s)
+  pub stmt-steps : (at : ℕ) (t : Stmt) (xs : List Stage) (s : Log) → steps (stmt-stages at t xs) s ≡ steps xs (normalize-stmt ds t s)
   unfolding stmt-stages steps normalize-stmt
   stmt-steps at (Rule e) xs s = refl
   stmt-steps at (Table es rows) xs s = refl
@@ -51,7 +51,7 @@ module _ (ds : List Domain) (rec cap : ℕ) (F : List ℤ) where
   stmts-steps at [] s = unfold steps in refl
   stmts-steps at (t ∷ ts) s = let b = at + length (encode-stmt t) in stmt-steps at t (stmts-stages b ts) s ∙ stmts-steps b ts (normalize-stmt ds t s)
 
-  stmt-known : (at : ℕ) (t : Stmt) (xs : List Stage) (s : Log) → AllKnown xs (normalize-stmt ds t s) → AllKnown (stmt-stages at t xs) s
+  pub stmt-known : (at : ℕ) (t : Stmt) (xs : List Stage) (s : Log) → AllKnown xs (normalize-stmt ds t s) → AllKnown (stmt-stages at t xs) s
   unfolding stmt-stages AllKnown normalize-stmt
   stmt-known at (Rule e) xs s h = (tt, h)
   stmt-known at (Table es rows) xs s h = (tt, h)
@@ -64,7 +64,7 @@ module _ (ds : List Domain) (rec cap : ℕ) (F : List ℤ) where
 
   -- ---- their places
 
-  stmt-chains : (at : ℕ) (t : Stmt) (xs : List Stage) → let b = at + length (encode-stmt t) in Chains b b xs → Chains at at (stmt-stages at t xs)
+  pub stmt-chains : (at : ℕ) (t : Stmt) (xs : List Stage) → let b = at + length (encode-stmt t) in Chains b b xs → Chains at at (stmt-stages at t xs)
   unfolding stmt-stages encode-stmt
   stmt-chains at (Rule e) xs h = let x = rule-stage ds rec cap e (at + 1) in chains-less (at + 1) (at + 1) at at (x ∷ xs) (omega arith) (omega arith) (chains-more x xs (chains-less _ _ (x .past) (x .to) xs (omega arith) (omega arith) h))
   stmt-chains at (Table es rows) xs h = chains-more (table-stage ds rec cap F es rows at) xs h
@@ -77,13 +77,27 @@ module _ (ds : List Domain) (rec cap : ℕ) (F : List ℤ) where
   stmts-chains at [] = λ i j l m. tt
   stmts-chains at (t ∷ ts) = let b = at + length (encode-stmt t) in stmt-chains at t (stmts-stages b ts) (stmts-chains b ts)
 
+  pub stmt-up-to : (b at : ℕ) (t : Stmt) (xs : List Stage) → at + length (encode-stmt t) ≤ b → UpTo b xs → UpTo b (stmt-stages at t xs)
+  unfolding stmt-stages
+  stmt-up-to b at (Rule e) xs l h = (unfold encode-stmt in omega (arith, l), h)
+  stmt-up-to b at (Table es rows) xs l h = (l, h)
+  stmt-up-to b at (AllDifferent es) xs l h = different-up-to ds rec cap es (at + 2) (at + length (encode-stmt (AllDifferent es))) xs b l h
+
+  pub stmts-up-to : (b at : ℕ) (ts : List Stmt) → at + length (stmts-words ts) ≤ b → UpTo b (stmts-stages at ts)
+  unfolding stmts-stages
+  stmts-up-to b at [] l = tt
+  stmts-up-to b at (t ∷ ts) l =
+      let n = length-append (encode-stmt t) (stmts-words ts) in
+      let rest = at + length (encode-stmt t) in
+      stmt-up-to b at t (stmts-stages rest ts) (omega (arith, n)) (stmts-up-to b rest ts (omega (arith, n)))
+
   -- ---- their room: the expressions of an AllDifferent are as many as its words at most
 
   sides-few : (es : List IntExpr) → length es ≤ length (sides-words es)
   sides-few [] = omega arith
   sides-few (e ∷ es) = omega (arith, int-long e, sides-few es, length-append (encode-int e) (sides-words es))
 
-  stmt-rooms : (at : ℕ) (t : Stmt) (xs : List Stage) → length (encode-stmt t) ≤ 4096 → rooms (stmt-stages at t xs) ≤ 49152 * length (encode-stmt t) + rooms xs
+  pub stmt-rooms : (at : ℕ) (t : Stmt) (xs : List Stage) → length (encode-stmt t) ≤ 4096 → rooms (stmt-stages at t xs) ≤ 49152 * length (encode-stmt t) + rooms xs
   unfolding stmt-stages rooms
   stmt-rooms at (Rule e) xs l = unfold encode-stmt in omega arith
   stmt-rooms at (Table es rows) xs l = omega (arith, table-room es rows)
@@ -102,31 +116,31 @@ module _ (ds : List Domain) (rec cap : ℕ) (F : List ℤ) where
 
 -- ---- both walks over each; as in walks' Rule
 
-module _ (ds : List Domain) (F : List ℤ) (parted : ℕ → Bool) (rec cap : ℕ) (with-ifs : Bool) (before : List ℤ) (low : cap < limit) (marked : Marked F with-ifs) where
+module _ (ds : List Domain) (F : List ℤ) (parted : ℕ → Bool) (rec cap : ℕ) (with-ifs : Bool) (before : List ℤ) (low : cap < limit) (b : ℕ) (inside : b ≤ 4608) (marked : Marked F b with-ifs) where
   abbrev AllWalkHere : List Stage → Type 0
   AllWalkHere = AllWalk ds F parted rec cap with-ifs before low
 
-  stmt-walk : (at : ℕ) (t : Stmt) (ts : List Stmt) → Each LegalStmt (t ∷ ts) → PartedFrom parted at (t ∷ ts) → Has F at (encode-stmt t) → 512 ≤ at → at + length (encode-stmt t) ≤ 4608 → (xs : List Stage) → AllWalkHere xs → AllWalkHere (stmt-stages ds rec cap F at t xs)
+  pub stmt-walk : (at : ℕ) (t : Stmt) (ts : List Stmt) → Each LegalStmt (t ∷ ts) → PartedFrom parted at (t ∷ ts) → Has F at (encode-stmt t) → 512 ≤ at → at + length (encode-stmt t) ≤ b → (xs : List Stage) → AllWalkHere xs → AllWalkHere (stmt-stages ds rec cap F at t xs)
   unfolding stmt-stages
   stmt-walk at (Rule e) ts h k d l m xs w =
       let n : length (encode-stmt (Rule e)) ≡ 1 + length (encode-bool e) = unfold encode-stmt in omega arith in
       let c : Has F (at + 1) (encode-bool e) = unfold encode-stmt in has-rest F at (pos 1) (encode-bool e) d in
-      (rule-stage-walks ds F parted rec cap with-ifs before low e (at + 1) (h .0) c (omega arith) (omega (arith, n)) (rule-agrees F with-ifs marked parted at ts e h k c l (omega (arith, n))), w)
+      (rule-stage-walks ds F parted rec cap with-ifs before low e (at + 1) (h .0) c (omega arith) (omega (arith, n)) (rule-agrees F b with-ifs marked parted at ts e h k c l (omega (arith, n))), w)
   stmt-walk at (Table es rows) ts h k d l m xs w =
       let n = table-length F ds es rows in
-      (table-stage-walks ds F parted rec cap with-ifs before low es rows at d l m (h .0) (columns-agree-here F with-ifs marked parted at ts es rows h k (table-words F ds at es rows d) l (omega (arith, n)) m), w)
+      (table-stage-walks ds F parted rec cap with-ifs before low es rows at d l (omega arith) (h .0) (columns-agree-here F b with-ifs marked parted at ts es rows h k (table-words F ds at es rows d) l (omega (arith, n)) m), w)
   stmt-walk at (AllDifferent es) ts h k d l m xs w =
-      let b = at + length (encode-stmt (AllDifferent es)) in
+      let stop = at + length (encode-stmt (AllDifferent es)) in
       let n : length (encode-stmt (AllDifferent es)) ≡ 2 + length (sides-words es) = unfold encode-stmt in omega arith in
       let c : Has F (at + 2) (sides-words es) = unfold encode-stmt in has-back F at (pos 3 ∷ pos (length es) ∷ []) (sides-words es) d in
-      different-walk ds rec cap es (at + 2) b xs F parted with-ifs before low m
-      (record { legal = h .0; words = c; from = omega arith; to = omega (arith, n); agree = sides-agree F with-ifs marked parted at ts es h k c l (omega (arith, n)) }) w
+      different-walk ds rec cap es (at + 2) stop xs F parted with-ifs before low (omega arith)
+      (record { legal = h .0; words = c; from = omega arith; to = omega (arith, n); agree = sides-agree F b with-ifs marked parted at ts es h k c l (omega (arith, n)) }) w
 
-  pub stmts-walk : (at : ℕ) (ts : List Stmt) → Each LegalStmt ts → PartedFrom parted at ts → Has F at (stmts-words ts) → 512 ≤ at → at + length (stmts-words ts) ≤ 4608 → AllWalkHere (stmts-stages ds rec cap F at ts)
+  pub stmts-walk : (at : ℕ) (ts : List Stmt) → Each LegalStmt ts → PartedFrom parted at ts → Has F at (stmts-words ts) → 512 ≤ at → at + length (stmts-words ts) ≤ b → AllWalkHere (stmts-stages ds rec cap F at ts)
   unfolding stmts-stages
   stmts-walk at [] h k d l m = tt
   stmts-walk at (t ∷ ts) h k d l m =
-      let b = at + length (encode-stmt t) in
+      let rest = at + length (encode-stmt t) in
       let n = length-append (encode-stmt t) (stmts-words ts) in
-      stmt-walk at t ts h k (has-front F at (encode-stmt t) (stmts-words ts) d) l (omega (arith, n)) (stmts-stages ds rec cap F b ts)
-      (stmts-walk b ts (h .1) (parted-rest parted at t ts h k) (has-back F at (encode-stmt t) (stmts-words ts) d) (omega arith) (omega (arith, n)))
+      stmt-walk at t ts h k (has-front F at (encode-stmt t) (stmts-words ts) d) l (omega (arith, n)) (stmts-stages ds rec cap F rest ts)
+      (stmts-walk rest ts (h .1) (parted-rest parted at t ts h k) (has-back F at (encode-stmt t) (stmts-words ts) d) (omega arith) (omega (arith, n)))

@@ -1,7 +1,7 @@
 -- A set as parts that both walks take one after another: a rule, a table, a pair of an AllDifferent, the clauses of its values. What each part must hold
 -- (`Walks`) gives it for all of them: `parts-pass` (the first walk, and the second where each part is numbered again right before it is written) and
 -- `parts-written` (the second walk by the final maps, where no If stands in the folded words).
-use mathlib.Core.Path.{_≡_, refl, sym, ap, _∙_}
+use mathlib.Core.Path.{_≡_, refl, _∙_}
 use mathlib.Core.Bool.{Bool, true}
 use mathlib.Core.Option.{Option}
 use mathlib.Core.List.{List, [], _∷_, _++_}
@@ -112,6 +112,10 @@ chains-less a b c d xs l m h i j k n = h i j (omega arith) (omega arith)
 pub chains-more : (x : Stage) (xs : List Stage) → Chains (x .past) (x .to) xs → Chains (x .start) (x .from) (x ∷ xs)
 chains-more x xs h i j k n = (k, n, h (x .past) (x .to) (omega arith) (omega arith))
 
+-- none reaches beyond b
+abbrev pub UpTo : ℕ → List Stage → Type 0
+UpTo b xs = Each (λ x. x .to ≤ b) xs
+
 abbrev pub last-to : ℕ → List Stage → ℕ
 last-to b [] = b
 last-to b (x ∷ xs) = last-to (x .to) xs
@@ -136,9 +140,9 @@ own-stays : (a : ℕ) (w w' : List ℤ) (os : List Owned) → Stays a w w' → O
 own-stays a w w' [] h i o = tt
 own-stays a w w' (x ∷ os) h i o = (h (x .place) (i .0 .0) (i .0 .1) ∙ o .0, own-stays a w w' os h (i .1) (o .1))
 
--- no If stands in the folded words F
-abbrev pub NoIfs : List ℤ → Type 0
-NoIfs F = (q : ℕ) (e : IntExpr) → IsIf e → Has F q (encode-int e) → 512 ≤ q → q < 4608 → ⊥
+-- no If stands in the folded words F before b
+abbrev pub NoIfs : List ℤ → ℕ → Type 0
+NoIfs F b = (q : ℕ) (e : IntExpr) → IsIf e → Has F q (encode-int e) → 512 ≤ q → q < b → ⊥
 
 -- ---- as in walks' Rule
 
@@ -177,7 +181,7 @@ module _ (ds : List Domain) (F : List ℤ) (parted : ℕ → Bool) (rec cap : �
     pub owned-in : (s : Log) → OwnedIn (x .past) (x .owns s)
     pub spends : (st : State) → is-full ds rec cap st ≡ true → x .part .meet st .used ≡ st .used
     pub first : (n : ℕ) (st : State) (s : Log) → Each (Found s) (x .knows) → Standing (x .from) (x .room + n) st s → st .used ≤ words-of s → Passed (x .to) n (Again x st s) (x .part .meet st) (x .step s)
-    pub second : NoIfs F → (w : List ℤ) (s : Log) → Each (Found s) (x .knows) → Ready w (x .step s) → Own w (x .owns s) → Writes x w s
+    pub second : NoIfs F (x .to) → (w : List ℤ) (s : Log) → Each (Found s) (x .knows) → Ready w (x .step s) → Own w (x .owns s) → Writes x w s
 
   abbrev pub AllWalk : List Stage → Type 0
   AllWalk xs = Each Walks xs
@@ -245,9 +249,9 @@ module _ (ds : List Domain) (F : List ℤ) (parted : ℕ → Bool) (rec cap : �
 
   -- ---- the second walk by the final maps
 
-  pub parts-written : NoIfs F → (xs : List Stage) → AllWalk xs → (w : List ℤ) (s : Log) → AllKnown xs s → Ready w (steps xs s) → AllOwn w xs s → Registers (parts-text (parts xs) w (at w s)) (parts-lines (parts xs) w (at w s)) s (steps xs s)
+  pub parts-written : (b : ℕ) → NoIfs F b → (xs : List Stage) → UpTo b xs → AllWalk xs → (w : List ℤ) (s : Log) → AllKnown xs s → Ready w (steps xs s) → AllOwn w xs s → Registers (parts-text (parts xs) w (at w s)) (parts-lines (parts xs) w (at w s)) s (steps xs s)
   unfolding parts-text parts-lines steps AllOwn AllKnown
-  parts-written i [] k w s j r o = registers-same s s refl
-  parts-written i (x ∷ xs) k w s j r o =
-      let y = k .0 .second i w s (j .0) (ready-back (steps-grow xs (k .1) (x .step s)) r) (o .0) in
-      registers-after (parts-text (parts xs) w) (parts-lines (parts xs) w) (y .behind) (y .adds) (parts-written i xs (k .1) w (x .step s) (j .1) r (o .1))
+  parts-written b i [] l k w s j r o = registers-same s s refl
+  parts-written b i (x ∷ xs) l k w s j r o =
+      let y = k .0 .second (λ q e t h m n. i q e t h m (omega (arith, l .0))) w s (j .0) (ready-back (steps-grow xs (k .1) (x .step s)) r) (o .0) in
+      registers-after (parts-text (parts xs) w) (parts-lines (parts xs) w) (y .behind) (y .adds) (parts-written b i xs (l .1) (k .1) w (x .step s) (j .1) r (o .1))

@@ -1,21 +1,20 @@
 -- The Ifs with split parts of the folded statements: those of rules and of an AllDifferent's expressions, by place (`parted-of`). What the walks ask of this:
 -- it says of each If whether its splitting takes numbers (`rule-agrees`, `sides-agree`), and none in a table's columns is split (`columns-agree-here`).
-use mathlib.Core.Path.{_≡_, refl, sym, ap, _∙_}
+use mathlib.Core.Path.{_≡_, refl, ap, _∙_}
 use mathlib.Core.Bool.{Bool, true, false, not, _||_}
 use mathlib.Core.List.{List, [], _∷_, _++_, map}
 use Prim.Native.Nat.{ℕ, _+_, _≤_, _<_}
 use native.Mathlib.Omega.{arith}
 use lib.IntN.{ℤ}
 use lib.ListN.{length, length-append}
-use lib.Dec.{eqb}
 use borrow.Author.Tests.{ne-eqb}
 use Rattle.laws.specs.Lists.{flat}
 use Rattle.laws.specs.Slices.{Has, has-front, has-back}
-use Rattle.syntax.specs.Syntax.{Domain, IntExpr, encode-int, BoolExpr, encode-bool, Cell, Stmt, Rule, Table, AllDifferent, encode-stmt}
+use Rattle.syntax.specs.Syntax.{IntExpr, encode-int, BoolExpr, encode-bool, Cell, Stmt, Rule, Table, AllDifferent, encode-stmt}
 use Rattle.words.specs.Exact.{Each}
-use Rattle.walks.specs.Tree.{below, here, splits-int}
+use Rattle.walks.specs.Tree.{below, here}
 use Rattle.walks.specs.Cells.{IsIf}
-use Rattle.walks.specs.Legal.{Legal, LegalInt, LegalRule, true-rule, legal-rule, legal-bound, legal-plain, legal-int-bound, legal-int-plain}
+use Rattle.walks.specs.Legal.{LegalInt, LegalRule, true-rule, legal-rule, legal-bound, legal-plain, legal-int-bound, legal-int-plain}
 use Rattle.walks.specs.Keys.{Key, keys, keys-int, Every, every-none, every-more, every-map, every-append, every-found, Distinct, Within, Written, keys-within, keys-int-within, keys-distinct, keys-int-distinct, keys-written, keys-int-written}
 use Rattle.walks.specs.KeyAt.{is-parted, parted-in, places, found-parted, same-places}
 use Rattle.walks.specs.KeyPlaces.{AgreesWith, PlainIf, every-both, keys-plain, keys-int-plain}
@@ -168,23 +167,23 @@ module _ (parted : ℕ → Bool) (at : ℕ) (t : Stmt) (ts : List Stmt) (legal :
   agreed : Agreed parted (stmt-keys at t)
   agreed = agreed-where (parted-in (places (stmt-keys at t))) parted within (stmt-span at t (legal .0)) (stmt-agreed at t (legal .0))
 
--- an If that stands in the folded words F is marked
-abbrev pub Marked : List ℤ → Bool → Type 0
-Marked F with-ifs = (q : ℕ) (e : IntExpr) → IsIf e → Has F q (encode-int e) → 512 ≤ q → q < 4608 → with-ifs ≡ true
+-- an If that stands in the folded words F before b is marked
+abbrev pub Marked : List ℤ → ℕ → Bool → Type 0
+Marked F b with-ifs = (q : ℕ) (e : IntExpr) → IsIf e → Has F q (encode-int e) → 512 ≤ q → q < b → with-ifs ≡ true
 
-module _ (F : List ℤ) (with-ifs : Bool) (marked : Marked F with-ifs) where
+module _ (F : List ℤ) (b : ℕ) (with-ifs : Bool) (marked : Marked F b with-ifs) where
   abbrev Marks : List Key → Type 0
   Marks xs = Every (λ x. with-ifs ≡ true) xs
 
-  keys-marked : {at stop n next size : ℕ} {xs : List Key} → Every (Within at stop n next size) xs → Every (Written F) xs → Every PlainIf xs → 512 ≤ at → stop ≤ 4608 → Marks xs
+  keys-marked : {at stop n next size : ℕ} {xs : List Key} → Every (Within at stop n next size) xs → Every (Written F) xs → Every PlainIf xs → 512 ≤ at → stop ≤ b → Marks xs
   keys-marked h k p l m = every-map (λ x y. marked (x .place .at) (x .written) (y .1 .1 .0) (y .1 .0 .stands) (omega (arith, y .0 .from)) (omega (arith, y .0 .to))) (every-both h (every-both k p))
 
-  rule-marked : (e : BoolExpr) (p : ℕ) → LegalRule e 64 → Has F p (encode-bool e) → 512 ≤ p → p + length (encode-bool e) ≤ 4608 → Marks (keys e below p 0)
+  rule-marked : (e : BoolExpr) (p : ℕ) → LegalRule e 64 → Has F p (encode-bool e) → 512 ≤ p → p + length (encode-bool e) ≤ b → Marks (keys e below p 0)
   unfolding keys
   rule-marked e p (true-rule x) h l m = every-none
   rule-marked e p (legal-rule x) h l m = keys-marked (keys-within e below p 0 (legal-bound e 64 x)) (keys-written F e below p 0 h) (keys-plain e below p 0 (legal-plain e 64 x)) l m
 
-  sides-marked : (es : List IntExpr) (p : ℕ) → Each (λ e. LegalInt e 64) es → Has F p (sides-words es) → 512 ≤ p → p + length (sides-words es) ≤ 4608 → Marks (sides-keys es p)
+  sides-marked : (es : List IntExpr) (p : ℕ) → Each (λ e. LegalInt e 64) es → Has F p (sides-words es) → 512 ≤ p → p + length (sides-words es) ≤ b → Marks (sides-keys es p)
   unfolding sides-keys
   sides-marked [] p h k l m = every-none
   sides-marked (e ∷ es) p h k l m =
@@ -193,14 +192,14 @@ module _ (F : List ℤ) (with-ifs : Bool) (marked : Marked F with-ifs) where
       (sides-marked es (p + length (encode-int e)) (h .1) (has-back F p (encode-int e) (sides-words es) k) (omega arith) (omega (arith, n)))
 
   module _ (parted : ℕ → Bool) (at : ℕ) (ts : List Stmt) where
-    pub rule-agrees : (e : BoolExpr) → Each LegalStmt (Rule e ∷ ts) → PartedFrom parted at (Rule e ∷ ts) → Has F (at + 1) (encode-bool e) → 512 ≤ at → at + 1 + length (encode-bool e) ≤ 4608 → (n : ℕ) → Every (AgreesWith parted with-ifs) (keys e below (at + 1) n)
+    pub rule-agrees : (e : BoolExpr) → Each LegalStmt (Rule e ∷ ts) → PartedFrom parted at (Rule e ∷ ts) → Has F (at + 1) (encode-bool e) → 512 ≤ at → at + 1 + length (encode-bool e) ≤ b → (n : ℕ) → Every (AgreesWith parted with-ifs) (keys e below (at + 1) n)
     rule-agrees e h k d l m n = agrees-same parted with-ifs (same-places e below (at + 1) 0 n) (every-both (unfold stmt-keys in agreed parted at (Rule e) ts h k) (rule-marked e (at + 1) (h .0) d (omega arith) m))
 
-    pub sides-agree : (es : List IntExpr) → Each LegalStmt (AllDifferent es ∷ ts) → PartedFrom parted at (AllDifferent es ∷ ts) → Has F (at + 2) (sides-words es) → 512 ≤ at → at + 2 + length (sides-words es) ≤ 4608 → Every (AgreesWith parted with-ifs) (sides-keys es (at + 2))
+    pub sides-agree : (es : List IntExpr) → Each LegalStmt (AllDifferent es ∷ ts) → PartedFrom parted at (AllDifferent es ∷ ts) → Has F (at + 2) (sides-words es) → 512 ≤ at → at + 2 + length (sides-words es) ≤ b → Every (AgreesWith parted with-ifs) (sides-keys es (at + 2))
     sides-agree es h k d l m = every-both (unfold stmt-keys in agreed parted at (AllDifferent es) ts h k) (sides-marked es (at + 2) (h .0) d (omega arith) m)
 
     -- the columns of a table, which stand somewhere in its words
-    pub columns-agree-here : (es : List IntExpr) (rows : List (List Cell)) → Each LegalStmt (Table es rows ∷ ts) → PartedFrom parted at (Table es rows ∷ ts) → Has F (at + 3) (columns-words es) → 512 ≤ at → at + 3 + length (columns-words es) ≤ at + length (encode-stmt (Table es rows)) → at + length (encode-stmt (Table es rows)) ≤ 4608
+    pub columns-agree-here : (es : List IntExpr) (rows : List (List Cell)) → Each LegalStmt (Table es rows ∷ ts) → PartedFrom parted at (Table es rows ∷ ts) → Has F (at + 3) (columns-words es) → 512 ≤ at → at + 3 + length (columns-words es) ≤ at + length (encode-stmt (Table es rows)) → at + length (encode-stmt (Table es rows)) ≤ b
         → Every (AgreesWith parted with-ifs) (columns-keys es (at + 3))
     unfolding stmt-keys parted-in
-    columns-agree-here es rows h k d l m n = columns-agree F parted with-ifs marked es (at + 3) (h .0) d (omega arith) (omega arith) (λ q i j. within parted at (Table es rows) ts h k q (omega arith) (omega arith))
+    columns-agree-here es rows h k d l m n = columns-agree F parted with-ifs b marked es (at + 3) (h .0) d (omega arith) (omega arith) (λ q i j. within parted at (Table es rows) ts h k q (omega arith) (omega arith))

@@ -1,6 +1,6 @@
 -- A rule as a part of the walks (`rule-stage`, `rule-stage-walks`): legal, or true; parted: the places of Ifs with split parts in the folded words F.
 use mathlib.Core.Path.{_≡_, refl}
-use mathlib.Core.Bool.{Bool, true, false}
+use mathlib.Core.Bool.{Bool, true}
 use mathlib.Core.List.{List, [], _∷_, append-nil}
 use mathlib.Core.Logic.{inl}
 use Prim.Native.Nat.{ℕ, _+_, _≤_, _<_}
@@ -29,7 +29,7 @@ use Rattle.walks.specs.Walked.{fixed}
 use Rattle.walks.specs.Keys.{keys, Every, keys-within, keys-written, Choices}
 use Rattle.walks.specs.KeyAt.{rule-choices}
 use Rattle.walks.specs.KeyPlaces.{AgreesWith, keys-plain, parted-agrees, rule-places}
-use Rattle.walks.specs.LowIfs.{LowIfs, rule-low}
+use Rattle.walks.specs.LowIfs.{rule-low}
 use Rattle.walks.specs.Near.{forms-near, rule-inside}
 use Rattle.walks.specs.Next.{ahead-more}
 use Rattle.walks.specs.Rule.{Writes, rule-key, rule-written, rule-walks, rule-ahead, true-walks}
@@ -71,7 +71,7 @@ module _ (ds : List Domain) (F : List ℤ) (parted : ℕ → Bool) (rec cap : �
     legal-facts = record {
       ifs = λ s h. rule-low ds e s (legal-bound e 64 legal) h;
       clears = λ n st. refl;
-      without = λ none n. rule-choices Never (λ x. ⊥) (λ i c t f m at k h. h) e p n (no-keys F none (keys-within e below p n (legal-bound e 64 legal)) (keys-written F e below p n words) (keys-plain e below p n (legal-plain e 64 legal)) from to);
+      without = λ none n. rule-choices Never (λ x. ⊥) (λ i c t f m at k h. h) e p n (no-keys F stop none (keys-within e below p n (legal-bound e 64 legal)) (keys-written F e below p n words) (keys-plain e below p n (legal-plain e 64 legal)) from (omega arith));
       writes = λ w s i r h. rule-written ds F parted rec cap with-ifs before low e 64 p legal words from to s (agree (next-bool s)) w i r h;
       visits = visits;
     }

@@ -1,6 +1,6 @@
 -- A rule or a pair of an AllDifferent as a part: its splitting takes its numbers, then its trees are met and written one after another.
-use mathlib.Core.Path.{_≡_, refl, sym, ap, _∙_, subst}
-use mathlib.Core.Bool.{Bool, true, false}
+use mathlib.Core.Path.{_≡_, sym, ap, _∙_, subst}
+use mathlib.Core.Bool.{Bool, false}
 use mathlib.Core.Option.{Option}
 use mathlib.Core.List.{List, []}
 use Prim.Native.Nat.{ℕ, _+_, _≤_, _<_}
@@ -26,13 +26,13 @@ use Rattle.walks.specs.Plain.{PlainInt}
 use Rattle.walks.specs.Constant.{Named}
 use Rattle.walks.specs.Cells.{Places}
 use Rattle.walks.specs.Leaves.{words-of}
-use Rattle.walks.specs.Visit.{meets-spends, same-later, Outcome, full, good, good-ready}
+use Rattle.walks.specs.Visit.{meets-spends, same-later, full, good, good-ready}
 use Rattle.walks.specs.Walked.{fixed, names}
 use Rattle.walks.specs.Keys.{Key, Every, every-map, Within, Written, Choices, ChoicesAll, ChoicesInt, ChoicesTerms}
 use Rattle.walks.specs.KeyPlaces.{PlainIf, every-both}
 use Rattle.walks.specs.LowIfs.{LowIfs}
 use Rattle.walks.specs.Next.{Ahead}
-use Rattle.walks.specs.Rule.{Writes as TreesWrite, GoodFor, OutcomeFor}
+use Rattle.walks.specs.Rule.{Writes as TreesWrite, OutcomeFor}
 use Rattle.stages.specs.StatementsParts.{Part, Stage, Stays, NoIfs, Standing, Passed, full as passed-full, good as passed-good, Again, Walks, counters-are}
 
 -- ---- where no If stands, nothing is to be placed
@@ -74,12 +74,12 @@ module _ (w : List ℤ) (ds : List Domain) where
   placed-registers (cons t ts) h s = (placed t (h .0) s, placed-registers ts (h .1) (register (run ds t s)))
 
 -- the keys of what stands from `at` to `stop`
-pub no-keys : (F : List ℤ) → NoIfs F → {at stop n next size : ℕ} {xs : List Key} → Every (Within at stop n next size) xs → Every (Written F) xs → Every PlainIf xs → 512 ≤ at → stop ≤ 4608 → Every (λ x. ⊥) xs
-no-keys F none h k p l m = every-map (λ x y. none (x .place .at) (x .written) (y .1 .1 .0) (y .1 .0 .stands) (omega (arith, y .0 .from)) (omega (arith, y .0 .to))) (every-both h (every-both k p))
+pub no-keys : (F : List ℤ) (b : ℕ) → NoIfs F b → {at stop n next size : ℕ} {xs : List Key} → Every (Within at stop n next size) xs → Every (Written F) xs → Every PlainIf xs → 512 ≤ at → stop ≤ b → Every (λ x. ⊥) xs
+no-keys F b none h k p l m = every-map (λ x y. none (x .place .at) (x .written) (y .1 .1 .0) (y .1 .0 .stands) (omega (arith, y .0 .from)) (omega (arith, y .0 .to))) (every-both h (every-both k p))
 
 -- ---- the log behind a rule
 
-pub split-grows : (e : BoolExpr) (s : Log) → Grows s (cut e false s .log)
+split-grows : (e : BoolExpr) (s : Log) → Grows s (cut e false s .log)
 split-grows e s = let d = split-sided e false s in record { bools = omega (arith, d .bools); ints = omega (arith, d .ints); keep = λ v n h. d .keep v ∙ h; keep-int = λ v n h. d .keep-int v ∙ h; top = d .top }
 
 module _ (ds : List Domain) where
@@ -87,7 +87,7 @@ module _ (ds : List Domain) where
   rule-grows e s = let ts = rule-trees e 0 (next-bool s) in rw (rule-runs ds e 0 s) (then (split-grows e s) (registers-grow ds ts (cut e false s .log)))
 
   -- the numbers of the splitting
-  pub splits-within : (e : BoolExpr) (s : Log) → next-bool s + splits e below ≤ next-bool (normalize-and-register-expr ds e s)
+  splits-within : (e : BoolExpr) (s : Log) → next-bool s + splits e below ≤ next-bool (normalize-and-register-expr ds e s)
   splits-within e s = let ts = rule-trees e 0 (next-bool s) in rw (rule-runs ds e 0 s) (omega (arith, split-sided e false s .bools, registers-grow ds ts (cut e false s .log) .bools))
 
 -- ---- the part
@@ -128,7 +128,7 @@ module _ (ds : List Domain) (rec cap : ℕ) (e : BoolExpr) (trees : ℕ → Tree
     pub record Facts (room start from to : ℕ) : Type 0 where
       pub ifs : (s : Log) → LowIfs (next-bool s) s → LowIfs (next-bool (behind s)) (behind s)
       pub clears : (n : ℕ) (st : State) → clear n st .used ≡ st .used
-      pub without : NoIfs F → (n : ℕ) → ChoicesAll Never (trees n)
+      pub without : NoIfs F to → (n : ℕ) → ChoicesAll Never (trees n)
       pub writes : (w : List ℤ) (s : Log) → next-bool s + splits e below ≤ limit → Ready w (behind s) → PlacedRegisters w ds (trees (next-bool s)) (cut e false s .log) → Wrote w s
       pub visits : (n : ℕ) (st : State) (s : Log) → Standing ds F parted rec cap with-ifs before low from (room + n) st s → st .used ≤ words-of s → Visited n start to st s
 

@@ -33,7 +33,7 @@ use Rattle.statements.specs.Statements.{table-words, table-length}
 use Rattle.statements.specs.Table.{table-fresh}
 use Rattle.stages.specs.StatementsParts.{Owned, Own, OwnedIn, Stage, NoIfs, Standing, Passed, full as passed-full, good as passed-good, Again, Walks, counters-are}
 use Rattle.stages.specs.StatementsTrees.{Never, placed-registers, no-keys}
-use Rattle.stages.specs.Columns.{SameCells, PlacedColumns, columns-keys, columns-words, ColumnsStand, first-words, first-to, stand-rest}
+use Rattle.stages.specs.Columns.{SameCells, PlacedColumns, columns-keys, columns-words, ColumnsStand, first-words, stand-rest}
 use Rattle.stages.specs.Table.{meet-table, table-text, table-lines, table-count, table-grows, table-visit, table-written, table-ahead, table-spends, table-near}
 use Rattle.stages.specs.TableIfs.{table-low}
 
@@ -90,25 +90,26 @@ module _ (ds : List Domain) (w : List ℤ) where
   placed-without : (t : IntTree) → ChoicesInt Never t → (s : Log) → PlacedInt w ds t s
   placed-without t h s = unfold PlacedRegisters Placed Choices in placed-registers w ds (cons (cmp Eq t t false) nil) ((h, h), tt) s .0 .0
 
-  -- where no If stands in the folded words, all is placed with the columns' own numbers
-  module _ (F : List ℤ) (none : NoIfs F) (parted : ℕ → Bool) (with-ifs : Bool) where
-    column-without : (e : IntExpr) (es : List IntExpr) (p : ℕ) → ColumnsStand F parted with-ifs (e ∷ es) p → ChoicesInt Never (resolve-int e never p 0)
-    column-without e es p h =
+  -- where no If stands in the folded words before b, all is placed with the columns' own numbers
+  module _ (F : List ℤ) (b : ℕ) (none : NoIfs F b) (parted : ℕ → Bool) (with-ifs : Bool) where
+    column-without : (e : IntExpr) (es : List IntExpr) (p : ℕ) → ColumnsStand F parted with-ifs (e ∷ es) p → p + length (encode-int e) ≤ b → ChoicesInt Never (resolve-int e never p 0)
+    column-without e es p h i =
         let l = h .legal .0 in
         let words = keys-int-written F e never p 0 (first-words F parted with-ifs e es p h) in
-        let keys = no-keys F none (keys-int-within e never p 0 (legal-int-bound e 64 l)) words (keys-int-plain e never p 0 (legal-int-plain e 64 l)) (h .from) (first-to F parted with-ifs e es p h) in
+        let keys = no-keys F b none (keys-int-within e never p 0 (legal-int-bound e 64 l)) words (keys-int-plain e never p 0 (legal-int-plain e 64 l)) (h .from) i in
         int-choices Never (λ x. ⊥) (λ i c t f m at k x. x) e never p 0 keys
 
-    owned-placed : (es : List IntExpr) (p : ℕ) → ColumnsStand F parted with-ifs es p → (s : Log) → Own w (columns-owned ds es p s) → PlacedColumns ds w p es s
+    owned-placed : (es : List IntExpr) (p : ℕ) → ColumnsStand F parted with-ifs es p → p + length (columns-words es) ≤ b → (s : Log) → Own w (columns-owned ds es p s) → PlacedColumns ds w p es s
     unfolding PlacedColumns columns-owned
-    owned-placed [] p h s o = tt
-    owned-placed (e ∷ es) p h s o =
+    owned-placed [] p h i s o = tt
+    owned-placed (e ∷ es) p h i s o =
+        let l = length-append (encode-int e) (columns-words es) in
         let q = p + length (encode-int e) in
         let t = equivalent-int-var ds e s .log in
         let n = next-int (normalize-int-expr ds e s .1) in
         let os = columns-owned ds es q t in
-        let x = placed-without (resolve-int e never p 0) (column-without e es p h) s in
-        ((x, with-first (Holds w) p n os e o), owned-placed es q (stand-rest F parted with-ifs e es p h) t (with-rest (Holds w) p n os e o))
+        let x = placed-without (resolve-int e never p 0) (column-without e es p h (omega (arith, l))) s in
+        ((x, with-first (Holds w) p n os e o), owned-placed es q (stand-rest F parted with-ifs e es p h) (omega (arith, l)) t (with-rest (Holds w) p n os e o))
 
 owned-within : (ds : List Domain) (a : ℕ) (es : List IntExpr) (p : ℕ) (s : Log) → 512 ≤ p → p + length (columns-words es) ≤ a → OwnedIn a (columns-owned ds es p s)
 unfolding columns-owned
@@ -197,6 +198,6 @@ module _ (ds : List Domain) (F : List ℤ) (parted : ℕ → Bool) (rec cap : �
     spends = table-spends ds F parted with-ifs es (at + 3) stand rows rec cap;
     first = λ n st s k h u. first-passed n st s h u;
     second = λ none w s k r o.
-        let x = table-written ds F parted with-ifs es (at + 3) stand rows s w r (owned-placed ds w F none parted with-ifs es (at + 3) stand s o) in
+        let x = table-written ds F parted with-ifs es (at + 3) stand rows s w r (owned-placed ds w F (stage .to) none parted with-ifs es (at + 3) stand stop s o) in
         record { adds = x .adds; behind = x .behind };
   }

@@ -46,3 +46,4 @@ pub mod Column
 pub mod ColumnText
 pub mod Totals
 pub mod SumsFit
+pub mod Reach

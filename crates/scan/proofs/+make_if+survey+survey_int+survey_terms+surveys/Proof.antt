@@ -21,6 +21,7 @@ use Rattle.scan.proofs.behind_of.Reads as behind-of-reads
 use Rattle.scan.proofs.has_ifs.Reads as has-ifs-reads
 use Rattle.scan.proofs.inner.Reads as inner-reads
 use Rattle.scan.proofs.is_passed.Reads as is-passed-reads
+use Rattle.scan.proofs.join.Reads as join-reads
 use Rattle.scan.proofs.met.Reads as met-reads
 use Rattle.scan.proofs.met_int.Reads as met-int-reads
 use Rattle.scan.proofs.more_bools.Reads as more-bools-reads
@@ -28,6 +29,7 @@ use Rattle.scan.proofs.more_ints.Reads as more-ints-reads
 use Rattle.scan.proofs.name_condition.Reads as name-condition-reads
 use Rattle.scan.proofs.node_at.Reads as node-at-reads
 use Rattle.scan.proofs.seen.Reads as seen-reads
+use Rattle.scan.proofs.single_at.Reads as single-at-reads
 use Rattle.scan.proofs.skip.Reads as skip-reads
 use Rattle.scan.proofs.skip_int.Reads as skip-int-reads
 use Rattle.scan.proofs.skips.Reads as skips-reads
@@ -36,9 +38,7 @@ use Rattle.survey.proofs.add_member.Reads as add-member-reads
 use Rattle.survey.proofs.below.Reads as below-reads
 use Rattle.survey.proofs.bump.Reads as bump-reads
 use Rattle.survey.proofs.close_cross.Reads as close-cross-reads
-use Rattle.survey.proofs.close_disj.Reads as close-disj-reads
 use Rattle.survey.proofs.longer.Reads as longer-reads
-use Rattle.survey.proofs.single.Reads as single-reads
 use Rattle.survey.proofs.within.Reads as within-reads
 use Rattle.survey.proofs.word.Reads as word-reads
 use Rattle.scan.proofs.+make_if+survey+survey_int+survey_terms+surveys.{statement}
@@ -48,12 +48,11 @@ use mathlib.Core.Path.{refl, sym, ap, _∙_}
 use native.Mathlib.Omega.{arith}
 use Rattle.walk.specs.Steps.{below-lt}
 use Rattle.walks.specs.Item.{counters}
-use Rattle.survey.proofs.Leaves.{join-is}
 use Rattle.scan.specs.Nodes.{part-length, okay-at}
 use Rattle.scan.specs.Skip.{split-by, inside-same, inside-more, skips-none, skips-var, skips-cmp, skips-not, skips-join, skips-cross, int-none, int-leaf, int-sum, int-if}
 use Rattle.scan.specs.LeafLaws.{split-here, not-here}
 use Rattle.scan.specs.IfLaws.{more-bools-low, more-ints-low}
-use Rattle.scan.specs.SurveyLaws.{scanned, survey-none, survey-var, survey-cmp, survey-not, survey-conj, survey-disj, survey-split, survey-cross, Sofar, sofar-none, sofar-more, sofar-done, make-open, make-variable, make-named, ints-none, ints-off, ints-var, ints-const, ints-sum, ints-passed, ints-made, TermsSofar, terms-none, terms-more, terms-done}
+use Rattle.scan.specs.SurveyLaws.{scanned, survey-none, survey-var, survey-cmp, survey-not, survey-join, survey-split, survey-cross, Sofar, sofar-none, sofar-more, sofar-done, make-open, make-variable, make-named, ints-none, ints-off, ints-var, ints-const, ints-sum, ints-passed, ints-made, TermsSofar, terms-none, terms-more, terms-done}
 
 abbrev μ-make-if : Measures 1 make-if-kinds.ps ℕ
 μ-make-if κs a = 2 * a .1 .1 .1 .0 + 1
@@ -112,7 +111,7 @@ abbrev make-if-claims : ℕ → make-if-lts.Claims
 make-if-claims t = (seen-reads.Asked, seen-reads.Learnt, more-ints-reads.Asked, more-ints-reads.Learnt, survey-below t, survey.Post, more-bools-reads.Asked, more-bools-reads.Learnt, word-reads.Asked, word-reads.Learnt, below-reads.Asked, below-reads.Learnt, met-reads.Asked, met-reads.Learnt, name-condition-reads.Asked, name-condition-reads.Learnt)
 
 abbrev survey-claims : ℕ → survey-lts.Claims
-survey-claims t = (single-reads.Asked, single-reads.Learnt, with-ints-reads.Asked, with-ints-reads.Learnt, node-at-reads.Asked, node-at-reads.Learnt, met-reads.Asked, met-reads.Learnt, inner-reads.Asked, inner-reads.Learnt, survey-int-below t, survey-int.Post, survey-below t, survey.Post, surveys-below t, surveys.Post, close-disj-reads.Asked, close-disj-reads.Learnt, longer-reads.Asked, longer-reads.Learnt, bump-reads.Asked, bump-reads.Learnt, skips-reads.Asked, skips-reads.Learnt, close-cross-reads.Asked, close-cross-reads.Learnt)
+survey-claims t = (single-at-reads.Asked, single-at-reads.Learnt, node-at-reads.Asked, node-at-reads.Learnt, met-reads.Asked, met-reads.Learnt, inner-reads.Asked, inner-reads.Learnt, survey-int-below t, survey-int.Post, survey-below t, survey.Post, surveys-below t, surveys.Post, join-reads.Asked, join-reads.Learnt, bump-reads.Asked, bump-reads.Learnt, skips-reads.Asked, skips-reads.Learnt, longer-reads.Asked, longer-reads.Learnt, with-ints-reads.Asked, with-ints-reads.Learnt, close-cross-reads.Asked, close-cross-reads.Learnt)
 
 abbrev survey-int-claims : ℕ → survey-int-lts.Claims
 survey-int-claims t = (behind-of-reads.Asked, behind-of-reads.Learnt, has-ifs-reads.Asked, has-ifs-reads.Learnt, skip-int-reads.Asked, skip-int-reads.Learnt, word-reads.Asked, word-reads.Learnt, within-reads.Asked, within-reads.Learnt, below-reads.Asked, below-reads.Learnt, met-int-reads.Asked, met-int-reads.Learnt, survey-terms-below t, survey-terms.Post, is-passed-reads.Asked, is-passed-reads.Learnt, skip-reads.Asked, skip-reads.Learnt, survey-int-below t, survey-int.Post, make-if-below t, make-if.Post)
@@ -192,14 +191,11 @@ make-if-more-ints-requires-3 t c κs = search needs
 make-if-returns-3 : (t : ℕ) → make-if-lts.Need-returns-3 (make-if-claims t) (make-if-at t) make-if.Post
 make-if-returns-3 t c = make-named ((c .before .before .before .before .before .before .before .before .before .before) .args .work .now) _ _ _ _ _ ((c .before .before .before .before .before .before .before .before .before .before) .args .n) _ _ _ _ _ _ _ (c .before .before .before .before .before .before .before .before .before .seen .ensures) (c .before .before .before .before .before .before .before .before .if1 .left) (c .before .before .before .before .before .before .before .word .ensures) (c .before .before .before .before .before .before .if2 .left) (c .before .before .before .before .before .more-bools2 .ensures) (c .before .before .before .before .survey3 .ensures) (c .before .before .survey4 .ensures) (c .before .name-condition .ensures) (c .more-ints3 .ensures)
 
-survey-single-requires : (t : ℕ) → survey-lts.Need-single-requires (survey-claims t) (survey-at t) survey.Post
-survey-single-requires t c κs = search needs
-
-survey-with-ints-requires : (t : ℕ) → survey-lts.Need-with-ints-requires (survey-claims t) (survey-at t) survey.Post
-survey-with-ints-requires t c κs = search needs
+survey-single-at-requires : (t : ℕ) → survey-lts.Need-single-at-requires (survey-claims t) (survey-at t) survey.Post
+survey-single-at-requires t c κs = search needs
 
 survey-returns : (t : ℕ) → survey-lts.Need-returns (survey-claims t) (survey-at t) survey.Post
-survey-returns t c = survey-none ((c .before .before .before) .args .work .now) ((c .before .before .before) .pre .1 .0) _ _ ((c .before .before .before) .args .g) _ _ ((c .before .before .before) .args .n) ((c .before .before .before) .pre .1 .1 .0) ((c .before .before .before) .pre .1 .1 .1 .1) _ (c .before .before .if1 .taken) (skips-none ((c .before .before .before) .args .work .now) ((c .before .before .before) .pre .1 .0) _ _ _ _ ((c .before .before .before) .pre .1 .1 .0) ((c .before .before .before) .pre .1 .1 .1 .0) (c .before .before .if1 .taken)) (c .with-ints .ensures ∙ ap (λ x. scanned x (((c .before .before .before) .args .n) .ints)) (c .before .single .ensures))
+survey-returns t c = survey-none ((c .before .before) .args .work .now) ((c .before .before) .pre .1 .0) _ _ ((c .before .before) .args .g) _ _ ((c .before .before) .args .n) ((c .before .before) .pre .1 .1 .0) ((c .before .before) .pre .1 .1 .1 .1) _ (c .before .if1 .taken) (skips-none ((c .before .before) .args .work .now) ((c .before .before) .pre .1 .0) _ _ _ _ ((c .before .before) .pre .1 .1 .0) ((c .before .before) .pre .1 .1 .1 .0) (c .before .if1 .taken)) (c .single-at .ensures)
 
 survey-sub-under : (t : ℕ) → survey-lts.Need-sub-under (survey-claims t) (survey-at t) survey.Post
 survey-sub-under t c = search needs
@@ -213,11 +209,8 @@ survey-enum-known-v t c = search needs
 survey-met-requires : (t : ℕ) → survey-lts.Need-met-requires (survey-claims t) (survey-at t) survey.Post
 survey-met-requires t c κs = let o = okay-at ((c .before .before .before .before .before) .args .work .now) ((c .before .before .before .before .before) .args .g) _ _ ((c .before .before .before .before .before) .pre .1 .0) ((c .before .before .before .before .before) .pre .1 .1 .0) (sym (c .before .v .given .1) ∙ c .before .before .before .node-at .ensures) in (o .2, ((c .before .before .before .before .before) .pre .1 .1 .1 .1) .0)
 
-survey-single-requires-2 : (t : ℕ) → survey-lts.Need-single-requires-2 (survey-claims t) (survey-at t) survey.Post
-survey-single-requires-2 t c κs = search needs
-
-survey-with-ints-requires-2 : (t : ℕ) → survey-lts.Need-with-ints-requires-2 (survey-claims t) (survey-at t) survey.Post
-survey-with-ints-requires-2 t c κs = search needs
+survey-single-at-requires-2 : (t : ℕ) → survey-lts.Need-single-at-requires-2 (survey-claims t) (survey-at t) survey.Post
+survey-single-at-requires-2 t c κs = search needs
 
 survey-enum-known-q : (t : ℕ) → survey-lts.Need-enum-known-q (survey-claims t) (survey-at t) survey.Post
 survey-enum-known-q t c = search needs
@@ -231,11 +224,8 @@ survey-survey-int-requires t c κs = let o = okay-at ((c .before .before .before
 survey-survey-int-requires-2 : (t : ℕ) → survey-lts.Need-survey-int-requires-2 (survey-claims t) (survey-at t) survey.Post
 survey-survey-int-requires-2 t c κs = ((omega (arith, (c .before .before .before .before .before .before .before) .pre .0, c .before .before .before .before .before .before .if1 .left)), (((c .before .before .before .before .before .before .before) .pre .1 .0), (c .survey-int .ensures .skips .inside, (c .survey-int .ensures .skips .low, c .survey-int .ensures .low))))
 
-survey-single-requires-3 : (t : ℕ) → survey-lts.Need-single-requires-3 (survey-claims t) (survey-at t) survey.Post
-survey-single-requires-3 t c κs = search needs
-
-survey-with-ints-requires-3 : (t : ℕ) → survey-lts.Need-with-ints-requires-3 (survey-claims t) (survey-at t) survey.Post
-survey-with-ints-requires-3 t c κs = search needs
+survey-single-at-requires-3 : (t : ℕ) → survey-lts.Need-single-at-requires-3 (survey-claims t) (survey-at t) survey.Post
+survey-single-at-requires-3 t c κs = search needs
 
 survey-enum-known-q-2 : (t : ℕ) → survey-lts.Need-enum-known-q-2 (survey-claims t) (survey-at t) survey.Post
 survey-enum-known-q-2 t c = search needs
@@ -249,20 +239,8 @@ survey-enum-known-d t c = search needs
 survey-surveys-requires : (t : ℕ) → survey-lts.Need-surveys-requires (survey-claims t) (survey-at t) survey.Post
 survey-surveys-requires t c κs = let o = okay-at ((c .before .before .before .before .before) .args .work .now) ((c .before .before .before .before .before) .args .g) _ _ ((c .before .before .before .before .before) .pre .1 .0) ((c .before .before .before .before .before) .pre .1 .1 .0) (sym (c .before .d .given .1) ∙ c .before .before .before .node-at .ensures) in ((omega (arith, (c .before .before .before .before .before) .pre .0, c .before .before .before .before .if1 .left)), (((c .before .before .before .before .before) .pre .1 .0), (omega (arith, o .1, part-length ((c .before .before .before .before .before) .args .work .now) ((c .before .before .before .before .before) .pre .1 .0)), (((c .before .before .before .before .before) .pre .1 .1 .1 .0), ((c .before .before .before .before .before) .pre .1 .1 .1 .1)))))
 
-survey-close-disj-requires : (t : ℕ) → survey-lts.Need-close-disj-requires (survey-claims t) (survey-at t) survey.Post
-survey-close-disj-requires t c κs = search needs
-
-survey-with-ints-requires-4 : (t : ℕ) → survey-lts.Need-with-ints-requires-4 (survey-claims t) (survey-at t) survey.Post
-survey-with-ints-requires-4 t c κs = search needs
-
-survey-returns-2 : (t : ℕ) → survey-lts.Need-returns-2 (survey-claims t) (survey-at t) survey.Post
-survey-returns-2 t c = survey-disj ((c .before .before .before .before .before .before .before .before .before .before) .args .work .now) ((c .before .before .before .before .before .before .before .before .before .before) .pre .1 .0) _ _ ((c .before .before .before .before .before .before .before .before .before .before) .args .g) _ _ ((c .before .before .before .before .before .before .before .before .before .before) .args .n) ((c .before .before .before .before .before .before .before .before .before .before) .pre .1 .1 .0) ((c .before .before .before .before .before .before .before .before .before .before) .pre .1 .1 .1 .1) _ (c .before .before .before .before .before .before .before .before .before .if1 .left) refl _ _ _ _ _ _ _ (join-is (sym (c .before .before .before .before .before .before .d .given .1) ∙ c .before .before .before .before .before .before .before .before .node-at .ensures) (c .before .before .if2 .taken)) (c .before .before .before .before .surveys .ensures) (skips-join ((c .before .before .before .before .before .before .before .before .before .before) .args .work .now) ((c .before .before .before .before .before .before .before .before .before .before) .pre .1 .0) _ _ _ _ ((c .before .before .before .before .before .before .before .before .before .before) .pre .1 .1 .0) ((c .before .before .before .before .before .before .before .before .before .before) .pre .1 .1 .1 .0) _ (c .before .before .before .before .before .before .before .before .before .if1 .left) refl ((c .before .before .before .before .before .before .before .before .before .before) .args .g) _ _ _ _ _ _ _ (sym (c .before .before .before .before .before .before .d .given .1) ∙ c .before .before .before .before .before .before .before .before .node-at .ensures) (c .before .before .before .before .surveys .ensures .skips)) (c .before .close-disj .ensures) (c .with-ints4 .ensures)
-
-survey-longer-requires : (t : ℕ) → survey-lts.Need-longer-requires (survey-claims t) (survey-at t) survey.Post
-survey-longer-requires t c κs = search needs
-
-survey-with-ints-requires-5 : (t : ℕ) → survey-lts.Need-with-ints-requires-5 (survey-claims t) (survey-at t) survey.Post
-survey-with-ints-requires-5 t c κs = search needs
+survey-join-requires : (t : ℕ) → survey-lts.Need-join-requires (survey-claims t) (survey-at t) survey.Post
+survey-join-requires t c κs = search needs
 
 survey-enum-known-h : (t : ℕ) → survey-lts.Need-enum-known-h (survey-claims t) (survey-at t) survey.Post
 survey-enum-known-h t c = search needs
@@ -276,14 +254,14 @@ survey-bump-requires t c κs = search needs
 survey-skips-requires : (t : ℕ) → survey-lts.Need-skips-requires (survey-claims t) (survey-at t) survey.Post
 survey-skips-requires t c κs = let o = okay-at ((c .before .before .before .before .before .before .before .before) .args .work .now) ((c .before .before .before .before .before .before .before .before) .args .g) _ _ ((c .before .before .before .before .before .before .before .before) .pre .1 .0) ((c .before .before .before .before .before .before .before .before) .pre .1 .1 .0) (sym (c .before .before .before .before .h .given .1) ∙ c .before .before .before .before .before .before .node-at .ensures) in (((c .before .before .before .before .before .before .before .before) .pre .1 .0), (omega (arith, o .1, part-length ((c .before .before .before .before .before .before .before .before) .args .work .now) ((c .before .before .before .before .before .before .before .before) .pre .1 .0)), omega (arith, c .bump .ensures)))
 
-survey-longer-requires-2 : (t : ℕ) → survey-lts.Need-longer-requires-2 (survey-claims t) (survey-at t) survey.Post
-survey-longer-requires-2 t c κs = search needs
+survey-longer-requires : (t : ℕ) → survey-lts.Need-longer-requires (survey-claims t) (survey-at t) survey.Post
+survey-longer-requires t c κs = search needs
 
-survey-with-ints-requires-6 : (t : ℕ) → survey-lts.Need-with-ints-requires-6 (survey-claims t) (survey-at t) survey.Post
-survey-with-ints-requires-6 t c κs = search needs
+survey-with-ints-requires : (t : ℕ) → survey-lts.Need-with-ints-requires (survey-claims t) (survey-at t) survey.Post
+survey-with-ints-requires t c κs = search needs
 
-survey-returns-3 : (t : ℕ) → survey-lts.Need-returns-3 (survey-claims t) (survey-at t) survey.Post
-survey-returns-3 t c = survey-split ((c .before .before .before .before .before .before .before .before .before .before .before) .args .work .now) ((c .before .before .before .before .before .before .before .before .before .before .before) .pre .1 .0) _ _ ((c .before .before .before .before .before .before .before .before .before .before .before) .args .g) _ _ ((c .before .before .before .before .before .before .before .before .before .before .before) .args .n) ((c .before .before .before .before .before .before .before .before .before .before .before) .pre .1 .1 .0) ((c .before .before .before .before .before .before .before .before .before .before .before) .pre .1 .1 .1 .1) _ (c .before .before .before .before .before .before .before .before .before .before .if1 .left) refl _ _ _ _ _ (split-here _ (omega (arith, c .before .before .before .before .if3 .taken))) (sym (c .before .before .before .before .before .before .before .h .given .1) ∙ c .before .before .before .before .before .before .before .before .before .node-at .ensures) (c .before .before .skips .ensures .start) (skips-cross ((c .before .before .before .before .before .before .before .before .before .before .before) .args .work .now) ((c .before .before .before .before .before .before .before .before .before .before .before) .pre .1 .0) _ _ _ _ ((c .before .before .before .before .before .before .before .before .before .before .before) .pre .1 .1 .0) ((c .before .before .before .before .before .before .before .before .before .before .before) .pre .1 .1 .1 .0) _ (c .before .before .before .before .before .before .before .before .before .before .if1 .left) refl ((c .before .before .before .before .before .before .before .before .before .before .before) .args .g) _ _ _ _ _ _ (sym (c .before .before .before .before .before .before .before .h .given .1) ∙ c .before .before .before .before .before .before .before .before .before .node-at .ensures) (c .before .before .before .before .before .inner2 .ensures) (c .before .before .before .bump .ensures ∙ inside-more _ _ (omega (arith, c .before .before .before .before .if3 .taken))) (c .before .before .skips .ensures)) (c .with-ints6 .ensures ∙ ap (λ x. scanned x (((c .before .before .before .before .before .before .before .before .before .before .before) .args .n) .ints)) (c .before .longer2 .ensures))
+survey-returns-2 : (t : ℕ) → survey-lts.Need-returns-2 (survey-claims t) (survey-at t) survey.Post
+survey-returns-2 t c = survey-split ((c .before .before .before .before .before .before .before .before .before .before .before) .args .work .now) ((c .before .before .before .before .before .before .before .before .before .before .before) .pre .1 .0) _ _ ((c .before .before .before .before .before .before .before .before .before .before .before) .args .g) _ _ ((c .before .before .before .before .before .before .before .before .before .before .before) .args .n) ((c .before .before .before .before .before .before .before .before .before .before .before) .pre .1 .1 .0) ((c .before .before .before .before .before .before .before .before .before .before .before) .pre .1 .1 .1 .1) _ (c .before .before .before .before .before .before .before .before .before .before .if1 .left) refl _ _ _ _ _ (split-here _ (omega (arith, c .before .before .before .before .if2 .taken))) (sym (c .before .before .before .before .before .before .before .h .given .1) ∙ c .before .before .before .before .before .before .before .before .before .node-at .ensures) (c .before .before .skips .ensures .start) (skips-cross ((c .before .before .before .before .before .before .before .before .before .before .before) .args .work .now) ((c .before .before .before .before .before .before .before .before .before .before .before) .pre .1 .0) _ _ _ _ ((c .before .before .before .before .before .before .before .before .before .before .before) .pre .1 .1 .0) ((c .before .before .before .before .before .before .before .before .before .before .before) .pre .1 .1 .1 .0) _ (c .before .before .before .before .before .before .before .before .before .before .if1 .left) refl ((c .before .before .before .before .before .before .before .before .before .before .before) .args .g) _ _ _ _ _ _ (sym (c .before .before .before .before .before .before .before .h .given .1) ∙ c .before .before .before .before .before .before .before .before .before .node-at .ensures) (c .before .before .before .before .before .inner2 .ensures) (c .before .before .before .bump .ensures ∙ inside-more _ _ (omega (arith, c .before .before .before .before .if2 .taken))) (c .before .before .skips .ensures)) (c .with-ints .ensures ∙ ap (λ x. scanned x (((c .before .before .before .before .before .before .before .before .before .before .before) .args .n) .ints)) (c .before .longer .ensures))
 
 survey-surveys-requires-2 : (t : ℕ) → survey-lts.Need-surveys-requires-2 (survey-claims t) (survey-at t) survey.Post
 survey-surveys-requires-2 t c κs = let o = okay-at ((c .before .before .before .before .before .before .before) .args .work .now) ((c .before .before .before .before .before .before .before) .args .g) _ _ ((c .before .before .before .before .before .before .before) .pre .1 .0) ((c .before .before .before .before .before .before .before) .pre .1 .1 .0) (sym (c .before .before .before .h .given .1) ∙ c .before .before .before .before .before .node-at .ensures) in ((omega (arith, (c .before .before .before .before .before .before .before) .pre .0, c .before .before .before .before .before .before .if1 .left)), (((c .before .before .before .before .before .before .before) .pre .1 .0), (omega (arith, o .1, part-length ((c .before .before .before .before .before .before .before) .args .work .now) ((c .before .before .before .before .before .before .before) .pre .1 .0)), (((c .before .before .before .before .before .before .before) .pre .1 .1 .1 .0), ((c .before .before .before .before .before .before .before) .pre .1 .1 .1 .1)))))
@@ -294,23 +272,23 @@ survey-surveys-requires-3 t c κs = let o = okay-at ((c .before .before .before 
 survey-close-cross-requires : (t : ℕ) → survey-lts.Need-close-cross-requires (survey-claims t) (survey-at t) survey.Post
 survey-close-cross-requires t c κs = search needs
 
-survey-with-ints-requires-7 : (t : ℕ) → survey-lts.Need-with-ints-requires-7 (survey-claims t) (survey-at t) survey.Post
-survey-with-ints-requires-7 t c κs = search needs
+survey-with-ints-requires-2 : (t : ℕ) → survey-lts.Need-with-ints-requires-2 (survey-claims t) (survey-at t) survey.Post
+survey-with-ints-requires-2 t c κs = search needs
+
+survey-returns-3 : (t : ℕ) → survey-lts.Need-returns-3 (survey-claims t) (survey-at t) survey.Post
+survey-returns-3 t c = survey-var ((c .before .before .before .before .before .before .before) .args .work .now) ((c .before .before .before .before .before .before .before) .pre .1 .0) _ _ ((c .before .before .before .before .before .before .before) .args .g) _ _ ((c .before .before .before .before .before .before .before) .args .n) ((c .before .before .before .before .before .before .before) .pre .1 .1 .0) ((c .before .before .before .before .before .before .before) .pre .1 .1 .1 .1) _ (c .before .before .before .before .before .before .if1 .left) refl _ _ _ _ (sym (c .before .before .before .v .given .1) ∙ c .before .before .before .before .before .node-at .ensures) (skips-var ((c .before .before .before .before .before .before .before) .args .work .now) ((c .before .before .before .before .before .before .before) .pre .1 .0) _ _ _ _ ((c .before .before .before .before .before .before .before) .pre .1 .1 .0) ((c .before .before .before .before .before .before .before) .pre .1 .1 .1 .0) _ (c .before .before .before .before .before .before .if1 .left) refl ((c .before .before .before .before .before .before .before) .args .g) _ _ (sym (c .before .before .before .v .given .1) ∙ c .before .before .before .before .before .node-at .ensures)) (c .before .met .ensures) (c .single-at2 .ensures)
 
 survey-returns-4 : (t : ℕ) → survey-lts.Need-returns-4 (survey-claims t) (survey-at t) survey.Post
-survey-returns-4 t c = survey-var ((c .before .before .before .before .before .before .before .before) .args .work .now) ((c .before .before .before .before .before .before .before .before) .pre .1 .0) _ _ ((c .before .before .before .before .before .before .before .before) .args .g) _ _ ((c .before .before .before .before .before .before .before .before) .args .n) ((c .before .before .before .before .before .before .before .before) .pre .1 .1 .0) ((c .before .before .before .before .before .before .before .before) .pre .1 .1 .1 .1) _ (c .before .before .before .before .before .before .before .if1 .left) refl _ _ _ _ (sym (c .before .before .before .before .v .given .1) ∙ c .before .before .before .before .before .before .node-at .ensures) (skips-var ((c .before .before .before .before .before .before .before .before) .args .work .now) ((c .before .before .before .before .before .before .before .before) .pre .1 .0) _ _ _ _ ((c .before .before .before .before .before .before .before .before) .pre .1 .1 .0) ((c .before .before .before .before .before .before .before .before) .pre .1 .1 .1 .0) _ (c .before .before .before .before .before .before .before .if1 .left) refl ((c .before .before .before .before .before .before .before .before) .args .g) _ _ (sym (c .before .before .before .before .v .given .1) ∙ c .before .before .before .before .before .before .node-at .ensures)) (c .before .before .met .ensures) (c .with-ints2 .ensures ∙ ap (λ x. scanned x (c .before .before .met .result .ints)) (c .before .single2 .ensures))
+survey-returns-4 t c = survey-cmp ((c .before .before .before .before .before .before .before .before .before) .args .work .now) ((c .before .before .before .before .before .before .before .before .before) .pre .1 .0) _ _ ((c .before .before .before .before .before .before .before .before .before) .args .g) _ _ ((c .before .before .before .before .before .before .before .before .before) .args .n) ((c .before .before .before .before .before .before .before .before .before) .pre .1 .1 .0) ((c .before .before .before .before .before .before .before .before .before) .pre .1 .1 .1 .1) _ (c .before .before .before .before .before .before .before .before .if1 .left) refl _ _ _ _ _ _ (sym (c .before .before .before .before .before .q .given .1) ∙ c .before .before .before .before .before .before .before .node-at .ensures) (c .before .before .before .inner .ensures) (c .before .before .survey-int .ensures) (c .before .survey-int2 .ensures) (skips-cmp ((c .before .before .before .before .before .before .before .before .before) .args .work .now) ((c .before .before .before .before .before .before .before .before .before) .pre .1 .0) _ _ _ _ ((c .before .before .before .before .before .before .before .before .before) .pre .1 .1 .0) ((c .before .before .before .before .before .before .before .before .before) .pre .1 .1 .1 .0) _ (c .before .before .before .before .before .before .before .before .if1 .left) refl ((c .before .before .before .before .before .before .before .before .before) .args .g) _ _ _ _ _ _ _ (sym (c .before .before .before .before .before .q .given .1) ∙ c .before .before .before .before .before .before .before .node-at .ensures) (c .before .before .before .inner .ensures) (c .before .before .survey-int .ensures .skips) (c .before .survey-int2 .ensures .skips)) (c .single-at3 .ensures)
 
 survey-returns-5 : (t : ℕ) → survey-lts.Need-returns-5 (survey-claims t) (survey-at t) survey.Post
-survey-returns-5 t c = survey-cmp ((c .before .before .before .before .before .before .before .before .before .before .before) .args .work .now) ((c .before .before .before .before .before .before .before .before .before .before .before) .pre .1 .0) _ _ ((c .before .before .before .before .before .before .before .before .before .before .before) .args .g) _ _ ((c .before .before .before .before .before .before .before .before .before .before .before) .args .n) ((c .before .before .before .before .before .before .before .before .before .before .before) .pre .1 .1 .0) ((c .before .before .before .before .before .before .before .before .before .before .before) .pre .1 .1 .1 .1) _ (c .before .before .before .before .before .before .before .before .before .before .if1 .left) refl _ _ _ _ _ _ (sym (c .before .before .before .before .before .before .before .q .given .1) ∙ c .before .before .before .before .before .before .before .before .before .node-at .ensures) (c .before .before .before .before .before .inner .ensures) (c .before .before .before .before .survey-int .ensures) (c .before .before .before .survey-int2 .ensures) (skips-cmp ((c .before .before .before .before .before .before .before .before .before .before .before) .args .work .now) ((c .before .before .before .before .before .before .before .before .before .before .before) .pre .1 .0) _ _ _ _ ((c .before .before .before .before .before .before .before .before .before .before .before) .pre .1 .1 .0) ((c .before .before .before .before .before .before .before .before .before .before .before) .pre .1 .1 .1 .0) _ (c .before .before .before .before .before .before .before .before .before .before .if1 .left) refl ((c .before .before .before .before .before .before .before .before .before .before .before) .args .g) _ _ _ _ _ _ _ (sym (c .before .before .before .before .before .before .before .q .given .1) ∙ c .before .before .before .before .before .before .before .before .before .node-at .ensures) (c .before .before .before .before .before .inner .ensures) (c .before .before .before .before .survey-int .ensures .skips) (c .before .before .before .survey-int2 .ensures .skips)) (c .with-ints3 .ensures ∙ ap (λ x. scanned x (c .before .before .before .survey-int2 .result .n .ints)) (c .before .single3 .ensures))
+survey-returns-5 t c = survey-not ((c .before .before .before .before .before .before) .args .work .now) ((c .before .before .before .before .before .before) .pre .1 .0) _ _ ((c .before .before .before .before .before .before) .args .g) _ _ ((c .before .before .before .before .before .before) .args .n) ((c .before .before .before .before .before .before) .pre .1 .1 .0) ((c .before .before .before .before .before .before) .pre .1 .1 .1 .1) _ (c .before .before .before .before .before .if1 .left) refl _ _ (sym (c .before .before .q2 .given .1) ∙ c .before .before .before .before .node-at .ensures) (c .survey .ensures) (skips-not ((c .before .before .before .before .before .before) .args .work .now) ((c .before .before .before .before .before .before) .pre .1 .0) _ _ _ _ ((c .before .before .before .before .before .before) .pre .1 .1 .0) ((c .before .before .before .before .before .before) .pre .1 .1 .1 .0) _ (c .before .before .before .before .before .if1 .left) refl ((c .before .before .before .before .before .before) .args .g) _ _ _ (sym (c .before .before .q2 .given .1) ∙ c .before .before .before .before .node-at .ensures) (c .survey .ensures .skips))
 
 survey-returns-6 : (t : ℕ) → survey-lts.Need-returns-6 (survey-claims t) (survey-at t) survey.Post
-survey-returns-6 t c = survey-not ((c .before .before .before .before .before .before) .args .work .now) ((c .before .before .before .before .before .before) .pre .1 .0) _ _ ((c .before .before .before .before .before .before) .args .g) _ _ ((c .before .before .before .before .before .before) .args .n) ((c .before .before .before .before .before .before) .pre .1 .1 .0) ((c .before .before .before .before .before .before) .pre .1 .1 .1 .1) _ (c .before .before .before .before .before .if1 .left) refl _ _ (sym (c .before .before .q2 .given .1) ∙ c .before .before .before .before .node-at .ensures) (c .survey .ensures) (skips-not ((c .before .before .before .before .before .before) .args .work .now) ((c .before .before .before .before .before .before) .pre .1 .0) _ _ _ _ ((c .before .before .before .before .before .before) .pre .1 .1 .0) ((c .before .before .before .before .before .before) .pre .1 .1 .1 .0) _ (c .before .before .before .before .before .if1 .left) refl ((c .before .before .before .before .before .before) .args .g) _ _ _ (sym (c .before .before .q2 .given .1) ∙ c .before .before .before .before .node-at .ensures) (c .survey .ensures .skips))
+survey-returns-6 t c = survey-join ((c .before .before .before .before .before .before .before) .args .work .now) ((c .before .before .before .before .before .before .before) .pre .1 .0) _ _ ((c .before .before .before .before .before .before .before) .args .g) _ _ ((c .before .before .before .before .before .before .before) .args .n) ((c .before .before .before .before .before .before .before) .pre .1 .1 .0) ((c .before .before .before .before .before .before .before) .pre .1 .1 .1 .1) _ (c .before .before .before .before .before .before .if1 .left) refl _ _ _ _ _ _ _ (sym (c .before .before .before .d .given .1) ∙ c .before .before .before .before .before .node-at .ensures) (c .before .surveys .ensures) (skips-join ((c .before .before .before .before .before .before .before) .args .work .now) ((c .before .before .before .before .before .before .before) .pre .1 .0) _ _ _ _ ((c .before .before .before .before .before .before .before) .pre .1 .1 .0) ((c .before .before .before .before .before .before .before) .pre .1 .1 .1 .0) _ (c .before .before .before .before .before .before .if1 .left) refl ((c .before .before .before .before .before .before .before) .args .g) _ _ _ _ _ _ _ (sym (c .before .before .before .d .given .1) ∙ c .before .before .before .before .before .node-at .ensures) (c .before .surveys .ensures .skips)) (c .join .ensures)
 
 survey-returns-7 : (t : ℕ) → survey-lts.Need-returns-7 (survey-claims t) (survey-at t) survey.Post
-survey-returns-7 t c = survey-conj ((c .before .before .before .before .before .before .before .before .before .before) .args .work .now) ((c .before .before .before .before .before .before .before .before .before .before) .pre .1 .0) _ _ ((c .before .before .before .before .before .before .before .before .before .before) .args .g) _ _ ((c .before .before .before .before .before .before .before .before .before .before) .args .n) ((c .before .before .before .before .before .before .before .before .before .before) .pre .1 .1 .0) ((c .before .before .before .before .before .before .before .before .before .before) .pre .1 .1 .1 .1) _ (c .before .before .before .before .before .before .before .before .before .if1 .left) refl _ _ _ _ _ _ (join-is (sym (c .before .before .before .before .before .before .d .given .1) ∙ c .before .before .before .before .before .before .before .before .node-at .ensures) (c .before .before .if2 .left)) (c .before .before .before .before .surveys .ensures) (skips-join ((c .before .before .before .before .before .before .before .before .before .before) .args .work .now) ((c .before .before .before .before .before .before .before .before .before .before) .pre .1 .0) _ _ _ _ ((c .before .before .before .before .before .before .before .before .before .before) .pre .1 .1 .0) ((c .before .before .before .before .before .before .before .before .before .before) .pre .1 .1 .1 .0) _ (c .before .before .before .before .before .before .before .before .before .if1 .left) refl ((c .before .before .before .before .before .before .before .before .before .before) .args .g) _ _ _ _ _ _ _ (sym (c .before .before .before .before .before .before .d .given .1) ∙ c .before .before .before .before .before .before .before .before .node-at .ensures) (c .before .before .before .before .surveys .ensures .skips)) (c .with-ints5 .ensures ∙ ap (λ x. scanned x (c .before .before .before .before .surveys .result .ints)) (c .before .longer .ensures))
-
-survey-returns-8 : (t : ℕ) → survey-lts.Need-returns-8 (survey-claims t) (survey-at t) survey.Post
-survey-returns-8 t c = survey-cross ((c .before .before .before .before .before .before .before .before .before .before .before .before .before) .args .work .now) ((c .before .before .before .before .before .before .before .before .before .before .before .before .before) .pre .1 .0) _ _ ((c .before .before .before .before .before .before .before .before .before .before .before .before .before) .args .g) _ _ ((c .before .before .before .before .before .before .before .before .before .before .before .before .before) .args .n) ((c .before .before .before .before .before .before .before .before .before .before .before .before .before) .pre .1 .1 .0) ((c .before .before .before .before .before .before .before .before .before .before .before .before .before) .pre .1 .1 .1 .1) _ (c .before .before .before .before .before .before .before .before .before .before .before .before .if1 .left) refl _ _ _ _ _ _ _ (not-here _ (omega (arith, c .before .before .before .before .before .before .if3 .left))) (sym (c .before .before .before .before .before .before .before .before .before .h .given .1) ∙ c .before .before .before .before .before .before .before .before .before .before .before .node-at .ensures) (c .before .before .before .before .before .before .before .inner2 .ensures) (c .before .before .before .before .before .surveys2 .ensures) (c .before .before .before .surveys3 .ensures) (skips-cross ((c .before .before .before .before .before .before .before .before .before .before .before .before .before) .args .work .now) ((c .before .before .before .before .before .before .before .before .before .before .before .before .before) .pre .1 .0) _ _ _ _ ((c .before .before .before .before .before .before .before .before .before .before .before .before .before) .pre .1 .1 .0) ((c .before .before .before .before .before .before .before .before .before .before .before .before .before) .pre .1 .1 .1 .0) _ (c .before .before .before .before .before .before .before .before .before .before .before .before .if1 .left) refl ((c .before .before .before .before .before .before .before .before .before .before .before .before .before) .args .g) _ _ _ _ _ _ (sym (c .before .before .before .before .before .before .before .before .before .h .given .1) ∙ c .before .before .before .before .before .before .before .before .before .before .before .node-at .ensures) (c .before .before .before .before .before .before .before .inner2 .ensures) (inside-same _ _ (omega (arith, c .before .before .before .before .before .before .if3 .left))) (c .before .before .before .surveys3 .ensures .skips)) (c .before .close-cross .ensures) (c .with-ints7 .ensures)
+survey-returns-7 t c = survey-cross ((c .before .before .before .before .before .before .before .before .before .before .before .before .before) .args .work .now) ((c .before .before .before .before .before .before .before .before .before .before .before .before .before) .pre .1 .0) _ _ ((c .before .before .before .before .before .before .before .before .before .before .before .before .before) .args .g) _ _ ((c .before .before .before .before .before .before .before .before .before .before .before .before .before) .args .n) ((c .before .before .before .before .before .before .before .before .before .before .before .before .before) .pre .1 .1 .0) ((c .before .before .before .before .before .before .before .before .before .before .before .before .before) .pre .1 .1 .1 .1) _ (c .before .before .before .before .before .before .before .before .before .before .before .before .if1 .left) refl _ _ _ _ _ _ _ (not-here _ (omega (arith, c .before .before .before .before .before .before .if2 .left))) (sym (c .before .before .before .before .before .before .before .before .before .h .given .1) ∙ c .before .before .before .before .before .before .before .before .before .before .before .node-at .ensures) (c .before .before .before .before .before .before .before .inner2 .ensures) (c .before .before .before .before .before .surveys2 .ensures) (c .before .before .before .surveys3 .ensures) (skips-cross ((c .before .before .before .before .before .before .before .before .before .before .before .before .before) .args .work .now) ((c .before .before .before .before .before .before .before .before .before .before .before .before .before) .pre .1 .0) _ _ _ _ ((c .before .before .before .before .before .before .before .before .before .before .before .before .before) .pre .1 .1 .0) ((c .before .before .before .before .before .before .before .before .before .before .before .before .before) .pre .1 .1 .1 .0) _ (c .before .before .before .before .before .before .before .before .before .before .before .before .if1 .left) refl ((c .before .before .before .before .before .before .before .before .before .before .before .before .before) .args .g) _ _ _ _ _ _ (sym (c .before .before .before .before .before .before .before .before .before .h .given .1) ∙ c .before .before .before .before .before .before .before .before .before .before .before .node-at .ensures) (c .before .before .before .before .before .before .before .inner2 .ensures) (inside-same _ _ (omega (arith, c .before .before .before .before .before .before .if2 .left))) (c .before .before .before .surveys3 .ensures .skips)) (c .before .close-cross .ensures) (c .with-ints2 .ensures)
 
 survey-int-behind-of-requires : (t : ℕ) → survey-int-lts.Need-behind-of-requires (survey-int-claims t) (survey-int-at t) survey-int.Post
 survey-int-behind-of-requires t c κs = search needs
@@ -477,46 +455,39 @@ pub +make-if+survey+survey-int+survey-terms+surveys-spec : {M : Type 1} → stat
     (make-if-more-ints-requires-3 t)
     (make-if-returns-3 t))
     (λ t. survey-lts.spec (survey-claims t) (survey-at t) survey.Post
-    (survey-single-requires t)
-    (survey-with-ints-requires t)
+    (survey-single-at-requires t)
     (survey-returns t)
     (survey-sub-under t)
     (survey-node-at-requires t)
     (survey-enum-known-v t)
     (survey-met-requires t)
-    (survey-single-requires-2 t)
-    (survey-with-ints-requires-2 t)
+    (survey-single-at-requires-2 t)
     (survey-enum-known-q t)
     (survey-inner-requires t)
     (survey-survey-int-requires t)
     (survey-survey-int-requires-2 t)
-    (survey-single-requires-3 t)
-    (survey-with-ints-requires-3 t)
+    (survey-single-at-requires-3 t)
     (survey-enum-known-q-2 t)
     (survey-survey-requires t)
     (survey-enum-known-d t)
     (survey-surveys-requires t)
-    (survey-close-disj-requires t)
-    (survey-with-ints-requires-4 t)
-    (survey-returns-2 t)
-    (survey-longer-requires t)
-    (survey-with-ints-requires-5 t)
+    (survey-join-requires t)
     (survey-enum-known-h t)
     (survey-inner-requires-2 t)
     (survey-bump-requires t)
     (survey-skips-requires t)
-    (survey-longer-requires-2 t)
-    (survey-with-ints-requires-6 t)
-    (survey-returns-3 t)
+    (survey-longer-requires t)
+    (survey-with-ints-requires t)
+    (survey-returns-2 t)
     (survey-surveys-requires-2 t)
     (survey-surveys-requires-3 t)
     (survey-close-cross-requires t)
-    (survey-with-ints-requires-7 t)
+    (survey-with-ints-requires-2 t)
+    (survey-returns-3 t)
     (survey-returns-4 t)
     (survey-returns-5 t)
     (survey-returns-6 t)
-    (survey-returns-7 t)
-    (survey-returns-8 t))
+    (survey-returns-7 t))
     (λ t. survey-int-lts.spec (survey-int-claims t) (survey-int-at t) survey-int.Post
     (survey-int-behind-of-requires t)
     (survey-int-returns t)

@@ -1,0 +1,28 @@
+-- An accepted set that settles is one that the walks take (`settled-walkable`): its folded words F stand in the work slice, and Ifs among them are marked.
+use mathlib.Core.Bool.{Bool}
+use mathlib.Core.List.{List}
+use Prim.Native.Nat.{ℕ, _+_, _≤_}
+use native.Mathlib.Omega.{arith}
+use lib.IntN.{ℤ}
+use lib.ListN.{length}
+use Rattle.laws.specs.Slices.{Has}
+use Rattle.syntax.specs.Syntax.{Stmt, Problem}
+use Rattle.words.specs.Exact.{Each}
+use Rattle.fold.specs.Fold.{Fixed}
+use Rattle.statements.specs.Stages.{Settled, settled-short}
+use Rattle.stages.specs.StatementsPlaces.{stmts-words, Marked}
+use Rattle.stages.specs.StartLegal.{Shallow, settled-legal}
+use Rattle.stages.specs.Whole.{Walkable}
+
+-- deep: its statements are within 64 levels as read
+pub settled-walkable : (p : Problem) (f : Fixed) (ss : List Stmt) → Settled p f ss → Each Shallow (p .stmts) → (F : List ℤ) → Has F 512 (stmts-words ss) → (with-ifs : Bool) → Marked F (512 + length (stmts-words ss)) with-ifs → (cap : ℕ) → cap ≤ 16777216
+    → Walkable p ss F with-ifs cap
+settled-walkable p f ss s deep F h with-ifs k cap l = record {
+  few-bools = s .well .few-bools;
+  few-ints = s .well .few-ints;
+  legal = settled-legal p (s .well) f ss (s .ends) deep;
+  short = omega (arith, settled-short p f ss s);
+  stands = h;
+  marked = k;
+  small = l;
+}

@@ -1,0 +1,36 @@
+-- Two words of the table.
+use mir.Syntax.{w32}
+use mir.Val.{SFits}
+use mir.Facts.{toZ-ofZ}
+use Rattle.totals.proofs.Looks.{table-words}
+use borrow.Author.Needs.{needs}
+use Rattle.totals.proofs.declared.Statement.{statement}
+use Rattle.totals.proofs.declared.Tie as tie
+
+mul-i : tie.Need-mul-i
+mul-i c = search needs
+
+add-i : tie.Need-add-i
+add-i c = search needs
+
+cell-at-requires : tie.Need-cell-at-requires
+cell-at-requires c κs = search needs
+
+add-cell-at : tie.Need-add-cell-at
+add-cell-at c = search needs
+
+cell-at-requires-2 : tie.Need-cell-at-requires-2
+cell-at-requires-2 c κs = search needs
+
+hit-requires : tie.Need-hit-requires
+hit-requires c κs = search needs
+
+returns : tie.Need-returns
+returns c = let f : SFits w32 (c .before .before .cell-at .result) = search needs in
+    let g : SFits w32 (c .before .cell-at2 .result) = search needs in
+    table-words (c .before .before .before .args .work .now) (c .before .before .before .args .v) _ (c .before .before .cell-at .result) (c .before .cell-at2 .result) (c .before .before .cell-at .ensures) (c .before .cell-at2 .ensures) (rw (toZ-ofZ f, toZ-ofZ g) at (c .hit .ensures))
+
+pub declared-spec : {M : Type 1} → statement M
+declared-spec =
+    tie.close
+    (tie.spec mul-i add-i cell-at-requires add-cell-at cell-at-requires-2 hit-requires returns)
