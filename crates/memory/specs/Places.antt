@@ -16,9 +16,9 @@ folded-end = 4608
 abbrev pub declared-domains : ℕ
 declared-domains = 9480
 
--- three words for each column of the table at hand
-abbrev pub columns : ℕ
-columns = 12032
+-- the table at hand: a copy of its rows, then three words for each column
+abbrev pub table : ℕ
+table = 10248
 
 abbrev pub work-length : ℕ
 work-length = 16384

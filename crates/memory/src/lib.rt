@@ -31,8 +31,8 @@ pub const IFS_WORD: usize = 9476;
 // Three words for each declared integer: lowest, highest, number of values less 1.
 pub const DECLARED_DOMAINS: usize = 9480;
 
-// Three words for each column of the table at hand.
-pub const COLUMNS: usize = 12032;
+// The table at hand: a copy of its rows, then three words for each column.
+pub const TABLE: usize = 10248;
 
 pub const WORK_LENGTH: usize = 16384;
 

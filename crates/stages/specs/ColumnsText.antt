@@ -9,7 +9,7 @@ use lib.IntN.{ℤ, pos}
 use lib.ListN.{length}
 use Rattle.syntax.specs.Syntax.{Domain, domain-of, IntExpr, IConst, IVar, Linear, If, encode-int}
 use Rattle.clauses.specs.Log.{column, int, added, Log, next-int, convert-int-var}
-use Rattle.clauses.specs.Normalize.{equals, domain-of-sum, normalize-int-expr}
+use Rattle.clauses.specs.Normalize.{equals, domain-of-sum, normalize-int-var, normalize-int-expr}
 use Rattle.clauses.specs.Grow.{get-int-below}
 use Rattle.clauses.specs.Emitted.{domain-at, new-domain, domain-step, int-var-domain}
 use Rattle.clauses.specs.Since.{top-domain}
@@ -100,6 +100,22 @@ module _ (ds : List Domain) where
   unfolding column-number nat
   kept-number p w k h = rw h (omega arith)
 
+  -- the slice also fits the log behind the sum alone
+  sum-ready : (e : IntExpr) (p : ℕ) (w : List ℤ) (s : Log) → Ready w (new-column ds (normalize-int-expr ds e s) .log) → Ready w (run-int ds (resolve-int e never p 0) s .1)
+  unfolding new-column
+  sum-ready e p w s r =
+      let x = normalize-int-expr ds e s in
+      let m = column (x .0) (domain-of-sum ds (x .1) (x .0)) in
+      let rx : Ready w (x .1) = ready-back (grow-int m (x .1) (λ k. refl)) (ready-back (grow-added (equals (x .0) (next-int (x .1)) ∷ []) (int m ∷ x .1)) r) in
+      rw (column-runs ds e p 0) at rx
+
+  pub column-ready : (e : IntExpr) (p : ℕ) (w : List ℤ) (s : Log) → Ready w (equivalent-int-var ds e s .log) → Ready w (run-int ds (resolve-int e never p 0) s .1)
+  unfolding equivalent-int-var
+  column-ready (IConst c) p w s r = sum-ready (IConst c) p w s r
+  column-ready (IVar v) p w s r = unfold resolve-int run-int normalize-int-var old-column in r
+  column-ready (Linear ts) p w s r = sum-ready (Linear ts) p w s r
+  column-ready (If i c t f) p w s r = sum-ready (If i c t f) p w s r
+
   sum-is : (e : IntExpr) (p : ℕ) → LegalInt e 64 → (w : List ℤ) (s : Log) → Ready w (new-column ds (normalize-int-expr ds e s) .log) → PlacedInt w ds (resolve-int e never p 0) s → cell w p ≡ pos (next-int (normalize-int-expr ds e s .1) + 1)
       → SumIs e p w s (new-column ds (normalize-int-expr ds e s))
   unfolding new-column
@@ -108,10 +124,7 @@ module _ (ds : List Domain) where
       let v = next-int (x .1) in
       let m = column (x .0) (domain-of-sum ds (x .1) (x .0)) in
       let z : Log = int m ∷ x .1 in
-      let rx : Ready w (x .1) = ready-back (grow-int m (x .1) (λ k. refl)) (ready-back (grow-added (equals (x .0) v ∷ []) z) r) in
-      let i = column-runs ds e p 0 in
-      let ry : Ready w (run-int ds (resolve-int e never p 0) s .1) = rw i at rx in
-      let d : range-of (int-item ds (resolve-int e never p 0)) w (at w s) ≡ domain-of-sum ds (x .1) (x .0) = rw i (range-behind w ds (resolve-int e never p 0) (column-sound e 64 p h .0) s ry q) in
+      let d : range-of (int-item ds (resolve-int e never p 0)) w (at w s) ≡ domain-of-sum ds (x .1) (x .0) = rw (column-runs ds e p 0) (range-behind w ds (resolve-int e never p 0) (column-sound e 64 p h .0) s (sum-ready e p w s r) q) in
       let n : column-number w p ≡ v = kept-number p w v c in
       record {
         var = rw n refl;

@@ -32,6 +32,7 @@ use Rattle.walks.specs.Plain.{PlainInt}
 use Rattle.walks.specs.Leaves.{grows-words}
 use Rattle.walks.specs.Visit.{good-ready}
 use Rattle.walks.specs.Walked.{fixed, names}
+use Rattle.walks.specs.Reach.{LightIfs, rule-light}
 use Rattle.walks.specs.Rules.{good-added}
 use Rattle.statements.specs.Different.{value-literal, value-clause, Found}
 use Rattle.stages.specs.StatementsParts.{Stage, steps, rooms, AllKnown, Chains, chains-less, chains-more, UpTo, Standing, good as passed-good, Walks, AllWalk, standing-less}
@@ -173,6 +174,7 @@ module _ (ds : List Domain) (F : List ℤ) (parted : ℕ → Bool) (rec cap : �
       places = h .places;
       state = good-added ds F parted (h .key) rec cap with-ifs before (h .places) low (value-clause (st .work) es x ∷ []) n st s (h .state);
       ifs = λ e v g. h .ifs e v g;
+      light = subst (λ (t : Log). LightIfs ds t) (value-out ds (st .work) x vs s (known s k) f) (rule-light ds (value-rule es x) s (h .light));
       ahead = h .ahead;
     })
 

@@ -5,6 +5,8 @@ pub mod StatementsRules
 pub mod Pairs
 pub mod Columns
 pub mod ColumnsText
+pub mod InOrder
+pub mod ColumnsReach
 pub mod ColumnsAgree
 pub mod Star
 pub mod Rows

@@ -256,7 +256,7 @@ module _ (F : List ℤ) (parted : ℕ → Bool) (with-ifs : Bool) (stop : ℕ) w
     pub to : p + length (sides-words es) ≤ stop
     pub agree : Every (AgreesWith parted with-ifs) (sides-keys es p)
 
-  sides-rest : (e : IntExpr) (es : List IntExpr) (p : ℕ) → SidesStand (e ∷ es) p → SidesStand es (p + length (encode-int e))
+  pub sides-rest : (e : IntExpr) (es : List IntExpr) (p : ℕ) → SidesStand (e ∷ es) p → SidesStand es (p + length (encode-int e))
   unfolding sides-keys
   sides-rest e es p h = record {
     legal = h .legal .1;

@@ -28,6 +28,7 @@ use Rattle.walks.specs.Walked.{fixed}
 use Rattle.walks.specs.KeyAt.{looked-up}
 use Rattle.walks.specs.KeyPlaces.{column-places}
 use Rattle.walks.specs.LowIfs.{none-low}
+use Rattle.walks.specs.Reach.{none-light}
 use Rattle.walks.specs.Rule.{GoodFor}
 use Rattle.stages.specs.StatementsParts.{Standing}
 
@@ -149,5 +150,6 @@ module _ (ds : List Domain) (F : List ℤ) (parted : ℕ → Bool) (rec cap : �
     places = column-places ds F parted (fixed ds);
     state = start-good k r;
     ifs = none-low (next-bool s) s (merged-no-ifs s merged-log);
+    light = none-light ds s (merged-no-ifs s merged-log);
     ahead = λ q e i t l m o. is-unseen q l m;
   }

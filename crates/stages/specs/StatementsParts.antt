@@ -27,6 +27,7 @@ use Rattle.walks.specs.Leaves.{words-of, grows-words}
 use Rattle.walks.specs.Walked.{fixed}
 use Rattle.walks.specs.LowIfs.{LowIfs}
 use Rattle.walks.specs.Next.{Ahead, ahead-more}
+use Rattle.walks.specs.Reach.{LightIfs}
 use Rattle.walks.specs.Rule.{GoodFor}
 use Rattle.statements.specs.Different.{Found}
 
@@ -153,6 +154,7 @@ module _ (ds : List Domain) (F : List ℤ) (parted : ℕ → Bool) (rec cap : �
     pub places : Places ds F PlainInt parted key (fixed ds)
     pub state : GoodFor ds F parted rec cap with-ifs before low key n st s
     pub ifs : LowIfs (next-bool s) s
+    pub light : LightIfs ds s
     pub ahead : Ahead F from (st .work)
 
   -- the state behind a part, with A of the second walk; or the answer is longer than the cap
@@ -211,6 +213,7 @@ module _ (ds : List Domain) (F : List ℤ) (parted : ℕ → Bool) (rec cap : �
     places = h .places;
     state = good-less ds F PlainInt parted (h .key) (fixed ds) rec cap with-ifs before (Named ds) n m st s r (h .state);
     ifs = h .ifs;
+    light = h .light;
     ahead = ahead-more F a b (st .work) l (h .ahead);
   }
 

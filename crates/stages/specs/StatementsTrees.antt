@@ -32,6 +32,7 @@ use Rattle.walks.specs.Keys.{Key, Every, every-map, Within, Written, Choices, C
 use Rattle.walks.specs.KeyPlaces.{PlainIf, every-both}
 use Rattle.walks.specs.LowIfs.{LowIfs}
 use Rattle.walks.specs.Next.{Ahead}
+use Rattle.walks.specs.Reach.{rule-light}
 use Rattle.walks.specs.Rule.{Writes as TreesWrite, OutcomeFor}
 use Rattle.stages.specs.StatementsParts.{Part, Stage, Stays, NoIfs, Standing, Passed, full as passed-full, good as passed-good, Again, Walks, counters-are}
 
@@ -161,7 +162,7 @@ module _ (ds : List Domain) (rec cap : ℕ) (e : BoolExpr) (trees : ℕ → Tree
           go (good g y r q) =
               let d = good-ready ds F PlainInt parted (v .key) (fixed ds) rec cap with-ifs before (Named ds) (names ds) (v .places) low n (meet-trees (next-bool s) st) (behind s) g in
               subst (λ (z : State). Passed ds F parted rec cap with-ifs before low to n (Again ds F parted rec cap with-ifs before low stage st s) z (behind s)) (sym same)
-              (passed-good (record { key = v .key; places = v .places; state = g; ifs = facts .ifs s (h .ifs); ahead = v .ahead }) (omega (arith, y)) (again (g .word) (q (meet-trees (next-bool s) st .work) (same-later ds F PlainInt parted (v .key) (fixed ds) (meet-trees (next-bool s) st .work)) d)))
+              (passed-good (record { key = v .key; places = v .places; state = g; ifs = facts .ifs s (h .ifs); light = rule-light ds e s (h .light); ahead = v .ahead }) (omega (arith, y)) (again (g .word) (q (meet-trees (next-bool s) st .work) (same-later ds F PlainInt parted (v .key) (fixed ds) (meet-trees (next-bool s) st .work)) d)))
 
       pub trees-walk : start ≤ past → Walks ds F parted rec cap with-ifs before low stage
       trees-walk o = record {

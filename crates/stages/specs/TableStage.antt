@@ -28,6 +28,7 @@ use Rattle.walks.specs.Walked.{fixed, names}
 use Rattle.walks.specs.Keys.{Every, Choices, ChoicesInt, int-choices, keys-int-within, keys-int-written}
 use Rattle.walks.specs.KeyPlaces.{AgreesWith, keys-int-plain}
 use Rattle.walks.specs.Next.{Ahead, ahead-more}
+use Rattle.walks.specs.Reach.{table-light}
 use Rattle.walks.specs.Column.{IsSum}
 use Rattle.statements.specs.Statements.{table-words, table-length}
 use Rattle.statements.specs.Table.{table-fresh}
@@ -188,7 +189,7 @@ module _ (ds : List Domain) (F : List ℤ) (parted : ℕ → Bool) (rec cap : �
       go (full x y) = passed-full x (omega (arith, y))
       go (good g y r q) =
           let b = ahead-more F (p + length (columns-words es)) (stage .to) (st' .work) stop (table-ahead ds F parted with-ifs es p stand rows (h .key) rec cap before (h .places) low st a) in
-          passed-good (record { key = h .key; places = h .places; state = g; ifs = table-low ds es legal rows s (h .ifs); ahead = b }) (omega (arith, y)) (again g (q (st' .work) (same-later ds F PlainInt parted (h .key) (fixed ds) (st' .work)) (λ c i j. refl)))
+          passed-good (record { key = h .key; places = h .places; state = g; ifs = table-low ds es legal rows s (h .ifs); light = table-light ds es rows s (h .light); ahead = b }) (omega (arith, y)) (again g (q (st' .work) (same-later ds F PlainInt parted (h .key) (fixed ds) (st' .work)) (λ c i j. refl)))
 
   pub table-stage-walks : Walks ds F parted rec cap with-ifs before low (table-stage ds rec cap F es rows at)
   table-stage-walks = record {

@@ -58,7 +58,7 @@ fn number_at(work: &[i32], v: usize) -> u32
 }
 
 // The number of the If at a place, where its visit ends with so many integers.
-fn if_number(work: &[i32], at: usize, ints: usize) -> u32
+pub fn if_number(work: &[i32], at: usize, ints: usize) -> u32
     requires { ⌜ (at ≤ 4608) × (ints ≤ limit) ⌝ }
     ensures { λ r. ⌜ (r ≡ number-in (seen-at (now (work .entry)) at) ints) × (r < 2147483648) ⌝ }
 {

@@ -118,7 +118,7 @@ module _ (ds : List Domain) where
 
   -- ---- what is found for a number: its domain's bounds in the log t
 
-  abbrev RightAt : Log → ℕ → Option Domain → Type 0
+  abbrev pub RightAt : Log → ℕ → Option Domain → Type 0
   RightAt t x none = Unit {0}
   RightAt t x (some d) = (x < next-int t) × SameBounds d (domain-at ds t x)
 
@@ -253,7 +253,7 @@ module _ (w : List ℤ) (ds : List Domain) where
   mutual
     unfolding run-int ProperInt PlacedInt form-item form const-item sum-item choice-item no-terms-item term-item normalize-term
 
-    range-right : (e : IntTree) → ProperInt e → (s : Log) → Ready w (run-int ds e s .1) → PlacedInt w ds e s → (x : ℕ) → RightAt ds (run-int ds e s .1) x (int-item ds e .range w (at w s) x)
+    pub range-right : (e : IntTree) → ProperInt e → (s : Log) → Ready w (run-int ds e s .1) → PlacedInt w ds e s → (x : ℕ) → RightAt ds (run-int ds e s .1) x (int-item ds e .range w (at w s) x)
     range-right (const c) p s r n x = tt
     range-right (ivar v) p s r n x = ivar-right v s r x
     range-right (sum ts) p s r n x = terms-right ts p (constant (pos 0)) s r n x

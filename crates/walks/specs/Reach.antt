@@ -1,26 +1,25 @@
--- The domains found in a slice weigh no more than what they belong to (`range-carries`), where the log's Ifs do (`LightIfs`): every log that normalising makes
--- is such (`none-light`, `rule-light`, `column-light`). No refusal is asked for. w: a work slice as `Placed` says of the tree.
-use mathlib.Core.Path.{_≡_, refl, sym, ap, _∙_}
+-- The domains found in a slice reach no further than what they belong to weighs (`range-carries`), where the log's Ifs do (`LightIfs`): so in a log without Ifs
+-- (`none-light`); rules, columns and tables keep it (`rule-light`, `column-light`, `table-light`). No refusal is asked for. w: a work slice as `Placed` says.
+use mathlib.Core.Path.{_≡_, refl, sym, _∙_}
 use mathlib.Core.Bool.{Bool, true, false, _&&_, cond}
 use mathlib.Core.Option.{Option, none, some}
-use mathlib.Core.List.{List, [], _∷_}
+use mathlib.Core.List.{List, [], _∷_, map}
 use Prim.Native.Nat.{ℕ, suc, _+_, _*_, _≤_, _<_, max}
 use native.Mathlib.Nat.{mul-le-mul-left, le-trans}
 use native.Mathlib.Omega.{arith}
-use lib.IntN.{ℤ, pos, natAbs, one, _+ℤ_, _*ℤ_, +ℤ-idl, *ℤ-comm, *ℤ-one}
+use lib.IntN.{ℤ, pos, natAbs}
 use lib.Signed.{ltZ}
 use lib.ListN.{length}
-use lib.Dec.{eqb}
-use borrow.Author.Tests.{eq-eqb, eqb-true}
 use Rattle.laws.specs.Ints.{eqZ}
+use Rattle.laws.specs.Lists.{any}
 use Rattle.laws.specs.Same.{same-words, same-is}
-use Rattle.syntax.specs.Syntax.{IfIsRead, Domain, Range, lower-bound, upper-bound, domain-of, IntExpr, IConst, IVar, Linear, If, Terms, tnil, tmore, BoolExpr, Const, Var, NVar, And, Or, Not, Xor, Iff, Imp, Cmp, encode-int, encode-bool}
+use Rattle.syntax.specs.Syntax.{IfIsRead, Domain, Range, domain-of, IntExpr, IConst, IVar, Linear, If, Terms, tnil, tmore, BoolExpr, Const, Var, NVar, And, Or, Not, Xor, Iff, Imp, Cmp, encode-int, encode-bool, Cell}
 use Rattle.syntax.specs.Unique.{int-unique-words}
 use Rattle.limits.specs.Limits.{domain-weight, weight, terms-weight}
-use Rattle.sums.specs.LinearSum.{LinearSum, linear-sum, constant, singleton, is-constant, add-sum, mul-sum, lowest, highest, get-domain-linear-sum}
+use Rattle.sums.specs.LinearSum.{LinearSum, constant, singleton, is-constant, add-sum, mul-sum}
 use Rattle.sums.specs.Rising.{constant-of}
 use Rattle.sums.specs.Norm.{load, constant-load, singleton-load, add-sum-load, mul-sum-load}
-use Rattle.sums.specs.Bounds.{reach, reach-weight, lowest-size, highest-size}
+use Rattle.sums.specs.Bounds.{reach, reach-weight}
 use Rattle.clauses.specs.Clause.{BoolLit, Clause}
 use Rattle.clauses.specs.Log.{MadeBool, side, MadeInt, declared-int, column, chosen, binary, bool, int, added, defined, known, Log, next-bool, next-int, negate-lit, get-bool-var, get-int-var, get-if, bool-var-at, int-var-at, convert-bool-var, convert-int-var, domain-made}
 use Rattle.clauses.specs.Normalize.{Run, Runs, IntOut, IntRun, register, define, no-run, run-then, two, normalize-conjunction, disjunction-of, cross as cross-run, normalize-num, normalize-var, normalize-comparison, normalize-int-var, normalize-term, own-literal, condition-literal, two-valued, hull, domain-of-sum, if-constant, if-open, normalize-if, normalize-int-expr}
@@ -28,22 +27,22 @@ use Rattle.clauses.specs.Split.{tseitin-transformation-bool as cut, normalize-a
 use Rattle.clauses.specs.Grow.{get-int-below}
 use Rattle.clauses.specs.Emitted.{domain-at, new-domain, domain-step, int-var-domain}
 use Rattle.clauses.specs.Since.{OnTop, here, over, top-then, top-domain}
-use Rattle.tables.specs.Tables.{new-column, old-column, equivalent-int-var}
+use Rattle.tables.specs.Tables.{Columns, is-star, new-column, old-column, equivalent-int-var, equivalent-int-vars, star-table, plain-table, normalize-extension-supports, normalize-table}
 use Rattle.walk.specs.Item.{int-number}
 use Rattle.walk.specs.declared.Counters.{Counters}
 use Rattle.walks.specs.Tree.{Place, Tree, var, num, cmp, conj, disj, cross, tied, Trees, nil, cons, IntTree, const, ivar, sum, choice, TermTrees, none as no-terms, term, Splitting, never, below, splits, splits-int, split-of, split-int, split-terms, condition-of, own-var, resolve-int, run, runs, run-int, run-terms, registers}
 use Rattle.walks.specs.Form.{IntForm, const as form-const, ivar as form-ivar, sum as form-sum, choice as form-choice, TermForms, none as form-none, term as form-term, form, int-form, term-forms}
-use Rattle.walks.specs.Item.{form-item, const-item, or-else, ivar-item, no-terms-item, term-item, sum-item, if-number, if-domain, choice-item, item, int-item, terms-item}
+use Rattle.walks.specs.Item.{form-item, ivar-item, if-number, choice-item, item, int-item}
 use Rattle.walks.specs.Placed.{PlacedInt, PlacedTerms}
 use Rattle.walks.specs.Meet.{found, range-of}
 use Rattle.walks.specs.Grow.{RunGrows, either-grows, opened-grows, run-grow, int-grow, terms-grow}
 use Rattle.walks.specs.Implements.{ProperInt, ProperTerms, at, Ready, ready-back, int-good}
-use Rattle.walks.specs.Ranges.{range-is}
-use Rattle.walks.specs.Resolve.{split-sided, rule-trees, rule-runs, column-runs}
+use Rattle.walks.specs.Ranges.{RightAt, range-right}
+use Rattle.walks.specs.Resolve.{split-sided, rule-trees, rule-runs, pair-trees, column-runs}
 use Rattle.walks.specs.Kept.{disjunction-keeps}
 use Rattle.walks.specs.Keys.{Key, Every, every-none, every-more, Makes, keys, keys-int, Choices, ChoicesAll, ChoicesInt, ChoicesTerms, int-choices}
-use Rattle.walks.specs.KeyAt.{rule-choices}
-use Rattle.walks.specs.Totals.{weight-of, term-weights, behind-of, Carries, CarriesTerms, hull-reach}
+use Rattle.walks.specs.KeyAt.{pair-keys, rule-choices, pair-choices}
+use Rattle.walks.specs.Totals.{weight-of, term-weights, behind-of, Carries, CarriesTerms, constant-size, sum-reach, hull-reach, total-reach}
 use Rattle.walks.specs.SumsFit.{form-weight}
 
 -- ---- sizes; they stand here because `omega` would use the witness of an If
@@ -72,14 +71,14 @@ module _ (ds : List Domain) where
   none-light s h e v k = absurd (let i = h e in let z : _≡_ {A = ℕ} 0 1 = cc in omega arith)
 
   -- a later one that finds the same
-  pub same-light : (s t : Log) → OnTop s t → next-int s ≤ next-int t → ((e : IntExpr) → get-if e t ≡ get-if e s) → LightIfs s → LightIfs t
+  same-light : (s t : Log) → OnTop s t → next-int s ≤ next-int t → ((e : IntExpr) → get-if e t ≡ get-if e s) → LightIfs s → LightIfs t
   same-light s t o l g h e v k = let x = h e v (sym (g e) ∙ k) in (omega (arith, x .0), rw (top-domain ds o v (x .0)) (x .1))
 
-  light-bool : (m : MadeBool) (s : Log) → LightIfs s → LightIfs (bool m ∷ s)
+  pub light-bool : (m : MadeBool) (s : Log) → LightIfs s → LightIfs (bool m ∷ s)
   unfolding get-if
   light-bool m s h = same-light s (bool m ∷ s) (over (bool m) here) (omega arith) (λ e. refl) h
 
-  light-int : (m : MadeInt) (s : Log) → LightIfs s → LightIfs (int m ∷ s)
+  pub light-int : (m : MadeInt) (s : Log) → LightIfs s → LightIfs (int m ∷ s)
   unfolding get-if
   light-int m s h = same-light s (int m ∷ s) (over (int m) here) (omega arith) (λ e. refl) h
 
@@ -113,8 +112,8 @@ module _ (ds : List Domain) where
   abbrev Keeps : {A : Type 0} → (Log → A × Log) → Type 0
   Keeps r = (s : Log) → LightIfs s → LightIfs (r s .1)
 
-  abbrev pub Light : ℕ → IntRun → Type 0
-  Light k r = (s : Log) → LightIfs s → LightIfs (r s .1) × Weighs k (r s)
+  abbrev LightRun : ℕ → IntRun → Type 0
+  LightRun k r = (s : Log) → LightIfs s → LightIfs (r s .1) × Weighs k (r s)
 
   -- ---- declared variables
 
@@ -126,7 +125,7 @@ module _ (ds : List Domain) where
       go (some l) = h
       go none = light-bool _ s h
 
-  int-var-light : (v : ℕ) → Light (domain-weight (domain-of ds v)) (normalize-int-var v)
+  int-var-light : (v : ℕ) → LightRun (domain-weight (domain-of ds v)) (normalize-int-var v)
   unfolding normalize-int-var convert-int-var
   int-var-light v s h = go (get-int-var v s) refl
     where
@@ -170,14 +169,6 @@ module _ (ds : List Domain) where
   condition-light (Imp x y) p q = literal-light (Imp x y) p q
   condition-light (Cmp o x y) p q = literal-light (Cmp o x y) p q
 
-  constant-size : (u : ℕ → ℕ) (l : LinearSum) → natAbs (constant-of l) ≤ load u l
-  unfolding load
-  constant-size u (linear-sum c ts) = omega arith
-
-  sum-reach : (s : Log) (l : LinearSum) → reach (domain-of-sum ds s l) ≤ load (λ v. reach (domain-at ds s v)) l
-  unfolding domain-of-sum get-domain-linear-sum load
-  sum-reach s (linear-sum c ts) = omega (arith, lowest-size (domain-at ds s) c ts, highest-size (domain-at ds s) c ts)
-
   -- between two constants
   two-reach : (i : IfIsRead) (l : BoolLit) (x y : ℤ) (a b : ℕ) → natAbs x ≤ a → natAbs y ≤ b → reach (domain-made ds (two-valued i l x y)) ≤ max 1 (max a b)
   two-reach i l x y a b h k = go (ltZ x y) (eqZ x y)
@@ -189,7 +180,7 @@ module _ (ds : List Domain) where
 
   -- a, b: what the branches weigh
   module _ (i : IfIsRead) (e : IntExpr) (c : BoolExpr) (p : Bool → Run) (a b : ℕ) (same : weight ds e ≡ max 1 (max a b)) (grows : (g : Bool) → RunGrows (p g)) (keep : (g : Bool) → Keeps (p g)) where
-    constant-light : (x y : ℤ) → natAbs x ≤ a → natAbs y ≤ b → Light (max 1 (max a b)) (if-constant ds i c p x y)
+    constant-light : (x y : ℤ) → natAbs x ≤ a → natAbs y ≤ b → LightRun (max 1 (max a b)) (if-constant ds i c p x y)
     unfolding if-constant
     constant-light x y h k s l =
         let z = condition-literal (own-literal c) c p s in (
@@ -204,14 +195,14 @@ module _ (ds : List Domain) where
         let d = hull (domain-of-sum ds s t) (domain-of-sum ds s f) in
         let g = opened-grows ds i e p t f grows s in
         let q = if-open ds i e p t f s .1 in
-        let r : reach (domain-at ds q v) ≤ max 1 (max a b) = rw (top-domain ds (g .top) v (last v), new-domain ds (chosen i e t f d) s) (hull-reach ds [] (domain-of-sum ds s t) (domain-of-sum ds s f) a b h k) in
+        let r : reach (domain-at ds q v) ≤ max 1 (max a b) = rw (top-domain ds (g .top) v (last v), new-domain ds (chosen i e t f d) s) (hull-reach (domain-of-sum ds s t) (domain-of-sum ds s f) a b h k) in
         let x : v < next-int q = le-trans (last v) (g .ints) in (
           light-known e v _ x (rw same r) (light-defined _ _ (disjunction-keeps LightIfs light-bool _ _ (keep true _ (keep false _ (light-int _ s l))))),
           single-weighs _ v q x r,
         )
 
-    if-light : (t f : IntRun) → ((s : Log) → OnTop s (f s .1)) → Light a t → Light b f → (o : Option ℕ) (s : Log) → get-if e s ≡ o → LightIfs s → LightIfs (normalize-if ds i o e c p t f s .1) × Weighs (max 1 (max a b)) (normalize-if ds i o e c p t f s)
-    unfolding normalize-if
+    if-light : (t f : IntRun) → ((s : Log) → OnTop s (f s .1)) → LightRun a t → LightRun b f → (o : Option ℕ) (s : Log) → get-if e s ≡ o → LightIfs s → LightIfs (normalize-if ds i o e c p t f s .1) × Weighs (max 1 (max a b)) (normalize-if ds i o e c p t f s)
+    unfolding normalize-if domain-of-sum
     if-light t f top h k (some v) s q l = let x = l e v q in (l, single-weighs _ v s (x .0) (rw (← same) (x .1)))
     if-light t f top h k none s q l = go (is-constant (x .0) && is-constant (y .0))
       where
@@ -229,7 +220,7 @@ module _ (ds : List Domain) where
 
         go : (u : Bool) → let o = cond u (if-constant ds i c p (constant-of (x .0)) (constant-of (y .0)) (y .1)) (if-open ds i e p (x .0) (y .0) (y .1)) in LightIfs (o .1) × Weighs (max 1 (max a b)) o
         go true = constant-light (constant-of (x .0)) (constant-of (y .0)) (le-trans (constant-size _ (x .0)) (first .1 (x .1) here)) (le-trans (constant-size _ (y .0)) (second .1 (y .1) here)) (y .1) (second .0)
-        go false = open-light (x .0) (y .0) (y .1) (le-trans (sum-reach (y .1) (x .0)) (first .1 (y .1) (top (x .1)))) (le-trans (sum-reach (y .1) (y .0)) (second .1 (y .1) here)) (second .0)
+        go false = open-light (x .0) (y .0) (y .1) (le-trans (sum-reach (domain-at ds (y .1)) (x .0)) (first .1 (y .1) (top (x .1)))) (le-trans (sum-reach (domain-at ds (y .1)) (y .0)) (second .1 (y .1) here)) (second .0)
 
   -- ---- trees; an If as it is looked up weighs what its form does
 
@@ -271,7 +262,7 @@ module _ (ds : List Domain) where
     runs-light nil h = λ s l. l
     runs-light (cons t ts) h = λ s l. runs-light ts (h .1) _ (run-light t (h .0) s l)
 
-    pub int-run-light : (e : IntTree) → ChoicesInt SameWeight e → Light (weight-of ds (int-form e)) (run-int ds e)
+    pub int-run-light : (e : IntTree) → ChoicesInt SameWeight e → LightRun (weight-of ds (int-form e)) (run-int ds e)
     int-run-light (const c) h = λ s l. (l, const-weighs c s)
     int-run-light (ivar v) h = λ s l. int-var-light v s l
     int-run-light (sum ts) h = λ s l. let x = terms-run-light ts h (constant (pos 0)) s l in (x .0, sum-weighs _ _ (x .1))
@@ -309,6 +300,7 @@ module _ (ds : List Domain) where
     split-weights tnil m n = refl
     split-weights (tmore k e ts) m n = rw (split-weight e m n, split-weights ts m (n + splits-int e m)) refl
 
+  -- of every key
   any-key : (xs : List Key) → Every (λ x. Unit {0}) xs
   any-key [] = every-none
   any-key (x ∷ xs) = every-more tt (any-key xs)
@@ -325,7 +317,10 @@ module _ (ds : List Domain) where
   pub rule-weights : (e : BoolExpr) (at n : ℕ) → ChoicesAll SameWeight (rule-trees e at n)
   rule-weights e at n = rule-choices SameWeight (λ x. Unit {0}) weight-made e at n (any-key (keys e below at n))
 
-  -- ---- rules (and pairs, which are compared as rules), columns
+  pub pair-weights : (a b : IntExpr) (p q n : ℕ) → ChoicesAll SameWeight (pair-trees a b p q n)
+  pair-weights a b p q n = pair-choices SameWeight (λ x. Unit {0}) weight-made a b p q n (any-key (pair-keys a b p q n))
+
+  -- ---- rules (a pair is one, and an AllDifferent one after another), columns, tables
 
   pub rule-light : (e : BoolExpr) (s : Log) → LightIfs s → LightIfs (normalize-and-register-expr ds e s)
   rule-light e s h =
@@ -343,66 +338,33 @@ module _ (ds : List Domain) where
   column-light (Linear ts) s h = light-added _ _ (light-int _ _ (column-sum-light (Linear ts) s h))
   column-light (If i c t f) s h = light-added _ _ (light-int _ _ (column-sum-light (If i c t f) s h))
 
+  columns-light : (es : List IntExpr) (s : Log) → LightIfs s → LightIfs (equivalent-int-vars ds es s .log)
+  unfolding equivalent-int-vars
+  columns-light [] s h = h
+  columns-light (e ∷ es) s h = columns-light es (equivalent-int-var ds e s .log) (column-light e s h)
+
+  pub table-light : (es : List IntExpr) (rows : List (List Cell)) (s : Log) → LightIfs s → LightIfs (normalize-table ds es rows s)
+  unfolding normalize-table normalize-extension-supports star-table register
+  table-light es rows s h = light-added _ _ (go (any (any is-star) rows))
+    where
+      c : Columns
+      c = equivalent-int-vars ds es s
+
+      go : (b : Bool) → LightIfs (cond b (star-table (c .vars) rows (c .log)) (plain-table (c .vars) (map (domain-at ds (c .log)) (c .vars)) rows, c .log) .1)
+      go true = disjunction-keeps LightIfs light-bool _ _ (columns-light es s h)
+      go false = columns-light es s h
+
 -- ---- one number
-
-once : (z : ℤ) → pos 0 +ℤ (pos 1 *ℤ z) ≡ z
-unfolding one
-once z = +ℤ-idl (pos 1 *ℤ z) ∙ *ℤ-comm (pos 1) z ∙ *ℤ-one z
-
-single-reach : (f : ℕ → Domain) (n : ℕ) → reach (get-domain-linear-sum f (singleton n)) ≡ reach (f n)
-unfolding get-domain-linear-sum lowest highest
-single-reach f n = rw (once (lower-bound (f n)), once (upper-bound (f n))) refl
 
 number-carried : (u : ℕ → ℕ) (n k : ℕ) (l : LinearSum) → singleton n ≡ l → load u l ≤ k → u n ≤ k
 number-carried u n k l e h = rw (← singleton-load u n, e) h
 
 -- w: the work slice, ds: the declared domains
 module _ (w : List ℤ) (ds : List Domain) where
-  -- where only the number n is found, with the domain d: by the domain of the sum l
-  leaf-found : (n : ℕ) (d : Domain) (t : Log) (l : LinearSum) → singleton n ≡ l → get-domain-linear-sum (λ x. found (cond (eqb x n) (some d) none)) (singleton n) ≡ domain-of-sum ds t l
-      → (x : ℕ) → reach (found (cond (eqb x n) (some d) none)) ≤ reach (domain-at ds t x)
-  unfolding domain-of-sum
-  leaf-found n d t l e h x = go (eqb x n) refl
-    where
-      f : ℕ → Domain
-      f y = found (cond (eqb y n) (some d) none)
-
-      here-is : f n ≡ d
-      here-is = ap (λ b. found (cond b (some d) none)) (eq-eqb n n refl)
-
-      same : reach d ≡ reach (domain-at ds t n)
-      same = sym (ap reach here-is) ∙ sym (single-reach f n) ∙ ap reach h ∙ ap (λ z. reach (get-domain-linear-sum (domain-at ds t) z)) (sym e) ∙ single-reach (domain-at ds t) n
-
-      go : (b : Bool) → eqb x n ≡ b → reach (found (cond b (some d) none)) ≤ reach (domain-at ds t x)
-      go true q = let z : x ≡ n = eqb-true x n q in rw (z, ← same) (omega arith)
-      go false q = omega arith
-
-  either-found : (o p : Option Domain) (k : ℕ) → reach (found o) ≤ k → reach (found p) ≤ k → reach (found (or-else o p)) ≤ k
-  either-found (some d) p k a b = a
-  either-found none p k a b = b
-
-  -- what is found reaches no further than the number's domain in a log over the one behind the tree
-  mutual
-    unfolding run-int ProperInt PlacedInt form-item form const-item ivar-item sum-item choice-item no-terms-item term-item normalize-term range-of
-
-    found-reach : (e : IntTree) → ProperInt e → (s : Log) → Ready w (run-int ds e s .1) → PlacedInt w ds e s → (t : Log) → OnTop (run-int ds e s .1) t → (x : ℕ) → reach (found (int-item ds e .range w (at w s) x)) ≤ reach (domain-at ds t x)
-    found-reach (const c) p s r n t o x = omega arith
-    found-reach (ivar v) p s r n t o x = leaf-found (int-number w v) (domain-of ds v) t _ (int-good w ds (ivar v) p .from s r n .total) (range-is w ds (ivar v) p s r n t o) x
-    found-reach (sum ts) p s r n t o x = found-terms-reach ts p (constant (pos 0)) s r n t o x
-    found-reach (choice i q e c d a b) p s r n t o x =
-        let y = choice i q e c d a b in
-        leaf-found (if-number (own-var (condition-of e)) q (item ds c) (item ds d) (int-item ds a) (int-item ds b) w (at w s)) (if-domain q (int-item ds a) (int-item ds b) w (at w s)) t _ (int-good w ds y p .from s r n .total) (range-is w ds y p s r n t o) x
-
-    found-terms-reach : (ts : TermTrees) → ProperTerms ts → (l : LinearSum) (s : Log) → Ready w (run-terms ds ts l s .1) → PlacedTerms w ds ts s → (t : Log) → OnTop (run-terms ds ts l s .1) t → (x : ℕ)
-        → reach (found (terms-item ds ts .range w (at w s) x)) ≤ reach (domain-at ds t x)
-    found-terms-reach no-terms p l s r n t o x = omega arith
-    found-terms-reach (term k e ts) p l s r n t o x =
-        let a = run-int ds e s in
-        let m = add-sum l (mul-sum k (a .0)) in
-        let g = terms-grow ds ts m (a .1) in
-        let z = ready-back g r in
-        rw (int-good w ds e (p .0) .from s z (n .0) .behind)
-        (either-found (int-item ds e .range w (at w s) x) (terms-item ds ts .range w (at w (a .1)) x) (reach (domain-at ds t x)) (found-reach e (p .0) s z (n .0) t (top-then (g .top) o) x) (found-terms-reach ts (p .1) m (a .1) r (n .1) t o x))
+  -- what is found reaches no further than the number's domain
+  right-reach : (t : Log) (x : ℕ) (o : Option Domain) → RightAt ds t x o → reach (found o) ≤ reach (domain-at ds t x)
+  right-reach t x none h = omega arith
+  right-reach t x (some d) h = rw (h .1 .low, h .1 .high) (omega arith)
 
   -- ---- each number carries no more than its variable's or its If's weight
 
@@ -448,4 +410,17 @@ module _ (w : List ℤ) (ds : List Domain) where
       → Carries ds w (λ v. reach (found (int-item ds e .range w (at w s) v))) (int-form e) (at w s)
   range-carries e p h s l r n =
       let t = run-int ds e s .1 in
-      carries-less (λ v. reach (found (int-item ds e .range w (at w s) v))) (λ v. reach (domain-at ds t v)) (found-reach e p s r n t here) (int-form e) (at w s) (log-carries e p h s l r n t here)
+      carries-less (λ v. reach (found (int-item ds e .range w (at w s) v))) (λ v. reach (domain-at ds t v)) (λ x. right-reach t x (int-item ds e .range w (at w s) x) (range-right w ds e p s r n x)) (int-form e) (at w s) (log-carries e p h s l r n t here)
+
+  -- the bounds of the sum reach no further than the tree weighs
+  pub range-reach : (e : IntTree) → ProperInt e → ChoicesInt (SameWeight ds) e → (s : Log) → LightIfs ds s → Ready w (run-int ds e s .1) → PlacedInt w ds e s → reach (range-of (int-item ds e) w (at w s)) ≤ weight-of ds (int-form e)
+  unfolding range-of
+  range-reach e p h s l r n = total-reach ds w (λ v. found (int-item ds e .range w (at w s) v)) (int-form e) (at w s) (range-carries e p h s l r n)
+
+  -- of either branch of an If, the second met behind the first: no further than the If weighs
+  pub branches-reach : (t f : IntTree) → ProperInt t → ProperInt f → ChoicesInt (SameWeight ds) t → ChoicesInt (SameWeight ds) f → (s : Log) → LightIfs ds s → let a = run-int ds t s in Ready w (run-int ds f (a .1) .1) → PlacedInt w ds t s → PlacedInt w ds f (a .1)
+      → reach (hull (range-of (int-item ds t) w (at w s)) (range-of (int-item ds f) w (at w (a .1)))) ≤ max 1 (max (weight-of ds (int-form t)) (weight-of ds (int-form f)))
+  branches-reach t f p q h k s l r m n =
+      let a = run-int ds t s in
+      hull-reach (range-of (int-item ds t) w (at w s)) (range-of (int-item ds f) w (at w (a .1))) (weight-of ds (int-form t)) (weight-of ds (int-form f))
+      (range-reach t p h s l (ready-back (int-grow ds f (a .1)) r) m) (range-reach f q k (a .1) (int-run-light ds t h s l .0) r n)

@@ -98,6 +98,36 @@ different-beside (u ∷ us) cs = go (any (eqb u) us) refl (different-beside us c
     go true q h = rw (among-left u us cs q) h
     go false q h = omega (arith, different-cons u (us ++ cs))
 
+-- ---- sizes of sums and domains
+
+pub constant-size : (u : ℕ → ℕ) (l : LinearSum) → natAbs (constant-of l) ≤ load u l
+unfolding load
+constant-size u (linear-sum c ts) = omega arith
+
+pub sum-reach : (domain : ℕ → Domain) (l : LinearSum) → reach (get-domain-linear-sum domain l) ≤ load (λ v. reach (domain v)) l
+unfolding get-domain-linear-sum load
+sum-reach domain (linear-sum c ts) = omega (arith, lowest-size domain c ts, highest-size domain c ts)
+
+lower-size : (x y : ℤ) (a b : ℕ) → natAbs x ≤ a → natAbs y ≤ b → natAbs (lower x y) ≤ max a b
+lower-size x y a b h k = go (leZ x y)
+  where
+    go : (t : Bool) → natAbs (cond t x y) ≤ max a b
+    go true = omega arith
+    go false = omega arith
+
+higher-size : (x y : ℤ) (a b : ℕ) → natAbs x ≤ a → natAbs y ≤ b → natAbs (higher x y) ≤ max a b
+higher-size x y a b h k = go (leZ x y)
+  where
+    go : (t : Bool) → natAbs (cond t y x) ≤ max a b
+    go true = omega arith
+    go false = omega arith
+
+pub hull-reach : (d e : Domain) (a b : ℕ) → reach d ≤ a → reach e ≤ b → reach (hull d e) ≤ max 1 (max a b)
+hull-reach d e a b h k =
+    let x = lower-size (lower-bound d) (lower-bound e) a b (omega arith) (omega arith) in
+    let y = higher-size (upper-bound d) (upper-bound e) a b (omega arith) (omega arith) in
+    omega arith
+
 -- ---- the sums; w: the work slice
 
 -- a number of i32
@@ -444,39 +474,10 @@ module _ (ds : List Domain) (w : List ℤ) where
         → (natAbs (lowest domain (constant-of (total-of e n)) (take i (terms-of (total-of e n)))) ≤ max-weight) × (natAbs (highest domain (constant-of (total-of e n)) (take i (terms-of (total-of e n)))) ≤ max-weight)
     total-bounds e n c h i = bounds-within domain i max-weight (total-of e n) (le-trans (total-load (λ v. reach (domain v)) e n c) (light-weight ds e h))
 
-    sum-reach : (l : LinearSum) → reach (get-domain-linear-sum domain l) ≤ load (λ v. reach (domain v)) l
-    unfolding get-domain-linear-sum load
-    sum-reach (linear-sum c ts) = omega (arith, lowest-size domain c ts, highest-size domain c ts)
-
     pub total-reach : (e : IntForm) (n : Counters) → Carries (λ v. reach (domain v)) e n → reach (get-domain-linear-sum domain (total-of e n)) ≤ weight-of ds e
-    total-reach e n c = le-trans (sum-reach (total-of e n)) (total-load (λ v. reach (domain v)) e n c)
+    total-reach e n c = le-trans (sum-reach domain (total-of e n)) (total-load (λ v. reach (domain v)) e n c)
 
   -- ---- an If's own domain: no larger than the If weighs
-
-  lower-size : (x y : ℤ) (a b : ℕ) → natAbs x ≤ a → natAbs y ≤ b → natAbs (lower x y) ≤ max a b
-  lower-size x y a b h k = go (leZ x y)
-    where
-      go : (t : Bool) → natAbs (cond t x y) ≤ max a b
-      go true = omega arith
-      go false = omega arith
-
-  higher-size : (x y : ℤ) (a b : ℕ) → natAbs x ≤ a → natAbs y ≤ b → natAbs (higher x y) ≤ max a b
-  higher-size x y a b h k = go (leZ x y)
-    where
-      go : (t : Bool) → natAbs (cond t y x) ≤ max a b
-      go true = omega arith
-      go false = omega arith
-
-  -- where its branches' domains are no larger than they weigh
-  pub hull-reach : (d e : Domain) (a b : ℕ) → reach d ≤ a → reach e ≤ b → reach (hull d e) ≤ max 1 (max a b)
-  hull-reach d e a b h k =
-      let x = lower-size (lower-bound d) (lower-bound e) a b (omega arith) (omega arith) in
-      let y = higher-size (upper-bound d) (upper-bound e) a b (omega arith) (omega arith) in
-      omega arith
-
-  constant-size : (l : LinearSum) → natAbs (constant-of l) ≤ size l
-  unfolding load
-  constant-size (linear-sum c ts) = omega arith
 
   -- between its two constants
   pub constants-reach : (p : Place) (t f : IntForm) (n : Counters) → constant-in (seen w p) ≡ true → reach (if-domain p (form-int-item ds t) (form-int-item ds f) w n) ≤ max 1 (max (weight-of ds t) (weight-of ds f))
@@ -484,4 +485,4 @@ module _ (ds : List Domain) (w : List ℤ) where
   constants-reach p t f n h =
       let x = constant-of (total-of t n) in
       let y = constant-of (total-of f (behind-of t n)) in
-      rw h (hull-reach (Range x x) (Range y y) (weight-of ds t) (weight-of ds f) (omega (arith, constant-size (total-of t n), total-size t n)) (omega (arith, constant-size (total-of f (behind-of t n)), total-size f (behind-of t n))))
+      rw h (hull-reach (Range x x) (Range y y) (weight-of ds t) (weight-of ds f) (omega (arith, constant-size (λ v. 1) (total-of t n), total-size t n)) (omega (arith, constant-size (λ v. 1) (total-of f (behind-of t n)), total-size f (behind-of t n))))

@@ -1,0 +1,16 @@
+pub mod Declares
+pub mod Task
+pub mod Fits
+pub mod Leaf
+pub mod Equal
+pub mod Steps
+pub mod Sized
+pub mod IntSteps
+pub mod Members
+pub mod If
+pub mod Make
+pub mod Conditions
+pub mod Walk
+pub mod Ties
+pub mod TieWalk
+pub mod Rules

@@ -1,0 +1,9 @@
+pub mod Steps
+pub mod Surveying
+pub mod PoolLaws
+pub mod Written
+pub mod Longer
+pub mod Sums
+pub mod Making
+pub mod Registered
+pub mod Blocks

@@ -1,0 +1,3 @@
+pub mod Domains
+pub mod Places
+pub mod Making

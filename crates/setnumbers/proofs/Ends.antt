@@ -1,0 +1,101 @@
+-- Which statement stands at a place by its first word, and where it ends.
+use mathlib.Core.Path.{_≡_, refl, ap, _∙_}
+use mathlib.Core.Bool.{false}
+use mathlib.Core.List.{List}
+use Prim.Native.Nat.{ℕ, suc, _+_, _*_, _≤_, _<_}
+use native.Mathlib.Omega.{arith}
+use lib.IntN.{ℤ, pos}
+use lib.ListN.{length}
+use Rattle.laws.specs.Slices.{Has, has-fits, has-rest}
+use Rattle.syntax.specs.Syntax.{BoolExpr, encode-bool, Stmt, Rule, Table, AllDifferent, encode-stmt}
+use Rattle.syntax.specs.Codes.{stmt-code, stmt-code-word}
+use Rattle.walk.specs.Item.{limit, nat}
+use Rattle.walk.specs.Decode.{word, read-part}
+use Rattle.walks.specs.Tree.{below, splits}
+use Rattle.walks.specs.DecodeExact.{rule-stands}
+use Rattle.stages.specs.Columns.{columns-end}
+use Rattle.stages.specs.Room.{splits-low}
+use Rattle.scan.specs.Skip.{split-by, Skips}
+use Rattle.setnumbers.specs.Stands.{Stands, SomeStmt, SomeTable, SomeDifferent, StmtEnds}
+use Rattle.setnumbers.proofs.Words.{part-short, columns-stop, table-words, table-stop, different-words}
+
+pub some-word : (t : Stmt) → 0 < length (encode-stmt t)
+unfolding encode-stmt
+some-word (Rule e) = omega arith
+some-word (Table es rows) = omega arith
+some-word (AllDifferent es) = omega arith
+
+module _ (w : List ℤ) (at : ℕ) where
+  stmt-word : (t : Stmt) → Stands w at t → word (read-part w) at ≡ stmt-code t
+  unfolding word nat
+  stmt-word t h = ap nat (stmt-code-word (read-part w) at t (h .words))
+
+  pub rule-words : (e : BoolExpr) → Stands w at (Rule e) → Has (read-part w) (at + 1) (encode-bool e)
+  unfolding encode-stmt
+  rule-words e h = has-rest (read-part w) at (pos 1) (encode-bool e) (h .words)
+
+  pub stmt-inside : (t : Stmt) → Stands w at t → at + length (encode-stmt t) ≤ 4608
+  stmt-inside t h = omega (arith, has-fits (read-part w) at (encode-stmt t) (h .words) (some-word t), part-short w)
+
+  pub some-inside : SomeStmt w at → at + 1 ≤ 4608
+  some-inside s = omega (arith, some-word (s .stmt), stmt-inside (s .stmt) (s .stands))
+
+  pub ends-later : (q : ℕ) → StmtEnds w at q → SomeStmt w at → at < q
+  ends-later q e s = omega (arith, e (s .stmt) (s .stands), some-word (s .stmt))
+
+  -- ---- by the first word k
+
+  module _ (k : ℕ) (hk : k ≡ word (read-part w) at) where
+    -- a statement of another code
+    pub not-here : {X : Type 0} (t : Stmt) → (k ≡ stmt-code t → ⊥) → Stands w at t → X
+    not-here t z h = absurd (z (hk ∙ stmt-word t h))
+
+    pub some-table : SomeStmt w at → (k ≡ 1 → ⊥) → (k ≡ 3 → ⊥) → SomeTable w at
+    some-table s y z = go (s .stmt) (s .stands)
+      where
+        go : (t : Stmt) → Stands w at t → SomeTable w at
+        go (Rule e) h = not-here (Rule e) y h
+        go (Table es rows) h = record { columns = es; cells = rows; stands = h }
+        go (AllDifferent es) h = not-here (AllDifferent es) z h
+
+    pub some-different : SomeStmt w at → k ≡ 3 → SomeDifferent w at
+    some-different s z = go (s .stmt) (s .stands)
+      where
+        go : (t : Stmt) → Stands w at t → SomeDifferent w at
+        go (Rule e) h = not-here (Rule e) (λ q. omega (arith, z, q)) h
+        go (Table es rows) h = not-here (Table es rows) (λ q. omega (arith, z, q)) h
+        go (AllDifferent es) h = record { exprs = es; stands = h }
+
+    -- a statement that is no rule has a second word
+    pub second-inside : SomeStmt w at → (k ≡ 1 → ⊥) → at + 2 ≤ 4608
+    second-inside s y = go (s .stmt) (s .stands)
+      where
+        go : (t : Stmt) → Stands w at t → at + 2 ≤ 4608
+        go (Rule e) h = not-here (Rule e) y h
+        go (Table es rows) h = omega (arith, table-words w at es rows h .inside, table-words w at es rows h .size)
+        go (AllDifferent es) h = omega (arith, different-words w at es h .inside, different-words w at es h .size)
+
+    -- ---- the end
+
+    pub rule-ends : (q b : ℕ) → k ≡ 1 → Skips (read-part w) 64 (split-by 1) (at + 1) 0 q b → StmtEnds w at q
+    unfolding split-by
+    rule-ends q b z s (Rule e) h =
+        let l : length (encode-stmt (Rule e)) ≡ suc (length (encode-bool e)) = unfold encode-stmt in refl in
+        let i : 0 + splits e below ≤ limit = omega (arith, splits-low e below, stmt-inside (Rule e) h, l) in
+        let r = rule-stands e (read-part w) 64 (at + 1) 0 (h .legal) (rule-words e h) i in
+        omega (arith, s .end false, r .end, l)
+    rule-ends q b z s (Table es rows) h = not-here (Table es rows) (λ x. omega (arith, z, x)) h
+    rule-ends q b z s (AllDifferent es) h = not-here (AllDifferent es) (λ x. omega (arith, z, x)) h
+
+    pub different-ends : (n p : ℕ) → k ≡ 3 → n ≡ word (read-part w) (at + 1) → p ≡ columns-end (read-part w) n (at + 2) → StmtEnds w at p
+    different-ends n p z hn hp (Rule e) h = not-here (Rule e) (λ q. omega (arith, z, q)) h
+    different-ends n p z hn hp (Table es rows) h = not-here (Table es rows) (λ q. omega (arith, z, q)) h
+    different-ends n p z hn hp (AllDifferent es) h =
+        let x = different-words w at es h in
+        let s = columns-stop (read-part w) es (at + 2) (h .legal) (x .stands) in
+        hp ∙ ap (λ (m : ℕ). columns-end (read-part w) m (at + 2)) (hn ∙ x .count) ∙ omega (arith, s, x .size)
+
+    pub table-ends : (n m p : ℕ) → (k ≡ 1 → ⊥) → (k ≡ 3 → ⊥) → n ≡ word (read-part w) (at + 1) → m ≡ word (read-part w) (at + 2) → p ≡ columns-end (read-part w) n (at + 3) → StmtEnds w at (p + m * n)
+    table-ends n m p y z hn hm hp (Rule e) h = not-here (Rule e) y h
+    table-ends n m p y z hn hm hp (AllDifferent es) h = not-here (AllDifferent es) z h
+    table-ends n m p y z hn hm hp (Table es rows) h = table-stop w at es rows h n m p hn hm hp

@@ -1,0 +1,6 @@
+pub mod Clearing
+pub mod Words
+pub mod Ends
+pub mod Numbering
+pub mod Tables
+pub mod Statements

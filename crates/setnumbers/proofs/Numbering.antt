@@ -1,0 +1,168 @@
+-- Tasks one after another in the code's loops: what is left of a task, what the next part asks, what is done behind the last.
+use mathlib.Core.Path.{_≡_, refl, sym, ap, _∙_, subst}
+use mathlib.Core.Bool.{false}
+use mathlib.Core.List.{List}
+use Prim.Native.Nat.{ℕ, zero, suc, _-_, _≤_, _<_}
+use native.Mathlib.Omega.{arith}
+use native.Mathlib.Numerals.{sub-one}
+use lib.IntN.{ℤ}
+use lib.Dec.{ltb}
+use borrow.Author.Tests.{lt-ltb, le-ltb}
+use Rattle.walk.specs.Decode.{read-part}
+use Rattle.walks.specs.Meet.{State, with-work}
+use Rattle.stages.specs.Columns.{column-at}
+use Rattle.scan.specs.Skip.{split-by, IntSkips}
+use Rattle.numbering.specs.Task.{Task, skip, then, Low, Done, Left, left-all, left-done, left-next, ready-next}
+use Rattle.setnumbers.specs.Cleared.{Cleared, pair-ifs}
+use Rattle.setnumbers.specs.Tasks.{stopping, column-task, columns-task, pair-task, clear-task, cleared-task, row-task, pairs-task, Quits, quits-skip, Before, before-none, row-before, row-quits, pairs-quit}
+use Rattle.setnumbers.specs.Numbered.{Asks}
+
+-- ---- stopping
+
+module _ (cap : ℕ) (t a r : Task) (st st' : State) where
+  pub left-on : st' .used ≤ cap → Left t st (stopping cap a r) st' → Left t st (then a r) st'
+  left-on h x =
+      let e : ltb cap (st' .used) ≡ false = le-ltb cap (st' .used) h in
+      record { fits = λ ds d f. rw e at (x .fits ds d f); state = λ ds d f. rw e at (x .state ds d f); kept = x .kept; low = x .low }
+
+pub left-full : (cap : ℕ) (t x : Task) (st st' : State) → cap < st' .used → Quits cap x → Left t st x st' → Done t st st'
+left-full cap t x st st' h q l = record { state = λ ds d f. sym (q .meet ds st' (lt-ltb cap (st' .used) h)) ∙ l .state ds d f; kept = l .kept; low = l .low }
+
+-- what the next part asks
+pub asks-next : (a : List ℤ → Task) (t r : Task) (st st' : State) (rec : ℕ) → Asks t st rec → Left t st (then (a (read-part (st .work))) r) st' → Asks (a (read-part (st' .work))) st' rec
+asks-next a t r st st' rec k x = record { long = omega (arith, k .long, x .kept .size); records = k .records; low = x .low; ready = ready-next a r (k .ready) x }
+
+-- ---- columns
+
+module _ (rec cap : ℕ) (n at : ℕ) (st : State) where
+  abbrev pub Columns : ℕ → ℕ → State → Type 0
+  Columns rest q st' = (q ≤ 4608) × Left (columns-task rec cap (read-part (st .work)) n at) st (columns-task rec cap (read-part (st .work)) rest q) st'
+
+  pub columns-first : at ≤ 4608 → Low st → Columns n at st
+  columns-first h l = (h, left-all (columns-task rec cap (read-part (st .work)) n at) st l)
+
+  module _ (rest q : ℕ) (st' : State) (z : rest ≡ 0 → ⊥) (x : Columns rest q st') where
+    columns-some : Left (columns-task rec cap (read-part (st .work)) n at) st (then (column-task rec cap (read-part (st .work)) q) (columns-task rec cap (read-part (st .work)) (rest - 1) (column-at (read-part (st .work)) q .end))) st'
+    columns-some = go rest z (x .1)
+      where
+        go : (k : ℕ) → (k ≡ 0 → ⊥) → Left (columns-task rec cap (read-part (st .work)) n at) st (columns-task rec cap (read-part (st .work)) k q) st'
+            → Left (columns-task rec cap (read-part (st .work)) n at) st (then (column-task rec cap (read-part (st .work)) q) (columns-task rec cap (read-part (st .work)) (k - 1) (column-at (read-part (st .work)) q .end))) st'
+        go zero i y = absurd (i refl)
+        go (suc k) i y = rw sub-one (unfold columns-task in y)
+
+    pub column-asks : Asks (columns-task rec cap (read-part (st .work)) n at) st rec → Asks (column-task rec cap (read-part (st' .work)) q) st' rec
+    column-asks k = asks-next (λ ws. column-task rec cap ws q) (columns-task rec cap (read-part (st .work)) n at) (columns-task rec cap (read-part (st .work)) (rest - 1) (column-at (read-part (st .work)) q .end)) st st' rec k columns-some
+
+    pub columns-next : (st'' : State) (q' b : ℕ) → IntSkips (read-part (st' .work)) 64 (split-by 0) q 0 q' b → Done (column-task rec cap (read-part (st' .work)) q) st' st'' → Columns (rest - 1) q' st''
+    unfolding split-by
+    columns-next st'' q' b s y =
+        let e : column-at (read-part (st .work)) q .end ≡ q' = ap (λ (ws : List ℤ). column-at ws q .end) (sym (x .1 .kept .part)) ∙ sym (s .end) in
+        (s .inside, subst (λ (i : ℕ). Left (columns-task rec cap (read-part (st .work)) n at) st (columns-task rec cap (read-part (st .work)) (rest - 1) i) st'') e (left-next (λ ws. column-task rec cap ws q) columns-some y))
+
+  pub columns-last : (rest q : ℕ) (st' : State) → rest ≡ 0 → Columns rest q st' → Done (columns-task rec cap (read-part (st .work)) n at) st st'
+  columns-last rest q st' z x = go rest z (x .1)
+    where
+      go : (k : ℕ) → k ≡ 0 → Left (columns-task rec cap (read-part (st .work)) n at) st (columns-task rec cap (read-part (st .work)) k q) st' → Done (columns-task rec cap (read-part (st .work)) n at) st st'
+      go zero i y = left-done (unfold columns-task in y)
+      go (suc k) i y = absurd (omega arith)
+
+-- ---- a pair
+
+left-then : (t a b r : Task) (st st' : State) → Left t st (then (then a b) r) st' → Left t st (then a (then b r)) st'
+left-then t a b r st st' x = record { fits = λ ds d f. let h = x .fits ds d f in (h .0 .0, (h .0 .1, h .1)); state = x .state; kept = x .kept; low = x .low }
+
+-- its Ifs cleared
+clear-done : (p q : ℕ) (st : State) (w' : List ℤ) → Low st → Cleared (pair-ifs (st .work) p q) (st .work) w' → Done (clear-task p q) st (with-work w' st)
+unfolding clear-task
+clear-done p q st w' l x = record {
+  state = λ ds d f. ap (λ (w : List ℤ). with-work w st) (x .cells);
+  kept = record { part = x .part; behind = x .behind; size = x .size; room = refl };
+  low = record { bools = l .bools; ints = l .ints; used = l .used };
+}
+
+-- ---- an expression with each of so many; k: as many as there are
+
+module _ (rec cap p n at : ℕ) (st : State) where
+  abbrev row-of : ℕ → ℕ → Task
+  row-of k q = row-task rec cap (read-part (st .work)) p k q skip
+
+  abbrev pub Row : ℕ → ℕ → State → Type 0
+  Row rest q st' = (q ≤ 4608) × Left (row-of n at) st (row-of rest q) st'
+
+  pub row-first : at ≤ 4608 → Low st → Row n at st
+  row-first h l = (h, left-all (row-of n at) st l)
+
+  pub row-full : (rest q : ℕ) (st' : State) → cap < st' .used → Row rest q st' → Done (row-of n at) st st'
+  row-full rest q st' h x = left-full cap (row-of n at) (row-of rest q) st st' h (row-quits rec cap (read-part (st .work)) p rest q skip (quits-skip cap)) (x .1)
+
+  module _ (rest q : ℕ) (st' : State) (z : rest ≡ 0 → ⊥) (more : st' .used ≤ cap) (x : Row rest q st') where
+    abbrev end-of : ℕ
+    end-of = column-at (read-part (st .work)) q .end
+
+    row-some : Left (row-of n at) st (then (clear-task p q) (then (pair-task rec cap (read-part (st .work)) p q) (row-of (rest - 1) end-of))) st'
+    row-some = left-then (row-of n at) (clear-task p q) (pair-task rec cap (read-part (st .work)) p q) (row-of (rest - 1) end-of) st st' (left-on cap (row-of n at) (cleared-task rec cap (read-part (st .work)) p q) (row-of (rest - 1) end-of) st st' more (go rest z (x .1)))
+      where
+        go : (k : ℕ) → (k ≡ 0 → ⊥) → Left (row-of n at) st (row-of k q) st' → Left (row-of n at) st (stopping cap (cleared-task rec cap (read-part (st .work)) p q) (row-of (k - 1) end-of)) st'
+        go zero i y = absurd (i refl)
+        go (suc k) i y = rw sub-one (unfold row-task in y)
+
+    module _ (w'' : List ℤ) (c : Cleared (pair-ifs (st' .work) p q) (st' .work) w'') where
+      row-cleared : Left (row-of n at) st (then (pair-task rec cap (read-part (st .work)) p q) (row-of (rest - 1) end-of)) (with-work w'' st')
+      row-cleared = left-next (λ ws. clear-task p q) row-some (clear-done p q st' w'' (x .1 .low) c)
+
+      pub pair-asks : Asks (row-of n at) st rec → Asks (pair-task rec cap (read-part w'') p q) (with-work w'' st') rec
+      pair-asks k = asks-next (λ ws. pair-task rec cap ws p q) (row-of n at) (row-of (rest - 1) end-of) st (with-work w'' st') rec k row-cleared
+
+      pub row-next : (st'' : State) (q' b : ℕ) → IntSkips (read-part (st' .work)) 64 (split-by 0) q 0 q' b → Done (pair-task rec cap (read-part w'') p q) (with-work w'' st') st'' → Row (rest - 1) q' st''
+      unfolding split-by
+      row-next st'' q' b s y =
+          let e : end-of ≡ q' = ap (λ (ws : List ℤ). column-at ws q .end) (sym (x .1 .kept .part)) ∙ sym (s .end) in
+          (s .inside, subst (λ (i : ℕ). Left (row-of n at) st (row-of (rest - 1) i) st'') e (left-next (λ ws. pair-task rec cap ws p q) row-cleared y))
+
+  pub row-last : (rest q : ℕ) (st' : State) → rest ≡ 0 → Row rest q st' → Done (row-of n at) st st'
+  row-last rest q st' z x = go rest z (x .1)
+    where
+      go : (k : ℕ) → k ≡ 0 → Left (row-of n at) st (row-of k q) st' → Done (row-of n at) st st'
+      go zero i y = left-done (unfold row-task in y)
+      go (suc k) i y = absurd (omega arith)
+
+-- ---- all pairs
+
+pub left-before : (t a x y : Task) (st st' : State) → Before a x y → Left t st y st' → Left t st (then a x) st'
+left-before t a x y st st' b l = record { fits = λ ds d f. b .fits ds st' (l .fits ds d f); state = λ ds d f. sym (b .meet ds st') ∙ l .state ds d f; kept = l .kept; low = l .low }
+
+module _ (rec cap n at : ℕ) (st : State) where
+  abbrev pairs-of : ℕ → ℕ → Task
+  pairs-of k p = pairs-task rec cap (read-part (st .work)) k p skip
+
+  abbrev pub Pairs : ℕ → ℕ → State → Type 0
+  Pairs rest p st' = (p ≤ 4608) × Left (pairs-of n at) st (pairs-of rest p) st'
+
+  pub pairs-first : at ≤ 4608 → Low st → Pairs n at st
+  pairs-first h l = (h, left-all (pairs-of n at) st l)
+
+  module _ (rest p : ℕ) (st' : State) (z : rest ≡ 0 → ⊥) (x : Pairs rest p st') (q b : ℕ) (s : IntSkips (read-part (st' .work)) 64 (split-by 0) p 0 q b) where
+    pairs-some : Left (pairs-of n at) st (then (row-task rec cap (read-part (st .work)) p (rest - 1) q skip) (pairs-of (rest - 1) q)) st'
+    pairs-some =
+        let e : column-at (read-part (st .work)) p .end ≡ q = ap (λ (ws : List ℤ). column-at ws p .end) (sym (x .1 .kept .part)) ∙ (unfold split-by in sym (s .end)) in
+        let r = pairs-of (rest - 1) q in
+        left-before (pairs-of n at) (row-task rec cap (read-part (st .work)) p (rest - 1) q skip) r (row-task rec cap (read-part (st .work)) p (rest - 1) q r) st st'
+        (row-before rec cap (read-part (st .work)) p (rest - 1) q skip r r (pairs-quit rec cap (read-part (st .work)) (rest - 1) q skip (quits-skip cap)) (before-none r))
+        (subst (λ (i : ℕ). Left (pairs-of n at) st (row-task rec cap (read-part (st .work)) p (rest - 1) i (pairs-of (rest - 1) i)) st') e (go rest z (x .1)))
+      where
+        go : (k : ℕ) → (k ≡ 0 → ⊥) → Left (pairs-of n at) st (pairs-of k p) st' → (let q = column-at (read-part (st .work)) p .end in Left (pairs-of n at) st (row-task rec cap (read-part (st .work)) p (k - 1) q (pairs-of (k - 1) q)) st')
+        go zero i y = absurd (i refl)
+        go (suc k) i y = rw sub-one (unfold pairs-task in y)
+
+    pub row-asks : Asks (pairs-of n at) st rec → Asks (row-task rec cap (read-part (st' .work)) p (rest - 1) q skip) st' rec
+    row-asks k = asks-next (λ ws. row-task rec cap ws p (rest - 1) q skip) (pairs-of n at) (pairs-of (rest - 1) q) st st' rec k pairs-some
+
+    pub pairs-next : (st'' : State) → Done (row-task rec cap (read-part (st' .work)) p (rest - 1) q skip) st' st'' → Pairs (rest - 1) q st''
+    pairs-next st'' y = (s .inside, left-next (λ ws. row-task rec cap ws p (rest - 1) q skip) pairs-some y)
+
+  pub pairs-last : (rest p : ℕ) (st' : State) → rest ≡ 0 → Pairs rest p st' → Done (pairs-of n at) st st'
+  pairs-last rest p st' z x = go rest z (x .1)
+    where
+      go : (k : ℕ) → k ≡ 0 → Left (pairs-of n at) st (pairs-of k p) st' → Done (pairs-of n at) st st'
+      go zero i y = left-done (unfold pairs-task in y)
+      go (suc k) i y = absurd (omega arith)

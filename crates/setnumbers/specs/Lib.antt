@@ -1,0 +1,10 @@
+pub mod Ifs
+pub mod Cleared
+pub mod PairIfs
+pub mod Fresh
+pub mod Stands
+pub mod Tasks
+pub mod Follow
+pub mod FollowStatements
+pub mod Numbered
+pub mod KnownTie

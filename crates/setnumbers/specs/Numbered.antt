@@ -1,0 +1,75 @@
+-- What numbering folded statements asks and does: the tasks of whatever statements stand there; what that is for the log (`numbered-agree`).
+use mathlib.Core.Path.{_≡_, sym, subst}
+use mathlib.Core.Bool.{Bool}
+use mathlib.Core.List.{List}
+use Prim.Native.Nat.{ℕ, _+_, _≤_, _<_}
+use native.Mathlib.Omega.{arith}
+use lib.IntN.{ℤ}
+use lib.ListN.{length}
+use Rattle.laws.specs.Slices.{Has}
+use Rattle.syntax.specs.Syntax.{Domain, IntExpr, Cell, Stmt, Table}
+use Rattle.words.specs.Exact.{Each}
+use Rattle.clauses.specs.Log.{Log}
+use Rattle.walk.specs.Item.{limit}
+use Rattle.walk.specs.Decode.{read-part}
+use Rattle.walks.specs.Meet.{State}
+use Rattle.walks.specs.Leaves.{words-of}
+use Rattle.stages.specs.StatementsParts.{meet-parts, parts, rooms, Standing}
+use Rattle.stages.specs.StatementsPlaces.{stmts-words, LegalStmt, PartedFrom, Marked}
+use Rattle.stages.specs.Statements.{stmts-stages}
+use Rattle.memory.specs.DomainTable.{Declares}
+use Rattle.numbering.specs.Task.{Task, skip, Low, Ready, Done}
+use Rattle.setnumbers.specs.Stands.{WellRows, Stands, SomeTable}
+use Rattle.setnumbers.specs.Tasks.{table-task, stmt-task, stmts-task}
+use Rattle.setnumbers.specs.Follow.{Agree}
+use Rattle.setnumbers.specs.FollowStatements.{stmts-agree}
+
+pub record Asks (t : Task) (st : State) (rec : ℕ) : Type 0 where
+  pub long : 16384 ≤ length (st .work)
+  pub records : rec ≤ limit
+  pub low : Low st
+  pub ready : Ready t st
+
+-- some table stands at a place
+pub record AsksTable (rec cap at : ℕ) (st : State) : Type 0 where
+  pub table : SomeTable (st .work) at
+  pub asks : Asks (table-task rec cap (read-part (st .work)) at (table .columns) (table .cells)) st rec
+
+abbrev pub DoneTable : ℕ → ℕ → ℕ → State → State → Type 0
+DoneTable rec cap at st st' = (es : List IntExpr) (rows : List (List Cell)) → Stands (st .work) at (Table es rows) → Done (table-task rec cap (read-part (st .work)) at es rows) st st'
+
+-- some statement stands at a place
+pub record AsksStmt (rec cap at : ℕ) (st : State) : Type 0 where
+  pub stmt : Stmt
+  pub stands : Stands (st .work) at stmt
+  pub asks : Asks (stmt-task rec cap (read-part (st .work)) at stmt skip) st rec
+
+abbrev pub DoneStmt : ℕ → ℕ → ℕ → State → State → Type 0
+DoneStmt rec cap at st st' = (t : Stmt) → Stands (st .work) at t → Done (stmt-task rec cap (read-part (st .work)) at t skip) st st'
+
+-- statements stand from a place to `end`
+pub record StandAll (w : List ℤ) (at end : ℕ) (ts : List Stmt) : Type 0 where
+  pub words : Has (read-part w) at (stmts-words ts)
+  pub legal : Each LegalStmt ts
+  pub rows : Each WellRows ts
+  pub stop : end ≡ at + length (stmts-words ts)
+
+pub record AsksAll (rec cap at end : ℕ) (st : State) : Type 0 where
+  pub stmts : List Stmt
+  pub stand : StandAll (st .work) at end stmts
+  pub asks : Asks (stmts-task rec cap (read-part (st .work)) at stmts) st rec
+
+abbrev pub DoneAll : ℕ → ℕ → ℕ → ℕ → State → State → Type 0
+DoneAll rec cap at end st st' = (ts : List Stmt) → StandAll (st .work) at end ts → Done (stmts-task rec cap (read-part (st .work)) at ts) st st'
+
+-- from a state of the log s, what is done leaves the state that stages' parts leave, or both walks are full; as in stages, parted and with-ifs
+module _ (ds : List Domain) (parted : ℕ → Bool) (rec cap : ℕ) (with-ifs : Bool) (before : List ℤ) (low : cap < limit) (at end : ℕ) (inside : end ≤ 4608) (st st' : State) where
+  abbrev F : List ℤ
+  F = read-part (st .work)
+
+  pub numbered-agree : (ts : List Stmt) → StandAll (st .work) at end ts → 512 ≤ at → PartedFrom parted at ts → Marked F end with-ifs → Declares ds (st .work) → stmts-task rec cap F at ts .fits ds st
+      → (n : ℕ) (s : Log) → Standing ds F parted rec cap with-ifs before low at (rooms (stmts-stages ds rec cap F at ts) + n) st s → st .used ≤ words-of s
+      → DoneAll rec cap at end st st' → Agree cap st' (meet-parts (parts (stmts-stages ds rec cap F at ts)) st)
+  numbered-agree ts h l p m d f n s g u x =
+      subst (λ (y : State). Agree cap y (meet-parts (parts (stmts-stages ds rec cap F at ts)) st)) (sym (x ts h .state ds d f))
+      (stmts-agree ds F parted rec cap with-ifs before low end inside m at ts (h .legal) p (h .words) l (omega (arith, h .stop)) n st s g u)

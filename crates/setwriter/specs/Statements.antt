@@ -1,0 +1,142 @@
+-- The statements of a settled set taken one by one in the second walk: what is known of the next one and of those behind it (`left-start`, `left-first`,
+-- `left-next`, `left-end`). F: the folded words of the work slice, in which they stand up to `end`; with-ifs: the word for Ifs.
+use mathlib.Core.Path.{_≡_, refl, sym, _∙_, subst}
+use mathlib.Core.Bool.{Bool}
+use mathlib.Core.List.{List, [], _∷_, _++_, map}
+use Prim.Native.Nat.{ℕ, _+_, _≤_, _<_}
+use native.Mathlib.Omega.{arith}
+use lib.IntN.{ℤ}
+use lib.ListN.{length, length-append}
+use Rattle.laws.specs.Slices.{Has, has-front, has-back}
+use Rattle.syntax.specs.Syntax.{Domain, Stmt, Rule, Table, AllDifferent, encode-stmt, Problem, encode}
+use Rattle.words.specs.Exact.{Each}
+use Rattle.read.specs.WellFormed.{WellStmt}
+use Rattle.fold.specs.Fold.{Fixed, constant-folding-stmt as fold-stmt}
+use Rattle.fold.specs.Ends.{optimize-rests}
+use Rattle.clauses.specs.Log.{Log, clauses-of}
+use Rattle.clauses.specs.Since.{clauses-since, top-adds}
+use Rattle.answer.specs.Answer.{start-log, normalize-stmt, normalize-stmts}
+use Rattle.call.specs.WellRead.{well-declared}
+use Rattle.walk.specs.Grow.{Grows}
+use Rattle.statements.specs.Stages.{Settled, log-of, settled-short}
+use Rattle.stages.specs.StatementsParts.{steps, steps-grow, AllWalk}
+use Rattle.stages.specs.StatementsPlaces.{stmts-words, parted-of, LegalStmt, PartedFrom, parted-rest, Marked}
+use Rattle.stages.specs.Statements.{stmt-stages, stmts-stages, stmt-steps, stmts-steps, stmt-walk, stmts-walk}
+use Rattle.stages.specs.StartLegal.{Shallow, settled-legal}
+use Rattle.stages.specs.StartFits.{StmtWithin, settled-within}
+
+-- a folded statement, and how it was read
+pub record Folds (p : Problem) (f : Fixed) (t : Stmt) : Type 0 where
+  pub origin : Stmt
+  pub folded : t ≡ fold-stmt (p .domains) f origin
+  pub well : WellStmt (p .bools) (length (p .domains)) origin
+
+-- the set: its words, and its folded statements ss in F
+pub record Lent (p : Problem) (f : Fixed) (ss : List Stmt) (set F : List ℤ) (end : ℕ) (with-ifs : Bool) : Type 0 where
+  pub words : set ≡ encode p
+  pub settled : Settled p f ss
+  pub deep : Each Shallow (p .stmts)
+  pub stands : Has F 512 (stmts-words ss)
+  pub marked : Marked F end with-ifs
+  pub ends : end ≡ 512 + length (stmts-words ss)
+
+-- what is left of it: ts from q on, behind the log s. m: merging chosen
+pub record Left (m : Bool) (p : Problem) (f : Fixed) (ss : List Stmt) (F : List ℤ) (end q : ℕ) (ts : List Stmt) (s : Log) : Type 0 where
+  pub legal : Each LegalStmt ts
+  pub within : Each (StmtWithin (p .domains)) ts
+  pub read : Each (Folds p f) ts
+  pub words : Has F q (stmts-words ts)
+  pub from : 512 ≤ q
+  pub place : q + length (stmts-words ts) ≡ end
+  pub parted : PartedFrom (parted-of 512 ss) q ts
+  pub ends : normalize-stmts (p .domains) ts s ≡ log-of m p ss
+
+all-read : (p : Problem) (f : Fixed) (ss : List Stmt) → Each (WellStmt (p .bools) (length (p .domains))) ss → Each (Folds p f) (map (fold-stmt (p .domains) f) ss)
+all-read p f [] h = tt
+all-read p f (t ∷ ss) h = (record { origin = t; folded = refl; well = h .0 }, all-read p f ss (h .1))
+
+stmt-long : (t : Stmt) → 1 ≤ length (encode-stmt t)
+unfolding encode-stmt
+stmt-long (Rule e) = omega arith
+stmt-long (Table es rows) = omega arith
+stmt-long (AllDifferent es) = omega arith
+
+module _ (m : Bool) (p : Problem) (f : Fixed) (ss : List Stmt) (set F : List ℤ) (end : ℕ) (with-ifs : Bool) (h : Lent p f ss set F end with-ifs) where
+  abbrev ds : List Domain
+  ds = p .domains
+
+  pub end-inside : end ≤ 4608
+  end-inside = omega (arith, h .ends, settled-short p f ss (h .settled))
+
+  pub left-start : Left m p f ss F end 512 ss (start-log m ss)
+  left-start =
+      let k = h .settled in
+      record {
+        legal = settled-legal p (k .well) f ss (k .ends) (h .deep);
+        within = settled-within p (k .well) f ss (k .ends) (k .unrefused);
+        read = subst (λ (ts : List Stmt). Each (Folds p f) ts) (sym (optimize-rests p (well-declared p (k .well)) f ss (k .ends) .origin)) (all-read p f (p .stmts) (k .well .stmts-well));
+        words = h .stands;
+        from = omega arith;
+        place = sym (h .ends);
+        parted = λ q l. refl;
+        ends = refl;
+      }
+
+  module _ (q : ℕ) (s : Log) where
+    -- more are left exactly before the end
+    pub left-first : {X : Type 0} (ts : List Stmt) → Left m p f ss F end q ts s → q < end → ((t : Stmt) (us : List Stmt) → Left m p f ss F end q (t ∷ us) s → X) → X
+    left-first [] k l g = absurd (omega (arith, k .place))
+    left-first (t ∷ us) k l g = g t us k
+
+    pub left-end : (ts : List Stmt) → Left m p f ss F end q ts s → end ≤ q → s ≡ log-of m p ss
+    unfolding normalize-stmts
+    left-end [] k l = k .ends
+    left-end (t ∷ us) k l = absurd (omega (arith, k .place, stmt-long t, length-append (encode-stmt t) (stmts-words us)))
+
+    module _ (t : Stmt) (ts : List Stmt) (k : Left m p f ss F end q (t ∷ ts) s) where
+      abbrev rest : ℕ
+      rest = q + length (encode-stmt t)
+
+      -- where it ends
+      pub first-to : rest ≤ end
+      first-to = omega (arith, k .place, length-append (encode-stmt t) (stmts-words ts))
+
+      pub first-long : q < rest
+      first-long = omega (arith, stmt-long t)
+
+      pub first-words : Has F q (encode-stmt t)
+      first-words = has-front F q (encode-stmt t) (stmts-words ts) (k .words)
+
+      pub left-next : Left m p f ss F end (q + length (encode-stmt t)) ts (normalize-stmt (p .domains) t s)
+      unfolding normalize-stmts
+      left-next = record {
+        legal = k .legal .1;
+        within = k .within .1;
+        read = k .read .1;
+        words = has-back F q (encode-stmt t) (stmts-words ts) (k .words);
+        from = omega (arith, k .from);
+        place = omega (arith, k .place, length-append (encode-stmt t) (stmts-words ts));
+        parted = parted-rest (parted-of 512 ss) q t ts (k .legal) (k .parted);
+        ends = k .ends;
+      }
+
+      -- ---- the log grows
+
+      walks : AllWalk ds F (parted-of 512 ss) 0 0 with-ifs [] (omega arith) (stmt-stages ds 0 0 F q t [])
+      walks = stmt-walk ds F (parted-of 512 ss) 0 0 with-ifs [] (omega arith) end end-inside (h .marked) q t ts (k .legal) (k .parted) first-words (k .from) first-to [] tt
+
+      first-grows : Grows s (normalize-stmt ds t s)
+      first-grows =
+          let e : steps (stmt-stages ds 0 0 F q t []) s ≡ normalize-stmt ds t s = stmt-steps ds 0 0 F q t [] s ∙ (unfold steps in refl) in
+          subst (λ (z : Log). Grows s z) e (steps-grow ds F (parted-of 512 ss) 0 0 with-ifs [] (omega arith) (stmt-stages ds 0 0 F q t []) walks s)
+
+      -- the clauses behind it
+      pub first-clauses : clauses-of (normalize-stmt (p .domains) t s) ≡ clauses-of s ++ clauses-since s (normalize-stmt (p .domains) t s)
+      first-clauses = top-adds (first-grows .top)
+
+    -- up to the whole set's
+    pub left-grows : (ts : List Stmt) → Left m p f ss F end q ts s → Grows s (log-of m p ss)
+    left-grows ts k =
+        let a = stmts-walk ds F (parted-of 512 ss) 0 0 with-ifs [] (omega arith) end end-inside (h .marked) q ts (k .legal) (k .parted) (k .words) (k .from) (omega (arith, k .place)) in
+        let e : steps (stmts-stages ds 0 0 F q ts) s ≡ log-of m p ss = stmts-steps ds 0 0 F q ts s ∙ k .ends in
+        subst (λ (z : Log). Grows s z) e (steps-grow ds F (parted-of 512 ss) 0 0 with-ifs [] (omega arith) (stmts-stages ds 0 0 F q ts) a s)

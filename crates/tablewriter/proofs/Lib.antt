@@ -1,0 +1,9 @@
+pub mod Forms
+pub mod Equation
+pub mod Triples
+pub mod Descriptions
+pub mod Tells
+pub mod Copying
+pub mod Elsewhere
+pub mod Storing
+pub mod Rows

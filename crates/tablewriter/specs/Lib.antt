@@ -1,0 +1,4 @@
+pub mod Same
+pub mod Columns
+pub mod Describing
+pub mod Step
