@@ -10,7 +10,6 @@ use lib.Seq.{take-take}
 use Rattle.laws.specs.Lists.{any}
 use Rattle.laws.specs.Slices.{Has}
 use Rattle.syntax.specs.Syntax.{IntExpr, IConst, IVar, Linear, If, encode-int, Stmt, Problem, encode}
-use Rattle.words.specs.Exact.{Each}
 use Rattle.fold.specs.Fold.{Fixed}
 use Rattle.walk.specs.Decode.{read-part}
 use Rattle.walks.specs.Item.{has-ifs, ifs-word}
@@ -18,7 +17,6 @@ use Rattle.walks.specs.Cells.{IsIf}
 use Rattle.memory.specs.Mark.{is-if, mark-of, if-marks}
 use Rattle.statements.specs.Stages.{settled-short}
 use Rattle.stages.specs.StatementsPlaces.{Marked}
-use Rattle.stages.specs.StartLegal.{Shallow}
 use Rattle.setwriter.specs.Statements.{Lent}
 use Rattle.setwriter.specs.Begin.{Settles}
 
@@ -36,11 +34,10 @@ marks F w end e q x i h l k = go x i h
     go (Linear ts) i h = absurd i
     go (If r c t f) i h = if-marks F end q l k r c t f h w e
 
-pub lent : (p : Problem) (f : Fixed) (ss : List Stmt) (set w : List ℤ) (end : ℕ) → Settles p f ss w end → set ≡ encode p → Each Shallow (p .stmts) → getD w ifs-word (pos 0) ≡ mark-of w end → Lent p f ss set (read-part w) end (has-ifs w)
-lent p f ss set w end h e deep m = record {
+pub lent : (p : Problem) (f : Fixed) (ss : List Stmt) (set w : List ℤ) (end : ℕ) → Settles p f ss w end → set ≡ encode p → getD w ifs-word (pos 0) ≡ mark-of w end → Lent p f ss set (read-part w) end (has-ifs w)
+lent p f ss set w end h e m = record {
   words = e;
   settled = h .set;
-  deep = deep;
   stands = h .stands;
   marked = marks (read-part w) w end (m ∙ same-mark w end (omega (arith, h .ends, settled-short p f ss (h .set))));
   ends = h .ends;

@@ -22,7 +22,7 @@ use Rattle.statements.specs.Stages.{Settled, log-of, settled-short}
 use Rattle.stages.specs.StatementsParts.{steps, steps-grow, AllWalk}
 use Rattle.stages.specs.StatementsPlaces.{stmts-words, parted-of, LegalStmt, PartedFrom, parted-rest, Marked}
 use Rattle.stages.specs.Statements.{stmt-stages, stmts-stages, stmt-steps, stmts-steps, stmt-walk, stmts-walk}
-use Rattle.stages.specs.StartLegal.{Shallow, settled-legal}
+use Rattle.stages.specs.StartLegal.{settled-legal}
 use Rattle.stages.specs.StartFits.{StmtWithin, settled-within}
 
 -- a folded statement, and how it was read
@@ -35,7 +35,6 @@ pub record Folds (p : Problem) (f : Fixed) (t : Stmt) : Type 0 where
 pub record Lent (p : Problem) (f : Fixed) (ss : List Stmt) (set F : List ℤ) (end : ℕ) (with-ifs : Bool) : Type 0 where
   pub words : set ≡ encode p
   pub settled : Settled p f ss
-  pub deep : Each Shallow (p .stmts)
   pub stands : Has F 512 (stmts-words ss)
   pub marked : Marked F end with-ifs
   pub ends : end ≡ 512 + length (stmts-words ss)
@@ -72,7 +71,7 @@ module _ (m : Bool) (p : Problem) (f : Fixed) (ss : List Stmt) (set F : List ℤ
   left-start =
       let k = h .settled in
       record {
-        legal = settled-legal p (k .well) f ss (k .ends) (h .deep);
+        legal = settled-legal p (k .well) f ss (k .ends);
         within = settled-within p (k .well) f ss (k .ends) (k .unrefused);
         read = subst (λ (ts : List Stmt). Each (Folds p f) ts) (sym (optimize-rests p (well-declared p (k .well)) f ss (k .ends) .origin)) (all-read p f (p .stmts) (k .well .stmts-well));
         words = h .stands;

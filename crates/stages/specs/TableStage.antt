@@ -149,14 +149,14 @@ module _ (ds : List Domain) (F : List ℤ) (parted : ℕ → Bool) (rec cap : �
   stand : ColumnsStand F parted with-ifs es (at + 3)
   stand = record {
     legal = legal;
-    words = table-words F ds at es rows words;
+    words = table-words F at es rows words;
     from = omega arith;
-    to = omega (arith, table-length F ds es rows);
+    to = omega (arith, table-length es rows);
     agree = agree;
   }
 
   stop : at + 3 + length (columns-words es) ≤ at + length (encode-stmt (Table es rows))
-  stop = omega (arith, table-length F ds es rows)
+  stop = omega (arith, table-length es rows)
 
   first-passed : (n : ℕ) (st : State) (s : Log) → Standing ds F parted rec cap with-ifs before low at (stage .room + n) st s → st .used ≤ words-of s
       → Passed ds F parted rec cap with-ifs before low (stage .to) n (Again ds F parted rec cap with-ifs before low stage st s) (stage .part .meet st) (normalize-table ds es rows s)
