@@ -17,6 +17,10 @@ ghost use Rattle.differing.specs.Pair.{leaf-code, leaf-sum, apart-terms,
 ghost use Rattle.differing.specs.Rows.{end-at, Row, PutRow, Pairs, PutPairs};
 ghost use Rattle.differing.specs.Values.{SomeSized, HasValue, Plain-value, Value-of, Same-of, SomeOne, Like, SomeOver, All-like, Variables, Used, PutLiterals, PutValue, PutEach, PutValues};
 ghost use Rattle.differing.specs.Different.{SomeDifferent, PutDifferent};
+ghost use Rattle.numbering.specs.Task.{state-of};
+ghost use Rattle.differing.specs.Again.{Asked, Ahead, Redone, pair-redo, row-redo, pairs-redo};
+use numbering::Progress;
+use numbering::Room;
 use rows::Written;
 use walk::Counters;
 
@@ -428,4 +432,122 @@ pub fn put_different(
 {
     let w = put_pairs(work, n, at, count, out, o, k);
     put_values(set, work, at, count, out, w.at, w.clauses)
+}
+
+// ---- with Ifs: each pair is numbered again right before it is written; the records fall away, since `none` has no room
+
+// Behind pairs: what the first walk counts, and where and behind how many clauses the next one comes.
+pub struct Rewritten {
+    pub walk: Progress,
+    pub at: usize,
+    pub clauses: usize,
+}
+
+// OPEN: setnumbers::clear_pair, numbering::number_pair, then rulewriter's words of the pair.
+fn rewrite_pair(
+    work: &mut [i32],
+    none: &mut [i32],
+    p: usize,
+    q: usize,
+    room: Room,
+    c: Progress,
+    out: &mut [i32],
+    o: usize,
+    k: usize,
+) -> Rewritten
+    requires { ⌜ (p ≤ 4608) × (q ≤ 4608) × Asked (pair-redo (room .records) (room .cap) (read-part (now work)) p q) (state-of (now work) (now none) c) (room .records) × Ahead (now out) o k ⌝ }
+    ensures { λ r. ⌜ Redone (room .cap) (pair-redo (room .records) (room .cap) (read-part (now (work .entry))) p q) (state-of (now (work .entry)) (now (none .entry)) c) (state-of (now (work .exit)) (now (none .exit)) (r .walk)) (now (out .entry)) o k (now (out .exit)) (r .at) (r .clauses) ⌝ }
+{
+    Rewritten {
+        walk: c,
+        at: o,
+        clauses: k,
+    }
+}
+
+// The expression at p with each of so many from `at` on.
+fn rewrite_row(
+    work: &mut [i32],
+    none: &mut [i32],
+    p: usize,
+    at: usize,
+    count: usize,
+    room: Room,
+    c: Progress,
+    out: &mut [i32],
+    o: usize,
+    k: usize,
+) -> Rewritten
+    requires { ⌜ (p ≤ 4608) × (at ≤ 4608) × Asked (row-redo (room .records) (room .cap) (read-part (now work)) p count at) (state-of (now work) (now none) c) (room .records) × Ahead (now out) o k ⌝ }
+    ensures { λ r. ⌜ Redone (room .cap) (row-redo (room .records) (room .cap) (read-part (now (work .entry))) p count at) (state-of (now (work .entry)) (now (none .entry)) c) (state-of (now (work .exit)) (now (none .exit)) (r .walk)) (now (out .entry)) o k (now (out .exit)) (r .at) (r .clauses) ⌝ }
+{
+    let mut d = c;
+    let mut b = at;
+    let mut q = o;
+    let mut m = k;
+    let mut rest = count;
+    while rest != 0 {
+        if room.cap < d.used {
+            return Rewritten {
+                walk: d,
+                at: q,
+                clauses: m,
+            };
+        }
+        let next = end_of(work, b);
+        let r = rewrite_pair(work, none, p, b, room, d, out, q, m);
+        b = next;
+        d = r.walk;
+        q = r.at;
+        m = r.clauses;
+        rest -= 1;
+    }
+    Rewritten {
+        walk: d,
+        at: q,
+        clauses: m,
+    }
+}
+
+// All pairs of so many expressions from `at` on.
+pub fn rewrite_pairs(
+    work: &mut [i32],
+    none: &mut [i32],
+    at: usize,
+    count: usize,
+    room: Room,
+    c: Progress,
+    out: &mut [i32],
+    o: usize,
+    k: usize,
+) -> Rewritten
+    requires { ⌜ (at ≤ 4608) × Asked (pairs-redo (room .records) (room .cap) (read-part (now work)) count at) (state-of (now work) (now none) c) (room .records) × Ahead (now out) o k ⌝ }
+    ensures { λ r. ⌜ Redone (room .cap) (pairs-redo (room .records) (room .cap) (read-part (now (work .entry))) count at) (state-of (now (work .entry)) (now (none .entry)) c) (state-of (now (work .exit)) (now (none .exit)) (r .walk)) (now (out .entry)) o k (now (out .exit)) (r .at) (r .clauses) ⌝ }
+{
+    let mut d = c;
+    let mut p = at;
+    let mut q = o;
+    let mut m = k;
+    let mut rest = count;
+    while rest != 0 {
+        if room.cap < d.used {
+            return Rewritten {
+                walk: d,
+                at: q,
+                clauses: m,
+            };
+        }
+        let next = end_of(work, p);
+        rest -= 1;
+        let r = rewrite_row(work, none, p, next, rest, room, d, out, q, m);
+        p = next;
+        d = r.walk;
+        q = r.at;
+        m = r.clauses;
+    }
+    Rewritten {
+        walk: d,
+        at: q,
+        clauses: m,
+    }
 }

@@ -7,3 +7,4 @@ pub mod Sums
 pub mod Making
 pub mod Registered
 pub mod Blocks
+pub mod Extras

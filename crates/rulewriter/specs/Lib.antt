@@ -1,3 +1,4 @@
 pub mod Domains
 pub mod Places
 pub mod Making
+pub mod Ties

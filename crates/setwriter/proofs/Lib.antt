@@ -1,1 +1,3 @@
+pub mod ByMaps
+pub mod Again
 pub mod Begin
