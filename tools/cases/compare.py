@@ -4,7 +4,7 @@ The line `total=` is not the reference's: it is counted anew from the printed cl
 
     python3 tools/cases/compare.py SEED COUNT [FAMILY]
 
-FAMILY is text, or iftext for sets with Ifs, which wait until the programs read code 23.
+FAMILY is text, or iftext for sets with Ifs.
 
 Run at the repository's root, after `rt check cases listing` (target/bin) and the reference's build. Texts go to the
 program `cases` in pieces that its buffer holds; a longer one goes to `listing` by itself."""

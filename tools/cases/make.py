@@ -2,7 +2,7 @@
 """Writes crates/cases/stdin and stdout: texts with the listings that tools/reference gives them.
 
 Run at the repository's root, after `cargo build --release --manifest-path tools/reference/Cargo.toml`.
-The named cases are document 01's P1 to P12 and "Also" cases, AllDifferents (document 02, 2.1), each refusal that a text
+The named cases are document 01's P1 to P12 and "Also" cases, AllDifferents and Ifs (document 02, 2.1 and 2.5), each refusal that a text
 can reach, and texts of each form that is unread; the others are generated sets of each family, and generated texts, good and damaged.
 Each listing's `total=` is held to a recount of its clauses (document 02, 2.2; recount.py).
 Nothing here is taken from the port."""
@@ -50,12 +50,51 @@ def pair_of(count):
     return different(["0,0,1"] * count, *words)
 
 
-def listed(ints, domains, *clauses):
-    """The listing of an answer without Booleans."""
-    lines = ["answer=compiled", "fixed=", "bools=", "ints=" + ints, f"emitted=0,{len(domains)}"]
-    lines += ["domain=0," + d for d in domains] + ["clause=" + c for c in clauses]
-    return "\n".join(lines + [f"clauses={len(clauses)}", f"total={sum(c.count(';') for c in clauses)}"]) + "\n"
+def compiled(maps, emitted, domains, *clauses):
+    """The listing of an answer in which no Boolean is fixed."""
+    bools, ints = maps
+    fixed = ",".join("2" for _ in bools.split(",") if bools)
+    lines = ["answer=compiled", "fixed=" + fixed, "bools=" + bools, "ints=" + ints, f"emitted={emitted},{len(domains)}"]
+    lines += ["domain=" + d for d in domains] + ["clause=" + c for c in clauses]
+    return recounted("\n".join([*lines, f"clauses={len(clauses)}", "total=0\n"]).encode())[0].decode()
 
+
+def listed(ints, domains, *clauses):
+    """The listing of an answer without Booleans, every record of kind 0."""
+    return compiled(("", ints), 0, ["0," + d for d in domains], *clauses)
+
+
+def over(bools, *statements):
+    """One integer from 0 to 5."""
+    return text(bools, 1, ["0,0,5"], statements)
+
+
+def equals(left, right):
+    return f"1,18,0,{left},{right}"
+
+
+def nested(levels, branch):
+    """c_0 = v0 and v1, c_k = (If(c_(k-1), branch, 0) = 0)."""
+    return "18,0,23," * levels + "12,2,11,0,11,1" + f",{branch},20,0,20,0" * levels
+
+
+def branch_of(count):
+    """The only expression of an AllDifferent: an If whose branch has so many variables."""
+    terms = ",".join(f"1,21,{i}" for i in range(count))
+    return text(1, count, ["0,0,1"] * count, [f"3,1,23,11,0,22,{count},{terms},20,0"])
+
+
+def beside(count):
+    """A comparison of so many variables and an If of constants."""
+    terms = ",".join(f"1,21,{i}" for i in range(count))
+    return text(1, count, ["0,0,1"] * count, [f"1,18,0,22,{count + 1},{terms},1,23,11,0,20,1,20,2,20,0"])
+
+
+OPEN = "23,11,0,21,0,20,7"
+PAIR = "23,11,0,20,2,20,7"
+XOR = "23,15,11,0,11,1,21,0,20,7"
+X = "0,0,5,6"
+MADE = ["1,-2", "-2;0:0:0,1,1,-1", "-1,2", "2;0:7:1,-1"]  # the clauses of OPEN
 
 STAR = "-2147483648"
 BITS = ["0,1,2"] * 2
@@ -129,6 +168,49 @@ NAMED = [
     ("different, 64 in a pair", pair_of(64), "answer=compiled"),
     ("different, 65 in a pair", pair_of(65), "answer=refused,10\n"),
     ("different, too long", different(["0,0,1"], *["21,0"] * 90), "answer=refused,12\n"),
+    ("If, two values", over(2, equals(PAIR, "21,0")), compiled(("1,0", "2"), 1, ["1,-1,2,7", X], ";0:0:0,1,1,-1")),
+    ("If, the higher first", over(1, equals("23,11,0,20,7,20,2", "21,0")), compiled(("1", "2"), 1, ["1,1,2,7", X], ";0:0:0,1,1,-1")),
+    ("If, one value twice", over(1, equals("23,11,0,20,3,20,3", "21,0")), compiled(("1", "2"), 1, ["0,3,3,1", X], ";0:0:0,1,1,-1")),
+    ("If, a negated condition", over(2, equals("23,14,11,0,20,2,20,7", "21,0")), compiled(("2,0", "2"), 2, ["1,-1,2,7", X], "1,2", "-1,-2", ";0:0:0,1,1,-1")),
+    ("If, two in a condition", over(2, equals("23,12,2,11,0,11,1,20,2,20,7", "21,0")), compiled(("2,3", "2"), 3, ["1,-1,2,7", X], "1,-2,-3", "2,-1", "3,-1", ";0:0:0,1,1,-1")),
+    ("If, a branch cancels", over(1, equals("23,11,0,22,3,1,21,0,-1,21,0,1,20,3,20,4", "20,2")), compiled(("1", "1"), 1, [X, "1,-1,3,4"], ";0:-2:1,1")),
+    ("If, open", text(2, 2, ["0,0,5", "0,2,9"], ["1,18,0,23,12,2,11,0,11,1,21,0,21,1,20,4"]), compiled(("1,2", "1,2"), 3, [X, "0,2,9,8", "0,0,9,10"], "1,-3", "2,-3", "-3;0:0:0,1,2,-1", "-1,-2,3", "3;0:0:1,1,2,-1", ";0:-4:2,1")),
+    ("If, found again", over(1, equals(OPEN, "20,1"), "1,18,1," + OPEN + ",20,2"), compiled(("1", "1"), 2, [X, "0,0,7,8"], *MADE, ";0:-1:1,1", ";1:-2:1,1")),
+    ("If, on both sides", over(1, equals(OPEN, OPEN)), compiled(("1", "1"), 2, [X, "0,0,7,8"], *MADE, ";0:0:")),
+    ("If, constants again", over(1, equals(PAIR, PAIR)), compiled(("1", "0"), 1, ["1,-1,2,7"] * 2, ";0:0:0,1,1,-1")),
+    ("If, both signs", over(2, "1,15,18,0," + PAIR + ",20,2,11,1"), compiled(("1,2", "0"), 2, ["1,-1,2,7"] * 2, "2;0:-2:0,1", "-2;1:-2:1,1")),
+    ("If, split twice", over(3, equals(XOR, XOR)), "answer=compiled\nfixed=2,2,2\nbools=5,6,0\nints=1\nemitted=8,3"),
+    ("If, split in an If", over(3, equals("23,15,11,0,11,1,23,16,11,1,11,2,21,0,20,1,20,7", "20,4")), "answer=compiled\nfixed=2,2,2\nbools=5,6,7\nints=1\nemitted=9,3"),
+    ("If, in a column", over(1, "2,1,2,23,11,0,20,1,20,3,1,3"), compiled(("1", "0"), 1, ["1,-1,1,3", "0,1,3,3"], ";0:0:0,1,1,-1", ";0:-1:1,1;0:-3:1,1")),
+    ("If, a column's domain", over(1, "2,1,3,23,11,0,20,1,20,3,1,2,3"), compiled(("1", "0"), 1, ["1,-1,1,3", "0,1,3,3"], ";0:0:0,1,1,-1")),
+    ("If, Iff in a column", over(2, "2,1,1,23,16,11,0,11,1,21,0,20,3,1"), compiled(("1,2", "1"), 3, [X] * 3, "1,-2,-3", "-1,2,-3", "-3;0:0:0,1,1,-1", "1,2,3", "-1,-2,3", "3;0:3:1,-1", ";0:0:1,1,2,-1", ";0:-1:2,1")),
+    ("If, column then rule", over(1, "2,1,1," + OPEN + ",1", equals(OPEN, "20,2")), "answer=compiled\nfixed=2\nbools=1\nints=1\nemitted=2,3"),
+    ("If, starred rows", over(1, f"2,2,2,{OPEN},21,0,7,{STAR},{STAR},2"), "answer=compiled"),
+    ("If, different", over(2, "3,3," + OPEN + ",20,1,20,2"), compiled(("1,0", "1"), 2, [X, "0,0,7,8"], *MADE, ";1:-1:1,1", ";1:-2:1,1", ";1:-1:")),
+    ("If, different, split", over(2, "3,3," + XOR + ",20,1,20,2"), "answer=compiled\nfixed=2,2\nbools=3,4\nints=1\nemitted=8,3"),
+    ("If, different, constants", over(2, "3,3,23,11,0,20,0,20,3,20,1,20,2"), compiled(("1,0", "0"), 1, ["1,-1,0,3"] * 2, ";1:-1:0,1", ";1:-2:1,1", ";1:-1:")),
+    ("If, open in conditions", over(2, "1," + nested(9, "21,0")), "answer=compiled"),
+    ("If, five doublings", text(2, 0, [], ["1," + nested(5, "20,1")]), "answer=compiled"),
+    ("If, a known condition", over(2, "1,11,0", equals(OPEN, "20,1")), compiled(("0,0", "1"), 0, [X], ";0:-1:0,1").replace("fixed=2,2", "fixed=1,2")),
+    ("If, ties", over(2, "1,15,11,0,11,1", equals("23,11,1,20,2,20,7", "21,0")), compiled(("1,2", "2"), 2, ["1,-2,2,7", X], "1,2", "-1,-2", ";0:0:0,1,1,-1")),
+    ("If ends early", rules(1, "18,0,23,11,0,20,1"), "answer=refused,3\n"),
+    ("If, an integer condition", rules(1, "18,0,23,20,0,20,1,20,2,20,0"), "answer=refused,5\n"),
+    ("If, a Boolean branch", rules(1, "18,0,23,11,0,11,0,20,2,20,0"), "answer=refused,5\n"),
+    ("If for a rule", rules(1, "23,11,0,20,1,20,2"), "answer=refused,5\n"),
+    ("If, depth 64", over(1, "2,1,0,23," + "14," * 62 + "11,0,21,0,20,1"), "answer=compiled"),
+    ("If, depth 65", over(1, "2,1,0,23," + "14," * 63 + "11,0,21,0,20,1"), "answer=refused,8\n"),
+    ("If, weight 2^30-1", rules(1, "18,0,23,11,0,20,1073741822,20,5,20,1"), "answer=compiled"),
+    ("If, weight 2^30", rules(1, "18,0,23,11,0,20,5,20,1073741823,20,1"), "answer=refused,9\n"),
+    ("If, heavy condition", over(0, "2,1,0,23,18,0,20,1073741823,20,1,20,1,20,2"), "answer=refused,9\n"),
+    ("If and 63 variables", beside(63), "answer=compiled"),
+    ("If and 64 variables", beside(64), "answer=refused,10\n"),
+    ("If, a branch of 63", branch_of(63), "answer=compiled"),
+    ("If, a branch of 64", branch_of(64), "answer=refused,10\n"),
+    ("If, span 4096", text(1, 0, [], ["2,1,0,23,11,0,20,0,20,4095"]), "answer=compiled"),
+    ("If, span 4097", text(1, 0, [], ["2,1,0,23,11,0,20,0,20,4096"]), "answer=refused,11\n"),
+    ("If, ten doublings", text(2, 0, [], ["1," + nested(10, "20,1")]), "answer=refused,12\n"),
+    ("If, 30 doublings", text(2, 0, [], ["1," + nested(30, "20,1")]), "answer=refused,12\n"),
+    ("If, 60 nested Iff", text(2, 0, [], ["2,1,0,23," + "16," * 60 + "11,0" + ",11,1" * 60 + ",20,0,20,1"]), "answer=refused,12\n"),
     ("ends early", rules(1, "11"), "answer=refused,3\n"),
     ("words after the last", text(0, 0, [], ["1,12,0"]).replace(b"12,0", b"12,0,7"), "answer=refused,3\n"),
     ("statement missing", b"bools=0\nints=0\nstatements=1\n", "answer=refused,3\n"),
@@ -181,7 +263,9 @@ NAMED = [
 ]
 
 
-FAMILIES = ["rules", "chains", "comparisons", "tables", "mixed", "different", "kinds"]
+# how many sets of each family
+FAMILIES = dict.fromkeys(["rules", "chains", "comparisons", "tables", "mixed", "different", "kinds"], 9)
+FAMILIES |= dict.fromkeys(["ifs", "ifcolumns", "ifmixed", "ifdifferent", "ifequal", "ifcancel", "ifchains", "ifties"], 3)
 
 
 def sets(family, seed, count):
@@ -199,10 +283,12 @@ def sets(family, seed, count):
 
 
 def recorded(seed, count):
-    """Generated texts, good and damaged."""
-    for index, line in enumerate(reference("record", str(seed), "text", str(count)).decode().splitlines()):
-        found = re.fullmatch(r"text=(.*) listing=(.*)", line)
-        yield f"text {index}", unescape(found.group(1)), unescape(found.group(2))
+    """Generated texts, good and damaged, without and with Ifs in turn."""
+    lines = [reference("record", str(seed), family, str(count)).decode().splitlines() for family in ("text", "iftext")]
+    for index, pair in enumerate(zip(*lines)):
+        for family, line in zip(("text", "iftext"), pair):
+            found = re.fullmatch(r"text=(.*) listing=(.*)", line)
+            yield f"{family} {index}", unescape(found.group(1)), unescape(found.group(2))
 
 
 def unescape(s):
@@ -221,10 +307,10 @@ def main():
         expected = reference("listing", text=given)
         assert expected.decode().startswith(said) and (not said.endswith("\n") or expected.decode() == said), (name, expected)
         all_cases.append(case(name, given, expected))
-    for family in FAMILIES:
+    for family, count in FAMILIES.items():
         short = [(n, t) for n, t in sets(family, 7, 60) if len(t) <= 700]
         listed = [(n, t, reference("listing", text=t)) for n, t in short]
-        all_cases += [case(*c) for c in listed if len(c[2]) <= 2000][:20]
+        all_cases += [case(*c) for c in listed if len(c[2]) <= 2000][:count]
     size = sum(map(len, all_cases))
     unread = 0
     for name, given, expected in recorded(7, 600):

@@ -9,10 +9,10 @@ PAIRS = {"xor": XOR, "iff": IFF, "=>": IMP}
 CONSTANTS = {"false": 0, "true": 1}
 DECLARATIONS = ("bool", "int")
 RULES = [*LISTS, "not", *PAIRS, *OPERATORS]
-SUMS = ["+", "-", "*"]
-# What stands only by itself, in no other rule. `if` is kept for the form that request 2.5 brings.
+INTEGERS = ["+", "-", "*", "if"]
+# What stands only by itself, in no other rule.
 STATEMENTS = ("table", "alldifferent")
-RESERVED = {*RULES, *SUMS, *CONSTANTS, *DECLARATIONS, *STATEMENTS, "if"}
+RESERVED = {*RULES, *INTEGERS, *CONSTANTS, *DECLARATIONS, *STATEMENTS}
 STAR = "*"
 
 NUMBER = re.compile(r"0|-?[1-9][0-9]*")  # as in a set's text

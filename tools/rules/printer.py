@@ -1,7 +1,7 @@
 """A set as rules with names: translating what is printed gives the same words."""
 
 from solve import sets
-from solve.sets import AND, CMP, CONST, DIFFERENT, ICONST, IVAR, NOT, OR, RANGE, RULE, VAR
+from solve.sets import AND, CMP, CONST, DIFFERENT, ICONST, IF, IVAR, NOT, OR, RANGE, RULE, VAR
 
 from . import language
 
@@ -49,6 +49,8 @@ class Printer:
             return str(tree[1])
         if tree[0] == IVAR:
             return self.ints[tree[1]]
+        if tree[0] == IF:
+            return bracket("if", [self.boolean(tree[1]), *map(self.integer, tree[2:])])
         return bracket("+", [self.term(*term) for term in tree[1]])
 
     def term(self, factor, tree):

@@ -5,7 +5,7 @@ from collections import namedtuple
 
 from solve import sets
 from solve.errors import Failed
-from solve.sets import CMP, CONST, DIFFERENT, ICONST, IVAR, NOT, RANGE, RULE, SUM, TABLE, VALUES, VAR
+from solve.sets import CMP, CONST, DIFFERENT, ICONST, IF, IVAR, NOT, RANGE, RULE, SUM, TABLE, VALUES, VAR
 
 from . import language, reader
 from .reader import Wrong
@@ -170,7 +170,10 @@ class Statement:
             return (SUM, [(1, left), (-1, right)])
         if word == "*":
             return (SUM, [self.term(node, level + 1)])
-        self.refuse(node, "an integer is expected: a number, a name or a bracket that begins with one of " + " ".join(language.SUMS))
+        if word == "if":
+            condition, *branches = exactly(node, 3)
+            return (IF, self.boolean(condition, level + 1), *(self.integer(part, level + 1) for part in branches))
+        self.refuse(node, "an integer is expected: a number, a name or a bracket that begins with one of " + " ".join(language.INTEGERS))
 
     def term(self, node, level):
         """A summand with its coefficient: (* NUMBER e) is one term, not a sum of its own."""

@@ -1,21 +1,23 @@
-"""Whether a roster satisfies a set, worked out from the set's own statements (document 01, "When an assignment passes"; AllDifferent: document 02, 2.1).
+"""Whether a roster satisfies a set, worked out from the set's own statements (document 01, "When an assignment passes"; AllDifferent and If: document 02, 2.1 and 2.5).
 
 It is the tools' own reading of a set: it shares nothing with the port, the listing or a solver.
 """
 
 import operator
 
-from .sets import AND, CMP, CONST, DIFFERENT, ICONST, IFF, IMP, IVAR, NOT, OR, RULE, STAR, VAR, XOR, values_of
+from .sets import AND, CMP, CONST, DIFFERENT, ICONST, IF, IFF, IMP, IVAR, NOT, OR, RULE, STAR, VAR, XOR, values_of
 
 COMPARE = [operator.eq, operator.ne, operator.le, operator.lt, operator.ge, operator.gt]
 
 
-def integer_value(tree, ints):
+def integer_value(tree, bools, ints):
     if tree[0] == ICONST:
         return tree[1]
     if tree[0] == IVAR:
         return ints[tree[1]]
-    return sum(factor * integer_value(term, ints) for factor, term in tree[1])
+    if tree[0] == IF:
+        return integer_value(tree[2] if holds(tree[1], bools, ints) else tree[3], bools, ints)
+    return sum(factor * integer_value(term, bools, ints) for factor, term in tree[1])
 
 
 def holds(tree, bools, ints):
@@ -25,7 +27,7 @@ def holds(tree, bools, ints):
     if code == VAR:
         return bools[tree[1]]
     if code == CMP:
-        return COMPARE[tree[1]](integer_value(tree[2], ints), integer_value(tree[3], ints))
+        return COMPARE[tree[1]](*(integer_value(side, bools, ints) for side in tree[2:]))
     if code == AND:
         return all(holds(member, bools, ints) for member in tree[1])
     if code == OR:
@@ -39,7 +41,7 @@ def holds(tree, bools, ints):
 def statement_holds(statement, bools, ints):
     if statement[0] == RULE:
         return holds(statement[1], bools, ints)
-    values = [integer_value(member, ints) for member in statement[1]]
+    values = [integer_value(member, bools, ints) for member in statement[1]]
     if statement[0] == DIFFERENT:
         return len(set(values)) == len(values)
     return any(all(cell in (STAR, value) for cell, value in zip(row, values)) for row in statement[2])

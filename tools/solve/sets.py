@@ -3,7 +3,7 @@
 Trees are tuples that begin with the set's own code:
   Boolean    (CONST, 0 or 1) (VAR, index) (AND, members) (OR, members) (NOT, e) (XOR, l, r) (IFF, l, r) (IMP, l, r)
              (CMP, operator, l, r)
-  integer    (ICONST, value) (IVAR, index) (SUM, [(coefficient, e), ..])
+  integer    (ICONST, value) (IVAR, index) (SUM, [(coefficient, e), ..]) (IF, Boolean, e, e)
   statement  (RULE, e) (TABLE, columns, rows) (DIFFERENT, [integer, ..])
   domain     (RANGE, low, high) (VALUES, [value, ..])
 """
@@ -16,7 +16,7 @@ from .errors import Failed
 RANGE, VALUES = 0, 1
 RULE, TABLE, DIFFERENT = 1, 2, 3
 CONST, VAR, AND, OR, NOT, XOR, IFF, IMP, CMP = range(10, 19)
-ICONST, IVAR, SUM = 20, 21, 22
+ICONST, IVAR, SUM, IF = 20, 21, 22, 23
 OPERATORS = ["=", "!=", "<=", "<", ">=", ">"]
 STAR = -2147483648
 LIMIT = 1073741823  # the largest absolute value of a value, coefficient or constant
@@ -116,10 +116,13 @@ class Cursor:
 
     def integer(self, level):
         code = self.code(level)
+        below = level + 1
         if code in (ICONST, IVAR):
             return (code, self.take())
         if code == SUM:
-            return (code, self.many(lambda: (self.take(), self.integer(level + 1))))
+            return (code, self.many(lambda: (self.take(), self.integer(below))))
+        if code == IF:
+            return (code, self.boolean(below), self.integer(below), self.integer(below))
         self.unknown("integer expression", code)
 
     def code(self, level):

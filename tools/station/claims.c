@@ -112,6 +112,20 @@ static void different(void) {
     claim(check_roster(COUNTED(used_up), COUNTED(outside), work, all) == PLANNER_OUTSIDE_DOMAIN, "PLANNER_OUTSIDE_DOMAIN", 2);
 }
 
+/* If: a record of kind 1 follows its literal; a condition is a Boolean expression; a known one picks its branch; a column's span. */
+static void ifs(void) {
+    const int32_t two_values[] = {1, 1, 0, 0, 9, 1, 1, 18, 0, 23, 11, 0, 20, 2, 20, 7, 21, 0};
+    const int32_t record[] = {2, 1, 2, 1, 2, 1, -1, 2, 7, 0, 0, 9, 10, 1, 0, 1, 0, 0, 2, 0, 1, 1, -1};
+    answers(0, COUNTED(two_values), COUNTED(record), "an If of two constants");
+    answers(PLANNER_MERGE, COUNTED(two_values), COUNTED(record), "an If with merging");
+    GIVES(8, 0, 0, 1, 1, 18, 0, 23, 10, 1, 20, 1, 20, 2, 20, 1);
+    GIVES(PLANNER_UNKNOWN_CODE, 1, 0, 1, 1, 18, 0, 23, 20, 0, 20, 1, 20, 2, 20, 0);
+    GIVES(PLANNER_WIDE_COLUMN, 1, 0, 1, 2, 1, 0, 23, 11, 0, 20, 0, 20, 4096);
+    const int32_t yes[] = {1, 2}, no[] = {0, 2};
+    claim(check_roster(COUNTED(two_values), COUNTED(yes), work, PLANNER_WORK_WORDS) == 0, "the first branch", 0);
+    claim(check_roster(COUNTED(two_values), COUNTED(no), work, PLANNER_WORK_WORDS) == 1, "not the second branch", 1);
+}
+
 /* A roster of the set "v0 or v1; x is not 1", x among 0, 1 and 3. */
 static int64_t check(size_t count, int32_t v0, int32_t v1, int32_t x, size_t work_len) {
     const int32_t set[] = {2, 1, 1, 3, 0, 1, 3, 2, 1, 13, 2, 11, 0, 11, 1, 1, 18, 1, 21, 0, 20, 1};
@@ -219,6 +233,7 @@ int main(void) {
     numbers();
     choices();
     different();
+    ifs();
     rosters();
     sheets();
     deep_and_many();

@@ -7,9 +7,9 @@
                be lent, 0 included; NULL only with length 0. The slices of one call do not overlap, and int32_t and size_t are aligned.
    Memory      No heap, no globals, no files: an entry uses the lent slices and the stack, nothing else. So calls on different
                slices may run at once in any number of threads. Every call ends.
-   Stack       Lend a thread 512 KiB. The most that compile_set or compile_set_with was seen to use is 234,248 bytes: stack.c beside this paints a
-               thread's stack, calls with the deepest and widest sets (2,026 of them), and looks how far down the paint is
-               gone. This is measured, not proved.
+   Stack       Lend a thread 512 KiB. The most that compile_set or compile_set_with was seen to use is TODO-MEASURE bytes: stack.c beside this paints a
+               thread's stack, calls with the deepest and widest sets (TODO-MEASURE of them, with Ifs in conditions and branches), and
+               looks how far down the paint is gone. This is measured, not proved.
    Work slice  PLANNER_WORK_WORDS words or more, else PLANNER_SHORT_WORK. What is in it does not matter; it is zero after
                every call.
    Words       of a set and of an answer: docs/FORMAT.md.
@@ -43,7 +43,7 @@ enum {
     PLANNER_BAD_DOMAIN = -7,           /* a domain is empty or its values do not rise */
     PLANNER_TOO_DEEP = -8,             /* an expression is deeper than 64 levels */
     PLANNER_TOO_HEAVY = -9,            /* a weight is over 1073741823 */
-    PLANNER_MANY_VARIABLES = -10,      /* over 64 different integer variables in one comparison or in two expressions of one AllDifferent, or over 63 in one column */
+    PLANNER_MANY_VARIABLES = -10,      /* over 64 different integer variables in one comparison or in two expressions of one AllDifferent, or over 63 in one column or one branch of an If; each written If counts as one more */
     PLANNER_WIDE_COLUMN = -11,         /* a column's span is over 4096 */
     PLANNER_SHORT_OUTPUT = -12,        /* the answer is longer than the output slice, or than 16777216 words */
     PLANNER_SHORT_SHEET = -13,         /* compile_sheet: the sheet slice is shorter than the finished sheet */
@@ -58,9 +58,11 @@ enum {
    Returns the number of words written to out (3 or more), PLANNER_CONTRADICTION, or a refusal, -1 to -12.
    set      is only read.
    out      is zero behind the words written, and wholly so after a contradiction or a refusal. What it held does not matter.
+            A record of an emitted integer has four words, its kind first: 0, lowest, highest, number of values; or 1, a literal,
+            the value if that is false, the value if it is true (from Ifs of constants).
    out_len  The listing program lends 16384 words, enough for most sets; the answer of the worked example (docs/EXAMPLE.md) has
-            300, that of a week of 34 blocks and 6 scorers (tools/rules/week 34 6) 3,109. Short sets can have long answers, so
-            no length is enough for all. On PLANNER_SHORT_OUTPUT nothing is wrong with the set: call again with out twice as
+            318, that of a week of 34 blocks and 6 scorers (tools/rules/week 34 6) 3,313. Short sets can have long answers (nested
+            Ifs of constants double at each level), so no length is enough for all. On PLANNER_SHORT_OUTPUT nothing is wrong with the set: call again with out twice as
             long, up to PLANNER_ANSWER_WORDS (64 MiB). If that is refused too, the rules have to be written in a shorter way.
             An output of 0 words tests a set: whatever is returned but PLANNER_SHORT_OUTPUT, any other output gives too. */
 int64_t compile_set(const int32_t *set, size_t set_len, int32_t *out, size_t out_len, int32_t *work, size_t work_len);

@@ -10,7 +10,7 @@
 #include <sys/mman.h>
 
 enum { STACK = 1 << 20, LIMIT = 512 << 10, PAINT = 0xA5, OUT = 1 << 20, LEVELS = 64 };
-enum { VAR = 11, AND, OR, NOT, XOR, IFF, IMP, CMP, CONSTANT = 20, INTEGER, SUM };
+enum { VAR = 11, AND, OR, NOT, XOR, IFF, IMP, CMP, CONSTANT = 20, INTEGER, SUM, IF };
 
 static unsigned char *stack;
 static int32_t set[PLANNER_SET_WORDS], out[OUT], work[PLANNER_WORK_WORDS];
@@ -193,6 +193,65 @@ static void measure_different(void) {
     measure("64 variables of 64 values");
 }
 
+/* An operator at each level; in the first levels each beside a comparison with an If whose condition goes on. */
+static void put_ifs(int code, int ifs, int wide, int open, int level) {
+    if (level > LEVELS - 3) {
+        put(VAR), put(next_variable());
+        return;
+    }
+    put(code);
+    if (code == AND || code == OR) put(2);
+    if (code != NOT) put_beside(wide);
+    if (level > ifs) {
+        put_ifs(code, ifs, wide, open, level + 1);
+        return;
+    }
+    put(CMP), put(0), put(IF);
+    put_ifs(code, ifs, wide, open, level + 3);
+    put(open ? INTEGER : CONSTANT), put(open ? next_variable() : 1);
+    put(CONSTANT), put(0), put(CONSTANT), put(0);
+}
+
+/* Ifs in the branches of Ifs, as many as one comparison and one column may have. */
+static void put_branches(int level) {
+    if (level == LEVELS - 1) {
+        put(CONSTANT), put(1);
+        return;
+    }
+    put(IF), put(VAR), put(next_variable()), put(INTEGER), put(0);
+    put_branches(level + 1);
+}
+
+/* Ifs in conditions, all the way down or in the first levels, open and of constants, in a rule, a column and a pair; in branches. */
+static void measure_ifs(void) {
+    static const unsigned char codes[] = {AND, OR, NOT, XOR, IFF, IMP};
+    for (int a = 0; a < 6; a++)
+        for (int ifs = 1; ifs <= LEVELS; ifs += 9)
+            for (int form = 0; form < 12; form++) {
+                char name[64];
+                put_head();
+                if (form / 4 == 0) put(1), put(CMP), put(0);
+                if (form / 4 == 1) put(2), put(1), put(0);
+                if (form / 4 == 2) put(3), put(2);
+                put(IF);
+                put_ifs(codes[a], ifs, form & 1, form >> 1 & 1, 3);
+                put(INTEGER), put(0), put(CONSTANT), put(2);
+                if (form / 4 != 1) put(CONSTANT), put(1);
+                if (words > PLANNER_SET_WORDS) continue;
+                snprintf(name, sizeof name, "Ifs under operator %d to level %d, form %d", codes[a], ifs, form);
+                measure(name);
+            }
+    put_head();
+    put(1), put(CMP), put(0);
+    put_branches(2);
+    put(CONSTANT), put(1);
+    measure("Ifs in branches");
+    put_head();
+    put(2), put(1), put(0);
+    put_branches(2);
+    measure("Ifs in a column's branches");
+}
+
 /* A chain that fixes one variable a pass, and one rule of many members. */
 static void measure_wide(void) {
     words = 0;
@@ -219,6 +278,7 @@ int main(int count, char **arguments) {
     measure_regular();
     measure_tables();
     measure_different();
+    measure_ifs();
     measure_wide();
     measure_random(sets);
     printf("%ld sets, %ld compiled: at most %zu bytes of stack\n", counted, compiled, most);

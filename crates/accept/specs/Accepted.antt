@@ -17,7 +17,7 @@ use Rattle.laws.specs.Order.{leZ-refl, leZ-lt, leZ-trans}
 use Rattle.laws.specs.Slices.{Has, has-fits, has-front, has-back, has-word, has-rest, has-sets}
 use Rattle.syntax.specs.Words.{min-work-words, max-set-words}
 use Rattle.syntax.specs.Syntax.{Domain, Range, Enumerative, lower-bound, upper-bound, last-or, domain-of, encode-domain, Stmt, Rule, Table, AllDifferent, encode-stmt, Problem, encode}
-use Rattle.syntax.specs.Written.{every-map, None, Any}
+use Rattle.syntax.specs.Written.{None, Any}
 use Rattle.words.specs.Exact.{Each}
 use Rattle.words.specs.Parse.{Parsed, ok, refuse}
 use Rattle.read.specs.Read.{read-set}
@@ -69,9 +69,9 @@ well-bounded ds h = record {
 module _ (nb ni : ℕ) where
   stmt-usable : (s : Stmt) → WellStmt nb ni s → Usable-stmt ni s
   unfolding Usable-stmt
-  stmt-usable (Rule e) h = every-map None (λ v. v < nb) (λ v. v < ni) None Any (λ v. v < ni) (λ n k. k) (λ v k. tt) (λ v k. k) e (bool-vars nb ni 64 e h)
-  stmt-usable (Table es rows) h = (columns-vars None Any ni 64 es (h .2), rows-wide (length es) rows (h .3))
-  stmt-usable (AllDifferent es) h = columns-vars None Any ni 64 es (h .1)
+  stmt-usable (Rule e) h = bool-vars None Any nb ni (λ v k. tt) 64 e h
+  stmt-usable (Table es rows) h = (columns-vars None Any nb ni (λ v k. tt) 64 es (h .2), rows-wide (length es) rows (h .3))
+  stmt-usable (AllDifferent es) h = columns-vars None Any nb ni (λ v k. tt) 64 es (h .1)
 
   stmts-usable : (ss : List Stmt) → Each (WellStmt nb ni) ss → Usable-stmts ni ss
   unfolding Usable-stmts

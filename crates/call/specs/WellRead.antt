@@ -10,7 +10,7 @@ use borrow.Author.Tests.{eq-eqb}
 use Rattle.laws.specs.Bools.{and-i}
 use Rattle.laws.specs.Lists.{all}
 use Rattle.syntax.specs.Syntax.{Domain, IntExpr, IConst, IVar, Linear, If, Terms, tnil, tmore, BoolExpr, Const, Var, NVar, And, Or, Not, Xor, Iff, Imp, Cmp, Members, mnil, more, Cell, Stmt, Rule, Table, AllDifferent, Problem}
-use Rattle.syntax.specs.Written.{EveryStmt, EveryStmts, EveryOf, EveryIntOf, EveryTermOf, EveryColumnOf, every-map, Any, None, EveryMemberOf}
+use Rattle.syntax.specs.Written.{EveryStmt, EveryStmts, EveryOf, EveryIntOf, EveryTermOf, EveryColumnOf, Any, None, EveryMemberOf}
 use Rattle.words.specs.Exact.{Each}
 use Rattle.read.specs.WellFormed.{WellInt, WellRow, WellStmt, WellFormed}
 use Rattle.read.specs.Vars.{columns-vars, bool-vars}
@@ -25,9 +25,9 @@ module _ (nb ni : ℕ) where
   stmts-ready : (ss : List Stmt) → Each (WellStmt nb ni) ss → EveryStmts (λ v. v < nb) (λ v. v < ni) ss
   unfolding EveryStmts EveryStmt
   stmts-ready [] h = tt
-  stmts-ready (Rule e ∷ ss) h = (every-map None (λ v. v < nb) (λ v. v < ni) Any (λ v. v < nb) (λ v. v < ni) (λ n k. tt) (λ v k. k) (λ v k. k) e (bool-vars nb ni 64 e (h .0)), stmts-ready ss (h .1))
-  stmts-ready (Table es rows ∷ ss) h = (columns-vars Any (λ v. v < nb) ni 64 es (h .0 .2), stmts-ready ss (h .1))
-  stmts-ready (AllDifferent es ∷ ss) h = (columns-vars Any (λ v. v < nb) ni 64 es (h .0 .1), stmts-ready ss (h .1))
+  stmts-ready (Rule e ∷ ss) h = (bool-vars Any (λ v. v < nb) nb ni (λ v k. k) 64 e (h .0), stmts-ready ss (h .1))
+  stmts-ready (Table es rows ∷ ss) h = (columns-vars Any (λ v. v < nb) nb ni (λ v k. k) 64 es (h .0 .2), stmts-ready ss (h .1))
+  stmts-ready (AllDifferent es ∷ ss) h = (columns-vars Any (λ v. v < nb) nb ni (λ v k. k) 64 es (h .0 .1), stmts-ready ss (h .1))
 
 pub well-declared : (p : Problem) → WellFormed p → EveryStmts (λ v. v < p .bools) (λ v. v < length (p .domains)) (p .stmts)
 well-declared p w = stmts-ready (p .bools) (length (p .domains)) (p .stmts) (w .stmts-well)
@@ -80,12 +80,12 @@ pub rows-wide : (n : ℕ) (rows : List (List Cell)) → Each (WellRow n) rows �
 rows-wide n [] h = refl
 rows-wide n (r ∷ rows) h = and-i (wide n r) (all (wide n) rows) (eq-eqb (length r) n (h .0 .0)) (rows-wide n rows (h .1))
 
-folded-unnamed : (ds : List Domain) (f : Fixed) (nb ni : ℕ) (es : List IntExpr) → Each (WellInt ni 64) es → NoNumbers (map (fold-int ds f) es)
-folded-unnamed ds f nb ni es h = columns-unnamed (λ v. v < nb) (λ v. v < ni) (map (fold-int ds f) es) (fold-columns-every None (λ v. v < nb) (λ v. v < ni) ds f es (columns-vars None (λ v. v < nb) ni 64 es h))
+folded-unnamed : (ds : List Domain) (f : Fixed) (nb ni : ℕ) (es : List IntExpr) → Each (WellInt nb ni 64) es → NoNumbers (map (fold-int ds f) es)
+folded-unnamed ds f nb ni es h = columns-unnamed (λ v. v < nb) (λ v. v < ni) (map (fold-int ds f) es) (fold-columns-every None (λ v. v < nb) (λ v. v < ni) ds f es (columns-vars None (λ v. v < nb) nb ni (λ v k. k) 64 es h))
 
 fold-plain : (ds : List Domain) (f : Fixed) (nb ni : ℕ) (s : Stmt) → WellStmt nb ni s → Plain (fold-stmt ds f s)
 unfolding fold-stmt
-fold-plain ds f nb ni (Rule e) h = unnamed (λ v. v < nb) (λ v. v < ni) (fold ds f e) (fold-every None (λ v. v < nb) (λ v. v < ni) ds f e (bool-vars nb ni 64 e h))
+fold-plain ds f nb ni (Rule e) h = unnamed (λ v. v < nb) (λ v. v < ni) (fold ds f e) (fold-every None (λ v. v < nb) (λ v. v < ni) ds f e (bool-vars None (λ v. v < nb) nb ni (λ v k. k) 64 e h))
 fold-plain ds f nb ni (Table es rows) h = (rw (length-map es (fold-int ds f)) (rows-wide (length es) rows (h .3)), folded-unnamed ds f nb ni es (h .2))
 fold-plain ds f nb ni (AllDifferent es) h = folded-unnamed ds f nb ni es (h .1)
 

@@ -8,3 +8,5 @@ pub mod UsedUp
 pub mod Literals
 pub mod Statements
 pub mod Rewriting
+pub mod PairAgain
+pub mod DifferentAgain

@@ -1,15 +1,17 @@
 -- An AllDifferent among whose expressions Ifs may stand: its pairs as parts of stages, by the words where they stand. Each pair is numbered again right
 -- before it is written. ws: the words that are read, rec: where the records begin, cap: the longest answer.
 use mathlib.Core.Path.{_≡_, refl, sym, ap, _∙_, subst}
-use mathlib.Core.Bool.{Bool, true, false}
+use mathlib.Core.Bool.{Bool, true, false, not, cond}
 use mathlib.Core.List.{List, [], _∷_, _++_, append-assoc, append-nil}
 use Prim.Native.Nat.{ℕ, zero, suc, _+_, _-_, _≤_, _<_}
 use native.Mathlib.Omega.{arith}
 use native.Mathlib.Numerals.{sub-one}
-use lib.IntN.{ℤ}
-use lib.ListN.{length}
+use lib.IntN.{ℤ, pos}
+use lib.ListN.{length, getD}
+use lib.Seq.{getD-drop}
 use lib.Dec.{ltb}
-use borrow.Author.Tests.{ltb-true, ltb-false, le-ltb}
+use borrow.Author.Tests.{ltb-true, lt-ltb, le-ltb}
+use Rattle.laws.specs.Ints.{is-zero}
 use Rattle.laws.specs.Writes.{cap as last-place, Wrote, wrote-then, wrote-to, wrote-none, Open}
 use Rattle.laws.specs.Slices.{Has}
 use Rattle.syntax.specs.Syntax.{Domain, Ne, IntExpr, Cmp, encode-int}
@@ -19,7 +21,7 @@ use Rattle.walks.specs.Tree.{below, here, splits}
 use Rattle.walks.specs.Form.{Forms}
 use Rattle.walks.specs.Resolve.{pair-trees}
 use Rattle.walks.specs.Legal.{LegalInt}
-use Rattle.walks.specs.Item.{counters, more-bools, counts, form-items, items}
+use Rattle.walks.specs.Item.{counters, ifs-word, has-ifs, more-bools, counts, form-items, items}
 use Rattle.walks.specs.Decode.{decode-int}
 use Rattle.walks.specs.DecodeExact.{pair-at, PairStands, pair-stands}
 use Rattle.walks.specs.Meet.{State, counters-of}
@@ -33,15 +35,16 @@ use Rattle.numbering.specs.Declares.{declares-kept}
 use Rattle.numbering.specs.Task.{Low, Kept, kept-same, kept-then}
 use Rattle.numbering.specs.Fits.{Unless}
 use Rattle.setnumbers.specs.Tasks.{cleared-task}
+use Rattle.rulewriter.specs.Pair.{pair-numbers}
 
 -- ---- parts one after another
 
-pub meet-append : (xs ys : List Part) (st : State) → meet-parts (xs ++ ys) st ≡ meet-parts ys (meet-parts xs st)
+meet-append : (xs ys : List Part) (st : State) → meet-parts (xs ++ ys) st ≡ meet-parts ys (meet-parts xs st)
 unfolding meet-parts
 meet-append [] ys st = refl
 meet-append (x ∷ xs) ys st = meet-append xs ys (x .meet st)
 
-again-append : (xs ys : List Part) (st : State) → again-text (xs ++ ys) st ≡ again-text xs st ++ again-text ys (meet-parts xs st)
+pub again-append : (xs ys : List Part) (st : State) → again-text (xs ++ ys) st ≡ again-text xs st ++ again-text ys (meet-parts xs st)
 unfolding meet-parts again-text
 again-append [] ys st = refl
 again-append (x ∷ xs) ys st =
@@ -53,10 +56,45 @@ unfolding again-lines
 lines-low [] st = omega arith
 lines-low (x ∷ xs) st = omega arith
 
-lines-append : (xs ys : List Part) (st : State) → again-lines (xs ++ ys) st ≡ bump (again-lines xs st) (again-lines ys (meet-parts xs st))
+pub lines-append : (xs ys : List Part) (st : State) → again-lines (xs ++ ys) st ≡ bump (again-lines xs st) (again-lines ys (meet-parts xs st))
 unfolding meet-parts again-lines
 lines-append [] ys st = omega (arith, lines-low ys st)
 lines-append (x ∷ xs) ys st = omega (arith, lines-append xs ys (x .meet st))
+
+-- up to where the walk is full
+unfoldable pub meet-until : ℕ → List Part → State → State
+meet-until cap [] st = st
+meet-until cap (x ∷ xs) st = cond (ltb cap (st .used)) st (meet-until cap xs (x .meet st))
+
+module _ (cap : ℕ) where
+  pub until-full : (xs : List Part) (st : State) → cap < st .used → meet-until cap xs st ≡ st
+  unfolding meet-until
+  until-full [] st u = refl
+  until-full (x ∷ xs) st u = rw (lt-ltb cap (st .used) u) refl
+
+  pub until-more : (x : Part) (xs : List Part) (st : State) → st .used ≤ cap → meet-until cap (x ∷ xs) st ≡ meet-until cap xs (x .meet st)
+  unfolding meet-until
+  until-more x xs st u = rw (le-ltb cap (st .used) u) refl
+
+  pub until-append : (xs ys : List Part) (st : State) → meet-until cap (xs ++ ys) st ≡ meet-until cap ys (meet-until cap xs st)
+  unfolding meet-until
+  until-append [] ys st = refl
+  until-append (x ∷ xs) ys st = go (ltb cap (st .used)) refl (until-append xs ys (x .meet st))
+    where
+      go : (b : Bool) → ltb cap (st .used) ≡ b → meet-until cap (xs ++ ys) (x .meet st) ≡ meet-until cap ys (meet-until cap xs (x .meet st))
+          → cond b st (meet-until cap (xs ++ ys) (x .meet st)) ≡ meet-until cap ys (cond b st (meet-until cap xs (x .meet st)))
+      go true e h = sym (until-full ys st (ltb-true cap (st .used) e))
+      go false e h = h
+
+  -- where it does not get full, all of them
+  pub until-all : (xs : List Part) (st : State) → meet-until cap xs st .used ≤ cap → meet-until cap xs st ≡ meet-parts xs st
+  unfolding meet-until meet-parts
+  until-all [] st u = refl
+  until-all (x ∷ xs) st u = go (ltb cap (st .used)) refl u (λ v. until-all xs (x .meet st) v)
+    where
+      go : (b : Bool) → ltb cap (st .used) ≡ b → cond b st (meet-until cap xs (x .meet st)) .used ≤ cap → (meet-until cap xs (x .meet st) .used ≤ cap → meet-until cap xs (x .meet st) ≡ meet-parts xs (x .meet st)) → cond b st (meet-until cap xs (x .meet st)) ≡ meet-parts xs (x .meet st)
+      go true e v h = absurd (omega (arith, v, ltb-true cap (st .used) e))
+      go false e v h = h v
 
 -- ---- what a function does that writes parts, and what it asks, for any declared domains
 
@@ -73,17 +111,14 @@ pub record Asked (t : Redo) (st : State) (rec : ℕ) : Type 0 where
   pub long : 16384 ≤ length (st .work)
   pub records : rec ≤ limit
   pub low : Low st
+  pub word : has-ifs (st .work) ≡ true
   pub domains : List Domain
   pub declares : Declares domains (st .work)
   pub asks : t .asks domains st
 
--- the walk came to the end of the parts, or it is full
-pub record Stopped (cap : ℕ) (ps : List Part) (st st' : State) : Type 0 where
-  pub done : List Part
-  pub rest : List Part
-  pub whole : ps ≡ done ++ rest
-  pub state : st' ≡ meet-parts done st
-  pub all : st' .used ≤ cap → rest ≡ []
+word-kept : {st st' : State} → Kept st st' → has-ifs (st' .work) ≡ has-ifs (st .work)
+unfolding has-ifs
+word-kept {st} {st'} k = ap (λ (x : ℤ). not (is-zero x)) (sym (getD-drop ifs-word (st' .work) 0 (pos 0)) ∙ ap (λ (l : List ℤ). getD l 0 (pos 0)) (k .behind) ∙ getD-drop ifs-word (st .work) 0 (pos 0))
 
 -- the next word's place, behind c clauses
 pub record Ahead (out : List ℤ) (o c : ℕ) : Type 0 where
@@ -95,7 +130,7 @@ pub record Redone (cap : ℕ) (t : Redo) (st st' : State) (out : List ℤ) (o c 
   pub low : Low st'
   pub ahead : Ahead out' o' c'
   pub length-same : length out' ≡ length out
-  pub state : (ds : List Domain) → Declares ds (st .work) → t .asks ds st → Stopped cap (t .parts ds) st st'
+  pub state : (ds : List Domain) → Declares ds (st .work) → t .asks ds st → st' ≡ meet-until cap (t .parts ds) st
   pub text : st' .used ≤ cap → (ds : List Domain) → Declares ds (st .work) → t .asks ds st → Lines out o c (again-text (t .parts ds) st) (again-lines (t .parts ds) st) out' o' c'
 
 -- ---- in a loop: what is left of t is l
@@ -112,13 +147,13 @@ pub record Going (cap : ℕ) (t l : Redo) (st st' : State) (out : List ℤ) (o c
   pub low : Low st'
   pub ahead : Ahead out' o' c'
   pub length-same : length out' ≡ length out
+  pub until : (ds : List Domain) → Declares ds (st .work) → t .asks ds st → meet-until cap (l .parts ds) st' ≡ meet-until cap (t .parts ds) st
   pub on : st' .used ≤ cap → (ds : List Domain) → Declares ds (st .work) → t .asks ds st → Reached t l ds st st' out o c out' o' c'
-  pub off : cap < st' .used → (ds : List Domain) → Declares ds (st .work) → t .asks ds st → Stopped cap (t .parts ds) st st'
 
 -- l is x and then m, where the walk is not full
 pub record Splits (cap : ℕ) (l x m : Redo) : Type 0 where
   pub parts : (ds : List Domain) → l .parts ds ≡ x .parts ds ++ m .parts ds
-  pub asks : (ds : List Domain) (st : State) → st .used ≤ cap → l .asks ds st → x .asks ds st × (meet-parts (x .parts ds) st .used ≤ cap → m .asks ds (meet-parts (x .parts ds) st))
+  pub asks : (ds : List Domain) (st : State) → st .used ≤ cap → l .asks ds st → x .asks ds st × (meet-until cap (x .parts ds) st .used ≤ cap → m .asks ds (meet-until cap (x .parts ds) st))
 
 lines-then : {out a b us vs : List ℤ} {o p q c d e i j : ℕ} → length out ≤ last-place → Lines out o c us i a p d → Lines a p d vs j b q e → Lines out o c (us ++ vs) (bump i j) b q e
 lines-then l x y = record { words = wrote-then l (x .words) (y .words); count = omega (arith, x .count, y .count) }
@@ -134,8 +169,8 @@ module _ (cap : ℕ) (t : Redo) (st : State) (out : List ℤ) (o c : ℕ) where
     low = l;
     ahead = a;
     length-same = refl;
+    until = λ ds d h. refl;
     on = λ u ds d h. record { done = []; whole = refl; state = refl; asks = h; text = record { words = wrote-none out o (a .room .low); count = omega (arith, a .few) } };
-    off = λ u ds d h. record { done = []; rest = t .parts ds; whole = refl; state = refl; all = λ v. absurd (omega arith) };
   }
 
   module _ (l : Redo) (st' : State) (out' : List ℤ) (o' c' : ℕ) (g : Going cap t l st st' out o c out' o' c') where
@@ -147,73 +182,70 @@ module _ (cap : ℕ) (t : Redo) (st : State) (out : List ℤ) (o c : ℕ) where
             long = omega (arith, a .long, g .kept .size);
             records = a .records;
             low = g .low;
+            word = word-kept (g .kept) ∙ a .word;
             domains = a .domains;
             declares = declares-kept (a .domains) (st .work) (st' .work) (g .kept .behind) (a .declares);
             asks = s .asks (a .domains) st' more (r .asks) .0;
           }
 
       module _ (st'' : State) (out'' : List ℤ) (o'' c'' : ℕ) (y : Redone cap x st' st'' out' o' c' out'' o'' c'') where
+        until-next : (ds : List Domain) → Declares ds (st .work) → t .asks ds st → meet-until cap (m .parts ds) st'' ≡ meet-until cap (t .parts ds) st
+        until-next ds d h =
+            let r = g .on more ds d h in
+            let e = declares-kept ds (st .work) (st' .work) (g .kept .behind) d in
+            ap (meet-until cap (m .parts ds)) (y .state ds e (s .asks ds st' more (r .asks) .0))
+            ∙ sym (until-append cap (x .parts ds) (m .parts ds) st')
+            ∙ ap (λ (ps : List Part). meet-until cap ps st') (sym (s .parts ds))
+            ∙ g .until ds d h
+
         on-next : st'' .used ≤ cap → (ds : List Domain) → Declares ds (st .work) → t .asks ds st → Reached t m ds st st'' out o c out'' o'' c''
         on-next u ds d h =
             let r = g .on more ds d h in
             let e = declares-kept ds (st .work) (st' .work) (g .kept .behind) d in
             let a = s .asks ds st' more (r .asks) in
-            let z = y .state ds e (a .0) in
-            let all : x .parts ds ≡ z .done = z .whole ∙ ap (λ (ps : List Part). z .done ++ ps) (z .all u) ∙ append-nil (z .done) in
-            let i : st'' ≡ meet-parts (x .parts ds) st' = z .state ∙ ap (λ (ps : List Part). meet-parts ps st') (sym all) in
+            let z : st'' ≡ meet-until cap (x .parts ds) st' = y .state ds e (a .0) in
+            let v : meet-until cap (x .parts ds) st' .used ≤ cap = subst (λ (b : State). b .used ≤ cap) z u in
+            let i : st'' ≡ meet-parts (x .parts ds) st' = z ∙ until-all cap (x .parts ds) st' v in
             let j : st'' ≡ meet-parts (x .parts ds) (meet-parts (r .done) st) = i ∙ ap (meet-parts (x .parts ds)) (r .state) in
             record {
               done = r .done ++ x .parts ds;
               whole = r .whole ∙ ap (λ (ps : List Part). r .done ++ ps) (s .parts ds) ∙ sym (append-assoc (r .done) (x .parts ds) (m .parts ds));
               state = j ∙ sym (meet-append (r .done) (x .parts ds) st);
-              asks = subst (m .asks ds) (sym i) (a .1 (subst (λ (v : State). v .used ≤ cap) i u));
-              text = lines-to (ap (λ (v : State). again-text (r .done) st ++ again-text (x .parts ds) v) (r .state) ∙ sym (again-append (r .done) (x .parts ds) st)) (ap (λ (v : State). bump (again-lines (r .done) st) (again-lines (x .parts ds) v)) (r .state) ∙ sym (lines-append (r .done) (x .parts ds) st))
+              asks = subst (m .asks ds) (sym z) (a .1 v);
+              text = lines-to (ap (λ (b : State). again-text (r .done) st ++ again-text (x .parts ds) b) (r .state) ∙ sym (again-append (r .done) (x .parts ds) st)) (ap (λ (b : State). bump (again-lines (r .done) st) (again-lines (x .parts ds) b)) (r .state) ∙ sym (lines-append (r .done) (x .parts ds) st))
                   (lines-then (omega (arith, g .ahead .room .room, g .length-same)) (r .text) (y .text u ds e (a .0)));
             }
 
-        off-next : cap < st'' .used → (ds : List Domain) → Declares ds (st .work) → t .asks ds st → Stopped cap (t .parts ds) st st''
-        off-next u ds d h =
-            let r = g .on more ds d h in
-            let e = declares-kept ds (st .work) (st' .work) (g .kept .behind) d in
-            let z = y .state ds e (s .asks ds st' more (r .asks) .0) in
-            record {
-              done = r .done ++ z .done;
-              rest = z .rest ++ m .parts ds;
-              whole = r .whole ∙ ap (λ (ps : List Part). r .done ++ ps) (s .parts ds ∙ ap (λ (ps : List Part). ps ++ m .parts ds) (z .whole) ∙ append-assoc (z .done) (z .rest) (m .parts ds)) ∙ sym (append-assoc (r .done) (z .done) (z .rest ++ m .parts ds));
-              state = z .state ∙ ap (meet-parts (z .done)) (r .state) ∙ sym (meet-append (r .done) (z .done) st);
-              all = λ v. absurd (omega arith);
-            }
-
         pub going-next : Going cap t m st st'' out o c out'' o'' c''
-        going-next = record { kept = kept-then (g .kept) (y .kept); low = y .low; ahead = y .ahead; length-same = y .length-same ∙ g .length-same; on = on-next; off = off-next }
+        going-next = record { kept = kept-then (g .kept) (y .kept); low = y .low; ahead = y .ahead; length-same = y .length-same ∙ g .length-same; until = until-next; on = on-next }
 
     pub going-full : cap < st' .used → Redone cap t st st' out o c out' o' c'
-    going-full u = record { kept = g .kept; low = g .low; ahead = g .ahead; length-same = g .length-same; state = g .off u; text = λ v. absurd (omega arith) }
+    going-full u = record { kept = g .kept; low = g .low; ahead = g .ahead; length-same = g .length-same; state = λ ds d h. sym (until-full cap (l .parts ds) st' u) ∙ g .until ds d h; text = λ v. absurd (omega arith) }
 
     pub going-end : ((ds : List Domain) → l .parts ds ≡ []) → Redone cap t st st' out o c out' o' c'
-    going-end none = record { kept = g .kept; low = g .low; ahead = g .ahead; length-same = g .length-same; state = λ ds d h. ended (ltb cap (st' .used)) refl ds d h; text = λ u ds d h. let r = g .on u ds d h in let e = is-all ds (r .done) (r .whole) in lines-to (ap (λ (ps : List Part). again-text ps st) e) (ap (λ (ps : List Part). again-lines ps st) e) (r .text) }
+    unfolding meet-until
+    going-end none = record {
+      kept = g .kept;
+      low = g .low;
+      ahead = g .ahead;
+      length-same = g .length-same;
+      state = λ ds d h. ap (λ (ps : List Part). meet-until cap ps st') (sym (none ds)) ∙ g .until ds d h;
+      text = λ u ds d h. let r = g .on u ds d h in let e = is-all ds (r .done) (r .whole) in lines-to (ap (λ (ps : List Part). again-text ps st) e) (ap (λ (ps : List Part). again-lines ps st) e) (r .text);
+    }
       where
         is-all : (ds : List Domain) (ps : List Part) → t .parts ds ≡ ps ++ l .parts ds → ps ≡ t .parts ds
         is-all ds ps e = sym (e ∙ ap (λ (qs : List Part). ps ++ qs) (none ds) ∙ append-nil ps)
 
-        ended : (b : Bool) → ltb cap (st' .used) ≡ b → (ds : List Domain) → Declares ds (st .work) → t .asks ds st → Stopped cap (t .parts ds) st st'
-        ended true e ds d h = g .off (ltb-true cap (st' .used) e) ds d h
-        ended false e ds d h = let r = g .on (ltb-false cap (st' .used) e) ds d h in record { done = r .done; rest = l .parts ds; whole = r .whole; state = r .state; all = λ v. none ds }
-
 -- ---- the pairs
 
 module _ (rec cap : ℕ) (ws : List ℤ) (ds : List Domain) where
-  -- the numbers of its splitting, from n on
-  abbrev pair-numbers : ℕ → ℕ → ℕ → ℕ
-  pair-numbers p q n = decode-int ws 64 here q (decode-int ws 64 here p n .next) .next - n
-
   -- the expressions at p and q
   unfoldable pub pair-part : ℕ → ℕ → Part
   pair-part p q = record {
     meet = cleared-task rec cap ws p q .meet ds;
-    text = λ w n. written (form-items ds (pair-at ws 64 p q (n .bools))) w (more-bools (pair-numbers p q (n .bools)) n);
-    lines = λ w n. written-lines (form-items ds (pair-at ws 64 p q (n .bools))) w (more-bools (pair-numbers p q (n .bools)) n);
-    behind = λ w n. counts (form-items ds (pair-at ws 64 p q (n .bools))) w (more-bools (pair-numbers p q (n .bools)) n);
+    text = λ w n. written (form-items ds (pair-at ws 64 p q (n .bools))) w (more-bools (pair-numbers ws p q (n .bools)) n);
+    lines = λ w n. written-lines (form-items ds (pair-at ws 64 p q (n .bools))) w (more-bools (pair-numbers ws p q (n .bools)) n);
+    behind = λ w n. counts (form-items ds (pair-at ws 64 p q (n .bools))) w (more-bools (pair-numbers ws p q (n .bools)) n);
   }
 
   -- the expression at p with each of so many from q on
@@ -238,7 +270,7 @@ module _ (rec cap : ℕ) (ws : List ℤ) (ds : List Domain) where
 
   unfoldable pub PairsAsk : ℕ → ℕ → State → Type 0
   PairsAsk zero p st = Unit {0}
-  PairsAsk (suc k) p st = let q = column-at ws p .end in Unless (ltb cap (st .used)) (RowAsks p k q st × PairsAsk k q (meet-parts (row-parts p k q) st))
+  PairsAsk (suc k) p st = let q = column-at ws p .end in Unless (ltb cap (st .used)) (RowAsks p k q st × PairsAsk k q (meet-until cap (row-parts p k q) st))
 
 -- ---- as tasks that write
 
@@ -253,11 +285,11 @@ module _ (rec cap : ℕ) (ws : List ℤ) where
   pairs-redo k p = record { parts = λ ds. pairs-parts rec cap ws ds k p; asks = λ ds. PairsAsk rec cap ws ds k p }
 
   pub row-splits : (p k q r : ℕ) → (k ≡ 0 → ⊥) → r ≡ column-at ws q .end → Splits cap (row-redo p k q) (pair-redo p q) (row-redo p (k - 1) r)
-  unfolding row-parts RowAsks meet-parts
+  unfolding row-parts RowAsks meet-until
   row-splits p zero q r z e = absurd (z refl)
   row-splits p (suc k) q r z e = rw (sub-one (suc k), e) (record {
     parts = λ ds. refl;
-    asks = λ ds st u h. let g = subst (λ (b : Bool). Unless b (PairAsks rec cap ws ds p q st × RowAsks rec cap ws ds p k (column-at ws q .end) (pair-part rec cap ws ds p q .meet st))) (le-ltb cap (st .used) u) h in (g .0, λ v. g .1);
+    asks = λ ds st u h. let g = subst (λ (b : Bool). Unless b (PairAsks rec cap ws ds p q st × RowAsks rec cap ws ds p k (column-at ws q .end) (pair-part rec cap ws ds p q .meet st))) (le-ltb cap (st .used) u) h in (g .0, λ v. rw (le-ltb cap (st .used) u) (g .1));
   })
 
   pub pairs-split : (k p r : ℕ) → (k ≡ 0 → ⊥) → r ≡ column-at ws p .end → Splits cap (pairs-redo k p) (row-redo p (k - 1) r) (pairs-redo (k - 1) r)
@@ -265,7 +297,7 @@ module _ (rec cap : ℕ) (ws : List ℤ) where
   pairs-split zero p r z e = absurd (z refl)
   pairs-split (suc k) p r z e = rw (sub-one (suc k), e) (record {
     parts = λ ds. refl;
-    asks = λ ds st u h. let q = column-at ws p .end in let g = subst (λ (b : Bool). Unless b (RowAsks rec cap ws ds p k q st × PairsAsk rec cap ws ds k q (meet-parts (row-parts rec cap ws ds p k q) st))) (le-ltb cap (st .used) u) h in (g .0, λ v. g .1);
+    asks = λ ds st u h. let q = column-at ws p .end in let g = subst (λ (b : Bool). Unless b (RowAsks rec cap ws ds p k q st × PairsAsk rec cap ws ds k q (meet-until cap (row-parts rec cap ws ds p k q) st))) (le-ltb cap (st .used) u) h in (g .0, λ v. g .1);
   })
 
   pub row-none : (p k q : ℕ) → k ≡ 0 → (ds : List Domain) → row-redo p k q .parts ds ≡ []
@@ -283,7 +315,7 @@ module _ (rec cap : ℕ) (ws : List ℤ) (ds : List Domain) (a b : IntExpr) (p q
   unfolding splits
   stands = pair-stands a b ws 64 p q n first second words others (omega (arith, low))
 
-  numbers-are : pair-numbers rec cap ws ds p q n ≡ splits (Cmp Ne a b) below
+  numbers-are : pair-numbers ws p q n ≡ splits (Cmp Ne a b) below
   unfolding splits
   numbers-are =
       let e = ap (λ (k : ℕ). decode-int ws 64 here q k .next) (stands .middle) ∙ stands .next in
@@ -298,8 +330,8 @@ module _ (rec cap : ℕ) (ws : List ℤ) (ds : List Domain) (a b : IntExpr) (p q
 
     pub pair-part-text : pair-part rec cap ws ds p q .text w m ≡ pair-stage ds rec cap a b p q stop .part .text w m
     unfolding pair-part
-    pair-part-text = ap (λ (fs : Forms). written (form-items ds fs) w (more-bools (pair-numbers rec cap ws ds p q n) m)) (stands .trees) ∙ ap (λ (j : ℕ). written (items ds (pair-trees a b p q n)) w (more-bools j m)) numbers-are
+    pair-part-text = ap (λ (fs : Forms). written (form-items ds fs) w (more-bools (pair-numbers ws p q n) m)) (stands .trees) ∙ ap (λ (j : ℕ). written (items ds (pair-trees a b p q n)) w (more-bools j m)) numbers-are
 
     pub pair-part-lines : pair-part rec cap ws ds p q .lines w m ≡ pair-stage ds rec cap a b p q stop .part .lines w m
     unfolding pair-part
-    pair-part-lines = ap (λ (fs : Forms). written-lines (form-items ds fs) w (more-bools (pair-numbers rec cap ws ds p q n) m)) (stands .trees) ∙ ap (λ (j : ℕ). written-lines (items ds (pair-trees a b p q n)) w (more-bools j m)) numbers-are
+    pair-part-lines = ap (λ (fs : Forms). written-lines (form-items ds fs) w (more-bools (pair-numbers ws p q n) m)) (stands .trees) ∙ ap (λ (j : ℕ). written-lines (items ds (pair-trees a b p q n)) w (more-bools j m)) numbers-are

@@ -6,3 +6,5 @@ pub mod Different
 pub mod NoIf
 pub mod Text
 pub mod Again
+pub mod PairsFollow
+pub mod Walked

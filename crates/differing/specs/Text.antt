@@ -1,5 +1,5 @@
--- Where no If stands, the words that are written by the final maps are those of stages' parts (`different-text`, `different-part-lines`), and every addition has
--- room within refusals 9 and 10 (`different-asked`). w: the work slice with the final maps; ds: the declared domains.
+-- Where no If stands, the words that are written by the final maps are those of stages' parts (`different-text`, `different-part-lines`, `different-behind`), and
+-- every addition has room within refusals 9 and 10 (`different-asked`). w: the work slice with the final maps; ds: the declared domains.
 use mathlib.Core.Path.{_≡_, refl, sym, ap, _∙_}
 use mathlib.Core.Bool.{false}
 use mathlib.Core.List.{List, [], _∷_, _++_, map, append-nil, append-assoc}
@@ -29,6 +29,7 @@ use Rattle.statements.specs.Different.{value-clause}
 use Rattle.stages.specs.StatementsParts.{Stage, parts, parts-text, parts-lines, NoIfs}
 use Rattle.stages.specs.Pairs.{pair-stage, sides-words, row-stages, pairs-stages}
 use Rattle.stages.specs.Different.{values-stages, different-stages}
+use Rattle.stages.specs.StatementsEach.{parts-behind}
 use Rattle.differing.specs.Standing.{At, Standing}
 use Rattle.differing.specs.NoIf.{NoIf, none-int, no-splits, no-ties}
 use Rattle.differing.specs.Pair.{pair-words, PairFits}
@@ -206,6 +207,29 @@ module _ (w : List ℤ) where
           let xs = values-used-up ds es in
           let i = values-lines es ys xs l in
           omega (arith, i, pairs-lines es p (values-stages ds es stop ys xs) s (omega (arith, i)))
+
+      -- ---- no number is taken
+
+      row-behind : (a : IntExpr) (p : ℕ) → Side p a → (bs : List IntExpr) (q : ℕ) (xs : List Stage) → Sides q bs → parts-behind (parts xs) w n ≡ n → parts-behind (parts (row-stages ds rec cap stop a p bs q xs)) w n ≡ n
+      unfolding row-stages parts-behind Sides
+      row-behind a p x [] q xs s h = h
+      row-behind a p x (b ∷ bs) q xs s h =
+          let r = q + length (encode-int b) in
+          ap (parts-behind (parts (row-stages ds rec cap stop a p bs r xs)) w) (pair-behind p q a b x (s .0) rec cap stop) ∙ row-behind a p x bs r xs (s .1) h
+
+      pairs-behind : (es : List IntExpr) (p : ℕ) (xs : List Stage) → Sides p es → parts-behind (parts xs) w n ≡ n → parts-behind (parts (pairs-stages ds rec cap stop es p xs)) w n ≡ n
+      unfolding pairs-stages Sides
+      pairs-behind [] p xs s h = h
+      pairs-behind (e ∷ es) p xs s h = let q = p + length (encode-int e) in row-behind e p (s .0) es q (pairs-stages ds rec cap stop es q xs) (s .1) (pairs-behind es q xs (s .1) h)
+
+      values-behind : (es : List IntExpr) (xs : List ℤ) → parts-behind (parts (values-stages ds es stop [] xs)) w n ≡ n
+      unfolding values-stages parts-behind
+      values-behind es [] = refl
+      values-behind es (x ∷ xs) = values-behind es xs
+
+      pub different-behind : (es : List IntExpr) (p : ℕ) → Sides p es → parts-behind (parts (different-stages ds rec cap es p stop [])) w n ≡ n
+      unfolding different-stages
+      different-behind es p s = let xs = values-used-up ds es in pairs-behind es p (values-stages ds es stop [] xs) s (values-behind es xs)
 
     -- ---- every addition has room
 

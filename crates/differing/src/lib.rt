@@ -1,7 +1,7 @@
 // The clauses of an AllDifferent whose expressions stand in the work slice: one for each pair, and one for each value where the values are used up.
-// Here every clause follows from the final maps, as it is where no If stands among the folded words.
+// Where no If stands among the folded words, every clause follows from the final maps; else each pair is numbered again right before it is written.
 ghost use mathlib.Core.Path.{_≡_};
-ghost use Prim.Native.Nat.{_+_, _-_, _≤_, _<_, _^_};
+ghost use Prim.Native.Nat.{_+_, _-_, _≤_, _<_, _^_, min};
 ghost use lib.IntN.{natAbs};
 ghost use lib.ListN.{length};
 ghost use Rattle.laws.specs.Lists.{counted};
@@ -17,6 +17,11 @@ ghost use Rattle.differing.specs.Pair.{leaf-code, leaf-sum, apart-terms,
 ghost use Rattle.differing.specs.Rows.{end-at, Row, PutRow, Pairs, PutPairs};
 ghost use Rattle.differing.specs.Values.{SomeSized, HasValue, Plain-value, Value-of, Same-of, SomeOne, Like, SomeOver, All-like, Variables, Used, PutLiterals, PutValue, PutEach, PutValues};
 ghost use Rattle.differing.specs.Different.{SomeDifferent, PutDifferent};
+ghost use Rattle.numbering.specs.Task.{state-of};
+ghost use Rattle.differing.specs.Again.{Asked, Ahead, Redone, pair-redo, row-redo, pairs-redo};
+ghost use Rattle.differing.specs.Walked.{SomeWalked, Rewrites};
+use numbering::Progress;
+use numbering::Room;
 use rows::Written;
 use walk::Counters;
 
@@ -428,4 +433,179 @@ pub fn put_different(
 {
     let w = put_pairs(work, n, at, count, out, o, k);
     put_values(set, work, at, count, out, w.at, w.clauses)
+}
+
+// ---- with Ifs: each pair is numbered again right before it is written; the records fall away, since `none` has no room
+
+// Behind pairs: what the first walk counts, and where and behind how many clauses the next one comes.
+pub struct Rewritten {
+    pub walk: Progress,
+    pub at: usize,
+    pub clauses: usize,
+}
+
+// The expressions at p and q, where the walk is not full.
+fn rewrite_pair(
+    work: &mut [i32],
+    none: &mut [i32],
+    p: usize,
+    q: usize,
+    room: Room,
+    c: Progress,
+    out: &mut [i32],
+    o: usize,
+    k: usize,
+) -> Rewritten
+    requires { ⌜ (c .used ≤ room .cap) × (p ≤ 4608) × (q ≤ 4608) × Asked (pair-redo (room .records) (room .cap) (read-part (now work)) p q) (state-of (now work) (now none) c) (room .records) × Ahead (now out) o k ⌝ }
+    ensures { λ r. ⌜ Redone (room .cap) (pair-redo (room .records) (room .cap) (read-part (now (work .entry))) p q) (state-of (now (work .entry)) (now (none .entry)) c) (state-of (now (work .exit)) (now (none .exit)) (r .walk)) (now (out .entry)) o k (now (out .exit)) (r .at) (r .clauses) ⌝ }
+{
+    setnumbers::clear_pair(work, p, q);
+    let d = numbering::number_pair(work, none, p, q, room, c);
+    if room.cap < d.used {
+        return Rewritten {
+            walk: d,
+            at: o,
+            clauses: k,
+        };
+    }
+    let n = Counters {
+        bools: c.bools,
+        ints: c.ints,
+    };
+    let r = rulewriter::write_pair(work, p, q, n, out, o);
+    let m = survey::bump(k, r.lines);
+    Rewritten {
+        walk: d,
+        at: r.o,
+        clauses: m,
+    }
+}
+
+// The expression at p with each of so many from `at` on.
+fn rewrite_row(
+    work: &mut [i32],
+    none: &mut [i32],
+    p: usize,
+    at: usize,
+    count: usize,
+    room: Room,
+    c: Progress,
+    out: &mut [i32],
+    o: usize,
+    k: usize,
+) -> Rewritten
+    requires { ⌜ (p ≤ 4608) × (at ≤ 4608) × Asked (row-redo (room .records) (room .cap) (read-part (now work)) p count at) (state-of (now work) (now none) c) (room .records) × Ahead (now out) o k ⌝ }
+    ensures { λ r. ⌜ Redone (room .cap) (row-redo (room .records) (room .cap) (read-part (now (work .entry))) p count at) (state-of (now (work .entry)) (now (none .entry)) c) (state-of (now (work .exit)) (now (none .exit)) (r .walk)) (now (out .entry)) o k (now (out .exit)) (r .at) (r .clauses) ⌝ }
+{
+    let mut d = c;
+    let mut b = at;
+    let mut q = o;
+    let mut m = k;
+    let mut rest = count;
+    while rest != 0 {
+        if room.cap < d.used {
+            return Rewritten {
+                walk: d,
+                at: q,
+                clauses: m,
+            };
+        }
+        let next = end_of(work, b);
+        let r = rewrite_pair(work, none, p, b, room, d, out, q, m);
+        b = next;
+        d = r.walk;
+        q = r.at;
+        m = r.clauses;
+        rest -= 1;
+    }
+    Rewritten {
+        walk: d,
+        at: q,
+        clauses: m,
+    }
+}
+
+// Clauses have two words at least, so there are no more than words; a larger count says that the answer is too long.
+fn lesser(k: usize, o: usize) -> usize
+    ensures { λ r. ⌜ r ≡ min k o ⌝ }
+{
+    if k < o { k } else { o }
+}
+
+// All pairs of so many expressions from `at` on.
+fn rewrite_pairs(
+    work: &mut [i32],
+    none: &mut [i32],
+    at: usize,
+    count: usize,
+    room: Room,
+    c: Progress,
+    out: &mut [i32],
+    o: usize,
+    k: usize,
+) -> Rewritten
+    requires { ⌜ (at ≤ 4608) × Asked (pairs-redo (room .records) (room .cap) (read-part (now work)) count at) (state-of (now work) (now none) c) (room .records) × Ahead (now out) o k ⌝ }
+    ensures { λ r. ⌜ Redone (room .cap) (pairs-redo (room .records) (room .cap) (read-part (now (work .entry))) count at) (state-of (now (work .entry)) (now (none .entry)) c) (state-of (now (work .exit)) (now (none .exit)) (r .walk)) (now (out .entry)) o k (now (out .exit)) (r .at) (r .clauses) ⌝ }
+{
+    let mut d = c;
+    let mut p = at;
+    let mut q = o;
+    let mut m = k;
+    let mut rest = count;
+    while rest != 0 {
+        if room.cap < d.used {
+            return Rewritten {
+                walk: d,
+                at: q,
+                clauses: m,
+            };
+        }
+        let next = end_of(work, p);
+        rest -= 1;
+        let r = rewrite_row(work, none, p, next, rest, room, d, out, q, m);
+        p = next;
+        d = r.walk;
+        q = r.at;
+        m = r.clauses;
+    }
+    Rewritten {
+        walk: d,
+        at: q,
+        clauses: m,
+    }
+}
+
+// An AllDifferent at `at`: its pairs, then the clauses of its values unless the walk is full. The set's words say the declared domains.
+pub fn rewrite_different(
+    set: &[i32],
+    work: &mut [i32],
+    none: &mut [i32],
+    at: usize,
+    room: Room,
+    c: Progress,
+    out: &mut [i32],
+    o: usize,
+    k: usize,
+) -> Rewritten
+    requires { ⌜ SomeWalked (now set) (now work) (now none) at room c × Behind (now out) o k ⌝ }
+    ensures { λ r. ⌜ Rewrites (now (set .entry)) (now (work .entry)) (now (none .entry)) at room c (now (out .entry)) o k (now (work .exit)) (now (none .exit)) (now (out .exit)) (r .walk) (r .at) (r .clauses) ⌝ }
+{
+    let n = survey::word(work, at + 1);
+    let r = rewrite_pairs(work, none, at + 2, n, room, c, out, o, k);
+    let d = r.walk;
+    let p = r.at;
+    let m = r.clauses;
+    if room.cap < d.used {
+        return Rewritten {
+            walk: d,
+            at: p,
+            clauses: m,
+        };
+    }
+    let w = put_values(set, work, at + 2, n, out, p, lesser(m, p));
+    Rewritten {
+        walk: d,
+        at: w.at,
+        clauses: w.clauses,
+    }
 }

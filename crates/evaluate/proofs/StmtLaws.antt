@@ -53,7 +53,7 @@ module _ (ws values : List ℤ) (nb at : ℕ) (work : List ℤ) where
     module _ (z : w ≡ 1) where
       the-rule : {X : Type 0} (ds : List Domain) (s : Stmt) → Stmt-at nb ds ws at s → ((e : BoolExpr) → s ≡ Rule e → Bool-at nb ds ws (at + 1) e → X) → X
       unfolding encode-stmt any-part
-      the-rule ds (Rule e) r go = go e refl (record { stands = record { words = has-rest ws at _ _ (r .words); vars = bool-vars nb (length ds) 64 e (r .well) }; light = r .light })
+      the-rule ds (Rule e) r go = go e refl (record { stands = record { words = has-rest ws at _ _ (r .words); vars = bool-vars None (λ v. v < nb) nb (length ds) (λ v k. k) 64 e (r .well) }; light = r .light })
       the-rule ds (Table es rows) r go = absurd (let t : 2 ≡ w = code-is (Table es rows) (r .words) in omega arith)
       the-rule ds (AllDifferent es) r go = absurd (let t : 3 ≡ w = code-is (AllDifferent es) (r .words) in omega arith)
 
@@ -89,7 +89,7 @@ module _ (ws values : List ℤ) (nb at : ℕ) (work : List ℤ) where
     the-table ds (AllDifferent es) r go = absurd (let t : 3 ≡ 2 = code-is 2 c2 (AllDifferent es) (r .words) in omega arith)
     the-table ds (Table es rows) r go =
         let t = table-words ws at es rows (rows-wide (length es) rows (r .well .3)) (r .words) in
-        go es rows refl t (record { words = t .columns; vars = columns-vars None (λ v. v < nb) (length ds) 64 es (r .well .2); light = r .light; size = refl }) (record { words = t .cells; well = r .well .3; size = refl })
+        go es rows refl t (record { words = t .columns; vars = columns-vars None (λ v. v < nb) nb (length ds) (λ v k. k) 64 es (r .well .2); light = r .light; size = refl }) (record { words = t .cells; well = r .well .3; size = refl })
 
     pub table-inside : Ready-stmt ws values nb at work → at + 3 ≤ length ws
     table-inside r = the-table (r .ds) (r .it) (r .reads) λ es rows q t c d. omega (arith, t .inside)
@@ -146,7 +146,7 @@ module _ (ws values : List ℤ) (nb at : ℕ) (work : List ℤ) where
     the-different ds (Table es rows) r go = absurd (let t : 2 ≡ 3 = code-is 3 c3 (Table es rows) (r .words) in omega arith)
     the-different ds (AllDifferent es) r go =
         let t = different-words ws at es (r .words) in
-        go es refl t (record { words = t .columns; vars = columns-vars None (λ v. v < nb) (length ds) 64 es (r .well .1); light = or-no-l (any (λ e. heavy ds e || heavy-inside ds e) es) _ (r .light); size = refl })
+        go es refl t (record { words = t .columns; vars = columns-vars None (λ v. v < nb) nb (length ds) (λ v k. k) 64 es (r .well .1); light = or-no-l (any (λ e. heavy ds e || heavy-inside ds e) es) _ (r .light); size = refl })
 
     pub different-inside : Ready-stmt ws values nb at work → at + 2 ≤ length ws
     different-inside r = the-different (r .ds) (r .it) (r .reads) λ es q t c. omega (arith, t .inside)

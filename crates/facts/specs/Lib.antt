@@ -6,4 +6,3 @@ pub mod Cases
 pub mod Loaded
 pub mod Each
 pub mod DifferentCases
-pub mod IfCases

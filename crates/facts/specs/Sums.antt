@@ -1,6 +1,6 @@
 -- Within refusal 9 no sum that the Rust computes leaves i32, for every set that is accepted: the sums of comparisons and columns on the
 -- way to them (normalize_int_expr), an AllDifferent's pairs and values among them, each column's difference with its new variable (equivalent_int_var), the products and the bounds of
--- a column's domain after each term (get_domain_linear_sum). For any emitted numbers of the declared variables.
+-- a column's domain after each term (get_domain_linear_sum); of an If both values as a column, and its condition's comparisons. For any emitted numbers of the declared variables and of the Ifs.
 use mathlib.Core.Path.{_≡_, refl, sym, _∙_}
 use mathlib.Core.Bool.{Bool, true, false, cond, _||_}
 use mathlib.Core.List.{List, [], _∷_, map}
@@ -8,7 +8,9 @@ use Prim.Native.Nat.{ℕ, _+_, _≤_, _<_}
 use native.Mathlib.Nat.{mul-le-mul-left}
 use native.Mathlib.Omega.{arith}
 use lib.IntN.{ℤ, pos, negsuc, natAbs, _+ℤ_, _*ℤ_}
+use lib.Dec.{ltb}
 use lib.ListN.{length, take}
+use lib.Seq.{take-all}
 use borrow.Author.Tests.{ltb-false, le-ltb}
 use Rattle.laws.specs.Bools.{and-l, and-r, never, or-l, or-r, or-no-l, or-no-r}
 use Rattle.laws.specs.Ints.{eqZ, natAbs-add, natAbs-mul}
@@ -16,22 +18,24 @@ use Rattle.laws.specs.Order.{eqZ-refl}
 use Rattle.laws.specs.Same.{same-is}
 use Rattle.laws.specs.Lists.{any, all}
 use Rattle.syntax.specs.Words.{max-weight}
-use Rattle.syntax.specs.Syntax.{Domain, Range, Enumerative, lower-bound, upper-bound, num-candidates, enumerate, domain-of, IntExpr, IConst, IVar, Linear, If, BoolExpr, Const, Var, NVar, And, Or, Not, Xor, Iff, Imp, Cmp, Members, mnil, more, Stmt, Rule, Table, AllDifferent, Problem}
+use Rattle.syntax.specs.Syntax.{IfIsRead, Domain, Range, Enumerative, lower-bound, upper-bound, num-candidates, enumerate, domain-of, IntExpr, IConst, IVar, Linear, If, Terms, tnil, tmore, BoolExpr, Const, Var, NVar, And, Or, Not, Xor, Iff, Imp, Cmp, Members, mnil, more, Stmt, Rule, Table, AllDifferent, Problem}
 use Rattle.syntax.specs.Written.{Any, EveryIntOf, EveryInt, EveryColumnOf, EveryColumn, EveryStmt, EveryStmts, columns-of}
 use Rattle.words.specs.Exact.{Each}
 use Rattle.read.specs.Exact.{set-sound}
-use Rattle.limits.specs.Limits.{any-comparison, any-comparison-members, any-inside, any-pair, any-part, domain-weight, weight, heavy, heavy-comparison, written, heavy-stmt}
+use Rattle.limits.specs.Limits.{any-comparison, any-comparison-members, any-inside, any-inside-terms, any-pair, any-part, domain-weight, weight, heavy, heavy-terms, heavy-comparison, written, heavy-stmt}
 use Rattle.limits.specs.Light.{value-light, unrefused-light}
+use Rattle.limits.specs.Total.{lower-small, higher-small}
 use Rattle.fold.specs.Fold.{Fixed, constant-folding-stmt as fold-stmt}
 use Rattle.fold.specs.Optimize.{settled, optimize}
 use Rattle.fold.specs.Kept.{fold-stmts-every}
 use Rattle.fold.specs.Ends.{optimize-rests}
 use Rattle.sums.specs.Domain.{ordered}
-use Rattle.sums.specs.LinearSum.{Term, term, LinearSum, linear-sum, singleton, add-coef, mul-sum, lowest, highest}
+use Rattle.sums.specs.LinearSum.{Term, term, LinearSum, linear-sum, singleton, add-coef, mul-sum, lowest, highest, get-domain-linear-sum}
 use Rattle.sums.specs.Rising.{terms-of, constant-of, Among}
-use Rattle.sums.specs.Linear.{linear-of}
+use Rattle.sums.specs.Linear.{linear-of, EveryIf}
 use Rattle.sums.specs.Norm.{norm, load, singleton-load, add-coef-norm, mul-sum-load}
 use Rattle.sums.specs.Bounds.{heavy-weight, size, Coefficients, Fits, Every, add-steps, sum-steps, computed, computed-comparison, linear-of-load, linear-of-size, reach, reach-weight, computed-fits, comparison-fits, domain-bounds-fit}
+use Rattle.clauses.specs.Normalize.{hull}
 use Rattle.tables.specs.Domains.{has, has-range}
 use Rattle.different.specs.Different.{is-like, values-of-first, values-used-up}
 use Rattle.folded.specs.Folded.{fold-stmt-light}
@@ -58,6 +62,7 @@ EveryPair P (e ∷ es) = Each (P e) es × EveryPair P es
 abbrev pub EveryValue : (IntExpr → IntExpr → Type 0) → List IntExpr → List ℤ → Type 0
 EveryValue P es xs = Each (λ x. Each (λ e. P e (IConst x)) es) xs
 
+-- P: of two sides; C: of a column, and of an If's value
 module _ (P : IntExpr → IntExpr → Type 0) (C : IntExpr → Type 0) where
   unfoldable mutual
     pub EveryComparison : BoolExpr → Type 0
@@ -70,40 +75,57 @@ module _ (P : IntExpr → IntExpr → Type 0) (C : IntExpr → Type 0) where
     EveryComparison (Xor a b) = EveryComparison a × EveryComparison b
     EveryComparison (Iff a b) = EveryComparison a × EveryComparison b
     EveryComparison (Imp a b) = EveryComparison a × EveryComparison b
-    EveryComparison (Cmp o a b) = P a b
+    EveryComparison (Cmp o a b) = P a b × EveryInside a × EveryInside b
 
     pub EveryMembersComparison : Members → Type 0
     EveryMembersComparison mnil = Unit {0}
     EveryMembersComparison (more e ms) = EveryComparison e × EveryMembersComparison ms
 
+    -- of what stands inside the Ifs of an integer expression
+    pub EveryInside : IntExpr → Type 0
+    EveryInside (IConst c) = Unit {0}
+    EveryInside (IVar v) = Unit {0}
+    EveryInside (Linear ts) = EveryTermInside ts
+    EveryInside (If i c t f) = EveryComparison c × C t × EveryInside t × C f × EveryInside f
+
+    pub EveryTermInside : Terms → Type 0
+    EveryTermInside tnil = Unit {0}
+    EveryTermInside (tmore k e ts) = EveryInside e × EveryTermInside ts
+
   abbrev pub EveryPart : List Domain → Stmt → Type 0
   EveryPart ds (Rule e) = EveryComparison e
-  EveryPart ds (Table es rows) = Each C es
-  EveryPart ds (AllDifferent es) = EveryPair P es × EveryValue P es (values-used-up ds es)
+  EveryPart ds (Table es rows) = Each (λ e. C e × EveryInside e) es
+  EveryPart ds (AllDifferent es) = Each EveryInside es × EveryPair P es × EveryValue P es (values-used-up ds es)
 
 -- ---- the sums of a column: its own, and with a new variable n
 
 -- x - n, term by term
-unfoldable pub computed-difference : (ℕ → ℕ) → IntExpr → ℕ → List LinearSum
-computed-difference number e n = mul-sum (negsuc 0) (singleton n) ∷ sum-steps (linear-of number e) (mul-sum (negsuc 0) (singleton n))
+unfoldable pub computed-difference : (number made : ℕ → ℕ) → IntExpr → ℕ → List LinearSum
+computed-difference number made e n = mul-sum (negsuc 0) (singleton n) ∷ sum-steps (linear-of number made 0 e) (mul-sum (negsuc 0) (singleton n))
 
 -- each coefficient times the bounds of its variable's domain
 unfoldable pub Products : (ℕ → Domain) → List Term → Type 0
 Products domain [] = Unit {0}
 Products domain (term v a ∷ ts) = (natAbs (a *ℤ lower-bound (domain v)) ≤ max-i32) × (natAbs (a *ℤ upper-bound (domain v)) ≤ max-i32) × Products domain ts
 
+-- the domain of each written variable's number is the variable's, that of each If's number within the If's weight
+pub record DomainsOf (ds : List Domain) (number made : ℕ → ℕ) (domain : ℕ → Domain) (e : IntExpr) : Type 0 where
+  pub variables : (v : ℕ) → Among (written e) v → domain (number v) ≡ domain-of ds v
+  pub ifs : EveryIf (λ n x. reach (domain n) ≤ weight ds x) made 0 e
+
+-- the bounds stay within the weight, as `ifs` asks of an If around e
 pub record ColumnIn (ds : List Domain) (number : ℕ → ℕ) (e : IntExpr) : Type 0 where
-  pub sums : Every InI32 (computed number e)
-  pub difference : (n : ℕ) → Every InI32 (computed-difference number e n)
-  -- the domain of each written variable's number is the variable's
-  pub products : (domain : ℕ → Domain) → ((v : ℕ) → Among (written e) v → domain (number v) ≡ domain-of ds v) → Products domain (terms-of (linear-of number e))
+  pub sums : (made : ℕ → ℕ) → Every InI32 (computed number made 0 e)
+  pub difference : (made : ℕ → ℕ) (n : ℕ) → Every InI32 (computed-difference number made e n)
+  pub products : (made : ℕ → ℕ) (domain : ℕ → Domain) → DomainsOf ds number made domain e → Products domain (terms-of (linear-of number made 0 e))
   -- after k terms
-  pub bounds : (domain : ℕ → Domain) → ((v : ℕ) → Among (written e) v → domain (number v) ≡ domain-of ds v) → (k : ℕ)
-      → (natAbs (lowest domain (constant-of (linear-of number e)) (take k (terms-of (linear-of number e)))) ≤ max-i32)
-      × (natAbs (highest domain (constant-of (linear-of number e)) (take k (terms-of (linear-of number e)))) ≤ max-i32)
+  pub bounds : (made : ℕ → ℕ) (domain : ℕ → Domain) → DomainsOf ds number made domain e → (k : ℕ)
+      → (natAbs (lowest domain (constant-of (linear-of number made 0 e)) (take k (terms-of (linear-of number made 0 e)))) ≤ weight ds e)
+      × (natAbs (highest domain (constant-of (linear-of number made 0 e)) (take k (terms-of (linear-of number made 0 e)))) ≤ weight ds e)
+  pub weight-in : weight ds e ≤ max-i32
 
 abbrev pub ComparisonIn : (ℕ → ℕ) → IntExpr → IntExpr → Type 0
-ComparisonIn number a b = Every InI32 (computed-comparison number a b)
+ComparisonIn number a b = (made : ℕ → ℕ) → Every InI32 (computed-comparison number made a b)
 
 -- ---- sums of a small size
 
@@ -142,14 +164,14 @@ sum-steps-in (linear-sum c ts) (linear-sum d us) h = add-steps-in c ts d us h
 
 module _ (ds : List Domain) (number : ℕ → ℕ) where
   comparison-in : (a b : IntExpr) → heavy-comparison ds a b ≡ false → ComparisonIn number a b
-  comparison-in a b h = all-fit-in (computed-comparison number a b) (comparison-fits ds number a b h)
+  comparison-in a b h made = all-fit-in (computed-comparison number made a b) (comparison-fits ds number made a b h)
 
-  difference-in : (e : IntExpr) → heavy ds e ≡ false → (n : ℕ) → Every InI32 (computed-difference number e n)
+  difference-in : (e : IntExpr) → heavy ds e ≡ false → (made : ℕ → ℕ) (n : ℕ) → Every InI32 (computed-difference number made e n)
   unfolding computed-difference Every
-  difference-in e h n =
+  difference-in e h made n =
       let m = mul-sum (negsuc 0) (singleton n) in
       let s : size m ≤ 1 = omega (arith, mul-sum-load (λ v. 1) (negsuc 0) (singleton n), singleton-load (λ v. 1) n) in
-      (size-in m (omega arith), sum-steps-in (linear-of number e) m (omega (arith, linear-of-size ds number e, heavy-weight ds e h)))
+      (size-in m (omega arith), sum-steps-in (linear-of number made 0 e) m (omega (arith, linear-of-size ds number made 0 e, heavy-weight ds e h)))
 
   products-in : (domain : ℕ → Domain) (ts : List Term) → norm (λ v. reach (domain v)) ts ≤ max-weight → Products domain ts
   unfolding Products norm
@@ -167,13 +189,34 @@ module _ (ds : List Domain) (number : ℕ → ℕ) where
 
   column-in : (e : IntExpr) → heavy ds e ≡ false → ColumnIn ds number e
   column-in e h = record {
-    sums = all-fit-in (computed number e) (computed-fits ds number e h);
+    sums = λ made. all-fit-in (computed number made 0 e) (computed-fits ds number made e h);
     difference = difference-in e h;
-    products = λ domain k.
+    products = λ made domain k.
         let w : ℕ → ℕ = λ v. reach (domain v) in
-        products-in domain (terms-of (linear-of number e)) (omega (arith, load-norm w (linear-of number e), linear-of-load ds number w e (λ v m. rw (k v m) (reach-weight (domain-of ds v))), heavy-weight ds e h));
-    bounds = λ domain k i. let b = domain-bounds-fit domain ds number e k h i in (omega (arith, b .0), omega (arith, b .1));
+        let l = linear-of number made 0 e in
+        products-in domain (terms-of l) (omega (arith, load-norm w l, linear-of-load ds number made w 0 e (λ v m. rw (k .variables v m) (reach-weight (domain-of ds v))) (k .ifs), heavy-weight ds e h));
+    bounds = λ made domain k. domain-bounds-fit domain ds number made e (k .variables) (k .ifs);
+    weight-in = omega (arith, heavy-weight ds e h);
   }
+
+-- ---- an If's domain, from its values' domains, is as `ifs` asks
+
+-- after all terms
+bounds-at-end : (domain : ℕ → Domain) (l : LinearSum) (n : ℕ) → ((k : ℕ) → (natAbs (lowest domain (constant-of l) (take k (terms-of l))) ≤ n) × (natAbs (highest domain (constant-of l) (take k (terms-of l))) ≤ n))
+    → (natAbs (lower-bound (get-domain-linear-sum domain l)) ≤ n) × (natAbs (upper-bound (get-domain-linear-sum domain l)) ≤ n)
+unfolding get-domain-linear-sum
+bounds-at-end domain (linear-sum c ts) n h = rw (take-all (length ts) ts (omega arith)) at (h (length ts))
+
+pub if-domain-in : (ds : List Domain) (number made other : ℕ → ℕ) (domain : ℕ → Domain) (i : IfIsRead) (c : BoolExpr) (t f : IntExpr)
+    → ColumnIn ds number t → ColumnIn ds number f → DomainsOf ds number made domain t → DomainsOf ds number other domain f
+    → reach (hull (get-domain-linear-sum domain (linear-of number made 0 t)) (get-domain-linear-sum domain (linear-of number other 0 f))) ≤ weight ds (If i c t f)
+unfolding weight
+if-domain-in ds number made other domain i c t f h k x y =
+    let d = get-domain-linear-sum domain (linear-of number made 0 t) in
+    let e = get-domain-linear-sum domain (linear-of number other 0 f) in
+    let a = bounds-at-end domain (linear-of number made 0 t) (weight ds t) (h .bounds made domain x) in
+    let b = bounds-at-end domain (linear-of number other 0 f) (weight ds f) (k .bounds other domain y) in
+    omega (arith, lower-small (lower-bound d) (lower-bound e) (weight ds t) (weight ds f) (a .0) (b .0), higher-small (upper-bound d) (upper-bound e) (weight ds t) (weight ds f) (a .1) (b .1))
 
 -- ---- an AllDifferent's values: within the pairs' weights
 
@@ -243,38 +286,71 @@ module _ (ds : List Domain) (well : (v : ℕ) → v < length ds → ordered (dom
 
 -- ---- what refusal 9 leaves has the property
 
-module _ (P : IntExpr → IntExpr → Type 0) (C : IntExpr → Type 0) (p : IntExpr → IntExpr → Bool) (r c : IntExpr → Bool) (f : (a b : IntExpr) → p a b ≡ false → P a b) (g : (e : IntExpr) → c e ≡ false → C e) where
-  mutual
-    unfolding EveryComparison any-comparison
+module _ (P : IntExpr → IntExpr → Type 0) (C : IntExpr → Type 0) (ds : List Domain) (f : (a b : IntExpr) → heavy-comparison ds a b ≡ false → P a b) (g : (e : IntExpr) → heavy ds e ≡ false → C e) where
+  -- refusal 9's test of the comparisons, and of what stands inside an integer expression
+  abbrev compared : BoolExpr → Bool
+  compared e = any-comparison (heavy-comparison ds) (λ x. false) e
 
-    comparisons-every : (e : BoolExpr) → any-comparison p r e ≡ false → EveryComparison P C e
+  abbrev inside : IntExpr → Bool
+  inside e = any-inside (heavy-comparison ds) (λ x. false) e
+
+  mutual
+    unfolding EveryComparison any-comparison heavy heavy-comparison
+
+    comparisons-every : (e : BoolExpr) → compared e ≡ false → EveryComparison P C e
     comparisons-every (Const b) h = tt
     comparisons-every (Var v) h = tt
     comparisons-every (NVar n) h = tt
     comparisons-every (And ms) h = members-every ms h
     comparisons-every (Or ms) h = members-every ms h
     comparisons-every (Not e) h = comparisons-every e h
-    comparisons-every (Xor a b) h = (comparisons-every a (or-no-l (any-comparison p r a) (any-comparison p r b) h), comparisons-every b (or-no-r (any-comparison p r a) (any-comparison p r b) h))
-    comparisons-every (Iff a b) h = (comparisons-every a (or-no-l (any-comparison p r a) (any-comparison p r b) h), comparisons-every b (or-no-r (any-comparison p r a) (any-comparison p r b) h))
-    comparisons-every (Imp a b) h = (comparisons-every a (or-no-l (any-comparison p r a) (any-comparison p r b) h), comparisons-every b (or-no-r (any-comparison p r a) (any-comparison p r b) h))
-    comparisons-every (Cmp o a b) h = f a b (or-no-l (p a b) _ h)
+    comparisons-every (Xor a b) h = (comparisons-every a (or-no-l (compared a) (compared b) h), comparisons-every b (or-no-r (compared a) (compared b) h))
+    comparisons-every (Iff a b) h = (comparisons-every a (or-no-l (compared a) (compared b) h), comparisons-every b (or-no-r (compared a) (compared b) h))
+    comparisons-every (Imp a b) h = (comparisons-every a (or-no-l (compared a) (compared b) h), comparisons-every b (or-no-r (compared a) (compared b) h))
+    comparisons-every (Cmp o a b) h =
+        let t = or-no-l (heavy-comparison ds a b) _ h in
+        let u = or-no-r (heavy-comparison ds a b) _ h in
+        let v = or-no-r (heavy ds a) _ t in
+        (f a b t, inside-every a (or-no-l (heavy ds a) _ t) (or-no-l (inside a) (inside b) u), inside-every b (or-no-l (heavy ds b) _ v) (or-no-r (inside a) (inside b) u))
 
-    members-every : (ms : Members) → any-comparison-members p r ms ≡ false → EveryMembersComparison P C ms
+    members-every : (ms : Members) → any-comparison-members (heavy-comparison ds) (λ x. false) ms ≡ false → EveryMembersComparison P C ms
     members-every mnil h = tt
-    members-every (more e ms) h = (comparisons-every e (or-no-l (any-comparison p r e) (any-comparison-members p r ms) h), members-every ms (or-no-r (any-comparison p r e) (any-comparison-members p r ms) h))
+    members-every (more e ms) h = (comparisons-every e (or-no-l (compared e) _ h), members-every ms (or-no-r (compared e) _ h))
 
-  columns-every : (es : List IntExpr) → any (λ e. c e || any-inside p r e) es ≡ false → Each C es
+    inside-every : (e : IntExpr) → heavy ds e ≡ false → inside e ≡ false → EveryInside P C e
+    inside-every (IConst c) w h = tt
+    inside-every (IVar v) w h = tt
+    inside-every (Linear ts) w h = terms-every ts (or-no-r (ltb max-weight (weight ds (Linear ts))) (heavy-terms ds ts) w) h
+    inside-every (If i c t e) w h =
+        let b = or-no-r (ltb max-weight (weight ds (If i c t e))) (heavy ds t || heavy ds e) w in
+        let l = or-no-l (heavy ds t) (heavy ds e) b in
+        let r = or-no-r (heavy ds t) (heavy ds e) b in
+        let k = or-no-r (compared c) (inside t || inside e) h in
+        (comparisons-every c (or-no-l (compared c) (inside t || inside e) h), g t l, inside-every t l (or-no-l (inside t) (inside e) k), g e r, inside-every e r (or-no-r (inside t) (inside e) k))
+
+    terms-every : (ts : Terms) → heavy-terms ds ts ≡ false → any-inside-terms (heavy-comparison ds) (λ x. false) ts ≡ false → EveryTermInside P C ts
+    terms-every tnil w h = tt
+    terms-every (tmore k e ts) w h = (inside-every e (or-no-l (heavy ds e) (heavy-terms ds ts) w) (or-no-l (inside e) _ h), terms-every ts (or-no-r (heavy ds e) (heavy-terms ds ts) w) (or-no-r (inside e) _ h))
+
+  columns-every : (es : List IntExpr) → any (λ e. heavy ds e || inside e) es ≡ false → Each (λ e. C e × EveryInside P C e) es
   columns-every [] h = tt
-  columns-every (e ∷ es) h = (g e (or-no-l (c e) _ (or-no-l (c e || any-inside p r e) _ h)), columns-every es (or-no-r (c e || any-inside p r e) _ h))
+  columns-every (e ∷ es) h =
+      let k = or-no-l (heavy ds e || inside e) _ h in
+      let l = or-no-l (heavy ds e) (inside e) k in
+      ((g e l, inside-every e l (or-no-r (heavy ds e) (inside e) k)), columns-every es (or-no-r (heavy ds e || inside e) _ h))
 
-  row-every : (e : IntExpr) (es : List IntExpr) → any (p e) es ≡ false → Each (P e) es
+  all-inside : (es : List IntExpr) → Each (λ e. C e × EveryInside P C e) es → Each (EveryInside P C) es
+  all-inside [] h = tt
+  all-inside (e ∷ es) h = (h .0 .1, all-inside es (h .1))
+
+  row-every : (e : IntExpr) (es : List IntExpr) → any (heavy-comparison ds e) es ≡ false → Each (P e) es
   row-every e [] h = tt
-  row-every e (d ∷ es) h = (f e d (or-no-l (p e d) (any (p e) es) h), row-every e es (or-no-r (p e d) (any (p e) es) h))
+  row-every e (d ∷ es) h = (f e d (or-no-l (heavy-comparison ds e d) _ h), row-every e es (or-no-r (heavy-comparison ds e d) _ h))
 
-  pairs-every : (es : List IntExpr) → any-pair p es ≡ false → EveryPair P es
+  pairs-every : (es : List IntExpr) → any-pair (heavy-comparison ds) es ≡ false → EveryPair P es
   unfolding any-pair
   pairs-every [] h = tt
-  pairs-every (e ∷ es) h = (row-every e es (or-no-l (any (p e) es) (any-pair p es) h), pairs-every es (or-no-r (any (p e) es) (any-pair p es) h))
+  pairs-every (e ∷ es) h = (row-every e es (or-no-l (any (heavy-comparison ds e) es) _ h), pairs-every es (or-no-r (any (heavy-comparison ds e) es) _ h))
 
 -- ---- the theorem
 
@@ -284,11 +360,15 @@ module _ (ds : List Domain) (well : (v : ℕ) → v < length ds → ordered (dom
 
   part-in : (nb : ℕ) (t : Stmt) → EveryStmt (λ v. v < nb) (λ v. v < length ds) t → heavy-stmt ds t ≡ false → In t
   unfolding any-part EveryStmt
-  part-in nb (Rule e) d h = comparisons-every (ComparisonIn number) (ColumnIn ds number) (heavy-comparison ds) (λ e. false) (heavy ds) (comparison-in ds number) (column-in ds number) e h
-  part-in nb (Table es rows) d h = columns-every (ComparisonIn number) (ColumnIn ds number) (heavy-comparison ds) (λ e. false) (heavy ds) (comparison-in ds number) (column-in ds number) es h
+  part-in nb (Rule e) d h = comparisons-every (ComparisonIn number) (ColumnIn ds number) ds (comparison-in ds number) (column-in ds number) e h
+  part-in nb (Table es rows) d h = columns-every (ComparisonIn number) (ColumnIn ds number) ds (comparison-in ds number) (column-in ds number) es h
   part-in nb (AllDifferent es) d h =
-      let k = or-no-r (any (λ e. heavy ds e || any-inside (heavy-comparison ds) (λ x. false) e) es) _ h in
-      (pairs-every (ComparisonIn number) (ColumnIn ds number) (heavy-comparison ds) (λ e. false) (heavy ds) (comparison-in ds number) (column-in ds number) es k, used-values ds well (ComparisonIn number) (comparison-in ds number) es (columns-of Any (λ v. v < nb) (λ v. v < length ds) es d) k)
+      let l = or-no-l (any (λ e. heavy ds e || any-inside (heavy-comparison ds) (λ x. false) e) es) _ h in
+      let k = or-no-r (any (λ e. heavy ds e || any-inside (heavy-comparison ds) (λ x. false) e) es) _ h in (
+        all-inside (ComparisonIn number) (ColumnIn ds number) ds (comparison-in ds number) (column-in ds number) es (columns-every (ComparisonIn number) (ColumnIn ds number) ds (comparison-in ds number) (column-in ds number) es l),
+        pairs-every (ComparisonIn number) (ColumnIn ds number) ds (comparison-in ds number) (column-in ds number) es k,
+        used-values ds well (ComparisonIn number) (comparison-in ds number) es (columns-of Any (λ v. v < nb) (λ v. v < length ds) es d) k,
+      )
 
   folded-in : (f : Fixed) (nb : ℕ) (ts : List Stmt) → EveryStmts (λ v. v < nb) (λ v. v < length ds) (map (fold-stmt ds f) ts) → any (heavy-stmt ds) ts ≡ false → Each In (map (fold-stmt ds f) ts)
   unfolding EveryStmts

@@ -74,10 +74,10 @@ either-small : (t : Bool) (x y : ℤ) (a b : ℕ) → natAbs x ≤ a → natAbs 
 either-small true x y a b h k = omega arith
 either-small false x y a b h k = omega arith
 
-lower-small : (x y : ℤ) (a b : ℕ) → natAbs x ≤ a → natAbs y ≤ b → natAbs (lower x y) ≤ max 1 (max a b)
+pub lower-small : (x y : ℤ) (a b : ℕ) → natAbs x ≤ a → natAbs y ≤ b → natAbs (lower x y) ≤ max 1 (max a b)
 lower-small x y a b h k = either-small (leZ x y) x y a b h k
 
-higher-small : (x y : ℤ) (a b : ℕ) → natAbs x ≤ a → natAbs y ≤ b → natAbs (higher x y) ≤ max 1 (max a b)
+pub higher-small : (x y : ℤ) (a b : ℕ) → natAbs x ≤ a → natAbs y ≤ b → natAbs (higher x y) ≤ max 1 (max a b)
 higher-small x y a b h k = omega (arith, either-small (leZ x y) y x b a k h)
 
 -- ---- 9: the weight, where no part weighs too much

@@ -8,27 +8,26 @@ use lib.IntN.{ℤ, pos}
 use lib.ListN.{length, getD, length-append}
 use lib.Seq.{getD-take}
 use Rattle.laws.specs.Slices.{Has, has-fits, has-front, has-back}
-use Rattle.syntax.specs.Syntax.{Domain, BoolExpr, Stmt, Rule, Table, AllDifferent, encode-stmt, Problem}
+use Rattle.syntax.specs.Syntax.{Stmt, encode-stmt, Problem}
 use Rattle.words.specs.Exact.{Each}
 use Rattle.fold.specs.Fold.{Fixed}
 use Rattle.clauses.specs.Log.{Log, next-bool}
 use Rattle.clauses.specs.Merge.{merge-stmt, merge-stmts}
 use Rattle.answer.specs.Answer.{start-log}
-use Rattle.walk.specs.Tree.{splits}
 use Rattle.walk.specs.Item.{limit, State}
 use Rattle.walk.specs.Decode.{read-part}
-use Rattle.walk.specs.Rule.{LegalRule, true-rule, legal-rule}
 use Rattle.walk.specs.Num.{Numbered}
 use Rattle.walk.specs.NumberingSteps.{part-short}
-use Rattle.statements.specs.Columns.{ColumnRecord}
-use Rattle.statements.specs.Statements.{LegalStmts}
-use Rattle.statements.specs.Settled.{settled-legal}
-use Rattle.statements.specs.Bounds.{splits-low, merge-grows, start-low}
+use Rattle.statements.specs.Bounds.{merge-grows, start-low}
 use Rattle.statements.specs.Whole.{start, start-numbered}
-use Rattle.statements.specs.Ties.{meet-ties-at, stmt-num}
-use Rattle.statements.specs.Stages.{stmts-words, StmtFacts, settled-facts, settled-short, Folded, Started, SomeFolded}
-use Rattle.numbered.specs.Stands.{Numerable, Stands, SomeStmt, StmtEnds}
-use Rattle.numbered.proofs.Single.{some-word}
+use Rattle.statements.specs.Ties.{meet-ties-at}
+use Rattle.statements.specs.Stages.{stmts-words, settled-short, Folded, Started, SomeFolded}
+use Rattle.stages.specs.StatementsPlaces.{LegalStmt}
+use Rattle.stages.specs.StartLegal.{settled-legal}
+use Rattle.stages.specs.StartTies.{stmt-tied}
+use Rattle.setnumbers.specs.Stands.{WellRows, Stands, SomeStmt, StmtEnds}
+use Rattle.setnumbers.specs.Rows.{settled-rows}
+use Rattle.setnumbers.proofs.Ends.{some-word}
 use Rattle.merging.specs.Merging.{Aside, Ties, MergedAll}
 use Rattle.merging.proofs.Laws.{aside-same, aside-then}
 
@@ -38,9 +37,9 @@ pub record Left (p : Problem) (ss : List Stmt) (w : List ℤ) (end : ℕ) (w' : 
   pub log : Log
   pub ends : q + length (stmts-words rest) ≡ end
   pub stands : Has (read-part w) q (stmts-words rest)
-  pub facts : Each (StmtFacts (p .domains)) rest
-  pub legal : LegalStmts (read-part w) (p .domains) rest
-  pub numbered : Numbered (ColumnRecord (read-part w) (p .domains)) (start w' n) log
+  pub legal : Each LegalStmt rest
+  pub rows : Each WellRows rest
+  pub numbered : Numbered (start w' n) log
   pub logs : merge-stmts rest log ≡ start-log true ss
 
 pub record SomeLeft (p : Problem) (ss : List Stmt) (w : List ℤ) (end : ℕ) (w' : List ℤ) (n q : ℕ) : Type 0 where
@@ -62,20 +61,15 @@ all-start w end = record {
       log = [];
       ends = sym e;
       stands = h .stands;
-      facts = settled-facts p f ss (h .set);
-      legal = settled-legal p (h .set .well) f ss (h .set .ends) (h .set .unrefused) (read-part w);
-      numbered = start-numbered (read-part w) (p .domains) w (h .empty);
+      legal = settled-legal p (h .set .well) f ss (h .set .ends);
+      rows = settled-rows p (h .set .well) f ss (h .set .ends);
+      numbered = start-numbered w (h .empty);
       logs = unfold start-log in refl;
     };
   };
 }
 
 -- ---- the statement at q
-
-rule-splits : (e : BoolExpr) → LegalRule e 64 → splits e false ≤ length (encode-stmt (Rule e))
-unfolding splits encode-stmt
-rule-splits e (true-rule x) = omega arith
-rule-splits e (legal-rule x) = omega (arith, splits-low e 64 false x)
 
 word-kept : (w w' : List ℤ) → read-part w' ≡ read-part w → (k : ℕ) → k < 4608 → getD w' k (pos 0) ≡ getD w k (pos 0)
 unfolding read-part
@@ -84,9 +78,6 @@ word-kept w w' e k h = sym (getD-take 4608 w' k (pos 0) h) ∙ ap (λ (l : List 
 module _ (p : Problem) (f : Fixed) (ss : List Stmt) (w : List ℤ) (h : Folded p f ss w) where
   abbrev F : List ℤ
   F = read-part w
-
-  abbrev ds : List Domain
-  ds = p .domains
 
   short : length (stmts-words ss) ≤ 4096
   short = omega (arith, settled-short p f ss (h .set))
@@ -99,16 +90,8 @@ module _ (p : Problem) (f : Fixed) (ss : List Stmt) (w : List ℤ) (h : Folded p
       inside : q + length (encode-stmt t) ≤ 4608
       inside = omega (arith, has-fits F q (encode-stmt t) here (some-word t), part-short w)
 
-      numerable : Numerable 0 t
-      numerable = go t (x .facts .0) inside
-        where
-          go : (t : Stmt) → StmtFacts ds t → q + length (encode-stmt t) ≤ 4608 → Numerable 0 t
-          go (Rule e) y l = (y .legal, omega (arith, rule-splits e (y .legal)))
-          go (Table es rows) y l = (y .legal, y .cells)
-          go (AllDifferent es) y l = y .legal
-
-      stmt-stands : read-part w' ≡ F → Stands w' q 0 t
-      stmt-stands part = record { words = rw part here; numerable = numerable }
+      stmt-stands : read-part w' ≡ F → Stands w' q t
+      stmt-stands part = record { words = rw part here; legal = x .legal .0; rows = x .rows .0 }
 
       left-next : (w'' : List ℤ) (r q' : ℕ) → q' ≡ q + length (encode-stmt t) → Ties (meet-ties-at F q) w' n w'' r → Left p ss w end w'' r q' ts
       unfolding merge-stmts
@@ -118,13 +101,13 @@ module _ (p : Problem) (f : Fixed) (ss : List Stmt) (w : List ℤ) (h : Folded p
             log = merge-stmt t (x .log);
             ends = omega (arith, e, x .ends, length-append (encode-stmt t) (stmts-words ts));
             stands = rw e (has-back F q (encode-stmt t) (stmts-words ts) (x .stands));
-            facts = x .facts .1;
             legal = x .legal .1;
-            numbered = subst (λ (s : State). Numbered (ColumnRecord F ds) s (merge-stmt t (x .log))) (sym (m .state)) (stmt-num F (ColumnRecord F ds) (start w' n) (x .log) (x .numbered) q ds t (x .legal .0) here g);
+            rows = x .rows .1;
+            numbered = subst (λ (s : State). Numbered s (merge-stmt t (x .log))) (sym (m .state)) (stmt-tied F (start w' n) (x .log) (x .numbered) q t (x .legal .0) here g);
             logs = x .logs;
           }
 
-    some-stmt : (rest : List Stmt) → Left p ss w end w' n q rest → read-part w' ≡ F → q < end → SomeStmt w' q 0
+    some-stmt : (rest : List Stmt) → Left p ss w end w' n q rest → read-part w' ≡ F → q < end → SomeStmt w' q
     some-stmt [] x part l = absurd (omega (arith, x .ends))
     some-stmt (t ∷ ts) x part l = record { stmt = t; stands = stmt-stands t ts x part }
 
@@ -143,7 +126,7 @@ module _ (p : Problem) (f : Fixed) (ss : List Stmt) (w : List ℤ) (h : Folded p
       set = h .set;
       values = λ v k. word-kept w w' part v (omega arith) ∙ h .values v k;
       stands = subst (λ (l : List ℤ). Has l 512 (stmts-words ss)) (sym part) (h .stands);
-      numbered = subst (λ (l : List ℤ). Numbered (ColumnRecord l ds) (start w' n) (start-log true ss)) (sym part) (subst (λ (s : Log). Numbered (ColumnRecord F ds) (start w' n) s) (x .logs) (x .numbered));
+      numbered = subst (λ (s : Log). Numbered (start w' n) s) (x .logs) (x .numbered);
     }
     ready (t ∷ ts) x part l = absurd (omega (arith, x .ends, some-word t, length-append (encode-stmt t) (stmts-words ts)))
 
@@ -153,7 +136,7 @@ module _ (w : List ℤ) (end : ℕ) (s : SomeFolded w end) (w' : List ℤ) (n q 
   abbrev y : SomeLeft (s .it) (s .stmts) w end w' n q
   y = x .some (s .it) (s .fixed) (s .stmts) (s .folded) (s .ends)
 
-  pub stmt-here : q < end → SomeStmt w' q 0
+  pub stmt-here : q < end → SomeStmt w' q
   stmt-here l = some-stmt (s .it) (s .fixed) (s .stmts) w (s .folded) end w' n q (y .rest) (y .left) (x .aside .part) l
 
   pub here-inside : q < end → q ≤ 4608
@@ -183,7 +166,7 @@ all-done w end w' n q x l = record {
 pub unmerged : (w : List ℤ) (end : ℕ) → MergedAll false w end w 0
 unfolding start-log
 unmerged w end = record {
-  started = λ p f ss h i. record { set = h .set; values = h .values; stands = h .stands; numbered = start-numbered (read-part w) (p .domains) w (h .empty) };
+  started = λ p f ss h i. record { set = h .set; values = h .values; stands = h .stands; numbered = start-numbered w (h .empty) };
   aside = aside-same w;
 }
 

@@ -104,7 +104,7 @@ fn merge_statements(work: &mut [i32], end: usize) -> usize
     let mut q = 512;
     let mut n = 0;
     while q < end {
-        let next = numbered::statement_end(work, q);
+        let next = setnumbers::statement_end(work, q);
         n = merge_statement(work, q, n);
         q = next;
     }

@@ -14,3 +14,8 @@ pub mod Walk
 pub mod Ties
 pub mod TieWalk
 pub mod Rules
+pub mod Pairs
+pub mod Columns
+pub mod LightKeys
+pub mod FitsVisit
+pub mod FitsParts

@@ -44,7 +44,7 @@ ifs-kept w w' e =
     let j : getD w' 9476 (pos 0) ≡ getD w 9476 (pos 0) = ap (λ (n : ℕ). getD w' n (pos 0)) (sym i) ∙ sym (getD-drop 9476 w' 0 (pos 0)) ∙ ap (λ (l : List ℤ). getD l 0 (pos 0)) e ∙ getD-drop 9476 w 0 (pos 0) ∙ ap (λ (n : ℕ). getD w n (pos 0)) i in
     rw j refl
 
-counters-kept : (st st' : State) (c : Progress) → Kept st st' → counters-in (st' .work) c ≡ counters-in (st .work) c
+pub counters-kept : (st st' : State) (c : Progress) → Kept st st' → counters-in (st' .work) c ≡ counters-in (st .work) c
 counters-kept st st' c k = ap (λ (b : Bool). counters (c .bools) (cond b (c .ints) 0)) (ifs-kept (st .work) (st' .work) (k .behind))
 
 module _ (rec cap u : ℕ) (m : Splitting) (at base : ℕ) (p : IfParts) where

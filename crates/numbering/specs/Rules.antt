@@ -1,4 +1,4 @@
--- A rule: the numbers of its splitting, then its extras, then itself. Laws for the code.
+-- A rule, or a pair of an AllDifferent: the numbers of its splitting, then its extras, then itself. Laws for a rule's code.
 use mathlib.Core.Path.{_≡_, refl, subst}
 use mathlib.Core.Bool.{false}
 use mathlib.Core.List.{List}
@@ -6,10 +6,10 @@ use Prim.Native.Nat.{ℕ, _-_}
 use native.Mathlib.Omega.{arith}
 use lib.IntN.{ℤ}
 use Rattle.walk.specs.Decode.{read-part}
-use Rattle.walks.specs.Tree.{below}
+use Rattle.walks.specs.Tree.{below, here}
 use Rattle.walks.specs.Form.{Forms, nil, cons}
-use Rattle.walks.specs.Decode.{decode, ties-at}
-use Rattle.walks.specs.DecodeExact.{rule-at}
+use Rattle.walks.specs.Decode.{decode, decode-int, ties-at}
+use Rattle.walks.specs.DecodeExact.{rule-at, pair-at}
 use Rattle.walks.specs.Meet.{State, more-bools, form-meet, form-meets}
 use Rattle.numbering.specs.Task.{state-of, Task, then, Low, Kept, Done, Left, left-next, left-last-at, ready-next, ready-last, Starts, starts-later}
 use Rattle.numbering.specs.Fits.{form-fits, forms-fit, forms-task}
@@ -27,6 +27,10 @@ module _ (rec cap : ℕ) (ws : List ℤ) where
 
   unfoldable pub rule-task : ℕ → Task
   rule-task p = split-task (rule-at ws 64 p) (λ n. decode ws 64 below false p n .next - n)
+
+  -- the sides at p and q
+  unfoldable pub pair-task : ℕ → ℕ → Task
+  pair-task p q = split-task (pair-at ws 64 p q) (λ n. decode-int ws 64 here q (decode-int ws 64 here p n .next) .next - n)
 
 -- begun from the same counters
 pub done-as : (t : Task) (w out : List ℤ) (c d : Progress) (st' : State) → d ≡ c → Done t (state-of w out d) st' → Done t (state-of w out c) st'

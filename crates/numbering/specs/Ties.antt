@@ -86,7 +86,7 @@ module _ (rec cap : ℕ) (st : State) (l : ℕ) (m : Splitting) (at base : ℕ) 
 
 -- ---- an expression
 
-done-nil : (rec cap : ℕ) (st : State) → Low st → Done (forms-task rec cap nil) st st
+pub done-nil : (rec cap : ℕ) (st : State) → Low st → Done (forms-task rec cap nil) st st
 unfolding form-meet form-fits
 done-nil rec cap st h = record { state = λ ds d f. refl; kept = kept-same st; low = h }
 

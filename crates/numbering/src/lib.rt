@@ -13,14 +13,17 @@ ghost use Rattle.syntax.specs.Syntax.{Domain, Range};
 ghost use Rattle.syntax.specs.Words.{max-weight};
 ghost use Rattle.walk.specs.Item.{limit, bump as bump-of};
 ghost use Rattle.walks.specs.Item.{cell as cell-of, seen-in, known-in};
-ghost use Rattle.walks.specs.Decode.{decode-int};
+ghost use Rattle.walks.specs.Tree.{below as below-in, here};
+ghost use Rattle.walks.specs.Decode.{decode, decode-int};
 ghost use Rattle.walks.specs.Meet.{words-at, find-equal as find-equal-of, set-cells, copied, number-word as number-word-of, range-record, two-record};
 ghost use Rattle.walk.specs.Decode.{read-part};
 ghost use Rattle.memory.specs.DomainTable.{word-at};
 ghost use Rattle.scan.specs.Skip.{split-by, Skips, SkipsAll, IntSkips, TermSkips};
 ghost use Rattle.numbering.specs.Equal.{equal-at, option-of};
 ghost use Rattle.numbering.specs.Ties.{ties-of, int-ties-of, each-ties-of, terms-ties-of, sides-of, tie-of};
-ghost use Rattle.numbering.specs.Rules.{rule-task};
+ghost use Rattle.numbering.specs.Rules.{rule-task, pair-task};
+ghost use Rattle.numbering.specs.Pairs.{Unsplit};
+ghost use Rattle.numbering.specs.Columns.{SpanReady, Makes, column-task};
 ghost use Rattle.numbering.specs.Task.{state-of, Ready, Done, Starts};
 ghost use Rattle.numbering.specs.Steps.{form-at, members-at, int-at};
 ghost use Rattle.numbering.specs.IntSteps.{leaf-at, terms-at, if-at};
@@ -1138,6 +1141,38 @@ fn minus(a: usize, b: usize) -> usize
     a - b
 }
 
+// Whether an expression is split, from n to `next`; at the limit it may be.
+fn is_split(n: usize, next: usize) -> bool
+    ensures { λ r. ⌜ (r ≡ false → Unsplit n next) ⌝ }
+{
+    if n < 1073741824 {
+        if next == n {
+            return false;
+        }
+    }
+    true
+}
+
+// The extras of the rule at a place, which is split from n to `next`. Where nothing is split there are none.
+fn number_extras(
+    work: &mut [i32],
+    out: &mut [i32],
+    at: usize,
+    n: usize,
+    next: usize,
+    room: Room,
+    c: Progress,
+) -> Progress
+    requires { ⌜ Starts (ties-of (room .records) (room .cap) (read-part (now work)) 64 below-in at n) (state-of (now work) (now out) c) (room .records) at n × (next ≡ decode (read-part (now work)) 64 below-in false at n .next) ⌝ }
+    ensures { λ r. ⌜ Done (ties-of (room .records) (room .cap) (read-part (now (work .entry))) 64 below-in at n) (state-of (now (work .entry)) (now (out .entry)) c) (state-of (now (work .exit)) (now (out .exit)) r) ⌝ }
+{
+    if is_split(n, next) {
+        let e = number_ties(work, out, at, 64, 1, n, room, c);
+        return e.progress;
+    }
+    c
+}
+
 // The rule at a place: the splitting's numbers first, then its extras and itself.
 pub fn number_rule(
     work: &mut [i32],
@@ -1152,7 +1187,95 @@ pub fn number_rule(
     let n = c.bools;
     let s = skip(work, at, 64, 1, n);
     let d = advance(c, minus(s.base, n));
-    let e = number_ties(work, out, at, 64, 1, n, room, d);
-    let f = number(work, out, at, 64, 1, n, false, room, e.progress);
+    let e = number_extras(work, out, at, n, s.base, room, d);
+    let f = number(work, out, at, 64, 1, n, false, room, e);
     f.progress
+}
+
+// ---- a pair of an AllDifferent
+
+// The extras of the side at a place, which is split from n to `next`.
+fn number_side_extras(
+    work: &mut [i32],
+    out: &mut [i32],
+    at: usize,
+    n: usize,
+    next: usize,
+    room: Room,
+    c: Progress,
+) -> Progress
+    requires { ⌜ Starts (int-ties-of (room .records) (room .cap) (read-part (now work)) 64 here at n) (state-of (now work) (now out) c) (room .records) at n × (next ≡ decode-int (read-part (now work)) 64 here at n .next) ⌝ }
+    ensures { λ r. ⌜ Done (int-ties-of (room .records) (room .cap) (read-part (now (work .entry))) 64 here at n) (state-of (now (work .entry)) (now (out .entry)) c) (state-of (now (work .exit)) (now (out .exit)) r) ⌝ }
+{
+    if is_split(n, next) {
+        let e = number_int_ties(work, out, at, 64, 2, n, room, c);
+        return e.progress;
+    }
+    c
+}
+
+// The pair whose sides stand at p and q: the splitting's numbers first, then the extras of both sides, then the sides.
+pub fn number_pair(
+    work: &mut [i32],
+    out: &mut [i32],
+    p: usize,
+    q: usize,
+    room: Room,
+    c: Progress,
+) -> Progress
+    requires { ⌜ Starts (pair-task (room .records) (room .cap) (read-part (now work)) p q) (state-of (now work) (now out) c) (room .records) p 0 × (q ≤ 4608) ⌝ }
+    ensures { λ r. ⌜ Done (pair-task (room .records) (room .cap) (read-part (now (work .entry))) p q) (state-of (now (work .entry)) (now (out .entry)) c) (state-of (now (work .exit)) (now (out .exit)) r) ⌝ }
+{
+    let n = c.bools;
+    let a = skip_int(work, p, 64, 2, n);
+    let j = a.base;
+    let b = skip_int(work, q, 64, 2, j);
+    let d = advance(c, minus(b.base, n));
+    let e = number_side_extras(work, out, p, n, j, room, d);
+    let f = number_side_extras(work, out, q, j, b.base, room, e);
+    let g = number_int(work, out, p, 64, 2, n, room, f);
+    let h = number_int(work, out, q, 64, 2, j, room, g.progress);
+    h.progress
+}
+
+// ---- a table's column
+
+// The integer of the column at a place, whose expression is walked from c to d: its record between its bounds, its number at the column's place.
+fn make_column(
+    work: &mut [i32],
+    out: &mut [i32],
+    at: usize,
+    room: Room,
+    c: Progress,
+    d: Progress,
+) -> Progress
+    requires { ⌜ (4608 ≤ length (now work)) × ((at ≤ 4608) × ((room .records ≤ limit) × SpanReady (now work) at c d)) ⌝ }
+    ensures { λ r. ⌜ Makes (room .records) at c d (now (work .entry)) (now (out .entry)) (now (work .exit)) (now (out .exit)) r ⌝ }
+{
+    let r = range_of(work, at, 64, 0, 0, counters_of(work, c));
+    put_range(out, room.records, d.ints, r.low, r.high);
+    store_number(work, 4864 + at, d.ints + 1);
+    count_int(d)
+}
+
+// The column at a place, of which nothing is split; one that is no declared variable gets an integer.
+pub fn number_column(
+    work: &mut [i32],
+    out: &mut [i32],
+    at: usize,
+    room: Room,
+    c: Progress,
+) -> Progress
+    requires { ⌜ Starts (column-task (room .records) (room .cap) (read-part (now work)) at) (state-of (now work) (now out) c) (room .records) at 0 ⌝ }
+    ensures { λ r. ⌜ Done (column-task (room .records) (room .cap) (read-part (now (work .entry))) at) (state-of (now (work .entry)) (now (out .entry)) c) (state-of (now (work .exit)) (now (out .exit)) r) ⌝ }
+{
+    let a = number_int(work, out, at, 64, 0, 0, room, c);
+    let d = a.progress;
+    if is_full(room, d) {
+        return d;
+    }
+    if word(work, at) == 21 {
+        return d;
+    }
+    make_column(work, out, at, room, c, d)
 }

@@ -16,19 +16,16 @@ use mir.Facts.{toZ-ofZ}
 use Rattle.laws.specs.Lists.{flat}
 use Rattle.laws.specs.Writes.{cap, Wrote, wrote-none, wrote-then, wrote-length, wrote-low, Open}
 use Rattle.syntax.specs.Syntax.{op-at, encode-op}
-use Rattle.sums.specs.LinearSum.{Term, term, LinearSum, sub-sum}
-use Rattle.sums.specs.Linear.{linear-of}
+use Rattle.sums.specs.LinearSum.{Term, term}
 use Rattle.sums.specs.Rising.{Each}
 use Rattle.sums.specs.Struct.{terms, sum-of}
 use Rattle.sums.specs.declared.LinearSum.{LinearSum as Sum}
 use Rattle.clauses.specs.Clause.{linear}
 use Rattle.clauses.specs.Normalize.{negate-op-if}
 use Rattle.answer.specs.Answer.{term-words, linear-words}
-use Rattle.sums.proofs.Laws.{stands-sum}
-use Rattle.walk.specs.Item.{limit, is-none, int-number, word-of, clause-text, comparison, block}
+use Rattle.walk.specs.Item.{limit, is-none, word-of, clause-text, block}
 use Rattle.output.specs.declared.Suffix.{Suffix}
 use Rattle.output.specs.Suffix.{Stacked, suffix}
-use Rattle.output.specs.ComparisonsFit.{Compares, Subtracted, Compared}
 use Rattle.survey.proofs.Leaves.{pos-is, minus-is}
 
 -- ---- the place behind what was written
@@ -185,25 +182,6 @@ linear-clause {out} {a} {b} {c} {d} {o} {p} {q} {r} {t} s k g l e w₁ w₂ w₃
 -- a number below 2 ^ 31
 pub put-cast : {out a : List ℤ} {o p v : ℕ} → v < 2147483648 → Wrote out o (toZ w32 v ∷ []) a p → Wrote out o (pos v ∷ []) a p
 put-cast {out} {a} {o} {p} {v} h x = subst (λ (z : ℤ). Wrote out o (z ∷ []) a p) (toZ-ofZ {w = w32} {z = pos v} (record { sfits = omega arith })) x
-
-module _ {w : List ℤ} {at : ℕ} where
-  pub few-terms : {r : Sum} → Compares w at → Subtracted w at r → r .count ≤ 64
-  few-terms c s = s .right (c .left) (c .right) (c .sides .has) .room
-
-  pub compared : {r : Sum} (k : ℕ) (g : Bool) {out out' : List ℤ} {o o' : ℕ} → Subtracted w at r → Wrote out o (linear-words (linear (negate-op-if g (op-at k)) (sum-of r))) out' o' → Compared w at k g (λ ws. ws) out o out' o'
-  unfolding comparison
-  compared {r} k g {out} {out'} {o} {o'} s x = record {
-    wrote = λ a b h.
-        let l = sub-sum (linear-of (int-number w) a) (linear-of (int-number w) b) in
-        let e : sum-of r ≡ l = stands-sum r l (s .right a b h) in
-        subst (λ (m : LinearSum). Wrote out o (linear-words (linear (negate-op-if g (op-at k)) m)) out' o') e x;
-  }
-
-  pub compared-length : {k : ℕ} {g : Bool} {f : List ℤ → List ℤ} {out out' : List ℤ} {o o' : ℕ} → Compares w at → Compared w at k g f out o out' o' → length out' ≡ length out
-  compared-length c x = wrote-length (x .wrote (c .left) (c .right) (c .sides .has))
-
-  pub compared-op : {k j : ℕ} {g : Bool} {f : List ℤ → List ℤ} {out out' : List ℤ} {o o' : ℕ} → k ≡ j → Compared w at k g f out o out' o' → Compared w at j g f out o out' o'
-  compared-op {g = g} {f = f} {out = out} {out' = out'} {o = o} {o' = o'} e = subst (λ (k : ℕ). Compared w at k g f out o out' o') e
 
 -- no literal
 pub none-clause : {out a b c : List ℤ} {o p q r : ℕ} (s : Suffix) (x : ℕ) → Open out o → Stacked s 0 → x ≡ 64 - s .from

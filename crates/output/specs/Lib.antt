@@ -1,2 +1,1 @@
 pub mod Suffix
-pub mod ComparisonsFit

@@ -8,13 +8,12 @@ ghost use Rattle.laws.specs.Writes.{Wrote, Open};
 ghost use Rattle.syntax.specs.Syntax.{op-at, encode-op};
 ghost use Rattle.sums.specs.Rising.{Each};
 ghost use Rattle.sums.specs.Struct.{terms, sum-of};
-ghost use Rattle.nest.specs.Nest.{Word};
 ghost use Rattle.clauses.specs.Clause.{linear};
 ghost use Rattle.clauses.specs.Normalize.{negate-op-if};
 ghost use Rattle.answer.specs.Answer.{term-words, linear-words};
 ghost use Rattle.walk.specs.Item.{limit, word-of, clause-text, extra, block as block-of};
+ghost use Rattle.walks.specs.Totals.{Word};
 ghost use Rattle.output.specs.Suffix.{suffix, Stacked, extra-lits};
-ghost use Rattle.output.specs.ComparisonsFit.{Compares, Subtracted, Compared};
 use sums::LinearSum;
 use walk::Mode;
 
@@ -159,57 +158,6 @@ pub fn put_linear(k: usize, g: bool, s: LinearSum, out: &mut [i32], o: usize) ->
     let b = put(out, a, c);
     let d = put(out, b, n as i32);
     put_terms(s, out, d)
-}
-
-// The left side minus the right one, which stand at a place of the work slice, with the final integer map.
-fn difference(work: &[i32], at: usize) -> LinearSum
-    requires { ⌜ (5120 ≤ length (now work)) × Compares (now work) at ⌝ }
-    ensures { λ r. ⌜ Subtracted (now (work .entry)) at r ⌝ }
-{
-    let e = work.len();
-    let numbers = &work[5120..e];
-    let a = nest::linear_of(work, at, numbers);
-    let p = a.next;
-    let b = nest::linear_of(work, p, numbers);
-    let s = a.sum;
-    let t = b.sum;
-    sums::sub_sum(s, t)
-}
-
-// The words of a comparison: its operator k, negated if g, and where its sides stand.
-pub fn put_comparison(
-    work: &[i32],
-    at: usize,
-    k: usize,
-    g: bool,
-    out: &mut [i32],
-    o: usize,
-) -> usize
-    requires { ⌜ (5120 ≤ length (now work)) × Compares (now work) at × Open (now out) o ⌝ }
-    ensures { λ r. ⌜ Compared (now (work .entry)) at k g (λ ws. ws) (now (out .entry)) o (now (out .exit)) r ⌝ }
-{
-    let s = difference(work, at);
-    put_linear(k, g, s, out, o)
-}
-
-// The clause of a comparison alone.
-pub fn put_cmp(
-    work: &[i32],
-    at: usize,
-    k: usize,
-    g: bool,
-    s: Suffix,
-    out: &mut [i32],
-    o: usize,
-) -> usize
-    requires { ⌜ (5120 ≤ length (now work)) × Compares (now work) at × Stacked s 0 × Open (now out) o ⌝ }
-    ensures { λ r. ⌜ Compared (now (work .entry)) at k g (clause-text [] (suffix s) 1) (now (out .entry)) o (now (out .exit)) r ⌝ }
-{
-    let n = 64 - s.from;
-    let a = put(out, o, word_of(n, false));
-    let b = put_suffix(s, out, a);
-    let c = put(out, b, 1);
-    put_comparison(work, at, k, g, out, c)
 }
 
 // The clause of two emitted numbers, each negated if so.

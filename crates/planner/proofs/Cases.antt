@@ -27,7 +27,7 @@ use Rattle.planner.specs.declared.Answer.{Answer}
 use Rattle.planner.specs.declared.Answer.the-variants as answer
 use Rattle.planner.specs.Contract.{answer-of}
 use Rattle.planner.specs.Steps.{Gives, Emits, SomeEmits, Emit-post}
-use Rattle.planner.proofs.Whole.{gives-to}
+use Rattle.planner.proofs.Measured.{gives-to}
 
 -- a set that settles, and what its call gives
 pub record Settled-call (c : Choices) (n : ℕ) (ws : List ℤ) (q : Places) : Type 0 where
@@ -113,12 +113,14 @@ module _ (c : Choices) (set work work' : List ℤ) (r : Settling) (s : Settle-po
     emits =
         let h : Holds set work work' = subst (λ (x : Settling). Left x set work work') e (s .left) in
         let t = settled-call in
+        let k = h .folded (t .it) (t .fixed) (t .stmts) (t .says) (t .ends) in
         record {
-          words = t .words;
+          held = record {
+            words = t .words;
+            ints = t .ints;
+            settles = record { set = k .set; values = k .values; stands = k .stands; ends = t .end; size = k .empty .size };
+          };
           bools = t .bools;
-          ints = t .ints;
-          folded = h .folded (t .it) (t .fixed) (t .stmts) (t .says) (t .ends);
-          ends = t .end;
           zeroed = zeroed ∙ ap zeros (sym (ap length zeroed ∙ length-replicate (length out) (pos 0)));
         }
 

@@ -1,5 +1,8 @@
-pub mod Zeros
-pub mod Head
+pub mod Prepared
+pub mod First
+pub mod Second
 pub mod Whole
+pub mod Zeros
+pub mod Measured
 pub mod Cases
 pub mod Claims

@@ -1,219 +1,200 @@
--- The answer's words as they are written: the words in front of the clauses, a word left out, the clauses, then their count in its place.
-use mathlib.Core.Path.{_≡_, refl, sym, ap, _∙_, subst}
-use mathlib.Core.Bool.{Bool, true, false, _||_, cond}
-use mathlib.Core.List.{List, _∷_, _++_}
-use Prim.Native.Nat.{ℕ, _+_, _*_, _≤_, _<_, min}
+-- The steps of `write_answer`, for some set and then for every one: the answer's words as they are stored (the records, the words in front of them, the
+-- clauses, then their count), and that a number beyond the output's length means a longer answer.
+use mathlib.Core.Path.{_≡_, sym, ap, _∙_, subst}
+use mathlib.Core.Bool.{Bool}
+use mathlib.Core.List.{List, [], _∷_, _++_, append-nil}
+use Prim.Native.Nat.{ℕ, _+_, _*_, _≤_, _<_}
 use native.Mathlib.Omega.{arith}
 use lib.IntN.{ℤ, pos}
-use lib.ListN.{length, take, drop, set, length-append}
-use lib.Seq.{sets, length-take-le}
-use lib.Dec.{ltb}
-use borrow.Author.Tests.{lt-ltb, le-ltb, ltb-false}
-use Rattle.laws.specs.Writes.{cap, Wrote, wrote-length}
-use Rattle.laws.specs.Slices.{zeros}
-use Rattle.syntax.specs.Words.{max-answer-words}
+use lib.ListN.{length, set, length-append}
+use lib.Seq.{sets}
+use Rattle.laws.specs.Writes.{Wrote, wrote-length}
 use Rattle.syntax.specs.Syntax.{Stmt, Problem}
 use Rattle.fold.specs.Fold.{Fixed}
-use Rattle.clauses.specs.Log.{next-int}
-use Rattle.answer.specs.Answer.{layout, normalize}
-use Rattle.call.specs.Call.{Result, compiled, refused, measured, output-after}
-use Rattle.walk.specs.declared.Counters.{Counters}
-use Rattle.rows.specs.Emit.{Clauses, clauses-words}
-use Rattle.statements.specs.Stages.{clauses-of, log-of, head-words, layout-head, Started, NumberedSet, SomeStarted}
-use Rattle.statements.specs.NumberedEntry.{settled-emitted}
-use Rattle.statements.specs.NumberedKeeps.{ready-keeps}
-use Rattle.rows.specs.declared.Written.{Written}
-use Rattle.merging.specs.Merging.{MergedAll}
-use Rattle.numbered.specs.Numbered.{NumberedAll}
-use Rattle.header.specs.Headed.{Headed}
-use Rattle.writing.specs.Writing.{Writable, SomeWritable, WrittenAll}
-use Rattle.planner.specs.declared.Answer.{Answer}
-use Rattle.planner.specs.declared.Answer.the-variants as answer
-use Rattle.planner.specs.Contract.{answer-of}
-use Rattle.planner.specs.Steps.{Gives, Writes, SomeWrites, Written-answer, Emits, SomeEmits, Emit-post}
-use Rattle.planner.proofs.Zeros.{patched, sets-part}
-use Rattle.planner.proofs.Head.{head-length, head-domains}
+use Rattle.clauses.specs.Clause.{Clause}
+use Rattle.clauses.specs.Log.{Log, clauses-of}
+use Rattle.answer.specs.Answer.{start-log, layout, normalize}
+use Rattle.walk.specs.Decode.{read-part}
+use Rattle.walk.specs.Texts.{layout-words}
+use Rattle.walks.specs.Item.{counters, has-ifs}
+use Rattle.walks.specs.Meet.{State}
+use Rattle.walks.specs.Good.{records-of, records-length}
+use Rattle.walks.specs.Leaves.{words-of}
+use Rattle.statements.specs.Stages.{log-of}
+use Rattle.stages.specs.Start.{start, Begun}
+use Rattle.stages.specs.Whole.{records-from, records-place}
+use Rattle.numbering.specs.declared.Room.{Room}
+use Rattle.numbering.specs.Task.{Low}
+use Rattle.setnumbers.specs.Numbered.{AsksAll, DoneAll}
+use Rattle.front.specs.Front.{front-words, front-is}
+use Rattle.rows.specs.Emit.{Clauses, clauses-words, Behind}
+use Rattle.setwriter.specs.Begin.{SomeSettles, Begins}
+use Rattle.setwriter.specs.Whole.{assembled}
+use Rattle.planner.specs.Steps.{Prepared, Prepares, Numbered, SomeNumbered, WritesClauses, Writes, SomeWrites, Written-answer}
+use Rattle.planner.proofs.Prepared.{begins-stays, settles, prepared-stays, begun}
+use Rattle.planner.proofs.First.{asks, kept, low, full-long, numbered, records, ints, answer, mapped}
 
-module _ (merge : Bool) (p : Problem) (f : Fixed) (ss : List Stmt) where
-  abbrev head : List ℤ
-  head = head-words merge p f ss
+-- x: the slice as prepared, w': where the walk begins
+module _ (merge : Bool) (set' w : List ℤ) (b i end : ℕ) (out x : List ℤ) (pr : Prepares set' w i end x) where
+  pub some-settles : SomeWrites set' w b i end out → SomeSettles x end
+  some-settles s = record { it = s .it; fixed = s .fixed; stmts = s .stmts; settles = settles (pr (s .it) (s .fixed) (s .stmts) (s .writes .held)) }
 
-  abbrev tail : List ℤ
-  tail = clauses-words (clauses-of merge p ss)
+  module _ (w' : List ℤ) (n : ℕ) (bg : Begins merge x end w' n) where
+    module _ (p : Problem) (f : Fixed) (ss : List Stmt) (h : Writes p f ss set' w b i end out) where
+      opened : Prepared p f ss set' w' end
+      opened = prepared-stays (pr p f ss (h .held)) (begins-stays bg)
 
-  layout-is : layout (normalize merge p f ss) ≡ head ++ (pos (length (clauses-of merge p ss)) ∷ tail)
-  layout-is = layout-head merge p f ss
+      begun-there : Begun (read-part w') (has-ifs w') w' n (start-log merge ss)
+      begun-there = begun (pr p f ss (h .held)) bg
 
-  layout-length : length (layout (normalize merge p f ss)) ≡ length head + 1 + length tail
-  layout-length = ap length layout-is ∙ omega (arith, length-append head (pos (length (clauses-of merge p ss)) ∷ tail))
+      front-is-long : 2 * b + i + 2 ≡ records-from p
+      front-is-long = omega (arith, h .bools, h .held .ints)
 
-  -- the words in front of the count alone do not fit
-  layout-long : (w : List ℤ) (c : Counters) (b i : ℕ) → b ≡ p .bools → i ≡ length (p .domains) → NumberedSet merge p f ss w c → 2 * b + i + 2 + 4 * c .ints < length (layout (normalize merge p f ss))
-  layout-long w c b i eb ei r =
-      let n : c .ints ≡ next-int (log-of merge p ss) = r .numbered .ints in
-      omega (arith, layout-length, head-length merge p f ss)
+    pub some-asks : SomeWrites set' w b i end out → AsksAll (2 * b + i + 2) (length out) 512 end (start w' out n)
+    some-asks s =
+        let p = s .it in
+        let f = s .fixed in
+        let ss = s .stmts in
+        let h = s .writes in
+        subst (λ (r : ℕ). AsksAll r (length out) 512 end (start w' out n)) (sym (front-is-long p f ss h)) (asks merge p f ss set' w' end n out (opened p f ss h) (begun-there p f ss h) (h .part))
 
-module _ {merge : Bool} {p : Problem} {f : Fixed} {ss : List Stmt} {c : Counters} {set' w : List ℤ} {b i end from : ℕ} {out : List ℤ} (h : Writes merge p f ss c set' w b i end from out) where
-  head-is : length (head-words merge p f ss) ≡ 2 * b + i + 2 + 4 * c .ints
-  head-is =
-      let n : c .ints ≡ next-int (log-of merge p ss) = h .ready .numbered .ints in
-      omega (arith, head-length merge p f ss, h .bools, h .ints)
+    module _ (st : State) (d : DoneAll (2 * b + i + 2) (length out) 512 end (start w' out n) st) where
+      module _ (p : Problem) (f : Fixed) (ss : List Stmt) (h : Writes p f ss set' w b i end out) where
+        done : DoneAll (records-from p) (length out) 512 end (start w' out n) st
+        done = subst (λ (r : ℕ). DoneAll r (length out) 512 end (start w' out n) st) (front-is-long p f ss h) d
 
-  head-fits : length (head-words merge p f ss) < length out
-  head-fits = omega (arith, head-is, h .fits)
+      pub some-low : SomeWrites set' w b i end out → Low st
+      some-low s = let h = s .writes in low merge (s .it) (s .fixed) (s .stmts) set' w' end n out (opened (s .it) (s .fixed) (s .stmts) h) (begun-there (s .it) (s .fixed) (s .stmts) h) (h .part) st (done (s .it) (s .fixed) (s .stmts) h)
 
-  module _ (mid : List ℤ) (at : ℕ) (wr : Wrote out 0 (head-words merge p f ss) mid at) where
-    head-at : at ≡ length (head-words merge p f ss)
-    head-at = omega (arith, wr .at, head-fits, h .part)
+      -- the first walk is full
+      pub answer-full : length out < st .used → (out' : List ℤ) → Written-answer merge set' w b i end out out' (st .used)
+      answer-full l out' p f ss h = record {
+        long = λ k. full-long merge p f ss set' w' end n out (opened p f ss h) (begun-there p f ss h) (h .part) st (done p f ss h) l;
+        exact = λ k. absurd (omega arith);
+        words = λ k. absurd (omega arith);
+      }
 
-    at-low : at < length out
-    at-low = omega (arith, head-at, head-fits)
+      module _ (u : st .used ≤ length out) where
+        abbrev before : List ℤ
+        before = front-words (st .work) b i (counters (st .bools) (st .ints))
 
-    writable : (w' : List ℤ) → NumberedSet merge p f ss w' c → Writable merge p f ss c set' w' end from (2 * b + i + 2) mid (at + 1)
-    writable w' r = record {
-      words = h .words;
-      ready = r;
-      ends = h .ends;
-      first = h .first;
-      domains = rw (wr .words, h .bools, h .ints) (head-domains merge p f ss out (omega (arith, head-fits)));
-      behind = omega (arith, head-at, head-is);
-      room = record { room = record { low = omega (arith, head-at, head-fits, h .part); room = omega (arith, wrote-length wr, h .part) }; low = omega arith };
-    }
+        abbrev count : ℕ
+        count = 2 * b + i + 2 + 4 * st .ints
 
-    module _ (out' : List ℤ) (end' k : ℕ) (cl : Clauses mid (at + 1) 0 (clauses-of merge p ss) out' end' k) where
-      answer-long : end' ≡ min (length (layout (normalize merge p f ss))) cap
-      answer-long = omega (arith, cl .words .at, head-at, layout-length merge p f ss)
+        module _ (p : Problem) (f : Fixed) (ss : List Stmt) (h : Writes p f ss set' w b i end out) where
+          abbrev log : Log
+          log = log-of merge p ss
 
-      -- the count fits a word where the answer fits
-      count-fits : end' ≤ length out → k < 2147483648
-      count-fits l = omega (arith, cl .low, h .part)
+          abbrev cs : List Clause
+          cs = clauses-of log
 
-      answer-words : end' ≤ length out → set out' at (pos k) ≡ sets out 0 (layout (normalize merge p f ss))
-      answer-words l =
-          let n : k ≡ length (clauses-of merge p ss) = omega (arith, cl .count (omega (arith, h .part))) in
-          ap (λ (x : List ℤ). set x at (pos k)) (cl .words .words ∙ ap (λ (x : List ℤ). sets x (at + 1) (clauses-words (clauses-of merge p ss))) (wr .words))
-          ∙ ap (λ (m : ℕ). set (sets (sets out 0 (head-words merge p f ss)) (m + 1) (clauses-words (clauses-of merge p ss))) m (pos k)) head-at
-          ∙ patched out (head-words merge p f ss) (pos k) (clauses-words (clauses-of merge p ss))
-          ∙ ap (λ (m : ℕ). sets out 0 (head-words merge p f ss ++ (pos m ∷ clauses-words (clauses-of merge p ss)))) n
-          ∙ ap (sets out 0) (sym (layout-is merge p f ss))
+          there : Prepared p f ss set' (st .work) end
+          there = numbered merge p f ss set' w' end n out (opened p f ss h) (begun-there p f ss h) (h .part) st (done p f ss h) u
 
--- ---- the steps of `write_answer`, for some set and then for every one
+          ints-are : length (records-of (p .domains) log) ≡ 4 * st .ints
+          ints-are = omega (arith, records-length (p .domains) log, ints merge p f ss set' w' end n out (opened p f ss h) (begun-there p f ss h) (h .part) st (done p f ss h) u)
 
-module _ (set' w : List ℤ) (b i end from : ℕ) (c : Counters) (out : List ℤ) (s : SomeWrites set' w b i end from c out) (w' mid : List ℤ) (at : ℕ) (hd : Headed set' b i c w w' out mid at) where
-  headed : (merge : Bool) (p : Problem) (f : Fixed) (ss : List Stmt) (h : Writes merge p f ss c set' w b i end from out) → Wrote out 0 (head-words merge p f ss) mid at
-  headed merge p f ss h = hd .wrote merge p f ss (h .words) (h .bools) (h .ints) (h .ready)
+          before-length : length before ≡ 2 * b + i + 2
+          before-length =
+              let e = front-is f (st .work) b i (counters (st .bools) (st .ints)) [] (omega (arith, h .bools, there .lent .settled .well .few-bools)) (there .values) in
+              let l : length before ≡ records-from p = ap length (sym (append-nil before) ∙ e) ∙ rw (h .bools, h .held .ints) (records-place p f _ _ _ _) in
+              l ∙ sym (front-is-long p f ss h)
 
-  ours : Wrote out 0 (head-words (s .merge) (s .it) (s .fixed) (s .stmts)) mid at
-  ours = headed (s .merge) (s .it) (s .fixed) (s .stmts) (s .writes)
+          layout-is : layout (normalize merge p f ss) ≡ before ++ (records-of (p .domains) log ++ (pos (length cs) ∷ clauses-words cs))
+          layout-is = rw (h .bools, h .held .ints) (answer merge p f ss set' w' end n out (opened p f ss h) (begun-there p f ss h) (h .part) st (done p f ss h) u)
 
-  then : (merge : Bool) (p : Problem) (f : Fixed) (ss : List Stmt) (h : Writes merge p f ss c set' w b i end from out) → Writable merge p f ss c set' w' end from (2 * b + i + 2) mid (at + 1)
-  then merge p f ss h = writable h mid at (headed merge p f ss h) w' (ready-keeps (hd .below) (hd .size) (h .ready))
+          layout-length : length (layout (normalize merge p f ss)) ≡ count + 1 + length (clauses-words cs)
+          layout-length = ap length layout-is ∙ omega (arith, length-append before (records-of (p .domains) log ++ (pos (length cs) ∷ clauses-words cs)), length-append (records-of (p .domains) log) (pos (length cs) ∷ clauses-words cs), before-length, ints-are)
 
-  pub place-low : at < length out
-  place-low = at-low (s .writes) mid at ours
+          words-low : words-of log ≤ length (layout (normalize merge p f ss))
+          unfolding words-of
+          words-low = omega (arith, layout-length, ap length (layout-words cs), records-length (p .domains) log, ints-are)
 
-  pub place-small : at < 16777216
-  place-small = omega (arith, place-low, s .writes .part)
+        -- the words in front of the clauses do not fit
+        pub answer-short : length out ≤ 2 * b + i + 2 + 4 * st .ints → (out' : List ℤ) → Written-answer merge set' w b i end out out' (2 * b + i + 2 + 4 * st .ints + 1)
+        answer-short l out' p f ss h = record {
+          long = λ k. omega (arith, layout-length p f ss h);
+          exact = λ k. absurd (omega arith);
+          words = λ k. absurd (omega arith);
+        }
 
-  pub some-writable : SomeWritable set' w' end from (2 * b + i + 2) mid (at + 1)
-  some-writable = record { merge = s .merge; it = s .it; fixed = s .fixed; stmts = s .stmts; counters = c; writable = then (s .merge) (s .it) (s .fixed) (s .stmts) (s .writes) }
+        pub front-asks : SomeWrites set' w b i end out → (b ≤ 512) × (i ≤ 256) × (5376 ≤ length (st .work)) × (length (st .out) ≤ 16777217)
+        front-asks s =
+            let p = s .it in
+            let h = s .writes in
+            let t = there p (s .fixed) (s .stmts) h in
+            let k = kept merge p (s .fixed) (s .stmts) set' w' end n out (opened p (s .fixed) (s .stmts) h) (begun-there p (s .fixed) (s .stmts) h) (h .part) st (done p (s .fixed) (s .stmts) h) in
+            (omega (arith, h .bools, t .lent .settled .well .few-bools), omega (arith, h .held .ints, t .lent .settled .well .few-ints), omega (arith, t .size), omega (arith, k .room, h .part))
 
-  module _ (w'' out' : List ℤ) (r : Written) (wr : WrittenAll set' w' end from (2 * b + i + 2) mid (at + 1) w'' out' r) where
-    clauses : (merge : Bool) (p : Problem) (f : Fixed) (ss : List Stmt) (h : Writes merge p f ss c set' w b i end from out) → Clauses mid (at + 1) 0 (clauses-of merge p ss) out' (r .at) (r .clauses)
-    clauses merge p f ss h = wr .clauses merge p f ss c (then merge p f ss h)
+        module _ (fits : 2 * b + i + 2 + 4 * st .ints < length out) (mid : List ℤ) (r : ℕ) (wr : Wrote (st .out) 0 (front-words (st .work) b i (counters (st .bools) (st .ints))) mid r) where
+          abbrev room : Room
+          room = record { records = 2 * b + i + 2; cap = length out }
 
-    pub written-length : length out' ≡ length out
-    written-length = wrote-length (clauses (s .merge) (s .it) (s .fixed) (s .stmts) (s .writes) .words) ∙ wrote-length ours
+          module _ (p : Problem) (f : Fixed) (ss : List Stmt) (h : Writes p f ss set' w b i end out) where
+            mid-size : length mid ≡ length out
+            mid-size = wrote-length wr ∙ kept merge p f ss set' w' end n out (opened p f ss h) (begun-there p f ss h) (h .part) st (done p f ss h) .room
 
-    pub count-small : r .at ≤ length out' → r .clauses < 2147483648
-    count-small l = count-fits (s .writes) mid at ours out' (r .at) (r .clauses) (clauses (s .merge) (s .it) (s .fixed) (s .stmts) (s .writes)) (omega (arith, written-length))
+            ready : Numbered merge p f ss set' (st .work) end room n mid (count + 1)
+            ready =
+                let t = there p f ss h in
+                let y : Behind mid (count + 1) 0 = record { room = record { low = omega (arith, h .part); room = omega (arith, mid-size, h .part) }; low = omega arith } in
+                record {
+                  prepared = t;
+                  records = omega (arith, h .bools, h .held .ints, t .lent .settled .well .few-bools, t .lent .settled .well .few-ints);
+                  small = h .part;
+                  mapped = λ off. mapped merge p f ss set' w' end n out (opened p f ss h) (begun-there p f ss h) (h .part) st (done p f ss h) u off mid (count + 1) y;
+                  behind = y;
+                }
 
-    pub written-fits : (last : List ℤ) → last ≡ set out' at (pos (r .clauses)) → Written-answer set' w b i end from c out last (r .at)
-    written-fits last e = record {
-      long = λ merge p f ss h. answer-long h mid at (headed merge p f ss h) out' (r .at) (r .clauses) (clauses merge p f ss h);
-      words = λ merge p f ss h k. e ∙ answer-words h mid at (headed merge p f ss h) out' (r .at) (r .clauses) (clauses merge p f ss h) k;
-    }
+          pub some-numbered : SomeWrites set' w b i end out → SomeNumbered merge set' (st .work) end (record { records = 2 * b + i + 2; cap = length out }) n mid (2 * b + i + 2 + 4 * st .ints + 1)
+          some-numbered s = record { it = s .it; fixed = s .fixed; stmts = s .stmts; numbered = ready (s .it) (s .fixed) (s .stmts) (s .writes) }
 
-    pub written-long : length out' < r .at → Written-answer set' w b i end from c out out' (r .at)
-    written-long l = record {
-      long = λ merge p f ss h. answer-long h mid at (headed merge p f ss h) out' (r .at) (r .clauses) (clauses merge p f ss h);
-      words = λ merge p f ss h k. absurd (omega (arith, written-length));
-    }
+          module _ (last : List ℤ) (used o k : ℕ) (wc : WritesClauses merge set' (st .work) end (record { records = 2 * b + i + 2; cap = length out }) n mid (2 * b + i + 2 + 4 * st .ints + 1) last used o k) where
+            -- the second walk is full
+            pub answer-overrun : length out < used → Written-answer merge set' w b i end out last used
+            answer-overrun l p f ss h = record {
+              long = λ m. omega (arith, words-low p f ss h, wc p f ss (ready p f ss h) .words);
+              exact = λ m. absurd (omega arith);
+              words = λ m. absurd (omega arith);
+            }
 
--- ---- refusal 12, exactly
+            module _ (v : used ≤ length out) where
+              module _ (p : Problem) (f : Fixed) (ss : List Stmt) (h : Writes p f ss set' w b i end out) where
+                clauses : Clauses mid (count + 1) 0 (cs p f ss h) last o k
+                clauses = wc p f ss (ready p f ss h) .clauses v
 
-measured-fits : (n : ℕ) (ws : List ℤ) → length ws ≤ n → length ws ≤ max-answer-words → measured n ws ≡ compiled ws
-unfolding measured
-measured-fits n ws h k = rw (le-ltb n (length ws) h, le-ltb max-answer-words (length ws) k) refl
+                exact : o ≤ length out → o ≡ length (layout (normalize merge p f ss))
+                exact l = omega (arith, clauses .words .at, layout-length p f ss h, h .part)
 
-measured-long : (n : ℕ) (ws : List ℤ) → min n max-answer-words < length ws → measured n ws ≡ refused 12
-unfolding measured
-measured-long n ws h = go (ltb n (length ws)) refl
-  where
-    go : (t : Bool) → ltb n (length ws) ≡ t → cond (t || ltb max-answer-words (length ws)) (refused 12) (compiled ws) ≡ refused 12
-    go true e = refl
-    go false e = rw (lt-ltb max-answer-words (length ws) (omega (arith, ltb-false n (length ws) e))) refl
+                stored : o ≤ length out → set last count (pos k) ≡ sets out 0 (layout (normalize merge p f ss))
+                stored l =
+                    let rs = records-of (p .domains) (log p f ss h) in
+                    let ks = clauses-words (cs p f ss h) in
+                    let e : k ≡ length (cs p f ss h) = omega (arith, clauses .count (omega (arith, h .part))) in
+                    let a : records-from p ≡ length before = sym (before-length p f ss h ∙ front-is-long p f ss h) in
+                    ap (λ (l : List ℤ). set l count (pos k)) (clauses .words .words)
+                    ∙ ap (λ (l : List ℤ). set (sets l (count + 1) ks) count (pos k)) (wr .words)
+                    ∙ ap (λ (l : List ℤ). set (sets (sets l 0 before) (count + 1) ks) count (pos k)) (records merge p f ss set' w' end n out (opened p f ss h) (begun-there p f ss h) (h .part) st (done p f ss h) u)
+                    ∙ ap (λ (m : ℕ). set (sets (sets (sets out m rs) 0 before) (count + 1) ks) count (pos k)) a
+                    ∙ assembled out before rs (pos k) ks count (omega (arith, before-length p f ss h, ints-are p f ss h))
+                    ∙ ap (λ (m : ℕ). sets out 0 (before ++ (rs ++ (pos m ∷ ks)))) e
+                    ∙ ap (sets out 0) (sym (layout-is p f ss h))
 
--- a result is what its steps gave
-pub gives-to : {x y : Result} {n : ℕ} {out' : List ℤ} {r : Answer} → y ≡ x → Gives x n out' r → Gives y n out' r
-gives-to {x} {y} {n} {out'} {r} e g = subst (λ (z : Result). Gives z n out' r) (sym e) g
+              pub count-asks : SomeWrites set' w b i end out → o ≤ length out → (2 * b + i + 2 + 4 * st .ints < length last) × (k < 2147483648)
+              count-asks s l =
+                  let c = clauses (s .it) (s .fixed) (s .stmts) (s .writes) in
+                  (omega (arith, wrote-length (c .words), mid-size (s .it) (s .fixed) (s .stmts) (s .writes)), omega (arith, c .low, s .writes .part))
 
-gives-long : (n : ℕ) (ws out' : List ℤ) → min n max-answer-words < length ws → out' ≡ zeros n → Gives (measured n ws) n out' (answer.Refused 12)
-unfolding answer-of output-after
-gives-long n ws out' h e = gives-to (measured-long n ws h) (record { answer = refl; output = e })
+              pub answer-fits : o ≤ length out → {out' : List ℤ} → out' ≡ set last (2 * b + i + 2 + 4 * st .ints) (pos k) → Written-answer merge set' w b i end out out' o
+              answer-fits l e p f ss h = record {
+                long = λ m. absurd (omega arith);
+                exact = λ m. exact p f ss h l;
+                words = λ m. e ∙ stored p f ss h l;
+              }
 
--- room: as much of the output as an answer can fill
-gives-words : (out ws part : List ℤ) (room words : ℕ) → out ≡ zeros (length out) → room ≡ min (length out) max-answer-words → words ≡ min (length ws) cap → words ≤ room
-    → part ≡ sets (take room out) 0 ws → Gives (measured (length out) ws) (length out) (part ++ drop room out) (answer.Compiled words)
-unfolding answer-of output-after
-gives-words out ws part room words z er ew h e =
-    let n : ℕ = length out in
-    let l : words ≡ length ws = omega arith in
-    gives-to (measured-fits n ws (omega arith) (omega arith)) (record {
-      answer = ap answer.Compiled l;
-      output = ap (λ (x : List ℤ). x ++ drop room out) e ∙ ap (λ (x : List ℤ). sets (take room x) 0 ws ++ drop room x) z ∙ sets-part n room ws (omega arith) (omega arith);
-    })
-
--- ---- the steps of `emit`
-
-module _ (merge : Bool) (set' w : List ℤ) (b i end : ℕ) (out w' : List ℤ) (n : ℕ) (m : MergedAll merge w end w' n) where
-  begun : (p : Problem) (f : Fixed) (ss : List Stmt) → Emits p f ss set' w b i end out → Started merge p f ss w' n
-  begun p f ss h = m .started p f ss (h .folded) (h .ends)
-
-  pub some-started : SomeEmits set' w b i end out → SomeStarted w' end n
-  some-started s = record { merge = merge; it = s .it; fixed = s .fixed; stmts = s .stmts; started = begun (s .it) (s .fixed) (s .stmts) (s .emits); ends = s .emits .ends }
-
-  module _ (w'' : List ℤ) (c : Counters) (a : NumberedAll w' end n w'' c) where
-    numbered : (p : Problem) (f : Fixed) (ss : List Stmt) → Emits p f ss set' w b i end out → NumberedSet merge p f ss w'' c
-    numbered p f ss h = a .ready merge p f ss (begun p f ss h) (h .ends)
-
-    pub ints-small : SomeEmits set' w b i end out → c .ints ≤ 2048
-    ints-small s =
-        let r = numbered (s .it) (s .fixed) (s .stmts) (s .emits) in
-        let e : c .ints ≡ next-int (log-of merge (s .it) (s .stmts)) = r .numbered .ints in
-        omega (arith, settled-emitted merge (r .set))
-
-    pub counts-small : SomeEmits set' w b i end out → (b ≤ 512) × (i ≤ 256)
-    counts-small s = (omega (arith, s .emits .bools, s .emits .folded .set .well .few-bools), omega (arith, s .emits .ints, s .emits .folded .set .well .few-ints))
-
-    module _ (room : ℕ) (cut : room ≡ min (length out) max-answer-words) where
-      pub emit-short : room ≤ 2 * b + i + 2 + 4 * c .ints → Emit-post merge set' w b i end out out (answer.Refused 12)
-      emit-short l p f ss h = gives-long (length out) (layout (normalize merge p f ss)) out (omega (arith, layout-long merge p f ss w'' c b i (h .bools) (h .ints) (numbered p f ss h))) (h .zeroed)
-
-      module _ (fits : 2 * b + i + 2 + 4 * c .ints < room) where
-        writes : (p : Problem) (f : Fixed) (ss : List Stmt) → Emits p f ss set' w b i end out → Writes merge p f ss c set' w'' b i end n (take room out)
-        writes p f ss h =
-            let l : length (take room out) ≡ room = length-take-le room out (omega arith) in
-            record { words = h .words; bools = h .bools; ints = h .ints; ready = numbered p f ss h; ends = h .ends; first = begun p f ss h .numbered .bools; fits = omega arith; part = omega arith }
-
-        pub some-writes : SomeEmits set' w b i end out → SomeWrites set' w'' b i end n c (take room out)
-        some-writes s = record { merge = merge; it = s .it; fixed = s .fixed; stmts = s .stmts; writes = writes (s .it) (s .fixed) (s .stmts) (s .emits) }
-
-        module _ (part : List ℤ) (words : ℕ) (wa : Written-answer set' w'' b i end n c (take room out) part words) where
-          pub emit-compiled : words ≤ room → Emit-post merge set' w b i end out (part ++ drop room out) (answer.Compiled words)
-          emit-compiled l p f ss h =
-              let k : length (take room out) ≡ room = length-take-le room out (omega arith) in
-              gives-words out (layout (normalize merge p f ss)) part room words (h .zeroed) cut (wa .long merge p f ss (writes p f ss h)) l (wa .words merge p f ss (writes p f ss h) (omega arith))
-
-          pub emit-long : room < words → (out' : List ℤ) → out' ≡ zeros (length out) → Emit-post merge set' w b i end out out' (answer.Refused 12)
-          emit-long l out' e p f ss h = gives-long (length out) (layout (normalize merge p f ss)) out' (omega (arith, wa .long merge p f ss (writes p f ss h))) e
+              pub answer-long : length out < o → Written-answer merge set' w b i end out last o
+              answer-long l p f ss h = record {
+                long = λ m. omega (arith, clauses p f ss h .words .at, layout-length p f ss h, h .part);
+                exact = λ m. absurd (omega arith);
+                words = λ m. absurd (omega arith);
+              }

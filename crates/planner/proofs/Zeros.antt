@@ -1,29 +1,12 @@
--- Stores into a list: a store below a run of stores, words stored in front of zeros. Assumes nothing.
+-- Words stored in front of zeros. Assumes nothing.
 use mathlib.Core.Path.{_≡_, refl, sym, ap, _∙_}
-use mathlib.Core.List.{List, [], _∷_, _++_, append-assoc}
-use Prim.Native.Nat.{ℕ, zero, suc, _+_, _-_, _≤_, _<_}
+use mathlib.Core.List.{List, _∷_, _++_, append-assoc}
+use Prim.Native.Nat.{ℕ, zero, suc, _+_, _-_, _≤_}
 use native.Mathlib.Omega.{arith}
-use native.Mathlib.Numerals.{add-one}
 use lib.IntN.{ℤ, pos}
-use lib.ListN.{length, take, drop, set, length-replicate, replicate-append-replicate}
-use lib.Seq.{sets, sets-eq, set-comm}
-use Rattle.laws.specs.Writes.{sets-append}
+use lib.ListN.{length, take, drop, length-replicate, replicate-append-replicate}
+use lib.Seq.{sets, sets-eq}
 use Rattle.laws.specs.Slices.{zeros}
-
-set-below : (l : List ℤ) (i : ℕ) (x : ℤ) (o : ℕ) (vs : List ℤ) → i < o → set (sets l o vs) i x ≡ sets (set l i x) o vs
-set-below l i x o [] h = refl
-set-below l i x o (v ∷ vs) h = set-below (set l o v) i x (suc o) vs (omega arith) ∙ ap (λ m. sets m (suc o) vs) (set-comm l o i v x (λ e. omega arith))
-
--- words, those behind a place left out, then that place's word: the words one after another
-pub patched : (out head : List ℤ) (x : ℤ) (tail : List ℤ) → set (sets (sets out 0 head) (length head + 1) tail) (length head) x ≡ sets out 0 (head ++ (x ∷ tail))
-patched out head x tail =
-    let e : 0 + length head ≡ length head = omega arith in
-    set-below (sets out 0 head) (length head) x (length head + 1) tail (omega arith)
-    ∙ ap (λ n. sets (set (sets out 0 head) (length head) x) n tail) (add-one (length head))
-    ∙ ap (λ n. sets (sets out 0 head) n (x ∷ tail)) (sym e)
-    ∙ sym (sets-append out 0 head (x ∷ tail))
-
--- ---- zeros
 
 drop-zeros : (n k : ℕ) → drop k (zeros n) ≡ zeros (n - k)
 drop-zeros n zero = let e : n ≡ n - 0 = omega arith in ap zeros e

@@ -1,13 +1,15 @@
 // The call: a set's words are compiled into the output slice, or refused, or found contradictory.
 use call::Choices;
+use numbering::Room;
 use settle::Settling;
+use setwriter::Rewritten;
 use walk::Counters;
 ghost use mathlib.Core.Path.{_≡_};
 ghost use Prim.Native.Nat.{min};
 ghost use Rattle.syntax.specs.Words.{max-answer-words};
 ghost use Rattle.call.specs.Call.{unchosen};
 ghost use Rattle.planner.specs.Contract.{Compiles};
-ghost use Rattle.planner.specs.Steps.{SomeWrites, Written-answer, SomeEmits, Emit-post};
+ghost use Rattle.planner.specs.Steps.{SomeHeld, Prepares, SomeNumbered, WritesClauses, SomeWrites, Written-answer, SomeEmits, Emit-post};
 
 // The number of words written, a contradiction, or the refusal's number.
 pub enum Answer {
@@ -16,25 +18,86 @@ pub enum Answer {
     Refused(usize),
 }
 
-// The answer's words into a part of the output: how many there are. Where they do not fit, the part's words say nothing.
-// from: how many Booleans merging gave a number.
+// The table of the declared domains and the word for Ifs, of the folded statements up to `end`.
+fn prepare(set: &[i32], work: &mut [i32], ints: usize, end: usize)
+    requires { ⌜ SomeHeld (now set) (now work) ints end ⌝ }
+    ensures { λ _. ⌜ Prepares (now (set .entry)) (now (work .entry)) ints end (now (work .exit)) ⌝ }
+{
+    memory::clear_words(work, memory::DECLARED_DOMAINS, memory::TABLE);
+    memory::write_domains(set, 2, ints, work);
+    memory::mark_ifs(work, end);
+}
+
+// The clauses of all statements from a place on, by the slice that the first walk leaves: from its maps where no If stands, else each statement is
+// numbered again right before it is written. from: how many Booleans merging gave a number.
+fn write_clauses(
+    set: &[i32],
+    work: &mut [i32],
+    end: usize,
+    room: Room,
+    merge: bool,
+    from: usize,
+    part: &mut [i32],
+    o: usize,
+) -> Rewritten
+    requires { ⌜ SomeNumbered merge (now set) (now work) end room from (now part) o ⌝ }
+    ensures { λ r. ⌜ WritesClauses merge (now (set .entry)) (now (work .entry)) end room from (now (part .entry)) o (now (part .exit)) (r .used) (r .at) (r .clauses) ⌝ }
+{
+    if scan::has_ifs(work) {
+        let n = setwriter::begin_walk(work, end, merge);
+        return setwriter::write_numbered(set, work, end, room, n, part, o);
+    }
+    let w = setwriter::write_by_maps(set, work, end, from, part, o);
+    Rewritten {
+        used: 0,
+        at: w.at,
+        clauses: w.clauses,
+    }
+}
+
+// The answer's words into a part of the output: how many there are. Where they do not fit, a number beyond the part's length, and its words say nothing.
 fn write_answer(
     set: &[i32],
     work: &mut [i32],
     bools: usize,
     ints: usize,
     end: usize,
-    from: usize,
-    c: Counters,
+    merge: bool,
     part: &mut [i32],
 ) -> usize
-    requires { ⌜ SomeWrites (now set) (now work) bools ints end from c (now part) ⌝ }
-    ensures { λ r. ⌜ Written-answer (now (set .entry)) (now (work .entry)) bools ints end from c (now (part .entry)) (now (part .exit)) r ⌝ }
+    requires { ⌜ SomeWrites (now set) (now work) bools ints end (now part) ⌝ }
+    ensures { λ r. ⌜ Written-answer merge (now (set .entry)) (now (work .entry)) bools ints end (now (part .entry)) (now (part .exit)) r ⌝ }
 {
-    let count = header::write_header(set, work, bools, ints, c, part);
-    let w = writing::write_statements(set, work, end, from, 2 * bools + ints + 2, part, count + 1);
+    prepare(set, work, ints, end);
+    let room = Room {
+        records: 2 * bools + ints + 2,
+        cap: part.len(),
+    };
+    let n = setwriter::begin_walk(work, end, merge);
+    let c = setnumbers::number_statements(work, part, end, room, n);
+    if room.cap < c.used {
+        return c.used;
+    }
+    let count = room.records + 4 * c.ints;
+    if room.cap <= count {
+        return count + 1;
+    }
+    front::write_front(
+        work,
+        bools,
+        ints,
+        Counters {
+            bools: c.bools,
+            ints: c.ints,
+        },
+        part,
+    );
+    let w = write_clauses(set, work, end, room, merge, n, part, count + 1);
+    if room.cap < w.used {
+        return w.used;
+    }
     let at = w.at;
-    if at <= part.len() {
+    if at <= room.cap {
         folding::put(part, count, w.clauses);
     }
     at
@@ -50,7 +113,7 @@ fn lent(n: usize) -> usize
     16777216
 }
 
-// The answer of a settled set: refusal 12, at once where the words in front of the clauses do not fit, or the words.
+// The answer of a settled set: its words, or refusal 12 where they do not fit.
 fn emit(
     set: &[i32],
     out: &mut [i32],
@@ -63,13 +126,8 @@ fn emit(
     requires { ⌜ SomeEmits (now set) (now work) bools ints end (now out) ⌝ }
     ensures { λ r. ⌜ Emit-post merge (now (set .entry)) (now (work .entry)) bools ints end (now (out .entry)) (now (out .exit)) r ⌝ }
 {
-    let n = merging::merge_equivalent_variables(work, end, merge);
-    let c = numbered::number_statements(work, end, n);
     let room = lent(out.len());
-    if room <= 2 * bools + ints + 2 + 4 * c.ints {
-        return Answer::Refused(12);
-    }
-    let words = write_answer(set, work, bools, ints, end, n, c, &mut out[..room]);
+    let words = write_answer(set, work, bools, ints, end, merge, &mut out[..room]);
     if words <= room {
         return Answer::Compiled(words);
     }

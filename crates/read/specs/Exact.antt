@@ -180,50 +180,50 @@ row-exact n =
 
 -- ---- statements
 
-pub columns-exact : (ni n : ℕ) → Exact (λ es. flat (map encode-int es)) (λ es. (length es ≡ n) × Each (WellInt ni max-depth) es) (times n (read-int ni max-depth))
-columns-exact ni = times-exact encode-int (WellInt ni max-depth) (read-int ni max-depth) (int-exact ni max-depth)
+pub columns-exact : (nb ni n : ℕ) → Exact (λ es. flat (map encode-int es)) (λ es. (length es ≡ n) × Each (WellInt nb ni max-depth) es) (times n (read-int nb ni max-depth))
+columns-exact nb ni = times-exact encode-int (WellInt nb ni max-depth) (read-int nb ni max-depth) (int-exact nb ni max-depth)
 
 pub rows-exact : (n k : ℕ) → Exact (λ rs. flat (map (map encode-cell) rs)) (λ rs. (length rs ≡ k) × Each (WellRow n) rs) (times k (times n read-cell))
 rows-exact n = times-exact (map encode-cell) (WellRow n) (times n read-cell) (row-exact n)
 
 module _ (nb ni : ℕ) where
-  table-sound : (xs : List ℤ) (c : Stmt) (r : List ℤ) → read-table ni xs ≡ ok c r → (pos 2 ∷ xs ≡ encode-stmt c ++ r) × WellStmt nb ni c
+  table-sound : (xs : List ℤ) (c : Stmt) (r : List ℤ) → read-table nb ni xs ≡ ok c r → (pos 2 ∷ xs ≡ encode-stmt c ++ r) × WellStmt nb ni c
   unfolding read-table encode-stmt
   table-sound xs c r h =
       parse-then-ok (count xs) _ c r h λ n s hn h1.
       parse-then-ok (count s) _ c r h1 λ k t hk h2.
-      parse-then-ok (times n (read-int ni max-depth) t) _ c r h2 λ es u he h3.
+      parse-then-ok (times n (read-int nb ni max-depth) t) _ c r h2 λ es u he h3.
       parse-then-ok (times k (times n read-cell) u) _ c r h3 λ rs v hr h4.
       let m : Table es rs ≡ c = cc in
       let q : v ≡ r = cc in
       let i = count-exact .sound xs n s hn in
       let j = count-exact .sound s k t hk in
-      let l = columns-exact ni n .sound t es u he in
+      let l = columns-exact nb ni n .sound t es u he in
       let o = rows-exact n k .sound u rs v hr in
       let all : xs ≡ pos n ∷ pos k ∷ (flat (map encode-int es) ++ flat (map (map encode-cell) rs)) ++ v =
       i .0 ∙ ap (λ z. pos n ∷ z) (j .0 ∙ ap (λ z. pos k ∷ z) (l .0 ∙ ap (λ z. flat (map encode-int es) ++ z) (o .0) ∙ sym (append-assoc (flat (map encode-int es)) (flat (map (map encode-cell) rs)) v))) in
       rw (← m, ← q, l .1 .0, o .1 .0) (ap (λ z. pos 2 ∷ z) all, (i .1, j .1, l .1 .1, o .1 .1))
 
   table-complete : (es : List IntExpr) (rs : List (List Cell)) (r : List ℤ) → WellStmt nb ni (Table es rs)
-      → read-table ni (pos (length es) ∷ pos (length rs) ∷ (flat (map encode-int es) ++ flat (map (map encode-cell) rs)) ++ r) ≡ ok (Table es rs) r
+      → read-table nb ni (pos (length es) ∷ pos (length rs) ∷ (flat (map encode-int es) ++ flat (map (map encode-cell) rs)) ++ r) ≡ ok (Table es rs) r
   unfolding read-table
   table-complete es rs r h =
-      rw (append-assoc (flat (map encode-int es)) (flat (map (map encode-cell) rs)) r, count-exact .complete (length es) (pos (length rs) ∷ flat (map encode-int es) ++ (flat (map (map encode-cell) rs) ++ r)) (h .0), count-exact .complete (length rs) (flat (map encode-int es) ++ (flat (map (map encode-cell) rs) ++ r)) (h .1), columns-exact ni (length es) .complete es (flat (map (map encode-cell) rs) ++ r) (refl, h .2), rows-exact (length es) (length rs) .complete rs r (refl, h .3)) refl
+      rw (append-assoc (flat (map encode-int es)) (flat (map (map encode-cell) rs)) r, count-exact .complete (length es) (pos (length rs) ∷ flat (map encode-int es) ++ (flat (map (map encode-cell) rs) ++ r)) (h .0), count-exact .complete (length rs) (flat (map encode-int es) ++ (flat (map (map encode-cell) rs) ++ r)) (h .1), columns-exact nb ni (length es) .complete es (flat (map (map encode-cell) rs) ++ r) (refl, h .2), rows-exact (length es) (length rs) .complete rs r (refl, h .3)) refl
 
-  different-sound : (xs : List ℤ) (c : Stmt) (r : List ℤ) → read-different ni xs ≡ ok c r → (pos 3 ∷ xs ≡ encode-stmt c ++ r) × WellStmt nb ni c
+  different-sound : (xs : List ℤ) (c : Stmt) (r : List ℤ) → read-different nb ni xs ≡ ok c r → (pos 3 ∷ xs ≡ encode-stmt c ++ r) × WellStmt nb ni c
   unfolding read-different encode-stmt
   different-sound xs c r h =
       parse-then-ok (count xs) _ c r h λ n s hn h1.
-      parse-then-ok (times n (read-int ni max-depth) s) _ c r h1 λ es t he h2.
+      parse-then-ok (times n (read-int nb ni max-depth) s) _ c r h1 λ es t he h2.
       let m : AllDifferent es ≡ c = cc in
       let q : t ≡ r = cc in
       let i = count-exact .sound xs n s hn in
-      let l = columns-exact ni n .sound s es t he in
+      let l = columns-exact nb ni n .sound s es t he in
       rw (← m, ← q, l .1 .0) (ap (λ z. pos 3 ∷ z) (i .0 ∙ ap (λ z. pos n ∷ z) (l .0)), (i .1, l .1 .1))
 
-  different-complete : (es : List IntExpr) (r : List ℤ) → WellStmt nb ni (AllDifferent es) → read-different ni (pos (length es) ∷ flat (map encode-int es) ++ r) ≡ ok (AllDifferent es) r
+  different-complete : (es : List IntExpr) (r : List ℤ) → WellStmt nb ni (AllDifferent es) → read-different nb ni (pos (length es) ∷ flat (map encode-int es) ++ r) ≡ ok (AllDifferent es) r
   unfolding read-different
-  different-complete es r h = rw (count-exact .complete (length es) (flat (map encode-int es) ++ r) (h .0), columns-exact ni (length es) .complete es r (refl, h .1)) refl
+  different-complete es r h = rw (count-exact .complete (length es) (flat (map encode-int es) ++ r) (h .0), columns-exact nb ni (length es) .complete es r (refl, h .1)) refl
 
   pub stmt-exact : Exact encode-stmt (WellStmt nb ni) (read-stmt nb ni)
   unfolding read-stmt encode-stmt
@@ -240,16 +240,16 @@ module _ (nb ni : ℕ) where
           let i = bool-exact nb ni max-depth .sound s e t he in
           rw (← m, ← q) (ap (λ z. pos 1 ∷ z) (i .0), i .1)
 
-      different-or : (w : ℤ) (s : List ℤ) (c : Stmt) (r : List ℤ) (t : Bool) → eqZ w (pos 3) ≡ t → cond t (read-different ni s) (refuse 5) ≡ ok c r → (w ∷ s ≡ encode-stmt c ++ r) × WellStmt nb ni c
+      different-or : (w : ℤ) (s : List ℤ) (c : Stmt) (r : List ℤ) (t : Bool) → eqZ w (pos 3) ≡ t → cond t (read-different nb ni s) (refuse 5) ≡ ok c r → (w ∷ s ≡ encode-stmt c ++ r) × WellStmt nb ni c
       different-or w s c r true e h = rw (eqZ-is w (pos 3) e) (different-sound s c r h)
       different-or w s c r false e h = refuse-ok 5 c r h
 
-      table-or : (w : ℤ) (s : List ℤ) (c : Stmt) (r : List ℤ) (t : Bool) → eqZ w (pos 2) ≡ t → cond t (read-table ni s) (cond (eqZ w (pos 3)) (read-different ni s) (refuse 5)) ≡ ok c r → (w ∷ s ≡ encode-stmt c ++ r) × WellStmt nb ni c
+      table-or : (w : ℤ) (s : List ℤ) (c : Stmt) (r : List ℤ) (t : Bool) → eqZ w (pos 2) ≡ t → cond t (read-table nb ni s) (cond (eqZ w (pos 3)) (read-different nb ni s) (refuse 5)) ≡ ok c r → (w ∷ s ≡ encode-stmt c ++ r) × WellStmt nb ni c
       table-or w s c r true e h = rw (eqZ-is w (pos 2) e) (table-sound s c r h)
       table-or w s c r false e h = different-or w s c r (eqZ w (pos 3)) refl h
 
       rule-or : (w : ℤ) (s : List ℤ) (c : Stmt) (r : List ℤ) (t : Bool) → eqZ w (pos 1) ≡ t
-          → cond t (parse-then (read-bool nb ni max-depth s) (λ e t. ok (Rule e) t)) (cond (eqZ w (pos 2)) (read-table ni s) (cond (eqZ w (pos 3)) (read-different ni s) (refuse 5))) ≡ ok c r → (w ∷ s ≡ encode-stmt c ++ r) × WellStmt nb ni c
+          → cond t (parse-then (read-bool nb ni max-depth s) (λ e t. ok (Rule e) t)) (cond (eqZ w (pos 2)) (read-table nb ni s) (cond (eqZ w (pos 3)) (read-different nb ni s) (refuse 5))) ≡ ok c r → (w ∷ s ≡ encode-stmt c ++ r) × WellStmt nb ni c
       rule-or w s c r true e h = rw (eqZ-is w (pos 1) e) (rule s c r h)
       rule-or w s c r false e h = table-or w s c r (eqZ w (pos 2)) refl h
 

@@ -7,7 +7,7 @@ use lib.Signed.{ltZ}
 use lib.Dec.{leb}
 use Rattle.laws.specs.Ints.{eqZ}
 use Rattle.syntax.specs.Words.{star-word, max-bools, max-ints, max-count, max-depth}
-use Rattle.syntax.specs.Syntax.{op-at, Domain, Range, Enumerative, IntExpr, IConst, IVar, Linear, Terms, tnil, tmore, BoolExpr, Const, Var, And, Or, Not, Xor, Iff, Imp, Cmp, Members, mnil, more, Cell, star, value, Stmt, Rule, Table, AllDifferent, Problem}
+use Rattle.syntax.specs.Syntax.{op-at, Domain, Range, Enumerative, IntExpr, IConst, IVar, Linear, If, is-read, Terms, tnil, tmore, BoolExpr, Const, Var, And, Or, Not, Xor, Iff, Imp, Cmp, Members, mnil, more, Cell, star, value, Stmt, Rule, Table, AllDifferent, Problem}
 pub use Rattle.words.specs.Parse.{Parsed, ok, refuse}
 unfoldable pub use Rattle.words.specs.Parse.{times, up-to, count, index, number}
 use Rattle.words.specs.Parse.{Parser, parse-then, seq-parser, map-parser, word, in-value-range}
@@ -57,13 +57,14 @@ kind-bool w =
     (cond (eqZ w (pos 18)) k-cmp k-unknown))))))))
 
 pub data IntKind : Type 0 where
-  i-const i-var i-sum i-unknown : IntKind
+  i-const i-var i-sum i-if i-unknown : IntKind
 
 unfoldable pub kind-int : ℤ → IntKind
 kind-int w =
     cond (eqZ w (pos 20)) i-const
     (cond (eqZ w (pos 21)) i-var
-    (cond (eqZ w (pos 22)) i-sum i-unknown))
+    (cond (eqZ w (pos 22)) i-sum
+    (cond (eqZ w (pos 23)) i-if i-unknown)))
 
 -- where no level is left: a known code is 8, an unknown one 5
 abbrev pub too-deep-bool : BoolKind → ℕ
@@ -82,6 +83,7 @@ abbrev pub too-deep-int : IntKind → ℕ
 too-deep-int i-const = 8
 too-deep-int i-var = 8
 too-deep-int i-sum = 8
+too-deep-int i-if = 8
 too-deep-int i-unknown = 5
 
 -- as many terms as the count says, each a coefficient and an expression read by p
@@ -101,29 +103,16 @@ unfoldable pub read-cell : Parser Cell
 read-cell xs = parse-then (word xs) (λ w r. cond (eqZ w star-word) (ok star r) (cond (in-value-range w) (ok (value w) r) (refuse 4)))
 
 -- nb and ni: how many Boolean and integer variables are declared
-module _ (ni : ℕ) where
-  -- what follows an integer code; p reads a part one level down
-  unfoldable pub step-int : Parser IntExpr → IntKind → Parser IntExpr
-  step-int p i-const xs = map-parser IConst number xs
-  step-int p i-var xs = map-parser IVar (index ni) xs
-  step-int p i-sum xs = parse-then (count xs) (λ n r. map-parser Linear (read-terms p n) r)
-  step-int p i-unknown xs = refuse 5
-
-  -- an integer expression with `left` levels left
-  unfoldable pub read-int : ℕ → Parser IntExpr
-  read-int zero xs = parse-then (word xs) (λ w r. refuse (too-deep-int (kind-int w)))
-  read-int (suc left) xs = parse-then (word xs) (λ w r. step-int (read-int left) (kind-int w) r)
-
-  -- columns n, rows k, n expressions, k rows of n cells
-  unfoldable pub read-table : Parser Stmt
-  read-table xs = parse-then (count xs) (λ n r. parse-then (count r) (λ k s. seq-parser Table (times n (read-int max-depth)) (λ es. times k (times n read-cell)) s))
-
-  -- a count and as many expressions
-  unfoldable pub read-different : Parser Stmt
-  read-different xs = parse-then (count xs) (λ n r. map-parser AllDifferent (times n (read-int max-depth)) r)
-
 module _ (nb ni : ℕ) where
-  -- what follows a Boolean code; p and q read a part one level down
+  -- what follows an integer code; p and q read a Boolean and an integer part one level down
+  unfoldable pub step-int : Parser BoolExpr → Parser IntExpr → IntKind → Parser IntExpr
+  step-int p q i-const xs = map-parser IConst number xs
+  step-int p q i-var xs = map-parser IVar (index ni) xs
+  step-int p q i-sum xs = parse-then (count xs) (λ n r. map-parser Linear (read-terms q n) r)
+  step-int p q i-if xs = parse-then (p xs) (λ c r. seq-parser (If is-read c) q (λ t. q) r)
+  step-int p q i-unknown xs = refuse 5
+
+  -- what follows a Boolean code
   unfoldable pub step-bool : Parser BoolExpr → Parser IntExpr → BoolKind → Parser BoolExpr
   step-bool p q k-const xs = map-parser (λ b. Const (bit-at b)) (up-to 1 4) xs
   step-bool p q k-var xs = map-parser Var (index nb) xs
@@ -136,12 +125,26 @@ module _ (nb ni : ℕ) where
   step-bool p q k-cmp xs = parse-then (up-to 5 4 xs) (λ o r. seq-parser (Cmp (op-at o)) q (λ a. q) r)
   step-bool p q k-unknown xs = refuse 5
 
-  unfoldable pub read-bool : ℕ → Parser BoolExpr
-  read-bool zero xs = parse-then (word xs) (λ w r. refuse (too-deep-bool (kind-bool w)))
-  read-bool (suc left) xs = parse-then (word xs) (λ w r. step-bool (read-bool left) (read-int ni left) (kind-bool w) r)
+  -- an expression with `left` levels left, its own among them
+  unfoldable mutual
+    pub read-int : ℕ → Parser IntExpr
+    read-int zero xs = parse-then (word xs) (λ w r. refuse (too-deep-int (kind-int w)))
+    read-int (suc left) xs = parse-then (word xs) (λ w r. step-int (λ ys. read-bool left ys) (λ ys. read-int left ys) (kind-int w) r)
+
+    pub read-bool : ℕ → Parser BoolExpr
+    read-bool zero xs = parse-then (word xs) (λ w r. refuse (too-deep-bool (kind-bool w)))
+    read-bool (suc left) xs = parse-then (word xs) (λ w r. step-bool (λ ys. read-bool left ys) (λ ys. read-int left ys) (kind-bool w) r)
+
+  -- columns n, rows k, n expressions, k rows of n cells
+  unfoldable pub read-table : Parser Stmt
+  read-table xs = parse-then (count xs) (λ n r. parse-then (count r) (λ k s. seq-parser Table (times n (read-int max-depth)) (λ es. times k (times n read-cell)) s))
+
+  -- a count and as many expressions
+  unfoldable pub read-different : Parser Stmt
+  read-different xs = parse-then (count xs) (λ n r. map-parser AllDifferent (times n (read-int max-depth)) r)
 
   unfoldable pub read-stmt : Parser Stmt
-  read-stmt xs = parse-then (word xs) (λ w r. cond (eqZ w (pos 1)) (map-parser Rule (read-bool max-depth) r) (cond (eqZ w (pos 2)) (read-table ni r) (cond (eqZ w (pos 3)) (read-different ni r) (refuse 5))))
+  read-stmt xs = parse-then (word xs) (λ w r. cond (eqZ w (pos 1)) (map-parser Rule (read-bool max-depth) r) (cond (eqZ w (pos 2)) (read-table r) (cond (eqZ w (pos 3)) (read-different r) (refuse 5))))
 
 -- ---- the set
 

@@ -8,7 +8,7 @@ use lib.IntN.{ℤ}
 use lib.Signed.{ltZ, leZ}
 use lib.ListN.{length}
 use Rattle.syntax.specs.Words.{max-bools, max-ints, max-count, max-depth}
-use Rattle.syntax.specs.Syntax.{unread, count-terms, count-members, Domain, Range, Enumerative, IntExpr, IConst, IVar, Linear, If, Terms, tnil, tmore, BoolExpr, Const, Var, NVar, And, Or, Not, Xor, Iff, Imp, Cmp, Members, mnil, more, Cell, star, value, Stmt, Rule, Table, AllDifferent, Problem}
+use Rattle.syntax.specs.Syntax.{count-terms, count-members, Domain, Range, Enumerative, IntExpr, IConst, IVar, Linear, If, Terms, tnil, tmore, BoolExpr, Const, Var, NVar, And, Or, Not, Xor, Iff, Imp, Cmp, Members, mnil, more, Cell, star, value, Stmt, Rule, Table, AllDifferent, Problem}
 use Rattle.words.specs.Exact.{Value, Each}
 
 -- each value above the one before it
@@ -24,22 +24,19 @@ abbrev pub WellDomain : Domain → Type 0
 WellDomain (Range low high) = Value low × Value high × (leZ low high ≡ true)
 WellDomain (Enumerative xs) = (0 < length xs) × (length xs ≤ max-count) × Each Value xs × Rising xs
 
--- ni: how many integer variables are declared. At most `left` levels, the expression's own among them
-module _ (ni : ℕ) where
+-- nb and ni: how many Boolean and integer variables are declared. At most `left` levels, the expression's own among them
+module _ (nb ni : ℕ) where
   unfoldable mutual
     pub WellInt : ℕ → IntExpr → Type 0
     WellInt left (IConst c) = (0 < left) × Value c
     WellInt left (IVar v) = (0 < left) × (v < ni)
-    WellInt left (If i c t f) = absurd (unread i)
     WellInt left (Linear ts) = (0 < left) × (count-terms ts ≤ max-count) × WellTerms (left - 1) ts
+    WellInt left (If i c t f) = (0 < left) × WellBool (left - 1) c × WellInt (left - 1) t × WellInt (left - 1) f
 
     pub WellTerms : ℕ → Terms → Type 0
     WellTerms left tnil = Unit {0}
     WellTerms left (tmore k e ts) = Value k × WellInt left e × WellTerms left ts
 
--- nb: how many Boolean variables are declared
-module _ (nb ni : ℕ) where
-  unfoldable mutual
     pub WellBool : ℕ → BoolExpr → Type 0
     WellBool left (Const b) = 0 < left
     WellBool left (Var v) = (0 < left) × (v < nb)
@@ -50,7 +47,7 @@ module _ (nb ni : ℕ) where
     WellBool left (Xor a b) = (0 < left) × WellBool (left - 1) a × WellBool (left - 1) b
     WellBool left (Iff a b) = (0 < left) × WellBool (left - 1) a × WellBool (left - 1) b
     WellBool left (Imp a b) = (0 < left) × WellBool (left - 1) a × WellBool (left - 1) b
-    WellBool left (Cmp o a b) = (0 < left) × WellInt ni (left - 1) a × WellInt ni (left - 1) b
+    WellBool left (Cmp o a b) = (0 < left) × WellInt (left - 1) a × WellInt (left - 1) b
 
     pub WellMembers : ℕ → Members → Type 0
     WellMembers left mnil = Unit {0}
@@ -66,8 +63,8 @@ WellRow n cs = (length cs ≡ n) × Each WellCell cs
 
 abbrev pub WellStmt : ℕ → ℕ → Stmt → Type 0
 WellStmt nb ni (Rule e) = WellBool nb ni max-depth e
-WellStmt nb ni (Table es rows) = (length es ≤ max-count) × (length rows ≤ max-count) × Each (WellInt ni max-depth) es × Each (WellRow (length es)) rows
-WellStmt nb ni (AllDifferent es) = (length es ≤ max-count) × Each (WellInt ni max-depth) es
+WellStmt nb ni (Table es rows) = (length es ≤ max-count) × (length rows ≤ max-count) × Each (WellInt nb ni max-depth) es × Each (WellRow (length es)) rows
+WellStmt nb ni (AllDifferent es) = (length es ≤ max-count) × Each (WellInt nb ni max-depth) es
 
 pub record WellFormed (p : Problem) : Type 0 where
   pub few-bools : p .bools ≤ max-bools

@@ -1,12 +1,12 @@
 -- A law for each answer of the Boolean reader, over variables. Assumes nothing.
 use mathlib.Core.Path.{_≡_, refl, sym, ap, _∙_}
 use mathlib.Core.List.{List}
-use Prim.Native.Nat.{ℕ, zero, suc, _-_, _<_}
+use Prim.Native.Nat.{ℕ, zero, suc, _-_}
 use native.Mathlib.Omega.{arith}
 use native.Mathlib.Numerals.{sub-one}
 use lib.IntN.{ℤ, pos}
-use lib.ListN.{length, drop}
-use Rattle.syntax.specs.Syntax.{op-at, encode-bool, BoolExpr, Const, Var, NVar, And, Or, Not, Xor, Iff, Imp, Cmp, more}
+use lib.ListN.{drop}
+use Rattle.syntax.specs.Syntax.{op-at, BoolExpr, Const, Var, And, Or, Not, Xor, Iff, Imp, Cmp, more}
 use Rattle.words.specs.Parse.{refuse, Parser, parse-then, seq-parser, word, up-to, count, index}
 use Rattle.words.specs.Exact.{word-ok, up-to-exact, count-exact, index-exact}
 use Rattle.words.specs.Cursor.{cursor, next-at, counted-at}
@@ -16,41 +16,40 @@ use Rattle.words.specs.declared.Counted.the-variants as counted
 use Rattle.reader.specs.declared.Read.{Read}
 use Rattle.reader.specs.declared.Read.the-variants as read
 use Rattle.read.specs.Read.{BoolKind, k-const, k-var, k-and, k-or, k-not, k-xor, k-iff, k-imp, k-cmp, k-unknown, kind-bool, too-deep-bool, bit-at, read-members, step-bool, read-int, read-bool}
-use Rattle.read.specs.WellFormed.{WellBool}
 use Rattle.read.specs.ExactExpr.{int-exact, members-exact, bool-exact}
 use Rattle.reader.specs.Position.{read-at, reads, list-of, pair-of, comparison-of}
 use Rattle.reader.proofs.Tails.{Shortens, exact-shortens, ok-shortens, refuse-shortens, parse-then-shortens}
-use Rattle.reader.proofs.Laws.{reads-refused, parse-then-refused, reads-then, number-refused, number-then, word-refused, word-then, map-same, seq-same, reads-falls}
+use Rattle.reader.proofs.Laws.{reads-refused, parse-then-refused, reads-then, number-refused, number-then, word-refused, word-then, map-same, seq-same}
 
 -- ---- comparisons
 
-module _ (ni left at : ℕ) (ws : List ℤ) where
+module _ (nb ni left at : ℕ) (ws : List ℤ) where
   sides-of : ℕ → Parser BoolExpr
-  sides-of o = seq-parser (Cmp (op-at o)) (read-int ni left) (λ a. read-int ni left)
+  sides-of o = seq-parser (Cmp (op-at o)) (read-int nb ni left) (λ a. read-int nb ni left)
 
-  int-shortens : Shortens (read-int ni left)
-  int-shortens = exact-shortens (int-exact ni left)
+  int-shortens : Shortens (read-int nb ni left)
+  int-shortens = exact-shortens (int-exact nb ni left)
 
   sides-shortens : (o : ℕ) → Shortens (sides-of o)
   unfolding sides-of
-  sides-shortens o = parse-then-shortens (read-int ni left) _ int-shortens (λ a. parse-then-shortens (read-int ni left) _ int-shortens (λ b. ok-shortens (Cmp (op-at o) a b)))
+  sides-shortens o = parse-then-shortens (read-int nb ni left) _ int-shortens (λ a. parse-then-shortens (read-int nb ni left) _ int-shortens (λ b. ok-shortens (Cmp (op-at o) a b)))
 
-  pub comparison-no-operator : (k : ℕ) → counted-at at (up-to 5 4 (drop at ws)) ≡ counted.Refused k → read.Refused k ≡ reads (comparison-of (read-int ni left)) at ws
+  pub comparison-no-operator : (k : ℕ) → counted-at at (up-to 5 4 (drop at ws)) ≡ counted.Refused k → read.Refused k ≡ reads (comparison-of (read-int nb ni left)) at ws
   unfolding comparison-of sides-of
   comparison-no-operator k h = number-refused (up-to 5 4) (up-to-exact 5 4) sides-of at ws k h
 
   module _ (o : ℕ) (d : Cursor) (h : counted-at at (up-to 5 4 (drop at ws)) ≡ counted.Number o d) where
-    sides-then : (v : Read) → v ≡ reads (λ xs. parse-then (read-int ni left xs) (λ a. read-int ni left)) (d .at) ws → v ≡ reads (comparison-of (read-int ni left)) at ws
+    sides-then : (v : Read) → v ≡ reads (λ xs. parse-then (read-int nb ni left xs) (λ a. read-int nb ni left)) (d .at) ws → v ≡ reads (comparison-of (read-int nb ni left)) at ws
     unfolding comparison-of sides-of
     sides-then v hv =
         number-then (up-to 5 4) (up-to-exact 5 4) sides-of at ws o d v (sides-shortens o) h
-        (hv ∙ seq-same (Cmp (op-at o)) (read-int ni left) (λ a. read-int ni left) (d .at) ws)
+        (hv ∙ seq-same (Cmp (op-at o)) (read-int nb ni left) (λ a. read-int nb ni left) (d .at) ws)
 
-    pub comparison-no-left : (k : ℕ) → reads (read-int ni left) (d .at) ws ≡ read.Refused k → read.Refused k ≡ reads (comparison-of (read-int ni left)) at ws
-    comparison-no-left k g = sides-then (read.Refused k) (parse-then-refused (read-int ni left) (λ a. read-int ni left) (d .at) ws k (reads-refused (read-int ni left) (d .at) ws k g))
+    pub comparison-no-left : (k : ℕ) → reads (read-int nb ni left) (d .at) ws ≡ read.Refused k → read.Refused k ≡ reads (comparison-of (read-int nb ni left)) at ws
+    comparison-no-left k g = sides-then (read.Refused k) (parse-then-refused (read-int nb ni left) (λ a. read-int nb ni left) (d .at) ws k (reads-refused (read-int nb ni left) (d .at) ws k g))
 
-    pub comparison-right : (e : Cursor) (v : Read) → reads (read-int ni left) (d .at) ws ≡ read.Ok e → v ≡ reads (read-int ni left) (e .at) ws → v ≡ reads (comparison-of (read-int ni left)) at ws
-    comparison-right e v g hv = sides-then v (reads-then (read-int ni left) (λ a. read-int ni left) (d .at) ws e v int-shortens (λ a. int-shortens) g (λ a. hv))
+    pub comparison-right : (e : Cursor) (v : Read) → reads (read-int nb ni left) (d .at) ws ≡ read.Ok e → v ≡ reads (read-int nb ni left) (e .at) ws → v ≡ reads (comparison-of (read-int nb ni left)) at ws
+    comparison-right e v g hv = sides-then v (reads-then (read-int nb ni left) (λ a. read-int nb ni left) (d .at) ws e v int-shortens (λ a. int-shortens) g (λ a. hv))
 
 -- ---- members, lists, pairs
 
@@ -104,7 +103,7 @@ pair-same p make at ws = sym (seq-same (λ a b. (a, b)) p (λ a. p) at ws) ∙ s
 
 -- ---- expressions
 
-step-shortens : (nb ni left : ℕ) (k : BoolKind) → Shortens (step-bool nb ni (read-bool nb ni left) (read-int ni left) k)
+step-shortens : (nb ni left : ℕ) (k : BoolKind) → Shortens (step-bool nb ni (read-bool nb ni left) (read-int nb ni left) k)
 unfolding step-bool
 step-shortens nb ni left k-const = parse-then-shortens (up-to 1 4) _ (exact-shortens (up-to-exact 1 4)) (λ b. ok-shortens (Const (bit-at b)))
 step-shortens nb ni left k-var = parse-then-shortens (index nb) _ (exact-shortens (index-exact nb)) (λ v. ok-shortens (Var v))
@@ -115,11 +114,11 @@ step-shortens nb ni left k-xor = parse-then-shortens (read-bool nb ni left) _ (p
 step-shortens nb ni left k-iff = parse-then-shortens (read-bool nb ni left) _ (part-shortens nb ni left) (λ a. parse-then-shortens (read-bool nb ni left) _ (part-shortens nb ni left) (λ b. ok-shortens (Iff a b)))
 step-shortens nb ni left k-imp = parse-then-shortens (read-bool nb ni left) _ (part-shortens nb ni left) (λ a. parse-then-shortens (read-bool nb ni left) _ (part-shortens nb ni left) (λ b. ok-shortens (Imp a b)))
 step-shortens nb ni left k-cmp =
-    parse-then-shortens (up-to 5 4) _ (exact-shortens (up-to-exact 5 4)) (λ o. parse-then-shortens (read-int ni left) _ (exact-shortens (int-exact ni left)) (λ a. parse-then-shortens (read-int ni left) _ (exact-shortens (int-exact ni left)) (λ b. ok-shortens (Cmp (op-at o) a b))))
+    parse-then-shortens (up-to 5 4) _ (exact-shortens (up-to-exact 5 4)) (λ o. parse-then-shortens (read-int nb ni left) _ (exact-shortens (int-exact nb ni left)) (λ a. parse-then-shortens (read-int nb ni left) _ (exact-shortens (int-exact nb ni left)) (λ b. ok-shortens (Cmp (op-at o) a b))))
 step-shortens nb ni left k-unknown = refuse-shortens 5
 
 abbrev next-bool : ℕ → ℕ → ℕ → Parser BoolExpr
-next-bool nb ni left xs = parse-then (word xs) (λ w r. step-bool nb ni (read-bool nb ni left) (read-int ni left) (kind-bool w) r)
+next-bool nb ni left xs = parse-then (word xs) (λ w r. step-bool nb ni (read-bool nb ni left) (read-int nb ni left) (kind-bool w) r)
 
 bool-suc : (nb ni left at : ℕ) (ws : List ℤ) → (left ≡ 0 → ⊥) → reads (next-bool nb ni (left - 1)) at ws ≡ reads (read-bool nb ni left) at ws
 unfolding read-bool reads
@@ -137,9 +136,9 @@ module _ (nb ni left at : ℕ) (ws : List ℤ) (w : ℤ) (d : Cursor) (h : next-
   bool-deep z = rw z (word-then word word-ok (λ w r. refuse (too-deep-bool (kind-bool w))) at ws w d _ (refuse-shortens _) h refl)
 
   module _ (z : left ≡ 0 → ⊥) where
-    arm : (k : BoolKind) (v : Read) → kind-bool w ≡ k → v ≡ reads (step-bool nb ni (read-bool nb ni (left - 1)) (read-int ni (left - 1)) k) (d .at) ws → v ≡ reads (read-bool nb ni left) at ws
+    arm : (k : BoolKind) (v : Read) → kind-bool w ≡ k → v ≡ reads (step-bool nb ni (read-bool nb ni (left - 1)) (read-int nb ni (left - 1)) k) (d .at) ws → v ≡ reads (read-bool nb ni left) at ws
     arm k v e hv =
-        word-then word word-ok (λ w r. step-bool nb ni (read-bool nb ni (left - 1)) (read-int ni (left - 1)) (kind-bool w) r) at ws w d v (step-shortens nb ni (left - 1) (kind-bool w)) h (rw e hv)
+        word-then word word-ok (λ w r. step-bool nb ni (read-bool nb ni (left - 1)) (read-int nb ni (left - 1)) (kind-bool w) r) at ws w d v (step-shortens nb ni (left - 1) (kind-bool w)) h (rw e hv)
         ∙ bool-suc nb ni left at ws z
 
     pub bool-const : (v : Read) → w ≡ pos 10 → v ≡ reads (up-to 1 4) (d .at) ws → v ≡ reads (read-bool nb ni left) at ws
@@ -174,26 +173,10 @@ module _ (nb ni left at : ℕ) (ws : List ℤ) (w : ℤ) (d : Cursor) (h : next-
     unfolding step-bool kind-bool
     bool-imp v e hv = arm k-imp v (rw e refl) (hv ∙ pair-same (read-bool nb ni (left - 1)) Imp (d .at) ws)
 
-    pub bool-cmp : (v : Read) → w ≡ pos 18 → v ≡ reads (comparison-of (read-int ni (left - 1))) (d .at) ws → v ≡ reads (read-bool nb ni left) at ws
+    pub bool-cmp : (v : Read) → w ≡ pos 18 → v ≡ reads (comparison-of (read-int nb ni (left - 1))) (d .at) ws → v ≡ reads (read-bool nb ni left) at ws
     unfolding step-bool kind-bool comparison-of
     bool-cmp v e hv = arm k-cmp v (rw e refl) hv
 
     pub bool-none : kind-bool w ≡ k-unknown → read.Refused 5 ≡ reads (read-bool nb ni left) at ws
     unfolding step-bool reads read-at
     bool-none e = arm k-unknown (read.Refused 5) e refl
-
-bool-long : (nb ni left : ℕ) (e : BoolExpr) → WellBool nb ni left e → 0 < length (encode-bool e)
-unfolding encode-bool WellBool
-bool-long nb ni left (Const b) h = omega arith
-bool-long nb ni left (Var v) h = omega arith
-bool-long nb ni left (NVar n) h = absurd h
-bool-long nb ni left (And ms) h = omega arith
-bool-long nb ni left (Or ms) h = omega arith
-bool-long nb ni left (Not e) h = omega arith
-bool-long nb ni left (Xor a b) h = omega arith
-bool-long nb ni left (Iff a b) h = omega arith
-bool-long nb ni left (Imp a b) h = omega arith
-bool-long nb ni left (Cmp o a b) h = omega arith
-
-pub bool-falls : (nb ni left at : ℕ) (ws : List ℤ) (d : Cursor) → reads (read-bool nb ni left) at ws ≡ read.Ok d → (at < d .at) × (at < length ws)
-bool-falls nb ni left = reads-falls (read-bool nb ni left) (bool-exact nb ni left) (bool-long nb ni left)

@@ -9,10 +9,10 @@ use mir.Val.{ofZ}
 use Rattle.laws.specs.Ints.{eqZ}
 use Rattle.read.specs.Read.{kind-int, i-unknown, kind-bool, k-unknown}
 
-pub int-unknown : (z : ℤ) → (ofZ w32 z ≡ 20 → ⊥) → (ofZ w32 z ≡ 21 → ⊥) → (ofZ w32 z ≡ 22 → ⊥) → kind-int z ≡ i-unknown
+pub int-unknown : (z : ℤ) → (ofZ w32 z ≡ 20 → ⊥) → (ofZ w32 z ≡ 21 → ⊥) → (ofZ w32 z ≡ 22 → ⊥) → (ofZ w32 z ≡ 23 → ⊥) → kind-int z ≡ i-unknown
 unfolding kind-int
-int-unknown (pos n) a b c = rw (ne-eqb n 20 a, ne-eqb n 21 b, ne-eqb n 22 c)
-int-unknown (negsuc n) a b c = refl
+int-unknown (pos n) a b c d = rw (ne-eqb n 20 a, ne-eqb n 21 b, ne-eqb n 22 c, ne-eqb n 23 d)
+int-unknown (negsuc n) a b c d = refl
 
 pub bool-unknown : (z : ℤ) → (ofZ w32 z ≡ 10 → ⊥) → (ofZ w32 z ≡ 11 → ⊥) → (ofZ w32 z ≡ 12 → ⊥) → (ofZ w32 z ≡ 13 → ⊥) → (ofZ w32 z ≡ 14 → ⊥)
     → (ofZ w32 z ≡ 15 → ⊥) → (ofZ w32 z ≡ 16 → ⊥) → (ofZ w32 z ≡ 17 → ⊥) → (ofZ w32 z ≡ 18 → ⊥) → kind-bool z ≡ k-unknown

@@ -5,7 +5,7 @@ use Prim.Native.Nat.{ℕ, zero, suc, _+_, _-_, _≤_, _<_}
 use native.Mathlib.Omega.{arith}
 use native.Mathlib.Numerals.{sub-one}
 use lib.IntN.{ℤ, pos}
-use lib.ListN.{length, drop, length-drop, length-append}
+use lib.ListN.{length, drop, length-drop}
 use lib.Seq.{drop-drop}
 use Rattle.laws.specs.Ints.{apart}
 use Rattle.words.specs.Parse.{Parsed, ok, refuse, Parser, parse-then, seq-parser, map-parser, times, number}
@@ -171,17 +171,3 @@ one-falls at ws w r d e h = (ap (λ c. c .at) h, omega (arith, length-drop at ws
 pub number-falls : {Fits : ℕ → Type 0} (p : Parser ℕ) (x : Exact number-words Fits p) (at : ℕ) (ws : List ℤ) (n : ℕ) (d : Cursor)
     → counted-at at (p (drop at ws)) ≡ counted.Number n d → (d .at ≡ at + 1) × (at < length ws)
 number-falls p x at ws n d h = counted-number at (p (drop at ws)) n d h λ r hp hd. one-falls at ws (pos n) r d (x .sound (drop at ws) n r hp .0) hd
-
-pub word-falls : (p : Parser ℤ) (x : (xs : List ℤ) (w : ℤ) (r : List ℤ) → p xs ≡ ok w r → xs ≡ w ∷ r) (at : ℕ) (ws : List ℤ) (w : ℤ) (d : Cursor)
-    → next-at at (p (drop at ws)) ≡ next.Word w d → (d .at ≡ at + 1) × (at < length ws)
-word-falls p x at ws w d h = next-word at (p (drop at ws)) w d h λ r hp hd. one-falls at ws w r d (x (drop at ws) w r hp) hd
-
--- a parser whose values have words
-pub reads-falls : {A : Type 0} {words : A → List ℤ} {Fits : A → Type 0} (p : Parser A) → Exact words Fits p → ((a : A) → Fits a → 0 < length (words a))
-    → (at : ℕ) (ws : List ℤ) (d : Cursor) → reads p at ws ≡ read.Ok d → (at < d .at) × (at < length ws)
-reads-falls {words = words} p x long at ws d h =
-    reads-ok p at ws d h λ a r hp hd.
-    let s = x .sound (drop at ws) a r hp in
-    let l : length (drop at ws) ≡ length (words a) + length r = ap length (s .0) ∙ length-append (words a) r in
-    let e : d .at ≡ at + (length (drop at ws) - length r) = ap (λ c. c .at) hd in
-    omega (arith, length-drop at ws, long a (s .1))

@@ -67,12 +67,12 @@ module _ (at : ℕ) (ws : List ℤ) where
 
 -- ---- tables
 
-module _ (ni at : ℕ) (ws : List ℤ) where
+module _ (nb ni at : ℕ) (ws : List ℤ) where
   abbrev rows-of : ℕ → ℕ → Parser (List (List Cell))
   rows-of n k = times k (times n read-cell)
 
   abbrev columns-of : ℕ → Parser (List IntExpr)
-  columns-of n = times n (read-int ni max-depth)
+  columns-of n = times n (read-int nb ni max-depth)
 
   abbrev body-of : ℕ → ℕ → Parser Stmt
   body-of n k = seq-parser Table (columns-of n) (λ es. rows-of n k)
@@ -82,69 +82,69 @@ module _ (ni at : ℕ) (ws : List ℤ) where
 
   body-shortens : (n k : ℕ) → Shortens (body-of n k)
   body-shortens n k =
-      parse-then-shortens (columns-of n) _ (exact-shortens (columns-exact ni n))
+      parse-then-shortens (columns-of n) _ (exact-shortens (columns-exact nb ni n))
       (λ es. parse-then-shortens (rows-of n k) _ (exact-shortens (rows-exact n k)) (λ rs. ok-shortens (Table es rs)))
 
   sizes-shortens : (n : ℕ) → Shortens (sizes-of n)
   sizes-shortens n = parse-then-shortens count (body-of n) (exact-shortens count-exact) (body-shortens n)
 
-  pub table-no-columns : (k : ℕ) → counted-at at (up-to 4096 4 (drop at ws)) ≡ counted.Refused k → read.Refused k ≡ reads (read-table ni) at ws
+  pub table-no-columns : (k : ℕ) → counted-at at (up-to 4096 4 (drop at ws)) ≡ counted.Refused k → read.Refused k ≡ reads (read-table nb ni) at ws
   unfolding read-table count
   table-no-columns k h = number-refused count count-exact sizes-of at ws k h
 
   module _ (n : ℕ) (d : Cursor) (h : counted-at at (up-to 4096 4 (drop at ws)) ≡ counted.Number n d) where
-    sizes-then : (v : Read) → v ≡ reads (sizes-of n) (d .at) ws → v ≡ reads (read-table ni) at ws
+    sizes-then : (v : Read) → v ≡ reads (sizes-of n) (d .at) ws → v ≡ reads (read-table nb ni) at ws
     unfolding read-table count
     sizes-then v hv = number-then count count-exact sizes-of at ws n d v (sizes-shortens n) h hv
 
-    pub table-no-rows : (k : ℕ) → counted-at (d .at) (up-to 4096 4 (drop (d .at) ws)) ≡ counted.Refused k → read.Refused k ≡ reads (read-table ni) at ws
+    pub table-no-rows : (k : ℕ) → counted-at (d .at) (up-to 4096 4 (drop (d .at) ws)) ≡ counted.Refused k → read.Refused k ≡ reads (read-table nb ni) at ws
     unfolding count
     table-no-rows k g = sizes-then (read.Refused k) (number-refused count count-exact (body-of n) (d .at) ws k g)
 
     module _ (m : ℕ) (e : Cursor) (g : counted-at (d .at) (up-to 4096 4 (drop (d .at) ws)) ≡ counted.Number m e) where
-      body-then : (v : Read) → v ≡ reads (λ xs. parse-then (columns-of n xs) (λ es. rows-of n m)) (e .at) ws → v ≡ reads (read-table ni) at ws
+      body-then : (v : Read) → v ≡ reads (λ xs. parse-then (columns-of n xs) (λ es. rows-of n m)) (e .at) ws → v ≡ reads (read-table nb ni) at ws
       unfolding count
       body-then v hv =
           sizes-then v (number-then count count-exact (body-of n) (d .at) ws m e v (body-shortens n m) g
           (hv ∙ seq-same Table (columns-of n) (λ es. rows-of n m) (e .at) ws))
 
-      pub table-column-refused : (k : ℕ) → reads (times n (read-int ni 64)) (e .at) ws ≡ read.Refused k → read.Refused k ≡ reads (read-table ni) at ws
+      pub table-column-refused : (k : ℕ) → reads (times n (read-int nb ni 64)) (e .at) ws ≡ read.Refused k → read.Refused k ≡ reads (read-table nb ni) at ws
       table-column-refused k f = body-then (read.Refused k) (parse-then-refused (columns-of n) (λ es. rows-of n m) (e .at) ws k (reads-refused (columns-of n) (e .at) ws k f))
 
-      pub table-rows : (c : Cursor) (v : Read) → reads (times n (read-int ni 64)) (e .at) ws ≡ read.Ok c → v ≡ reads (times m (times n read-cell)) (c .at) ws → v ≡ reads (read-table ni) at ws
+      pub table-rows : (c : Cursor) (v : Read) → reads (times n (read-int nb ni 64)) (e .at) ws ≡ read.Ok c → v ≡ reads (times m (times n read-cell)) (c .at) ws → v ≡ reads (read-table nb ni) at ws
       table-rows c v f hv =
-          body-then v (reads-then (columns-of n) (λ es. rows-of n m) (e .at) ws c v (exact-shortens (columns-exact ni n)) (λ es. exact-shortens (rows-exact n m)) f (λ es. hv))
+          body-then v (reads-then (columns-of n) (λ es. rows-of n m) (e .at) ws c v (exact-shortens (columns-exact nb ni n)) (λ es. exact-shortens (rows-exact n m)) f (λ es. hv))
 
 -- ---- expressions that differ
 
-module _ (ni at : ℕ) (ws : List ℤ) where
+module _ (nb ni at : ℕ) (ws : List ℤ) where
   abbrev them-of : ℕ → Parser Stmt
-  them-of n r = map-parser AllDifferent (times n (read-int ni max-depth)) r
+  them-of n r = map-parser AllDifferent (times n (read-int nb ni max-depth)) r
 
   them-shortens : (n : ℕ) → Shortens (them-of n)
-  them-shortens n = parse-then-shortens (times n (read-int ni max-depth)) _ (exact-shortens (columns-exact ni n)) (λ es. ok-shortens (AllDifferent es))
+  them-shortens n = parse-then-shortens (times n (read-int nb ni max-depth)) _ (exact-shortens (columns-exact nb ni n)) (λ es. ok-shortens (AllDifferent es))
 
-  pub different-no-count : (k : ℕ) → counted-at at (up-to 4096 4 (drop at ws)) ≡ counted.Refused k → read.Refused k ≡ reads (read-different ni) at ws
+  pub different-no-count : (k : ℕ) → counted-at at (up-to 4096 4 (drop at ws)) ≡ counted.Refused k → read.Refused k ≡ reads (read-different nb ni) at ws
   unfolding read-different count
   different-no-count k h = number-refused count count-exact them-of at ws k h
 
   pub different-them : (n : ℕ) (d : Cursor) → counted-at at (up-to 4096 4 (drop at ws)) ≡ counted.Number n d
-      → (v : Read) → v ≡ reads (times n (read-int ni 64)) (d .at) ws → v ≡ reads (read-different ni) at ws
+      → (v : Read) → v ≡ reads (times n (read-int nb ni 64)) (d .at) ws → v ≡ reads (read-different nb ni) at ws
   unfolding read-different count
   different-them n d h v hv =
-      number-then count count-exact them-of at ws n d v (them-shortens n) h (hv ∙ map-same AllDifferent (times n (read-int ni 64)) (d .at) ws)
+      number-then count count-exact them-of at ws n d v (them-shortens n) h (hv ∙ map-same AllDifferent (times n (read-int nb ni 64)) (d .at) ws)
 
 -- ---- statements
 
 stmt-at : ℕ → ℕ → ℤ → Parser Stmt
-stmt-at nb ni w r = cond (eqZ w (pos 1)) (map-parser Rule (read-bool nb ni max-depth) r) (cond (eqZ w (pos 2)) (read-table ni r) (cond (eqZ w (pos 3)) (read-different ni r) (refuse 5)))
+stmt-at nb ni w r = cond (eqZ w (pos 1)) (map-parser Rule (read-bool nb ni max-depth) r) (cond (eqZ w (pos 2)) (read-table nb ni r) (cond (eqZ w (pos 3)) (read-different nb ni r) (refuse 5)))
 
 stmt-at-shortens : (nb ni : ℕ) (w : ℤ) → Shortens (stmt-at nb ni w)
 unfolding stmt-at read-table read-different
 stmt-at-shortens nb ni w =
     cond-shortens (eqZ w (pos 1)) (map-parser Rule (read-bool nb ni max-depth)) _ (parse-then-shortens (read-bool nb ni max-depth) _ (exact-shortens (bool-exact nb ni max-depth)) (λ e. ok-shortens (Rule e)))
-    (cond-shortens (eqZ w (pos 2)) (read-table ni) _ (parse-then-shortens count (sizes-of ni 0 []) (exact-shortens count-exact) (sizes-shortens ni 0 []))
-    (cond-shortens (eqZ w (pos 3)) (read-different ni) _ (parse-then-shortens count (them-of ni 0 []) (exact-shortens count-exact) (them-shortens ni 0 [])) (refuse-shortens 5)))
+    (cond-shortens (eqZ w (pos 2)) (read-table nb ni) _ (parse-then-shortens count (sizes-of nb ni 0 []) (exact-shortens count-exact) (sizes-shortens nb ni 0 []))
+    (cond-shortens (eqZ w (pos 3)) (read-different nb ni) _ (parse-then-shortens count (them-of nb ni 0 []) (exact-shortens count-exact) (them-shortens nb ni 0 [])) (refuse-shortens 5)))
 
 module _ (nb ni at : ℕ) (ws : List ℤ) where
   pub stmt-end : (k : ℕ) → next-at at (word (drop at ws)) ≡ next.Refused k → read.Refused k ≡ reads (read-stmt nb ni) at ws
@@ -160,11 +160,11 @@ module _ (nb ni at : ℕ) (ws : List ℤ) where
     unfolding stmt-at reads
     stmt-rule v e hv = stmt-then v (rw e (hv ∙ map-same Rule (read-bool nb ni 64) (d .at) ws))
 
-    pub stmt-table : (v : Read) → w ≡ pos 2 → v ≡ reads (read-table ni) (d .at) ws → v ≡ reads (read-stmt nb ni) at ws
+    pub stmt-table : (v : Read) → w ≡ pos 2 → v ≡ reads (read-table nb ni) (d .at) ws → v ≡ reads (read-stmt nb ni) at ws
     unfolding stmt-at reads
     stmt-table v e hv = stmt-then v (rw e hv)
 
-    pub stmt-different : (v : Read) → w ≡ pos 3 → v ≡ reads (read-different ni) (d .at) ws → v ≡ reads (read-stmt nb ni) at ws
+    pub stmt-different : (v : Read) → w ≡ pos 3 → v ≡ reads (read-different nb ni) (d .at) ws → v ≡ reads (read-stmt nb ni) at ws
     unfolding stmt-at reads
     stmt-different v e hv = stmt-then v (rw e hv)
 

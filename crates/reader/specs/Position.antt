@@ -4,7 +4,7 @@ use Prim.Native.Nat.{ℕ, _+_, _-_}
 use lib.IntN.{ℤ}
 use lib.ListN.{length, drop}
 use Rattle.laws.specs.Lists.{flat}
-use Rattle.syntax.specs.Syntax.{op-at, encode-domain, IntExpr, BoolExpr, Cmp, Members, Stmt, Problem}
+use Rattle.syntax.specs.Syntax.{op-at, encode-domain, IntExpr, If, is-read, BoolExpr, Cmp, Members, Stmt, Problem}
 use Rattle.words.specs.Parse.{Parsed, ok, refuse, Parser, parse-then, seq-parser, times, up-to, count}
 use Rattle.words.specs.Cursor.{cursor}
 use Rattle.read.specs.Read.{read-members, read-stmt}
@@ -23,6 +23,9 @@ pair-of p xs = seq-parser (λ a b. (a, b)) p (λ a. p) xs
 
 unfoldable pub comparison-of : Parser IntExpr → Parser BoolExpr
 comparison-of q xs = parse-then (up-to 5 4 xs) (λ o r. seq-parser (Cmp (op-at o)) q (λ a. q) r)
+
+unfoldable pub if-of : Parser BoolExpr → Parser IntExpr → Parser IntExpr
+if-of p q xs = parse-then (p xs) (λ c r. seq-parser (If is-read c) q (λ t. q) r)
 
 -- ---- positions
 

@@ -1,7 +1,7 @@
 // Statements: a rule, a table of columns and rows, or expressions that differ.
 use super::Read;
-use super::bools::read_bool;
-use super::ints::read_int;
+use super::expressions::read_bool;
+use super::expressions::read_int;
 use words::Counted;
 use words::Cursor;
 use words::Next;
@@ -68,13 +68,13 @@ pub fn read_rows(words: &[i32], c: Cursor, count: usize, width: usize) -> Read
 }
 
 // As many columns as `count` says.
-pub fn read_columns(words: &[i32], c: Cursor, count: usize, ints: usize) -> Read
-    ensures { λ r. ⌜ r ≡ reads (times count (int-of ints 64)) (c .at) (now (words .entry)) ⌝ }
+pub fn read_columns(words: &[i32], c: Cursor, count: usize, bools: usize, ints: usize) -> Read
+    ensures { λ r. ⌜ r ≡ reads (times count (int-of bools ints 64)) (c .at) (now (words .entry)) ⌝ }
 {
     let mut d = c;
     let mut rest = count;
     while rest != 0 {
-        match read_int(words, d, ints, 64) {
+        match read_int(words, d, bools, ints, 64) {
             Read::Refused(k) => return Read::Refused(k),
             Read::Ok(e) => {
                 d = e;
@@ -86,14 +86,14 @@ pub fn read_columns(words: &[i32], c: Cursor, count: usize, ints: usize) -> Read
 }
 
 // Columns n, rows k, n integer expressions, k rows.
-pub fn read_table(words: &[i32], c: Cursor, ints: usize) -> Read
-    ensures { λ r. ⌜ r ≡ reads (table-of ints) (c .at) (now (words .entry)) ⌝ }
+pub fn read_table(words: &[i32], c: Cursor, bools: usize, ints: usize) -> Read
+    ensures { λ r. ⌜ r ≡ reads (table-of bools ints) (c .at) (now (words .entry)) ⌝ }
 {
     match c.up_to(words, 4096, 4) {
         Counted::Refused(k) => Read::Refused(k),
         Counted::Number(n, d) => match d.up_to(words, 4096, 4) {
             Counted::Refused(k) => Read::Refused(k),
-            Counted::Number(rows, e) => match read_columns(words, e, n, ints) {
+            Counted::Number(rows, e) => match read_columns(words, e, n, bools, ints) {
                 Read::Refused(k) => Read::Refused(k),
                 Read::Ok(f) => read_rows(words, f, rows, n),
             },
@@ -102,12 +102,12 @@ pub fn read_table(words: &[i32], c: Cursor, ints: usize) -> Read
 }
 
 // A count and as many integer expressions.
-pub fn read_different(words: &[i32], c: Cursor, ints: usize) -> Read
-    ensures { λ r. ⌜ r ≡ reads (different-of ints) (c .at) (now (words .entry)) ⌝ }
+pub fn read_different(words: &[i32], c: Cursor, bools: usize, ints: usize) -> Read
+    ensures { λ r. ⌜ r ≡ reads (different-of bools ints) (c .at) (now (words .entry)) ⌝ }
 {
     match c.up_to(words, 4096, 4) {
         Counted::Refused(k) => Read::Refused(k),
-        Counted::Number(n, d) => read_columns(words, d, n, ints),
+        Counted::Number(n, d) => read_columns(words, d, n, bools, ints),
     }
 }
 
@@ -118,8 +118,8 @@ pub fn read_stmt(words: &[i32], c: Cursor, bools: usize, ints: usize) -> Read
         Next::Refused(k) => Read::Refused(k),
         Next::Word(w, d) => match w {
             1 => read_bool(words, d, bools, ints, 64),
-            2 => read_table(words, d, ints),
-            3 => read_different(words, d, ints),
+            2 => read_table(words, d, bools, ints),
+            3 => read_different(words, d, bools, ints),
             _ => Read::Refused(5),
         },
     }

@@ -7,3 +7,6 @@ pub mod Sums
 pub mod Making
 pub mod Registered
 pub mod Blocks
+pub mod Extras
+pub mod Pairs
+pub mod Rules

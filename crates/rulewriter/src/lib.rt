@@ -1,5 +1,5 @@
 // The words of a rule's clauses, written straight into the output in their final form: what its Ifs add, then its own.
-// The folded words may hold Ifs. Nothing calls it yet: it takes writer's place when request 2.5 is complete.
+// The folded words may hold Ifs.
 ghost use mathlib.Core.Path.{_≡_};
 ghost use mathlib.Core.Bool.{true, false, not, cond};
 ghost use mathlib.Core.List.{[], _∷_, _++_};
@@ -9,14 +9,19 @@ ghost use Rattle.laws.specs.Writes.{Wrote, Open};
 ghost use Rattle.syntax.specs.Syntax.{op-at};
 ghost use Rattle.walk.specs.Item.{limit, bump as bump-of, tally, lines-of, word-of, clause-text, block as block-of};
 ghost use Rattle.walk.specs.Decode.{read-part, surveyed};
-ghost use Rattle.walks.specs.Item.{meets-bool, regs, reg-lines, block-words, block-lines, constant-making, form-int-item, equal-item, cross-item, condition-item, tallies, var-item, pools as pools-of, texts, long-texts, disj-text};
-ghost use Rattle.walks.specs.Decode.{many, decode, many-terms, decode-int};
+ghost use Rattle.walks.specs.Form.{nil, cons};
+ghost use Rattle.walks.specs.Item.{more-bools, meets-bool, regs, reg-lines, block-words, block-lines, constant-making, form-int-item, equal-item, cross-item, condition-item, tallies, var-item, pools as pools-of, texts, long-texts, disj-text};
+ghost use Rattle.walks.specs.Decode.{many, decode, many-terms, decode-int, many-ties, cross-ties, terms-ties, ties-at, ties-int-at};
+ghost use Rattle.walks.specs.Tree.{below};
+ghost use Rattle.walks.specs.DecodeExact.{rule-at, pair-at};
 ghost use Rattle.scan.specs.IfLaws.{Low};
-ghost use Rattle.scan.specs.Skip.{split-by, Skips};
+ghost use Rattle.scan.specs.Skip.{split-by, Skips, SkipsAll, IntSkips, TermSkips};
 ghost use Rattle.scan.specs.SurveyLaws.{scanned, counters-of, Surveys, SurveysAll, IntSurveys};
 ghost use Rattle.output.specs.Suffix.{suffix, Stacked, extra-lits};
 ghost use Rattle.rulewriter.specs.Places.{Placed, item-at, items-at, int-at, terms-at, left-at, right-at, compared, BehindSides, Fit, AllFit, IntFit, AllTermsFit, SidesFit, BranchFits, Tallied, share, Probed, ProbedAll, PassedBy, CmpSeen, CrossSeen};
 ghost use Rattle.rulewriter.specs.Making.{Puts, PutsNamed, opened, if-at, Branches, made, sides-adds, sides-added, crossed, tied-at, Listed};
+ghost use Rattle.rulewriter.specs.Ties.{Blocks, no-extras, two-extras, behind-rule};
+ghost use Rattle.rulewriter.specs.Pair.{pair-extras, pair-next, pair-numbers, unequal, unequal-at};
 use output::Extra;
 use output::Suffix;
 use output::push;
@@ -1336,4 +1341,331 @@ fn put_tie(
         lines: bump(a.lines, bump(p.all, q.all)),
         o: c.o,
     }
+}
+
+// ---- the extras
+
+// Nothing is written.
+fn no_ties(at: usize, base: usize, n: Counters, o: usize) -> Tied
+    ensures { λ r. ⌜ r ≡ no-extras at base n o ⌝ }
+{
+    Tied {
+        at: at,
+        base: base,
+        n: n,
+        lines: 0,
+        o: o,
+    }
+}
+
+// What was written in two parts, the second behind the first.
+fn two_ties(a: Tied, b: Tied) -> Tied
+    ensures { λ r. ⌜ r ≡ two-extras a b ⌝ }
+{
+    let n = b.n;
+    Tied {
+        at: b.at,
+        base: b.base,
+        n: n,
+        lines: bump(a.lines, b.lines),
+        o: b.o,
+    }
+}
+
+// Of so many terms.
+fn term_ties(
+    work: &[i32],
+    at: usize,
+    left: usize,
+    m: usize,
+    count: usize,
+    base: usize,
+    n: Counters,
+    out: &mut [i32],
+    o: usize,
+) -> Tied
+    requires { ⌜ Placed (now work) at base n × Open (now out) o × AllFit (terms-ties (read-part (now work)) (decode-int (read-part (now work)) left (split-by m)) (ties-int-at (read-part (now work)) left (split-by m)) count at base) ⌝ }
+    requires { ⌜ left ≤ 63 ⌝ }
+    ensures { λ r. ⌜ Blocks (now (work .entry)) (terms-ties (read-part (now (work .entry))) (decode-int (read-part (now (work .entry))) left (split-by m)) (ties-int-at (read-part (now (work .entry))) left (split-by m)) count at base) n (now (out .entry)) o (now (out .exit)) r × TermSkips (read-part (now (work .entry))) left (split-by m) count at base (r .at) (r .base) ⌝ }
+{
+    let mut x = no_ties(at, base, n, o);
+    let mut rest = count;
+    while rest != 0 {
+        let q = within(x.at + 1);
+        let y = int_ties(work, q, left, m, x.base, x.n, out, x.o);
+        x = two_ties(x, y);
+        rest = rest - 1;
+    }
+    x
+}
+
+// Of the integer expression at a place.
+fn int_ties(
+    work: &[i32],
+    at: usize,
+    left: usize,
+    m: usize,
+    base: usize,
+    n: Counters,
+    out: &mut [i32],
+    o: usize,
+) -> Tied
+    requires { ⌜ Placed (now work) at base n × Open (now out) o × AllFit (ties-int-at (read-part (now work)) left (split-by m) at base) ⌝ }
+    requires { ⌜ left ≤ 64 ⌝ }
+    ensures { λ r. ⌜ Blocks (now (work .entry)) (ties-int-at (read-part (now (work .entry))) left (split-by m) at base) n (now (out .entry)) o (now (out .exit)) r × IntSkips (read-part (now (work .entry))) left (split-by m) at base (r .at) (r .base) ⌝ }
+{
+    if left == 0 {
+        return no_ties(at, base, n, o);
+    }
+    let under = left - 1;
+    let k = word(work, at + 1);
+    let one = within(at + 1);
+    let two = within(at + 2);
+    match word(work, at) {
+        22 => term_ties(work, two, under, m, k, base, n, out, o),
+        23 => {
+            let a = write_ties(work, one, under, m, base, n, out, o);
+            let b = int_ties(work, a.at, under, m, a.base, a.n, out, a.o);
+            let c = int_ties(work, b.at, under, m, b.base, b.n, out, b.o);
+            two_ties(a, two_ties(b, c))
+        }
+        _ => no_ties(two, base, n, o),
+    }
+}
+
+// Of so many members.
+fn member_ties(
+    work: &[i32],
+    at: usize,
+    left: usize,
+    m: usize,
+    count: usize,
+    base: usize,
+    n: Counters,
+    out: &mut [i32],
+    o: usize,
+) -> Tied
+    requires { ⌜ Placed (now work) at base n × Open (now out) o × AllFit (many-ties (decode (read-part (now work)) left (split-by m)) (ties-at (read-part (now work)) left (split-by m)) count at base) ⌝ }
+    requires { ⌜ left ≤ 63 ⌝ }
+    ensures { λ r. ⌜ Blocks (now (work .entry)) (many-ties (decode (read-part (now (work .entry))) left (split-by m)) (ties-at (read-part (now (work .entry))) left (split-by m)) count at base) n (now (out .entry)) o (now (out .exit)) r × SkipsAll (read-part (now (work .entry))) left (split-by m) count at base (r .at) (r .base) ⌝ }
+{
+    let mut x = no_ties(at, base, n, o);
+    let mut rest = count;
+    while rest != 0 {
+        let y = write_ties(work, x.at, left, m, x.base, x.n, out, x.o);
+        x = two_ties(x, y);
+        rest = rest - 1;
+    }
+    x
+}
+
+// Of a split Xor or Iff, whose sides have the numbers base and base + 1: of each side its extras, then its tie.
+fn split_ties(
+    work: &[i32],
+    at: usize,
+    left: usize,
+    base: usize,
+    n: Counters,
+    out: &mut [i32],
+    o: usize,
+) -> Tied
+    requires { ⌜ Placed (now work) at base n × Open (now out) o × AllFit (cross-ties (decode (read-part (now work)) left) (ties-at (read-part (now work)) left) (split-by 2) at base) ⌝ }
+    requires { ⌜ left ≤ 63 ⌝ }
+    ensures { λ r. ⌜ Blocks (now (work .entry)) (cross-ties (decode (read-part (now (work .entry))) left) (ties-at (read-part (now (work .entry))) left) (split-by 2) at base) n (now (out .entry)) o (now (out .exit)) r × SkipsAll (read-part (now (work .entry))) left (split-by 2) 2 at (bump-of base 2) (r .at) (r .base) ⌝ }
+{
+    let c = bump(base, 2);
+    let a = write_ties(work, at, left, 2, c, n, out, o);
+    let b = put_tie(work, base, at, left, 2, c, a.n, out, a.o);
+    let d = write_ties(work, a.at, left, 2, a.base, b.n, out, b.o);
+    let e = put_tie(work, base + 1, a.at, left, 2, a.base, d.n, out, d.o);
+    two_ties(a, two_ties(b, two_ties(d, e)))
+}
+
+// Of the expression at a place.
+fn write_ties(
+    work: &[i32],
+    at: usize,
+    left: usize,
+    m: usize,
+    base: usize,
+    n: Counters,
+    out: &mut [i32],
+    o: usize,
+) -> Tied
+    requires { ⌜ Placed (now work) at base n × Open (now out) o × AllFit (ties-at (read-part (now work)) left (split-by m) at base) ⌝ }
+    requires { ⌜ left ≤ 64 ⌝ }
+    ensures { λ r. ⌜ Blocks (now (work .entry)) (ties-at (read-part (now (work .entry))) left (split-by m) at base) n (now (out .entry)) o (now (out .exit)) r × Skips (read-part (now (work .entry))) left (split-by m) at base (r .at) (r .base) ⌝ }
+{
+    if left == 0 {
+        return no_ties(at, base, n, o);
+    }
+    let under = left - 1;
+    match scan::node_at(work, false, at) {
+        Node::Var(_, q) => no_ties(q, base, n, o),
+        Node::Cmp(_, q) => {
+            let i = scan::inner(m);
+            let a = int_ties(work, q, under, i, base, n, out, o);
+            let b = int_ties(work, a.at, under, i, a.base, a.n, out, a.o);
+            two_ties(a, b)
+        }
+        Node::Not(q) => write_ties(work, q, under, m, base, n, out, o),
+        Node::Join(_, k, _, _, q) => member_ties(work, q, under, m, k, base, n, out, o),
+        Node::Cross(_, q) => {
+            if m > 1 {
+                return split_ties(work, q, under, base, n, out, o);
+            }
+            member_ties(work, q, under, scan::inner(m), 2, base, n, out, o)
+        }
+    }
+}
+
+// ---- a rule
+
+// The extras of a rule, c the splitting's number behind it; where the splitting takes no number there are none, and nothing is walked.
+fn rule_ties(
+    work: &[i32],
+    at: usize,
+    base: usize,
+    c: usize,
+    n: Counters,
+    out: &mut [i32],
+    o: usize,
+) -> Tied
+    requires { ⌜ Placed (now work) at base n × Open (now out) o × AllFit (ties-at (read-part (now work)) 64 below at base) × (c ≡ decode (read-part (now work)) 64 below false at base .next) ⌝ }
+    ensures { λ r. ⌜ Blocks (now (work .entry)) (ties-at (read-part (now (work .entry))) 64 below at base) n (now (out .entry)) o (now (out .exit)) r ⌝ }
+{
+    if c == base {
+        if base < 1073741824 {
+            return no_ties(at, base, n, o);
+        }
+    }
+    write_ties(work, at, 64, 1, base, n, out, o)
+}
+
+// The rule at a place, n the counters before it: the numbers of its splitting come first, then the blocks of its extras, then its own.
+pub fn write_rule(work: &[i32], at: usize, n: Counters, out: &mut [i32], o: usize) -> Tied
+    requires { ⌜ Placed (now work) at (n .bools) n × Open (now out) o × AllFit (rule-at (read-part (now work)) 64 at (n .bools)) ⌝ }
+    ensures { λ r. ⌜ Blocks (now (work .entry)) (rule-at (read-part (now (work .entry))) 64 at (n .bools)) (behind-rule (now (work .entry)) at n) (now (out .entry)) o (now (out .exit)) r × Skips (read-part (now (work .entry))) 64 below at (n .bools) (r .at) (r .base) ⌝ }
+{
+    let b = n.bools;
+    let s = scan::skip(work, at, 64, 1, b);
+    let k = Counters {
+        bools: s.base,
+        ints: n.ints,
+    };
+    let x = rule_ties(work, at, b, s.base, k, out, o);
+    let y = write_block(work, at, 64, 1, b, false, x.n, out, x.o);
+    two_ties(x, y)
+}
+
+// ---- a pair of an AllDifferent
+
+// The extras of the sides at p and q, whose splitting takes the numbers from `base` to `next`; nothing at once where it takes none.
+fn pair_ties(
+    work: &[i32],
+    p: usize,
+    q: usize,
+    base: usize,
+    next: usize,
+    n: Counters,
+    out: &mut [i32],
+    o: usize,
+) -> Tied
+    requires { ⌜ Placed (now work) p base n × (q ≤ 4608) × Open (now out) o × AllFit (pair-extras (read-part (now work)) p q base) ⌝ }
+    requires { ⌜ next ≡ pair-next (read-part (now work)) p q base ⌝ }
+    ensures { λ r. ⌜ Blocks (now (work .entry)) (pair-extras (read-part (now (work .entry))) p q base) n (now (out .entry)) o (now (out .exit)) r ⌝ }
+{
+    if next == base {
+        if next < 1073741824 {
+            return no_ties(q, base, n, o);
+        }
+    }
+    let a = int_ties(work, p, 64, 2, base, n, out, o);
+    let b = int_ties(work, q, 64, 2, a.base, a.n, out, a.o);
+    two_ties(a, b)
+}
+
+// What the Ifs of the sides at p and q add.
+fn register_pair(
+    work: &[i32],
+    p: usize,
+    q: usize,
+    base: usize,
+    n: Counters,
+    out: &mut [i32],
+    o: usize,
+) -> Added
+    requires { ⌜ Placed (now work) p base n × (q ≤ 4608) × Open (now out) o × Fit (unequal (read-part (now work)) p q base) ⌝ }
+    ensures { λ r. ⌜ Puts (unequal-at (now (work .entry)) p q base .reg (now (work .entry)) n) (unequal-at (now (work .entry)) p q base .lines (now (work .entry)) n) (now (out .entry)) o (now (out .exit)) r ⌝ }
+{
+    let a = register_int(work, p, 64, 2, base, n, out, o);
+    let x = survey_int(work, p, 64, 2, base, n);
+    let b = register_int(work, q, 64, 2, x.base, x.n, out, a.o);
+    both(a, b)
+}
+
+// The clause that the sides at p and q differ.
+fn put_unequal(
+    work: &[i32],
+    p: usize,
+    q: usize,
+    base: usize,
+    n: Counters,
+    out: &mut [i32],
+    o: usize,
+) -> Sided
+    requires { ⌜ Placed (now work) p base n × (q ≤ 4608) × Open (now out) o × Fit (unequal (read-part (now work)) p q base) ⌝ }
+    ensures { λ r. ⌜ Wrote (now (out .entry)) o (unequal-at (now (work .entry)) p q base .text (now (work .entry)) n []) (now (out .exit)) (r .o) × (r .behind .n ≡ unequal-at (now (work .entry)) p q base .count (now (work .entry)) n) × Low (r .behind .n) ⌝ }
+{
+    let a = put(out, o, 0);
+    let b = put(out, a, 1);
+    let x = totals::linear_of(work, p, 64, 2, base, n);
+    let y = totals::less_side(x, work, q, 64, 2);
+    let s = y.sum;
+    let c = put_linear(1, false, s, out, b);
+    let e = y.behind;
+    Sided { behind: e, o: c }
+}
+
+// The block of the comparison of the sides at p and q.
+fn write_unequal(
+    work: &[i32],
+    p: usize,
+    q: usize,
+    base: usize,
+    n: Counters,
+    out: &mut [i32],
+    o: usize,
+) -> Tied
+    requires { ⌜ Placed (now work) p base n × (q ≤ 4608) × Open (now out) o × Fit (unequal (read-part (now work)) p q base) ⌝ }
+    ensures { λ r. ⌜ Blocks (now (work .entry)) (cons (unequal (read-part (now (work .entry))) p q base) nil) n (now (out .entry)) o (now (out .exit)) r ⌝ }
+{
+    let a = register_pair(work, p, q, base, n, out, o);
+    let x = put_unequal(work, p, q, base, n, out, a.o);
+    let e = x.behind;
+    let k = e.n;
+    Tied {
+        at: e.at,
+        base: e.base,
+        n: k,
+        lines: bump(a.lines, 1),
+        o: x.o,
+    }
+}
+
+// The clauses that the expressions at p and q differ, n the counters before them: the numbers of the splitting come first, then the extras, then the comparison.
+pub fn write_pair(work: &[i32], p: usize, q: usize, n: Counters, out: &mut [i32], o: usize) -> Tied
+    requires { ⌜ Placed (now work) p (n .bools) n × (q ≤ 4608) × Open (now out) o × AllFit (pair-at (read-part (now work)) 64 p q (n .bools)) ⌝ }
+    ensures { λ r. ⌜ Blocks (now (work .entry)) (pair-at (read-part (now (work .entry))) 64 p q (n .bools)) (more-bools (pair-numbers (read-part (now (work .entry))) p q (n .bools)) n) (now (out .entry)) o (now (out .exit)) r ⌝ }
+{
+    let b = n.bools;
+    let x = scan::skip_int(work, p, 64, 2, b);
+    let y = scan::skip_int(work, q, 64, 2, x.base);
+    let k = Counters {
+        bools: y.base,
+        ints: n.ints,
+    };
+    let t = pair_ties(work, p, q, b, y.base, k, out, o);
+    let z = write_unequal(work, p, q, b, t.n, out, t.o);
+    two_ties(t, z)
 }

@@ -1,5 +1,4 @@
 // The read-only survey of the folded words with Ifs: what stands at a place, where it ends, and what its numbering and its clauses will come to.
-// Nothing calls it yet: it takes survey's place when request 2.5 is complete.
 ghost use mathlib.Core.Path.{_≡_};
 ghost use mathlib.Core.Bool.{true};
 ghost use Prim.Native.Nat.{_+_, _≤_, _<_};

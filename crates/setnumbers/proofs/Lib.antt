@@ -4,3 +4,4 @@ pub mod Ends
 pub mod Numbering
 pub mod Tables
 pub mod Statements
+pub mod Known

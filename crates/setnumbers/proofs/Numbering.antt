@@ -2,7 +2,7 @@
 use mathlib.Core.Path.{_≡_, refl, sym, ap, _∙_, subst}
 use mathlib.Core.Bool.{false}
 use mathlib.Core.List.{List}
-use Prim.Native.Nat.{ℕ, zero, suc, _-_, _≤_, _<_}
+use Prim.Native.Nat.{ℕ, zero, suc, _-_, _≤_, _<_, zero-le}
 use native.Mathlib.Omega.{arith}
 use native.Mathlib.Numerals.{sub-one}
 use lib.IntN.{ℤ}
@@ -12,9 +12,11 @@ use Rattle.walk.specs.Decode.{read-part}
 use Rattle.walks.specs.Meet.{State, with-work}
 use Rattle.stages.specs.Columns.{column-at}
 use Rattle.scan.specs.Skip.{split-by, IntSkips}
-use Rattle.numbering.specs.Task.{Task, skip, then, Low, Done, Left, left-all, left-done, left-next, ready-next}
+use Rattle.numbering.specs.Task.{Task, skip, then, Low, Done, Left, left-all, left-done, left-next, ready-next, Starts}
+use Rattle.numbering.specs.Rules.{pair-task}
+use Rattle.numbering.specs.Columns.{column-task}
 use Rattle.setnumbers.specs.Cleared.{Cleared, pair-ifs}
-use Rattle.setnumbers.specs.Tasks.{stopping, column-task, columns-task, pair-task, clear-task, cleared-task, row-task, pairs-task, Quits, quits-skip, Before, before-none, row-before, row-quits, pairs-quit}
+use Rattle.setnumbers.specs.Tasks.{stopping, columns-task, clear-task, cleared-task, row-task, pairs-task, Quits, quits-skip, Before, before-none, row-before, row-quits, pairs-quit}
 use Rattle.setnumbers.specs.Numbered.{Asks}
 
 -- ---- stopping
@@ -31,6 +33,10 @@ left-full cap t x st st' h q l = record { state = λ ds d f. sym (q .meet ds st'
 -- what the next part asks
 pub asks-next : (a : List ℤ → Task) (t r : Task) (st st' : State) (rec : ℕ) → Asks t st rec → Left t st (then (a (read-part (st .work))) r) st' → Asks (a (read-part (st' .work))) st' rec
 asks-next a t r st st' rec k x = record { long = omega (arith, k .long, x .kept .size); records = k .records; low = x .low; ready = ready-next a r (k .ready) x }
+
+-- what numbering's functions ask
+pub starts-of : {t : Task} {st : State} {rec at : ℕ} → at ≤ 4608 → Asks t st rec → Starts t st rec at 0
+starts-of i a = record { size = omega (arith, a .long); inside = i; low-base = zero-le; records = a .records; low = a .low; ready = a .ready }
 
 -- ---- columns
 

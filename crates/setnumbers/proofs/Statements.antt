@@ -13,9 +13,11 @@ use Rattle.syntax.specs.Syntax.{Stmt, Rule, Table, AllDifferent, encode-stmt}
 use Rattle.walk.specs.Decode.{word, read-part}
 use Rattle.walks.specs.Meet.{State}
 use Rattle.stages.specs.StatementsPlaces.{stmts-words}
-use Rattle.numbering.specs.Task.{Task, skip, then, Low, Done, Left, left-all, left-done, left-next}
+use Rattle.numbering.specs.Task.{Task, skip, then, Low, kept-same, Done, Left, left-all, left-done, left-next}
+use Rattle.numbering.specs.Rules.{rule-task}
 use Rattle.setnumbers.specs.Stands.{Stands, SomeStmt, StmtEnds}
-use Rattle.setnumbers.specs.Tasks.{stopping, rule-task, pairs-task, table-task, stmt-task, stmts-task, stmt-before, stmts-quit}
+use Rattle.setnumbers.specs.Tasks.{stopping, pairs-task, table-task, stmt-task, stmts-task, stmt-before, stmts-quit}
+use Rattle.setnumbers.specs.KnownTie.{KnownTie, known-stays}
 use Rattle.setnumbers.specs.Numbered.{Asks, AsksTable, DoneTable, AsksStmt, DoneStmt, StandAll, AsksAll, DoneAll}
 use Rattle.setnumbers.proofs.Words.{different-words}
 use Rattle.setnumbers.proofs.Ends.{some-word, not-here}
@@ -49,6 +51,10 @@ module _ (rec cap at : ℕ) (st : State) (k : ℕ) (hk : k ≡ word (read-part (
   rule-done more z st' d (Rule e) h = done-on cap (rule-task rec cap (read-part (st .work)) (at + 1)) st more st' d
   rule-done more z st' d (Table es rows) h = not-here (st .work) at k hk (Table es rows) (λ q. omega (arith, z, q)) h
   rule-done more z st' d (AllDifferent es) h = not-here (st .work) at k hk (AllDifferent es) (λ q. omega (arith, z, q)) h
+
+  -- a tie of variables that have literals
+  pub known-done : st .used ≤ cap → k ≡ 1 → Low st → KnownTie (st .work) (at + 1) → DoneStmt rec cap at st st
+  known-done more z l h = rule-done more z st (record { state = λ ds d f. sym (known-stays ds rec cap (at + 1) st (l .bools) h); kept = kept-same st; low = l })
 
   module _ (n : ℕ) (hn : n ≡ word (read-part (st .work)) (at + 1)) where
     pub different-asks : k ≡ 3 → AsksStmt rec cap at st → Asks (pairs-task rec cap (read-part (st .work)) n (at + 2) skip) st rec

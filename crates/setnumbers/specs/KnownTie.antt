@@ -17,7 +17,7 @@ use Rattle.walks.specs.Item.{tallies, form-item, var-item}
 use Rattle.walks.specs.Decode.{node-of, many, cross-step, step, decode, many-ties, cross-ties, ties-step, ties-at}
 use Rattle.walks.specs.DecodeExact.{rule-at}
 use Rattle.walks.specs.Meet.{State, more-bools, meet-bool, form-meet, form-meets}
-use Rattle.setnumbers.specs.Tasks.{rule-task}
+use Rattle.numbering.specs.Rules.{rule-task}
 
 -- the two sides from a place on are variables that have literals; w: the work slice
 pub record KnownSides (w : List ℤ) (p : ℕ) : Type 0 where

@@ -6,5 +6,9 @@ pub mod Stands
 pub mod Tasks
 pub mod Follow
 pub mod FollowStatements
+pub mod Rows
 pub mod Numbered
 pub mod KnownTie
+pub mod StageFits
+pub mod OneStatement
+pub mod Begins

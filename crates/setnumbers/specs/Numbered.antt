@@ -1,4 +1,5 @@
--- What numbering folded statements asks and does: the tasks of whatever statements stand there; what that is for the log (`numbered-agree`).
+-- What numbering folded statements asks and does: the tasks of whatever statements stand there. A state of the log gives it (`all-ask`), and what that is for the
+-- log (`all-agree`).
 use mathlib.Core.Path.{_≡_, sym, subst}
 use mathlib.Core.Bool.{Bool}
 use mathlib.Core.List.{List}
@@ -17,12 +18,13 @@ use Rattle.walks.specs.Leaves.{words-of}
 use Rattle.stages.specs.StatementsParts.{meet-parts, parts, rooms, Standing}
 use Rattle.stages.specs.StatementsPlaces.{stmts-words, LegalStmt, PartedFrom, Marked}
 use Rattle.stages.specs.Statements.{stmts-stages}
+use Rattle.stages.specs.StartFits.{StmtWithin}
 use Rattle.memory.specs.DomainTable.{Declares}
 use Rattle.numbering.specs.Task.{Task, skip, Low, Ready, Done}
 use Rattle.setnumbers.specs.Stands.{WellRows, Stands, SomeTable}
 use Rattle.setnumbers.specs.Tasks.{table-task, stmt-task, stmts-task}
-use Rattle.setnumbers.specs.Follow.{Agree}
-use Rattle.setnumbers.specs.FollowStatements.{stmts-agree}
+use Rattle.setnumbers.specs.Follow.{Agree, Followed}
+use Rattle.setnumbers.specs.FollowStatements.{stmts-followed}
 
 pub record Asks (t : Task) (st : State) (rec : ℕ) : Type 0 where
   pub long : 16384 ≤ length (st .work)
@@ -62,14 +64,27 @@ pub record AsksAll (rec cap at end : ℕ) (st : State) : Type 0 where
 abbrev pub DoneAll : ℕ → ℕ → ℕ → ℕ → State → State → Type 0
 DoneAll rec cap at end st st' = (ts : List Stmt) → StandAll (st .work) at end ts → Done (stmts-task rec cap (read-part (st .work)) at ts) st st'
 
+-- the counters of a state of the log stay within the limit
+module _ {ds : List Domain} {F : List ℤ} {parted : ℕ → Bool} {rec cap : ℕ} {with-ifs : Bool} {before : List ℤ} {low : cap < limit} {from n : ℕ} {st : State} {s : Log} where
+  pub standing-low : Standing ds F parted rec cap with-ifs before low from n st s → Low st
+  standing-low h = record { bools = omega (arith, h .state .room); ints = omega (arith, h .state .room); used = omega (arith, h .state .used) }
+
 -- from a state of the log s, what is done leaves the state that stages' parts leave, or both walks are full; as in stages, parted and with-ifs
-module _ (ds : List Domain) (parted : ℕ → Bool) (rec cap : ℕ) (with-ifs : Bool) (before : List ℤ) (low : cap < limit) (at end : ℕ) (inside : end ≤ 4608) (st st' : State) where
+module _ (ds : List Domain) (parted : ℕ → Bool) (rec cap : ℕ) (with-ifs : Bool) (before : List ℤ) (low : cap < limit) (at end : ℕ) (inside : end ≤ 4608) (st : State) where
   abbrev F : List ℤ
   F = read-part (st .work)
 
-  pub numbered-agree : (ts : List Stmt) → StandAll (st .work) at end ts → 512 ≤ at → PartedFrom parted at ts → Marked F end with-ifs → Declares ds (st .work) → stmts-task rec cap F at ts .fits ds st
-      → (n : ℕ) (s : Log) → Standing ds F parted rec cap with-ifs before low at (rooms (stmts-stages ds rec cap F at ts) + n) st s → st .used ≤ words-of s
-      → DoneAll rec cap at end st st' → Agree cap st' (meet-parts (parts (stmts-stages ds rec cap F at ts)) st)
-  numbered-agree ts h l p m d f n s g u x =
-      subst (λ (y : State). Agree cap y (meet-parts (parts (stmts-stages ds rec cap F at ts)) st)) (sym (x ts h .state ds d f))
-      (stmts-agree ds F parted rec cap with-ifs before low end inside m at ts (h .legal) p (h .words) l (omega (arith, h .stop)) n st s g u)
+  module _ (ts : List Stmt) (stand : StandAll (st .work) at end ts) (within : Each (StmtWithin ds) ts) (from : 512 ≤ at) (split : PartedFrom parted at ts) (marked : Marked (read-part (st .work)) end with-ifs)
+      (n : ℕ) (s : Log) (standing : Standing ds (read-part (st .work)) parted rec cap with-ifs before low at (rooms (stmts-stages ds rec cap (read-part (st .work)) at ts) + n) st s) (used : st .used ≤ words-of s) where
+    followed : Followed ds F parted rec cap with-ifs before low (stmts-task rec cap F at ts) (stmts-stages ds rec cap F at ts) st
+    followed = stmts-followed ds F parted rec cap with-ifs before low end inside marked at ts (stand .legal) within split (stand .words) from (omega (arith, stand .stop)) n st s standing used
+
+    pub all-ask : rec ≤ limit → Declares ds (st .work) → AsksAll rec cap at end st
+    all-ask l d = record {
+      stmts = ts;
+      stand = stand;
+      asks = record { long = standing .state .size; records = l; low = standing-low standing; ready = record { domains = ds; declares = d; fits = followed .fits } };
+    }
+
+    pub all-agree : Declares ds (st .work) → (st' : State) → DoneAll rec cap at end st st' → Agree cap st' (meet-parts (parts (stmts-stages ds rec cap (read-part (st .work)) at ts)) st)
+    all-agree d st' x = subst (λ (y : State). Agree cap y (meet-parts (parts (stmts-stages ds rec cap F at ts)) st)) (sym (x ts stand .state ds d (followed .fits))) (followed .agree)

@@ -3,26 +3,19 @@
 use mathlib.Core.Path.{_≡_, refl, sym}
 use mathlib.Core.Bool.{Bool, true, false, cond}
 use mathlib.Core.List.{List, [], _∷_}
-use Prim.Native.Nat.{ℕ, zero, suc, _+_, _-_, _≤_}
-use lib.IntN.{ℤ, natAbs}
+use Prim.Native.Nat.{ℕ, zero, suc, _+_}
+use lib.IntN.{ℤ}
 use lib.ListN.{length}
 use lib.Dec.{ltb}
-use Rattle.syntax.specs.Syntax.{Domain, lower-bound, upper-bound, IntExpr, Cell, Stmt, Rule, Table, AllDifferent, encode-stmt}
-use Rattle.syntax.specs.Words.{max-weight}
-use Rattle.walk.specs.declared.Counters.{Counters}
-use Rattle.walks.specs.Tree.{below, here}
-use Rattle.walks.specs.Form.{Forms, IntForm}
-use Rattle.walks.specs.Item.{form-int-item}
-use Rattle.walks.specs.Decode.{decode, decode-int}
-use Rattle.walks.specs.DecodeExact.{rule-at, pair-at}
-use Rattle.walks.specs.Meet.{State, counters-of, with-work, more-bools, range-of, form-meets, form-meet-int}
-use Rattle.walks.specs.Totals.{EquationFits}
+use Rattle.syntax.specs.Syntax.{Domain, IntExpr, Cell, Stmt, Rule, Table, AllDifferent, encode-stmt}
+use Rattle.walks.specs.Meet.{State, with-work}
 use Rattle.walks.specs.Clear.{clear-places}
-use Rattle.walks.specs.Column.{meet-column}
 use Rattle.statements.specs.Table.{table-fresh}
 use Rattle.stages.specs.Columns.{column-at}
 use Rattle.numbering.specs.Task.{Task, skip, then, with-bools}
-use Rattle.numbering.specs.Fits.{Unless, forms-fit, int-fits}
+use Rattle.numbering.specs.Fits.{Unless}
+use Rattle.numbering.specs.Rules.{rule-task, pair-task}
+use Rattle.numbering.specs.Columns.{column-task}
 use Rattle.setnumbers.specs.Cleared.{pair-ifs}
 
 -- ---- a walk that is full stops
@@ -33,39 +26,13 @@ stopping cap a b = record {
   meet = λ ds st. cond (ltb cap (st .used)) st (b .meet ds (a .meet ds st));
 }
 
--- ---- what stands at a place
+-- ---- columns
 
 module _ (rec cap : ℕ) (ws : List ℤ) where
-  -- forms behind the numbers of their splitting, by the splitting's first number
-  abbrev pub split-task : (ℕ → Forms) → (ℕ → ℕ) → Task
-  split-task f k = record {
-    fits = λ ds st. forms-fit ds rec cap (f (st .bools)) (more-bools (k (st .bools)) st);
-    meet = λ ds st. form-meets ds rec cap (f (st .bools)) (more-bools (k (st .bools)) st);
-  }
-
-  unfoldable pub rule-task : ℕ → Task
-  rule-task p = split-task (rule-at ws 64 p) (λ n. decode ws 64 below false p n .next - n)
-
-  -- the sides at p and q
-  unfoldable pub pair-task : ℕ → ℕ → Task
-  pair-task p q = split-task (pair-at ws 64 p q) (λ n. decode-int ws 64 here q (decode-int ws 64 here p n .next) .next - n)
-
-  -- the bounds of a column's sum are words
-  pub record RangeFits (ds : List Domain) (w : List ℤ) (e : IntForm) (n : Counters) : Type 0 where
-    pub equation : EquationFits ds w e n 0
-    pub lowest : natAbs (lower-bound (range-of (form-int-item ds e) w n)) ≤ max-weight
-    pub highest : natAbs (upper-bound (range-of (form-int-item ds e) w n)) ≤ max-weight
-
-  unfoldable pub column-task : ℕ → Task
-  column-task p = let e = column-at ws p .tree in record {
-    fits = λ ds st. int-fits ds rec cap e st × (let a = form-meet-int ds rec cap e st in Unless (ltb cap (a .used)) (RangeFits ds (a .work) e (counters-of st)));
-    meet = λ ds st. meet-column ds rec cap p e st;
-  }
-
   -- so many from p on
   unfoldable pub columns-task : ℕ → ℕ → Task
   columns-task zero p = skip
-  columns-task (suc k) p = then (column-task p) (columns-task k (column-at ws p .end))
+  columns-task (suc k) p = then (column-task rec cap ws p) (columns-task k (column-at ws p .end))
 
 -- its Ifs with split parts are unseen again
 unfoldable pub clear-task : ℕ → ℕ → Task

@@ -1,19 +1,32 @@
 // The first walk over all folded statements of the work slice with Ifs: numbers at first meeting and creation, and the records of the emitted integers.
 ghost use mathlib.Core.Path.{_≡_};
+ghost use mathlib.Core.Bool.{true};
 ghost use Prim.Native.Nat.{ℕ, _+_, _*_, _≤_};
 ghost use lib.ListN.{length};
 ghost use Rattle.walk.specs.Item.{limit};
 ghost use Rattle.walk.specs.Decode.{read-part};
 ghost use Rattle.walks.specs.Clear.{clear-place};
+ghost use Rattle.stages.specs.Start.{start};
 ghost use Rattle.stages.specs.Columns.{columns-end as columns-end-in};
 ghost use Rattle.setnumbers.specs.Fresh.{Freshens};
 ghost use Rattle.setnumbers.specs.Stands.{SomeStmt, StmtEnds};
+ghost use Rattle.numbering.specs.Task.{skip as nothing, state-of, Done};
+ghost use Rattle.setnumbers.specs.Tasks.{columns-task, row-task, pairs-task};
+ghost use Rattle.setnumbers.specs.KnownTie.{KnownSides, KnownTie};
+ghost use Rattle.setnumbers.specs.Numbered.{Asks, AsksTable, DoneTable, AsksStmt, DoneStmt, AsksAll, DoneAll};
 ghost use Rattle.setnumbers.specs.Ifs.{place-at};
 ghost use Rattle.setnumbers.specs.Cleared.{Cleared, pair-ifs, Clears, ClearsAll, IntClears, TermClears};
 use memory::CELLS;
+use numbering::Progress;
+use numbering::Room;
+use numbering::number_column;
+use numbering::number_pair;
+use numbering::number_rule;
 use scan::node_at;
 use survey::Skipped;
+use survey::below;
 use survey::bump;
+use survey::literal;
 use survey::within;
 use survey::word;
 use walk::Node;
@@ -179,4 +192,195 @@ pub fn clear_pair(work: &mut [i32], p: usize, q: usize)
         clear_int(work, p, 64, 0);
         clear_int(work, q, 64, 0);
     }
+}
+
+// ---- statements
+
+// So many columns from a place on.
+fn number_columns(
+    work: &mut [i32],
+    out: &mut [i32],
+    at: usize,
+    count: usize,
+    room: Room,
+    c: Progress,
+) -> Progress
+    requires { ⌜ (at ≤ 4608) × Asks (columns-task (room .records) (room .cap) (read-part (now work)) count at) (state-of (now work) (now out) c) (room .records) ⌝ }
+    ensures { λ r. ⌜ Done (columns-task (room .records) (room .cap) (read-part (now (work .entry))) count at) (state-of (now (work .entry)) (now (out .entry)) c) (state-of (now (work .exit)) (now (out .exit)) r) ⌝ }
+{
+    let mut d = c;
+    let mut q = at;
+    let mut rest = count;
+    while rest != 0 {
+        let p = q;
+        let s = scan::skip_int(work, p, 64, 0, 0);
+        d = number_column(work, out, p, room, d);
+        q = s.at;
+        rest = rest - 1;
+    }
+    d
+}
+
+// The expression at p with each of so many from a place on.
+fn number_row(
+    work: &mut [i32],
+    out: &mut [i32],
+    p: usize,
+    at: usize,
+    count: usize,
+    room: Room,
+    c: Progress,
+) -> Progress
+    requires { ⌜ (p ≤ 4608) × ((at ≤ 4608) × Asks (row-task (room .records) (room .cap) (read-part (now work)) p count at nothing) (state-of (now work) (now out) c) (room .records)) ⌝ }
+    ensures { λ r. ⌜ Done (row-task (room .records) (room .cap) (read-part (now (work .entry))) p count at nothing) (state-of (now (work .entry)) (now (out .entry)) c) (state-of (now (work .exit)) (now (out .exit)) r) ⌝ }
+{
+    let mut d = c;
+    let mut q = at;
+    let mut rest = count;
+    while rest != 0 {
+        if room.cap < d.used {
+            return d;
+        }
+        let o = q;
+        let s = scan::skip_int(work, o, 64, 0, 0);
+        clear_pair(work, p, o);
+        d = number_pair(work, out, p, o, room, d);
+        q = s.at;
+        rest = rest - 1;
+    }
+    d
+}
+
+// All pairs of so many expressions from a place on.
+fn number_different(
+    work: &mut [i32],
+    out: &mut [i32],
+    at: usize,
+    count: usize,
+    room: Room,
+    c: Progress,
+) -> Progress
+    requires { ⌜ (at ≤ 4608) × Asks (pairs-task (room .records) (room .cap) (read-part (now work)) count at nothing) (state-of (now work) (now out) c) (room .records) ⌝ }
+    ensures { λ r. ⌜ Done (pairs-task (room .records) (room .cap) (read-part (now (work .entry))) count at nothing) (state-of (now (work .entry)) (now (out .entry)) c) (state-of (now (work .exit)) (now (out .exit)) r) ⌝ }
+{
+    let mut d = c;
+    let mut p = at;
+    let mut rest = count;
+    while rest != 0 {
+        let o = p;
+        let s = scan::skip_int(work, o, 64, 0, 0);
+        p = s.at;
+        rest = rest - 1;
+        d = number_row(work, out, o, p, rest, room, d);
+    }
+    d
+}
+
+// The table at a place: its columns, then the new numbers of its rows.
+fn number_table(work: &mut [i32], out: &mut [i32], at: usize, room: Room, c: Progress) -> Progress
+    requires { ⌜ AsksTable (room .records) (room .cap) at (state-of (now work) (now out) c) ⌝ }
+    ensures { λ r. ⌜ DoneTable (room .records) (room .cap) at (state-of (now (work .entry)) (now (out .entry)) c) (state-of (now (work .exit)) (now (out .exit)) r) × ((length (now (work .exit)) ≡ length (now (work .entry))) × (length (now (out .exit)) ≡ length (now (out .entry)))) ⌝ }
+{
+    let n = word(work, at + 1);
+    let k = word(work, at + 2);
+    let p = columns_end(work, at + 3, n);
+    let f = table_fresh(work, p, n, k);
+    let d = number_columns(work, out, at + 3, n, room, c);
+    let b = bump(d.bools, f);
+    Progress {
+        bools: b,
+        ints: d.ints,
+        used: d.used,
+    }
+}
+
+// Whether the two sides from a place on are variables that have literals.
+fn known_sides(work: &[i32], p: usize) -> bool
+    requires { ⌜ (4608 ≤ length (now work)) × (p ≤ 4608) ⌝ }
+    ensures { λ r. ⌜ (r ≡ true → KnownSides (now (work .entry)) p) ⌝ }
+{
+    if word(work, p) != 11 {
+        return false;
+    }
+    let q = within(p + 2);
+    if word(work, q) != 11 {
+        return false;
+    }
+    let x = below(word(work, p + 1), 512);
+    if literal(work, x) == 0 {
+        return false;
+    }
+    let y = below(word(work, q + 1), 512);
+    if literal(work, y) == 0 {
+        return false;
+    }
+    true
+}
+
+// Whether the rule at a place ties two variables that have literals: then it takes no number.
+fn known_tie(work: &[i32], at: usize) -> bool
+    requires { ⌜ (4608 ≤ length (now work)) × (at ≤ 4608) ⌝ }
+    ensures { λ r. ⌜ (r ≡ true → KnownTie (now (work .entry)) at) ⌝ }
+{
+    let code = word(work, at);
+    if code == 15 {
+        return known_sides(work, within(at + 1));
+    }
+    if code == 16 {
+        return known_sides(work, within(at + 1));
+    }
+    false
+}
+
+// The statement at a place, where the walk is not full.
+pub fn number_statement(
+    work: &mut [i32],
+    out: &mut [i32],
+    at: usize,
+    room: Room,
+    c: Progress,
+) -> Progress
+    requires { ⌜ (c .used ≤ room .cap) × AsksStmt (room .records) (room .cap) at (state-of (now work) (now out) c) ⌝ }
+    ensures { λ r. ⌜ DoneStmt (room .records) (room .cap) at (state-of (now (work .entry)) (now (out .entry)) c) (state-of (now (work .exit)) (now (out .exit)) r) × ((length (now (work .exit)) ≡ length (now (work .entry))) × (length (now (out .exit)) ≡ length (now (out .entry)))) ⌝ }
+{
+    let kind = word(work, at);
+    if kind == 1 {
+        if known_tie(work, at + 1) {
+            return c;
+        }
+        return number_rule(work, out, at + 1, room, c);
+    }
+    if kind == 3 {
+        let n = word(work, at + 1);
+        return number_different(work, out, at + 2, n, room, c);
+    }
+    number_table(work, out, at, room, c)
+}
+
+// All statements from 512 to `end`, in order, as long as the walk is not full. n: how many Booleans have a number already.
+pub fn number_statements(
+    work: &mut [i32],
+    out: &mut [i32],
+    end: usize,
+    room: Room,
+    n: usize,
+) -> Progress
+    requires { ⌜ AsksAll (room .records) (room .cap) 512 end (start (now work) (now out) n) ⌝ }
+    ensures { λ r. ⌜ DoneAll (room .records) (room .cap) 512 end (start (now (work .entry)) (now (out .entry)) n) (state-of (now (work .exit)) (now (out .exit)) r) ⌝ }
+{
+    let mut q = 512;
+    let mut c = Progress {
+        bools: n,
+        ints: 0,
+        used: 0,
+    };
+    while q < end {
+        if room.cap < c.used {
+            return c;
+        }
+        let p = q;
+        q = statement_end(work, p);
+        c = number_statement(work, out, p, room, c);
+    }
+    c
 }

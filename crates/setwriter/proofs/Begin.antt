@@ -16,7 +16,6 @@ use Rattle.answer.specs.Start.{start-well}
 use Rattle.walk.specs.Item.{nat, bool-map, int-map, bool-at, int-entry}
 use Rattle.walk.specs.Decode.{read-part}
 use Rattle.walks.specs.Item.{has-ifs, ifs-word, cell, cells}
-use Rattle.statements.specs.Columns.{ColumnRecord}
 use Rattle.statements.specs.Stages.{Folded, SomeFolded}
 use Rattle.stages.specs.Start.{Begun}
 use Rattle.stages.specs.StartTies.{tied-begun}
@@ -89,7 +88,7 @@ module _ (w : List ℤ) (long : 16384 ≤ length w) where
       same-word = ap (λ (z : ℤ). not (is-zero z)) (m .aside .behind ifs-word (omega arith) ∙ word-behind ifs-word (omega arith))
 
       begun-there : Begun (read-part w) (has-ifs w) w' n (start-log merge ss)
-      begun-there = tied-begun (ColumnRecord (read-part w') (p .domains)) (read-part w) (has-ifs w) w' n (start-log merge ss) (start-well merge ss) (m .started p f ss folded (h .ends) .numbered) (record { words = m .aside .part ∙ part; word = same-word; cells = no-cell })
+      begun-there = tied-begun (read-part w) (has-ifs w) w' n (start-log merge ss) (start-well merge ss) (m .started p f ss folded (h .ends) .numbered) (record { words = m .aside .part ∙ part; word = same-word; cells = no-cell })
 
   -- x: the slice between
   pub begins : {x : List ℤ} {end : ℕ} {merge : Bool} {w' : List ℤ} {n : ℕ} → x ≡ sets w bool-map (zeros (ifs-word - bool-map)) → MergedAll merge x end w' n → Begins merge w end w' n

@@ -1,1 +1,7 @@
+pub mod Places
+pub mod One
+pub mod Mapped
+pub mod ByMaps
+pub mod Renumbered
+pub mod Again
 pub mod Begin

@@ -30,6 +30,7 @@ use Rattle.setwriter.specs.Step.{Place, after, Stands}
 -- the state before it is such as the first walk asks, with room for n numbers behind it
 pub record Walked (x : Place) (set w : List ℤ) (q : ℕ) (room : Room) (c : Progress) (n : ℕ) : Type 0 where
   pub stands : Stands x set w q true
+  pub records : room .records ≤ limit
   pub low : room .cap < limit
   pub standing : Standing (x .problem .domains) (read-part w) (parted-of 512 (x .stmts)) (room .records) (room .cap) true [] low q (49152 * length (encode-stmt (x .stmt)) + n) (state-of w [] c) (x .before)
   pub used : c .used ≤ words-of (x .before)
@@ -39,15 +40,15 @@ pub record SomeWalked (set w : List ℤ) (q : ℕ) (room : Room) (c : Progress) 
   pub spare : ℕ
   pub it : Walked place set w q room c spare
 
--- behind a walk that is not full: the state, and its clauses behind k others
-pub record Rewrote (x : Place) (w : List ℤ) (q : ℕ) (room : Room) (low : room .cap < limit) (n : ℕ) (out : List ℤ) (o k : ℕ) (w' out' : List ℤ) (c : Progress) (o' k' : ℕ) : Type 0 where
+-- behind a walk that is not full: the next place, the state, and its clauses behind k others
+pub record Rewrote (x : Place) (w : List ℤ) (q : ℕ) (room : Room) (low : room .cap < limit) (n : ℕ) (out : List ℤ) (o k : ℕ) (w' out' : List ℤ) (next : ℕ) (c : Progress) (o' k' : ℕ) : Type 0 where
+  pub next-is : next ≡ q + length (encode-stmt (x .stmt))
   pub standing : Standing (x .problem .domains) (read-part w) (parted-of 512 (x .stmts)) (room .records) (room .cap) true [] low (q + length (encode-stmt (x .stmt))) n (state-of w' [] c) (after x)
   pub clauses : Clauses out o k (clauses-since (x .before) (after x)) out' o' k'
 
 pub record DidAgain (x : Place) (w : List ℤ) (q : ℕ) (room : Room) (low : room .cap < limit) (n : ℕ) (out : List ℤ) (o k : ℕ) (w' out' : List ℤ) (next : ℕ) (c : Progress) (o' k' : ℕ) : Type 0 where
-  pub next-is : next ≡ q + length (encode-stmt (x .stmt))
   pub used : c .used ≤ words-of (after x)
-  pub rewrote : c .used ≤ room .cap → Rewrote x w q room low n out o k w' out' c o' k'
+  pub rewrote : c .used ≤ room .cap → Rewrote x w q room low n out o k w' out' next c o' k'
   pub domains : (ds : List Domain) → Declares ds w → Declares ds w'
   pub size : length w' ≡ length w
   pub out-size : length out' ≡ length out
@@ -62,6 +63,7 @@ DoesAgain set w q room c out o k w' out' next c' o' k' = (x : Place) (n : ℕ) (
 pub record Starts (merge : Bool) (p : Problem) (f : Fixed) (ss : List Stmt) (set w : List ℤ) (end : ℕ) (room : Room) (from : ℕ) (out : List ℤ) (o : ℕ) : Type 0 where
   pub lent : Lent p f ss set (read-part w) end true
   pub domains : Declares (p .domains) w
+  pub records : room .records ≤ limit
   pub small : room .cap ≤ 16777216
   pub begun : Begun (read-part w) true w from (start-log merge ss)
   pub room-behind : Behind out o 0

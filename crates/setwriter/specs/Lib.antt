@@ -1,7 +1,11 @@
 pub mod Statements
+pub mod Read
 pub mod Same
+pub mod SameState
 pub mod Step
 pub mod Again
+pub mod TableAsks
+pub mod One
 pub mod Whole
 pub mod Begin
 pub mod Marks

@@ -42,7 +42,7 @@ pub record Declared (s : Log) : Type 0 where
   pub ints : (v n : ℕ) → get-int-var v s ≡ some n → v < 256
 
 module _ {w w' : List ℤ} (same : Same w w') where
-  word-same : (k : ℕ) → k < table-place → getD w' k (pos 0) ≡ getD w k (pos 0)
+  pub word-same : (k : ℕ) → k < table-place → getD w' k (pos 0) ≡ getD w k (pos 0)
   word-same k h = sym (getD-take table-place w' k (pos 0) h) ∙ ap (λ (x : List ℤ). getD x k (pos 0)) (same .below) ∙ getD-take table-place w k (pos 0) h
 
   pub part-same : read-part w' ≡ read-part w
@@ -53,15 +53,15 @@ module _ {w w' : List ℤ} (same : Same w w') where
   unfolding has-ifs
   ifs-same = ap (λ (z : ℤ). not (is-zero z)) (word-same ifs-word (omega arith))
 
-  cell-same : (p : ℕ) → p ≤ 4608 → cell w' p ≡ cell w p
+  pub cell-same : (p : ℕ) → p ≤ 4611 → cell w' p ≡ cell w p
   unfolding cell
   cell-same p h = word-same (cells + p) (omega arith)
 
-  bool-same : (v : ℕ) → v < 512 → bool-at w' v ≡ bool-at w v
+  pub bool-same : (v : ℕ) → v < 512 → bool-at w' v ≡ bool-at w v
   unfolding bool-at
   bool-same v h = word-same (bool-map + v) (omega arith)
 
-  int-same : (v : ℕ) → v < 256 → int-entry w' v ≡ int-entry w v
+  pub int-same : (v : ℕ) → v < 256 → int-entry w' v ≡ int-entry w v
   unfolding int-entry
   int-same v h = ap nat (word-same (int-map + v) (omega arith))
 

@@ -8,21 +8,30 @@ use native.Mathlib.Omega.{arith}
 use lib.IntN.{ℤ}
 use lib.ListN.{length, length-append}
 use Rattle.laws.specs.Slices.{Has, has-front, has-back}
-use Rattle.syntax.specs.Syntax.{Domain, Stmt, Rule, Table, AllDifferent, encode-stmt, Problem, encode}
+use Rattle.syntax.specs.Syntax.{Domain, BoolExpr, Stmt, Rule, Table, AllDifferent, encode-stmt, Problem, encode}
+use Rattle.syntax.specs.Written.{EveryStmts}
 use Rattle.words.specs.Exact.{Each}
 use Rattle.read.specs.WellFormed.{WellStmt}
 use Rattle.fold.specs.Fold.{Fixed, constant-folding-stmt as fold-stmt}
 use Rattle.fold.specs.Ends.{optimize-rests}
+use Rattle.fold.specs.Kept.{fold-stmts-every}
 use Rattle.clauses.specs.Log.{Log, clauses-of}
 use Rattle.clauses.specs.Since.{clauses-since, top-adds}
+use Rattle.clauses.specs.Split.{normalize-and-register-expr}
+use Rattle.clauses.specs.Entries.{WellMade}
+use Rattle.clauses.specs.Merge.{merged-no-ifs}
+use Rattle.different.specs.Different.{different-rules, normalize-rules}
 use Rattle.answer.specs.Answer.{start-log, normalize-stmt, normalize-stmts}
+use Rattle.answer.specs.Declared.{stmt-well}
+use Rattle.answer.specs.Start.{start-well, start-made}
 use Rattle.call.specs.WellRead.{well-declared}
 use Rattle.walk.specs.Grow.{Grows}
+use Rattle.walks.specs.Reach.{LightIfs, none-light, rule-light, table-light}
 use Rattle.statements.specs.Stages.{Settled, log-of, settled-short}
 use Rattle.stages.specs.StatementsParts.{steps, steps-grow, AllWalk}
 use Rattle.stages.specs.StatementsPlaces.{stmts-words, parted-of, LegalStmt, PartedFrom, parted-rest, Marked}
 use Rattle.stages.specs.Statements.{stmt-stages, stmts-stages, stmt-steps, stmts-steps, stmt-walk, stmts-walk}
-use Rattle.stages.specs.StartLegal.{Shallow, settled-legal}
+use Rattle.stages.specs.StartLegal.{settled-legal}
 use Rattle.stages.specs.StartFits.{StmtWithin, settled-within}
 
 -- a folded statement, and how it was read
@@ -35,21 +44,46 @@ pub record Folds (p : Problem) (f : Fixed) (t : Stmt) : Type 0 where
 pub record Lent (p : Problem) (f : Fixed) (ss : List Stmt) (set F : List ℤ) (end : ℕ) (with-ifs : Bool) : Type 0 where
   pub words : set ≡ encode p
   pub settled : Settled p f ss
-  pub deep : Each Shallow (p .stmts)
   pub stands : Has F 512 (stmts-words ss)
   pub marked : Marked F end with-ifs
   pub ends : end ≡ 512 + length (stmts-words ss)
+
+-- v is a declared Boolean, a declared integer
+abbrev pub DeclaredBool : Problem → ℕ → Type 0
+DeclaredBool p v = v < p .bools
+
+abbrev pub DeclaredInt : Problem → ℕ → Type 0
+DeclaredInt p v = v < length (p .domains)
 
 -- what is left of it: ts from q on, behind the log s. m: merging chosen
 pub record Left (m : Bool) (p : Problem) (f : Fixed) (ss : List Stmt) (F : List ℤ) (end q : ℕ) (ts : List Stmt) (s : Log) : Type 0 where
   pub legal : Each LegalStmt ts
   pub within : Each (StmtWithin (p .domains)) ts
   pub read : Each (Folds p f) ts
+  pub every : EveryStmts (DeclaredBool p) (DeclaredInt p) ts
   pub words : Has F q (stmts-words ts)
   pub from : 512 ≤ q
   pub place : q + length (stmts-words ts) ≡ end
   pub parted : PartedFrom (parted-of 512 ss) q ts
   pub ends : normalize-stmts (p .domains) ts s ≡ log-of m p ss
+  pub made : WellMade (p .domains) (DeclaredBool p) (DeclaredInt p) s
+  pub light : LightIfs (p .domains) s
+
+-- ---- Ifs stay light
+
+module _ (ds : List Domain) where
+  rules-light : (es : List BoolExpr) (s : Log) → LightIfs ds s → LightIfs ds (normalize-rules ds es s)
+  unfolding normalize-rules
+  rules-light [] s h = h
+  rules-light (e ∷ es) s h = rules-light es (normalize-and-register-expr ds e s) (rule-light ds e s h)
+
+  stmt-light : (t : Stmt) (s : Log) → LightIfs ds s → LightIfs ds (normalize-stmt ds t s)
+  unfolding normalize-stmt
+  stmt-light (Rule e) s h = rule-light ds e s h
+  stmt-light (Table es rows) s h = table-light ds es rows s h
+  stmt-light (AllDifferent es) s h = rules-light (different-rules ds es) s h
+
+-- ---- all statements
 
 all-read : (p : Problem) (f : Fixed) (ss : List Stmt) → Each (WellStmt (p .bools) (length (p .domains))) ss → Each (Folds p f) (map (fold-stmt (p .domains) f) ss)
 all-read p f [] h = tt
@@ -71,15 +105,20 @@ module _ (m : Bool) (p : Problem) (f : Fixed) (ss : List Stmt) (set F : List ℤ
   pub left-start : Left m p f ss F end 512 ss (start-log m ss)
   left-start =
       let k = h .settled in
+      let origin : ss ≡ map (fold-stmt ds f) (p .stmts) = optimize-rests p (well-declared p (k .well)) f ss (k .ends) .origin in
+      let every : EveryStmts (DeclaredBool p) (DeclaredInt p) ss = subst (λ (ts : List Stmt). EveryStmts (DeclaredBool p) (DeclaredInt p) ts) (sym origin) (fold-stmts-every (DeclaredBool p) (DeclaredInt p) ds f (p .stmts) (well-declared p (k .well))) in
       record {
-        legal = settled-legal p (k .well) f ss (k .ends) (h .deep);
+        legal = settled-legal p (k .well) f ss (k .ends);
         within = settled-within p (k .well) f ss (k .ends) (k .unrefused);
-        read = subst (λ (ts : List Stmt). Each (Folds p f) ts) (sym (optimize-rests p (well-declared p (k .well)) f ss (k .ends) .origin)) (all-read p f (p .stmts) (k .well .stmts-well));
+        read = subst (λ (ts : List Stmt). Each (Folds p f) ts) (sym origin) (all-read p f (p .stmts) (k .well .stmts-well));
+        every = every;
         words = h .stands;
         from = omega arith;
         place = sym (h .ends);
         parted = λ q l. refl;
         ends = refl;
+        made = start-made ds (DeclaredBool p) (DeclaredInt p) m ss every;
+        light = none-light ds (start-log m ss) (merged-no-ifs (start-log m ss) (start-well m ss));
       }
 
   module _ (q : ℕ) (s : Log) where
@@ -108,16 +147,19 @@ module _ (m : Bool) (p : Problem) (f : Fixed) (ss : List Stmt) (set F : List ℤ
       first-words = has-front F q (encode-stmt t) (stmts-words ts) (k .words)
 
       pub left-next : Left m p f ss F end (q + length (encode-stmt t)) ts (normalize-stmt (p .domains) t s)
-      unfolding normalize-stmts
+      unfolding normalize-stmts EveryStmts
       left-next = record {
         legal = k .legal .1;
         within = k .within .1;
         read = k .read .1;
+        every = k .every .1;
         words = has-back F q (encode-stmt t) (stmts-words ts) (k .words);
         from = omega (arith, k .from);
         place = omega (arith, k .place, length-append (encode-stmt t) (stmts-words ts));
         parted = parted-rest (parted-of 512 ss) q t ts (k .legal) (k .parted);
         ends = k .ends;
+        made = stmt-well ds (DeclaredBool p) (DeclaredInt p) t (k .every .0) s (k .made);
+        light = stmt-light ds t s (k .light);
       }
 
       -- ---- the log grows
@@ -125,7 +167,7 @@ module _ (m : Bool) (p : Problem) (f : Fixed) (ss : List Stmt) (set F : List ℤ
       walks : AllWalk ds F (parted-of 512 ss) 0 0 with-ifs [] (omega arith) (stmt-stages ds 0 0 F q t [])
       walks = stmt-walk ds F (parted-of 512 ss) 0 0 with-ifs [] (omega arith) end end-inside (h .marked) q t ts (k .legal) (k .parted) first-words (k .from) first-to [] tt
 
-      first-grows : Grows s (normalize-stmt ds t s)
+      pub first-grows : Grows s (normalize-stmt ds t s)
       first-grows =
           let e : steps (stmt-stages ds 0 0 F q t []) s ≡ normalize-stmt ds t s = stmt-steps ds 0 0 F q t [] s ∙ (unfold steps in refl) in
           subst (λ (z : Log). Grows s z) e (steps-grow ds F (parted-of 512 ss) 0 0 with-ifs [] (omega arith) (stmt-stages ds 0 0 F q t []) walks s)

@@ -53,6 +53,7 @@ pub record Mapped (x : Place) (set w : List ℤ) (q : ℕ) (n : Counters) : Type
   pub stands : Stands x set w q false
   pub rec : ℕ
   pub cap : ℕ
+  pub low : cap < limit
   pub ready : Ready w (after x)
   pub owned : AllOwn w (stmt-stages (x .problem .domains) rec cap (read-part w) q (x .stmt) []) (x .before)
   pub counters : n ≡ at w (x .before)

@@ -32,7 +32,6 @@ use Rattle.stages.specs.StatementsParts.{AllOwn}
 use Rattle.stages.specs.StatementsPlaces.{stmts-words, parted-of, Marked}
 use Rattle.stages.specs.Statements.{stmts-stages}
 use Rattle.stages.specs.Start.{start, Begun}
-use Rattle.stages.specs.StartLegal.{Shallow}
 use Rattle.stages.specs.Whole.{records-from, set-stages, behind, Walkable, cap-low, ended, answer-words}
 use Rattle.front.specs.Front.{front-words, front-is}
 use Rattle.rows.specs.Emit.{clauses-words, Behind}
@@ -85,16 +84,16 @@ module _ (m : Bool) (p : Problem) (f : Fixed) (ss : List Stmt) (F : List ℤ) (w
       let i = front-is f (st .work) (p .bools) (length ds) (counters (st .bools) (st .ints)) (records-of ds L ++ (pos (length (clauses-of L)) ∷ clauses-layout [] (clauses-of L))) (walkable .few-bools) v in
       a .words ∙ sym i ∙ ap (λ (us : List ℤ). front-words (st .work) (p .bools) (length ds) (counters (st .bools) (st .ints)) ++ (records-of ds L ++ (pos (length (clauses-of L)) ∷ us))) e
 
-  pub by-maps : with-ifs ≡ false → behind p ss F cap (start w before n) .used ≤ cap → Settled p f ss → Each Shallow (p .stmts) → (set' : List ℤ) → set' ≡ encode p → (end : ℕ) → end ≡ 512 + length (stmts-words ss)
+  pub by-maps : with-ifs ≡ false → behind p ss F cap (start w before n) .used ≤ cap → Settled p f ss → (set' : List ℤ) → set' ≡ encode p → (end : ℕ) → end ≡ 512 + length (stmts-words ss)
       → Declares (p .domains) (behind p ss F cap (start w before n) .work) → (out : List ℤ) (o : ℕ) → Behind out o 0 → AllMapped m p f ss set' (behind p ss F cap (start w before n) .work) end n out o
-  by-maps off u settled deep set' words end ends domains out o room =
+  by-maps off u settled set' words end ends domains out o room =
       let st = behind p ss F cap (start w before n) in
       let e = ended m p f ss F with-ifs cap walkable w n begun before u in
       let g = e .standing in
       let low = cap-low m p f ss F with-ifs cap walkable in
       let i : F ≡ read-part (st .work) = sym (g .state .words) in
       let k : Marked F end false = subst (λ (b : Bool). Marked F end b) off (subst (λ (j : ℕ). Marked F j with-ifs) (sym ends) (walkable .marked)) in
-      let l : Lent p f ss set' F end false = record { words = words; settled = settled; deep = deep; stands = walkable .stands; marked = k; ends = ends } in
+      let l : Lent p f ss set' F end false = record { words = words; settled = settled; stands = walkable .stands; marked = k; ends = ends } in
       let own : AllOwn (st .work) (stmts-stages ds (records-from p) cap F 512 ss) (start-log m ss) = unfold behind set-stages in e .again .owned in
       record {
         lent = subst (λ (G : List ℤ). Lent p f ss set' G end false) i l;

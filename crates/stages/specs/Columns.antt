@@ -111,7 +111,7 @@ module _ (ds : List Domain) (rec cap p : ℕ) where
   unfolding meet-sum number-column new-int
   sum-spends e st = either (λ x. x .used ≡ visited e st .used) (is-full ds rec cap (visited e st)) (visited e st) _ refl refl
 
-  column-spends : (t : IntTree) (st : State) → is-full ds rec cap st ≡ true → meet-column ds rec cap p (int-form t) st .used ≡ st .used
+  pub column-spends : (t : IntTree) (st : State) → is-full ds rec cap st ≡ true → meet-column ds rec cap p (int-form t) st .used ≡ st .used
   unfolding int-form meet-column
   column-spends (const c) st f = sum-spends (int-form (const c)) st ∙ int-meet-spends ds rec cap (const c) st f
   column-spends (ivar v) st f = int-meet-spends ds rec cap (ivar v) st f

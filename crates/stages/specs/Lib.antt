@@ -19,6 +19,7 @@ pub mod StatementsPlaces
 pub mod Statements
 pub mod Start
 pub mod Whole
+pub mod StartDepth
 pub mod StartLegal
 pub mod StartTies
 pub mod StatementsEach

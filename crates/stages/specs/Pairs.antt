@@ -106,7 +106,7 @@ module _ (ds : List Domain) (F : List ℤ) (parted : ℕ → Bool) (rec cap : �
     key-in n = every-append (in-wider (keys-int-in a here p n) (omega arith) (omega arith)) (in-wider (keys-int-in b here q (n + splits-int a here)) (omega arith) (omega arith))
 
     -- an If stands at each of its places
-    lie : (K L : ℕ → Option IntExpr) (P : Places ds F PlainInt parted K (fixed ds)) (n : ℕ) → EachPlace (Lies ds F PlainInt parted K L (fixed ds) P) (places (pair-keys a b p q n))
+    pub lie : (K L : ℕ → Option IntExpr) (P : Places ds F PlainInt parted K (fixed ds)) (n : ℕ) → EachPlace (Lies ds F PlainInt parted K L (fixed ds) P) (places (pair-keys a b p q n))
     lie K L P n = each-place (every-map (λ x y. record {
       expr = x .written;
       stands = record { is-if = y .1 .1 .1 .0; plain = y .1 .1 .1 .1; words = y .1 .1 .0 .stands; low = omega (arith, y .0 .from); high = omega (arith, y .0 .to) };

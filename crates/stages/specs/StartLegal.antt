@@ -1,5 +1,5 @@
--- What the passes leave is legal for the walks (`stmts-legal`): rules are true or solid, integers are folded, so that the condition of an If is no constant;
--- levels, declared variables and the absence of emitted numbers are given.
+-- What the passes leave of a set as read is legal for the walks (`settled-legal`): rules are true or solid, integers are folded, so that the condition of an
+-- If is no constant; levels, declared variables and the absence of emitted numbers are those of reading.
 use mathlib.Core.Path.{_≡_, refl, sym, ap, subst}
 use mathlib.Core.Bool.{Bool, true, false, cond, false≢true}
 use mathlib.Core.Option.{Option, none, some}
@@ -25,12 +25,7 @@ use Rattle.walks.specs.Thirds.{most-first, most-second, most-third}
 use Rattle.walks.specs.Legal.{LegalInt, LegalTerms, Legal, LegalMembers, LegalRule, true-rule, legal-rule}
 use Rattle.statements.specs.Settled.{settled-declared, settled-plain}
 use Rattle.stages.specs.StatementsPlaces.{LegalStmt}
-
--- within 64 levels
-abbrev pub Shallow : Stmt → Type 0
-Shallow (Rule e) = depth e ≤ 64
-Shallow (Table es rows) = Each (λ e. depth-int e ≤ 64) es
-Shallow (AllDifferent es) = Each (λ e. depth-int e ≤ 64) es
+use Rattle.stages.specs.StartDepth.{Shallow, well-shallow}
 
 under : (k l : ℕ) → suc k ≤ l → (0 < l) × (k ≤ l - 1)
 under k l h = (omega arith, omega arith)
@@ -163,11 +158,11 @@ module _ (ds : List Domain) (f : Fixed) where
   folded-shallow (Table es rows ∷ ss) h = (columns-shallow es (h .0), folded-shallow ss (h .1))
   folded-shallow (AllDifferent es ∷ ss) h = (columns-shallow es (h .0), folded-shallow ss (h .1))
 
--- ---- of a set that settles; its statements are within 64 levels as read
+-- ---- of a set that settles
 
-pub settled-legal : (p : Problem) (well : WellFormed p) (f : Fixed) (ss : List Stmt) → optimize p ≡ settled f ss → Each Shallow (p .stmts) → Each LegalStmt ss
-settled-legal p well f ss end deep =
+pub settled-legal : (p : Problem) → WellFormed p → (f : Fixed) (ss : List Stmt) → optimize p ≡ settled f ss → Each LegalStmt ss
+settled-legal p well f ss end =
     let rests = optimize-rests p (well-declared p well) f ss end in
-    let d : Each Shallow ss = subst (λ (ts : List Stmt). Each Shallow ts) (sym (rests .origin)) (folded-shallow (p .domains) f (p .stmts) deep) in
+    let d : Each Shallow ss = subst (λ (ts : List Stmt). Each Shallow ts) (sym (rests .origin)) (folded-shallow (p .domains) f (p .stmts) (well-shallow (p .bools) (length (p .domains)) (p .stmts) (well .stmts-well))) in
     stmts-legal (p .domains) f ss (settled-shape (p .domains) f (p .stmts) ss rests)
     (every-stmts-map (λ v. v < p .bools) (λ v. v < length (p .domains)) (λ v. v < 512) (λ v. v < 256) (λ v h. omega (arith, well .few-bools)) (λ v h. omega (arith, well .few-ints)) ss (settled-declared p well f ss end)) (settled-plain p well f ss end) d

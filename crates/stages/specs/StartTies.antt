@@ -10,28 +10,20 @@ use lib.Dec.{eqb}
 use lib.IntN.{ℤ, pos}
 use lib.ListN.{length}
 use Rattle.laws.specs.Slices.{Has, has-front, has-back, has-rest}
-use Rattle.syntax.specs.Syntax.{Domain, BoolExpr, Const, Var, NVar, And, Or, Not, Xor, Iff, Imp, Cmp, encode-bool, Stmt, Rule, Table, AllDifferent, encode-stmt}
+use Rattle.syntax.specs.Syntax.{BoolExpr, Const, Var, NVar, And, Or, Not, Xor, Iff, Imp, Cmp, encode-bool, Stmt, Rule, Table, AllDifferent, encode-stmt}
 use Rattle.words.specs.Exact.{Each}
-use Rattle.sums.specs.LinearSum.{LinearSum}
 use Rattle.clauses.specs.Log.{Log, next-bool}
 use Rattle.clauses.specs.Merge.{WellMerged, as-var, tie, merge-rule, merge-stmt, merge-stmts}
 use Rattle.walk.specs.Item.{limit, State}
 use Rattle.walk.specs.Decode.{word, read-part}
-use Rattle.walk.specs.Legal.{Legal as OldLegal}
-use Rattle.walk.specs.Rule.{LegalRule as OldRule, legal-rule as old-legal}
 use Rattle.walk.specs.Num.{code, Numbered}
 use Rattle.walks.specs.Item.{has-ifs, cell}
 use Rattle.walks.specs.Legal.{Legal, LegalRule, legal-rule}
 use Rattle.statements.specs.Bounds.{merge-grows}
-use Rattle.statements.specs.Ties.{meet-sides, meet-ties-at, meet-ties, word-is, stmt-num}
+use Rattle.statements.specs.Ties.{meet-sides, meet-ties-at, meet-ties, word-is, two-num}
 use Rattle.statements.specs.Whole.{start}
 use Rattle.stages.specs.StatementsPlaces.{stmts-words, LegalStmt}
 use Rattle.stages.specs.Start.{Begun, no-int-var}
-
--- a tie of two variables is legal for the walks without Ifs
-two-legal : (x y : ℕ) → x < 512 → y < 512 → OldRule (Xor (Var x) (Var y)) 64 × OldRule (Iff (Var x) (Var y)) 64
-unfolding OldLegal
-two-legal x y h k = (old-legal {e = Xor (Var x) (Var y)} {l = 64} (omega arith, (omega arith, h), (omega arith, k)), old-legal {e = Iff (Var x) (Var y)} {l = 64} (omega arith, (omega arith, h), (omega arith, k)))
 
 -- F: the folded words
 module _ (F : List ℤ) where
@@ -68,13 +60,13 @@ module _ (F : List ℤ) where
           (λ y v hy. both x y u v hx hy)
           (λ v i. apart (λ g st. rw (w, i) refl) (λ g s. rw (u, v) refl))
 
-  module _ (C : Log → ℤ → LinearSum → Domain → Type 0) (st : State) (s : Log) (h : Numbered C st s) (at : ℕ) where
+  module _ (st : State) (s : Log) (h : Numbered st s) (at : ℕ) where
     -- a rule of another code
-    other-rule : (n : ℕ) (us : List ℤ) → Has F at (pos 1 ∷ pos n ∷ us) → eqb n 15 ≡ false → eqb n 16 ≡ false → Numbered C (meet-ties-at F at st) s
+    other-rule : (n : ℕ) (us : List ℤ) → Has F at (pos 1 ∷ pos n ∷ us) → eqb n 15 ≡ false → eqb n 16 ≡ false → Numbered (meet-ties-at F at st) s
     unfolding meet-ties-at
     other-rule n us k a b = rw (word-is F at 1 _ k, word-is F (at + 1) n us (has-rest F at (pos 1) _ k), a, b) h
 
-    rule-tied : (e : BoolExpr) → LegalRule e 64 → Has F at (encode-stmt (Rule e)) → next-bool (merge-rule e s) ≤ limit → Numbered C (meet-ties-at F at st) (merge-rule e s)
+    rule-tied : (e : BoolExpr) → LegalRule e 64 → Has F at (encode-stmt (Rule e)) → next-bool (merge-rule e s) ≤ limit → Numbered (meet-ties-at F at st) (merge-rule e s)
     unfolding merge-rule encode-stmt encode-bool Legal meet-ties-at
     rule-tied (Const b) x k low = other-rule 10 _ k refl refl
     rule-tied (Var v) x k low = other-rule 11 _ k refl refl
@@ -83,28 +75,34 @@ module _ (F : List ℤ) where
     rule-tied (Or ms) x k low = other-rule 13 _ k refl refl
     rule-tied (Not e) x k low = other-rule 14 _ k refl refl
     rule-tied (Xor a b) (legal-rule x) k low =
-        sides a b 63 (at + 2) (x .1) (x .2) (has-back F at (pos 1 ∷ pos 15 ∷ []) _ k)
-        (λ y z u v hy hz. rw (u, v) (stmt-num F C st s h at [] (Rule (Xor (Var y) (Var z))) (two-legal y z hy hz .0) (rw (u, v) at k) (rw (u, v) at low)))
-        (λ i j. rw (word-is F at 1 _ k, word-is F (at + 1) 15 _ (has-rest F at (pos 1) _ k), i true st, j true s) h)
+        let w = word-is F at 1 _ k in
+        let c = word-is F (at + 1) 15 _ (has-rest F at (pos 1) _ k) in
+        let j : Has F (at + 2) (encode-bool a ++ encode-bool b) = has-back F at (pos 1 ∷ pos 15 ∷ []) _ k in
+        sides a b 63 (at + 2) (x .1) (x .2) j
+        (λ y z u v hy hz. rw (w, c, u, v) (two-num F st s h (at + 2) true y z (rw (u, v) at j) hy hz (rw (u, v) at low)))
+        (λ i t. rw (w, c, i true st, t true s) h)
     rule-tied (Iff a b) (legal-rule x) k low =
-        sides a b 63 (at + 2) (x .1) (x .2) (has-back F at (pos 1 ∷ pos 16 ∷ []) _ k)
-        (λ y z u v hy hz. rw (u, v) (stmt-num F C st s h at [] (Rule (Iff (Var y) (Var z))) (two-legal y z hy hz .1) (rw (u, v) at k) (rw (u, v) at low)))
-        (λ i j. rw (word-is F at 1 _ k, word-is F (at + 1) 16 _ (has-rest F at (pos 1) _ k), i false st, j false s) h)
+        let w = word-is F at 1 _ k in
+        let c = word-is F (at + 1) 16 _ (has-rest F at (pos 1) _ k) in
+        let j : Has F (at + 2) (encode-bool a ++ encode-bool b) = has-back F at (pos 1 ∷ pos 16 ∷ []) _ k in
+        sides a b 63 (at + 2) (x .1) (x .2) j
+        (λ y z u v hy hz. rw (w, c, u, v) (two-num F st s h (at + 2) false y z (rw (u, v) at j) hy hz (rw (u, v) at low)))
+        (λ i t. rw (w, c, i false st, t false s) h)
     rule-tied (Imp a b) x k low = other-rule 17 _ k refl refl
     rule-tied (Cmp o a b) x k low = other-rule 18 _ k refl refl
 
-    pub stmt-tied : (t : Stmt) → LegalStmt t → Has F at (encode-stmt t) → next-bool (merge-stmt t s) ≤ limit → Numbered C (meet-ties-at F at st) (merge-stmt t s)
+    pub stmt-tied : (t : Stmt) → LegalStmt t → Has F at (encode-stmt t) → next-bool (merge-stmt t s) ≤ limit → Numbered (meet-ties-at F at st) (merge-stmt t s)
     unfolding encode-stmt meet-ties-at
     stmt-tied (Rule e) x k low = rule-tied e x k low
     stmt-tied (Table es rows) x k low = rw (word-is F at 2 _ k) h
     stmt-tied (AllDifferent es) x k low = rw (word-is F at 3 _ k) h
 
-  pub all-tied : (C : Log → ℤ → LinearSum → Domain → Type 0) (at : ℕ) (ts : List Stmt) (st : State) (s : Log) → Each LegalStmt ts → Has F at (stmts-words ts) → Numbered C st s → next-bool (merge-stmts ts s) ≤ limit → Numbered C (meet-ties F at ts st) (merge-stmts ts s)
+  pub all-tied : (at : ℕ) (ts : List Stmt) (st : State) (s : Log) → Each LegalStmt ts → Has F at (stmts-words ts) → Numbered st s → next-bool (merge-stmts ts s) ≤ limit → Numbered (meet-ties F at ts st) (merge-stmts ts s)
   unfolding meet-ties merge-stmts
-  all-tied C at [] st s x k h low = h
-  all-tied C at (t ∷ ts) st s x k h low =
-      all-tied C (at + length (encode-stmt t)) ts (meet-ties-at F at st) (merge-stmt t s) (x .1) (has-back F at (encode-stmt t) (stmts-words ts) k)
-      (stmt-tied C st s h at t (x .0) (has-front F at (encode-stmt t) (stmts-words ts) k) (omega (arith, merge-grows ts (merge-stmt t s)))) low
+  all-tied at [] st s x k h low = h
+  all-tied at (t ∷ ts) st s x k h low =
+      all-tied (at + length (encode-stmt t)) ts (meet-ties-at F at st) (merge-stmt t s) (x .1) (has-back F at (encode-stmt t) (stmts-words ts) k)
+      (stmt-tied st s h at t (x .0) (has-front F at (encode-stmt t) (stmts-words ts) k) (omega (arith, merge-grows ts (merge-stmt t s)))) low
 
 -- ---- the walks begin from the slice behind it
 
@@ -114,8 +112,8 @@ pub record Blank (F : List ℤ) (with-ifs : Bool) (w : List ℤ) : Type 0 where
   pub word : has-ifs w ≡ with-ifs
   pub cells : (p : ℕ) → 512 < p → p ≤ 4608 → cell w p ≡ pos 0
 
-pub tied-begun : (C : Log → ℤ → LinearSum → Domain → Type 0) (F : List ℤ) (with-ifs : Bool) (w : List ℤ) (n : ℕ) (s : Log) → WellMerged s → Numbered C (start w n) s → Blank F with-ifs w → Begun F with-ifs w n s
-tied-begun C F with-ifs w n s m h b = record {
+pub tied-begun : (F : List ℤ) (with-ifs : Bool) (w : List ℤ) (n : ℕ) (s : Log) → WellMerged s → Numbered (start w n) s → Blank F with-ifs w → Begun F with-ifs w n s
+tied-begun F with-ifs w n s m h b = record {
   map = h .map;
   map-int = λ v l. h .map-int v l ∙ ap code (no-int-var s m v);
   bools = h .bools;

@@ -127,8 +127,8 @@ module _ (ds : List Domain) (F : List ℤ) (parted : ℕ → Bool) (rec cap : �
       let c : Has F (at + 1) (encode-bool e) = unfold encode-stmt in has-rest F at (pos 1) (encode-bool e) d in
       (rule-stage-walks ds F parted rec cap with-ifs before low e (at + 1) (h .0) c (omega arith) (omega (arith, n)) (rule-agrees F b with-ifs marked parted at ts e h k c l (omega (arith, n))), w)
   stmt-walk at (Table es rows) ts h k d l m xs w =
-      let n = table-length F ds es rows in
-      (table-stage-walks ds F parted rec cap with-ifs before low es rows at d l (omega arith) (h .0) (columns-agree-here F b with-ifs marked parted at ts es rows h k (table-words F ds at es rows d) l (omega (arith, n)) m), w)
+      let n = table-length es rows in
+      (table-stage-walks ds F parted rec cap with-ifs before low es rows at d l (omega arith) (h .0) (columns-agree-here F b with-ifs marked parted at ts es rows h k (table-words F at es rows d) l (omega (arith, n)) m), w)
   stmt-walk at (AllDifferent es) ts h k d l m xs w =
       let stop = at + length (encode-stmt (AllDifferent es)) in
       let n : length (encode-stmt (AllDifferent es)) ≡ 2 + length (sides-words es) = unfold encode-stmt in omega arith in

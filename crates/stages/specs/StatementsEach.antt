@@ -100,7 +100,7 @@ unfolding AllOwn steps
 own-rest w [] ys s h = h
 own-rest w (x ∷ xs) ys s h = own-rest w xs ys (x .step s) (h .1)
 
-last-up-to : (a b : ℕ) (xs : List Stage) → a ≤ b → UpTo b xs → last-to a xs ≤ b
+pub last-up-to : (a b : ℕ) (xs : List Stage) → a ≤ b → UpTo b xs → last-to a xs ≤ b
 last-up-to a b [] l h = l
 last-up-to a b (x ∷ xs) l h = last-up-to (x .to) b xs (h .0) (h .1)
 

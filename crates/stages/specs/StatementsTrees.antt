@@ -88,7 +88,7 @@ module _ (ds : List Domain) where
   rule-grows e s = let ts = rule-trees e 0 (next-bool s) in rw (rule-runs ds e 0 s) (then (split-grows e s) (registers-grow ds ts (cut e false s .log)))
 
   -- the numbers of the splitting
-  splits-within : (e : BoolExpr) (s : Log) → next-bool s + splits e below ≤ next-bool (normalize-and-register-expr ds e s)
+  pub splits-within : (e : BoolExpr) (s : Log) → next-bool s + splits e below ≤ next-bool (normalize-and-register-expr ds e s)
   splits-within e s = let ts = rule-trees e 0 (next-bool s) in rw (rule-runs ds e 0 s) (omega (arith, split-sided e false s .bools, registers-grow ds ts (cut e false s .log) .bools))
 
 -- ---- the part

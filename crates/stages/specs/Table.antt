@@ -57,7 +57,7 @@ module _ (ds : List Domain) where
 
   -- ---- the log behind it
 
-  rows-behind : (es : List IntExpr) (rows : List (List Cell)) (s : Log) → Grows (equivalent-int-vars ds es s .log) (normalize-table ds es rows s)
+  pub rows-behind : (es : List IntExpr) (rows : List (List Cell)) (s : Log) → Grows (equivalent-int-vars ds es s .log) (normalize-table ds es rows s)
   unfolding normalize-table register
   rows-behind es rows s = let c = equivalent-int-vars ds es s in then (rows-grow ds (c .vars) rows (c .log)) (grow-added _ _)
 

@@ -100,7 +100,7 @@ module _ (ds : List Domain) (w : List ℤ) where
         let keys = no-keys F b none (keys-int-within e never p 0 (legal-int-bound e 64 l)) words (keys-int-plain e never p 0 (legal-int-plain e 64 l)) (h .from) i in
         int-choices Never (λ x. ⊥) (λ i c t f m at k x. x) e never p 0 keys
 
-    owned-placed : (es : List IntExpr) (p : ℕ) → ColumnsStand F parted with-ifs es p → p + length (columns-words es) ≤ b → (s : Log) → Own w (columns-owned ds es p s) → PlacedColumns ds w p es s
+    pub owned-placed : (es : List IntExpr) (p : ℕ) → ColumnsStand F parted with-ifs es p → p + length (columns-words es) ≤ b → (s : Log) → Own w (columns-owned ds es p s) → PlacedColumns ds w p es s
     unfolding PlacedColumns columns-owned
     owned-placed [] p h i s o = tt
     owned-placed (e ∷ es) p h i s o =
@@ -149,14 +149,14 @@ module _ (ds : List Domain) (F : List ℤ) (parted : ℕ → Bool) (rec cap : �
   stand : ColumnsStand F parted with-ifs es (at + 3)
   stand = record {
     legal = legal;
-    words = table-words F ds at es rows words;
+    words = table-words F at es rows words;
     from = omega arith;
-    to = omega (arith, table-length F ds es rows);
+    to = omega (arith, table-length es rows);
     agree = agree;
   }
 
   stop : at + 3 + length (columns-words es) ≤ at + length (encode-stmt (Table es rows))
-  stop = omega (arith, table-length F ds es rows)
+  stop = omega (arith, table-length es rows)
 
   first-passed : (n : ℕ) (st : State) (s : Log) → Standing ds F parted rec cap with-ifs before low at (stage .room + n) st s → st .used ≤ words-of s
       → Passed ds F parted rec cap with-ifs before low (stage .to) n (Again ds F parted rec cap with-ifs before low stage st s) (stage .part .meet st) (normalize-table ds es rows s)

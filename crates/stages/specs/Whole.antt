@@ -76,7 +76,7 @@ words-within m p f ss =
     let j : length (flat (map clause-words (clauses-of s))) ≡ length (clauses-layout [] (clauses-of s)) = ap length (sym (layout-words (clauses-of s))) in
     omega (arith, i, j, length-append a (b ++ (c ++ (pos (next-bool s) ∷ (d ++ e)))), length-append b (c ++ (pos (next-bool s) ∷ (d ++ e))), length-append c (pos (next-bool s) ∷ (d ++ e)), length-append d e)
 
-clauses-many : (cs : List Clause) → length cs ≤ length (flat (map clause-words cs))
+pub clauses-many : (cs : List Clause) → length cs ≤ length (flat (map clause-words cs))
 clauses-many [] = omega arith
 clauses-many (clause ls ks ∷ cs) = omega (arith, clauses-many cs, length-append (clause-words (clause ls ks)) (flat (map clause-words cs)), length-append (counted lit-words ls) (counted linear-words ks))
 

@@ -7,20 +7,18 @@ use lib.IntN.{ℤ}
 use lib.ListN.{length}
 use Rattle.laws.specs.Slices.{Has}
 use Rattle.syntax.specs.Syntax.{Stmt, Problem}
-use Rattle.words.specs.Exact.{Each}
 use Rattle.fold.specs.Fold.{Fixed}
 use Rattle.statements.specs.Stages.{Settled, settled-short}
 use Rattle.stages.specs.StatementsPlaces.{stmts-words, Marked}
-use Rattle.stages.specs.StartLegal.{Shallow, settled-legal}
+use Rattle.stages.specs.StartLegal.{settled-legal}
 use Rattle.stages.specs.Whole.{Walkable}
 
--- deep: its statements are within 64 levels as read
-pub settled-walkable : (p : Problem) (f : Fixed) (ss : List Stmt) → Settled p f ss → Each Shallow (p .stmts) → (F : List ℤ) → Has F 512 (stmts-words ss) → (with-ifs : Bool) → Marked F (512 + length (stmts-words ss)) with-ifs → (cap : ℕ) → cap ≤ 16777216
+pub settled-walkable : (p : Problem) (f : Fixed) (ss : List Stmt) → Settled p f ss → (F : List ℤ) → Has F 512 (stmts-words ss) → (with-ifs : Bool) → Marked F (512 + length (stmts-words ss)) with-ifs → (cap : ℕ) → cap ≤ 16777216
     → Walkable p ss F with-ifs cap
-settled-walkable p f ss s deep F h with-ifs k cap l = record {
+settled-walkable p f ss s F h with-ifs k cap l = record {
   few-bools = s .well .few-bools;
   few-ints = s .well .few-ints;
-  legal = settled-legal p (s .well) f ss (s .ends) deep;
+  legal = settled-legal p (s .well) f ss (s .ends);
   short = omega (arith, settled-short p f ss s);
   stands = h;
   marked = k;

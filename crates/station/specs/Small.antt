@@ -12,9 +12,9 @@ use borrow.Author.Tests.{ltb-false}
 use Rattle.laws.specs.Ints.{eqZ}
 use Rattle.laws.specs.Lists.{any}
 use Rattle.syntax.specs.Words.{star-word, max-bools, max-ints, max-count, max-depth, max-set-words, min-work-words, max-answer-words}
-use Rattle.syntax.specs.Syntax.{op-at, Range, IntExpr, IConst, IVar, Linear, BoolExpr, Const, Var, And, Or, Not, Xor, Iff, Imp, Cmp, star, value, Rule, Table, AllDifferent, Problem}
+use Rattle.syntax.specs.Syntax.{op-at, Range, is-read, IntExpr, IConst, IVar, Linear, If, BoolExpr, Const, Var, And, Or, Not, Xor, Iff, Imp, Cmp, star, value, Rule, Table, AllDifferent, Problem}
 use Rattle.words.specs.Parse.{Parsed, ok, refuse, Parser, parse-then, times, word, up-to-at, up-to, count, index-at, index, in-value-range, number}
-use Rattle.read.specs.Read.{read-range, size-at, size-of, read-rising, read-enumerative, read-domain, BoolKind, k-const, k-var, k-and, k-or, k-not, k-xor, k-iff, k-imp, k-cmp, k-unknown, kind-bool, IntKind, i-const, i-var, i-sum, i-unknown, kind-int, too-deep-bool, too-deep-int, read-terms, read-members, bit-at, read-cell, step-int, read-int, read-table, read-different, step-bool, read-bool, read-stmt, at-end, read-problem, read-set}
+use Rattle.read.specs.Read.{read-range, size-at, size-of, read-rising, read-enumerative, read-domain, BoolKind, k-const, k-var, k-and, k-or, k-not, k-xor, k-iff, k-imp, k-cmp, k-unknown, kind-bool, IntKind, i-const, i-var, i-sum, i-if, i-unknown, kind-int, too-deep-bool, too-deep-int, read-terms, read-members, bit-at, read-cell, step-int, read-int, read-table, read-different, step-bool, read-bool, read-stmt, at-end, read-problem, read-set}
 use Rattle.limits.specs.Limits.{check, heavy-stmt, many-stmt, wide-stmt}
 use Rattle.fold.specs.Optimize.{Outcome, inconsistent, settled, optimize}
 use Rattle.answer.specs.Answer.{layout, normalize}
@@ -111,6 +111,7 @@ deep-int : (k : IntKind) → Number (too-deep-int k)
 deep-int i-const = omega arith
 deep-int i-var = omega arith
 deep-int i-sum = omega arith
+deep-int i-if = omega arith
 deep-int i-unknown = omega arith
 
 deep-bool : (k : BoolKind) → Number (too-deep-bool k)
@@ -131,17 +132,13 @@ module _ (p : Parser IntExpr) (low : (xs : List ℤ) → Low (p xs)) where
   terms-low zero xs = tt
   terms-low (suc n) xs = low-parse-then (number xs) _ (number-low xs) (λ k r. low-parse-then (p r) _ (low r) (λ e s. low-parse-then (read-terms p n s) _ (terms-low n s) (λ ts t. tt)))
 
-  step-int-low : (ni : ℕ) (k : IntKind) (xs : List ℤ) → Low (step-int ni p k xs)
+  step-int-low : (nb ni : ℕ) (c : Parser BoolExpr) → ((xs : List ℤ) → Low (c xs)) → (k : IntKind) (xs : List ℤ) → Low (step-int nb ni c p k xs)
   unfolding step-int
-  step-int-low ni i-const xs = map-low number number-low IConst xs
-  step-int-low ni i-var xs = map-low (index ni) (index-low ni) IVar xs
-  step-int-low ni i-sum xs = low-parse-then (count xs) _ (count-low xs) (λ n r. map-low (read-terms p n) (terms-low n) Linear r)
-  step-int-low ni i-unknown xs = omega arith
-
-int-low : (ni left : ℕ) (xs : List ℤ) → Low (read-int ni left xs)
-unfolding read-int
-int-low ni zero xs = low-parse-then (word xs) _ (word-low xs) (λ w r. deep-int (kind-int w))
-int-low ni (suc left) xs = low-parse-then (word xs) _ (word-low xs) (λ w r. step-int-low (read-int ni left) (int-low ni left) ni (kind-int w) r)
+  step-int-low nb ni c h i-const xs = map-low number number-low IConst xs
+  step-int-low nb ni c h i-var xs = map-low (index ni) (index-low ni) IVar xs
+  step-int-low nb ni c h i-sum xs = low-parse-then (count xs) _ (count-low xs) (λ n r. map-low (read-terms p n) (terms-low n) Linear r)
+  step-int-low nb ni c h i-if xs = low-parse-then (c xs) _ (h xs) (λ e r. low-parse-then (p r) _ (low r) (λ t s. map-low p low (If is-read e t) s))
+  step-int-low nb ni c h i-unknown xs = omega arith
 
 module _ (p : Parser BoolExpr) (low : (xs : List ℤ) → Low (p xs)) where
   members-low : (n : ℕ) (xs : List ℤ) → Low (read-members p n xs)
@@ -165,26 +162,32 @@ module _ (p : Parser BoolExpr) (low : (xs : List ℤ) → Low (p xs)) where
   step-bool-low nb ni q h k-cmp xs = low-parse-then (up-to 5 4 xs) _ (up-to-low 5 4 (omega arith) xs) (λ o r. low-parse-then (q r) _ (h r) (λ a s. map-low q h (Cmp (op-at o) a) s))
   step-bool-low nb ni q h k-unknown xs = omega arith
 
-bool-low : (nb ni left : ℕ) (xs : List ℤ) → Low (read-bool nb ni left xs)
-unfolding read-bool
-bool-low nb ni zero xs = low-parse-then (word xs) _ (word-low xs) (λ w r. deep-bool (kind-bool w))
-bool-low nb ni (suc left) xs = low-parse-then (word xs) _ (word-low xs) (λ w r. step-bool-low (read-bool nb ni left) (bool-low nb ni left) nb ni (read-int ni left) (int-low ni left) (kind-bool w) r)
+mutual
+  unfolding read-int
+
+  int-low : (nb ni left : ℕ) (xs : List ℤ) → Low (read-int nb ni left xs)
+  int-low nb ni zero xs = low-parse-then (word xs) _ (word-low xs) (λ w r. deep-int (kind-int w))
+  int-low nb ni (suc left) xs = low-parse-then (word xs) _ (word-low xs) (λ w r. step-int-low (read-int nb ni left) (λ ys. int-low nb ni left ys) nb ni (read-bool nb ni left) (λ ys. bool-low nb ni left ys) (kind-int w) r)
+
+  bool-low : (nb ni left : ℕ) (xs : List ℤ) → Low (read-bool nb ni left xs)
+  bool-low nb ni zero xs = low-parse-then (word xs) _ (word-low xs) (λ w r. deep-bool (kind-bool w))
+  bool-low nb ni (suc left) xs = low-parse-then (word xs) _ (word-low xs) (λ w r. step-bool-low (read-bool nb ni left) (λ ys. bool-low nb ni left ys) nb ni (read-int nb ni left) (λ ys. int-low nb ni left ys) (kind-bool w) r)
 
 -- ---- statements and the set
 
-table-low : (ni : ℕ) (xs : List ℤ) → Low (read-table ni xs)
+table-low : (nb ni : ℕ) (xs : List ℤ) → Low (read-table nb ni xs)
 unfolding read-table
-table-low ni xs = low-parse-then (count xs) _ (count-low xs) (λ n r. low-parse-then (count r) _ (count-low r) (λ k s.
-    low-parse-then (times n (read-int ni max-depth) s) _ (times-low (read-int ni max-depth) (int-low ni max-depth) n s) (λ es t.
+table-low nb ni xs = low-parse-then (count xs) _ (count-low xs) (λ n r. low-parse-then (count r) _ (count-low r) (λ k s.
+    low-parse-then (times n (read-int nb ni max-depth) s) _ (times-low (read-int nb ni max-depth) (int-low nb ni max-depth) n s) (λ es t.
     map-low (times k (times n read-cell)) (times-low (times n read-cell) (times-low read-cell cell-low n) k) (Table es) t)))
 
-different-low : (ni : ℕ) (xs : List ℤ) → Low (read-different ni xs)
+different-low : (nb ni : ℕ) (xs : List ℤ) → Low (read-different nb ni xs)
 unfolding read-different
-different-low ni xs = low-parse-then (count xs) _ (count-low xs) (λ n r. map-low (times n (read-int ni max-depth)) (times-low (read-int ni max-depth) (int-low ni max-depth) n) AllDifferent r)
+different-low nb ni xs = low-parse-then (count xs) _ (count-low xs) (λ n r. map-low (times n (read-int nb ni max-depth)) (times-low (read-int nb ni max-depth) (int-low nb ni max-depth) n) AllDifferent r)
 
 stmt-low : (nb ni : ℕ) (xs : List ℤ) → Low (read-stmt nb ni xs)
 unfolding read-stmt
-stmt-low nb ni xs = low-parse-then (word xs) _ (word-low xs) (λ w r. low-cond (eqZ w (pos 1)) _ _ (map-low (read-bool nb ni max-depth) (bool-low nb ni max-depth) Rule r) (low-cond (eqZ w (pos 2)) (read-table ni r) _ (table-low ni r) (low-cond (eqZ w (pos 3)) (read-different ni r) (refuse 5) (different-low ni r) (omega arith))))
+stmt-low nb ni xs = low-parse-then (word xs) _ (word-low xs) (λ w r. low-cond (eqZ w (pos 1)) _ _ (map-low (read-bool nb ni max-depth) (bool-low nb ni max-depth) Rule r) (low-cond (eqZ w (pos 2)) (read-table nb ni r) _ (table-low nb ni r) (low-cond (eqZ w (pos 3)) (read-different nb ni r) (refuse 5) (different-low nb ni r) (omega arith))))
 
 end-low : (q : Parsed Problem) → Low q → Low (at-end q)
 end-low (ok p []) h = tt

@@ -1,9 +1,9 @@
--- Within refusal 9 every sum, partial sum and coefficient that the Rust computes stays in i32; within refusal 10 there is room for its terms.
+-- Within refusal 9 every sum, partial sum and coefficient that the Rust computes stays in i32; room for the terms of a sum.
 use mathlib.Core.Path.{_≡_, refl}
 use mathlib.Core.Bool.{false, _||_}
-use mathlib.Core.List.{List, [], _∷_, _++_, map}
+use mathlib.Core.List.{List, [], _∷_, _++_}
 use Prim.Native.Nat.{ℕ, _+_, _*_, _≤_, max}
-use native.Mathlib.Nat.{mul-le-mul-left, le-trans}
+use native.Mathlib.Nat.{mul-le-mul-left}
 use native.Mathlib.Omega.{arith}
 use lib.Dec.{eqb, ltb}
 use lib.IntN.{ℤ, pos, negsuc, natAbs, _+ℤ_}
@@ -13,12 +13,11 @@ use Rattle.laws.specs.Bools.{or-l, or-no-l, or-no-r}
 use Rattle.laws.specs.Ints.{times-low, times-high, natAbs-add, times-low-size, times-high-size}
 use Rattle.laws.specs.Lists.{different}
 use Rattle.syntax.specs.Words.{max-weight}
-use Rattle.syntax.specs.Syntax.{unread, Domain, Range, Enumerative, lower-bound, upper-bound, last-or, domain-of, IntExpr, IConst, IVar, Linear, If, Terms, tnil, tmore}
-use Rattle.limits.specs.Limits.{largest, domain-weight, weight, terms-weight, heavy, heavy-terms, heavy-comparison, written, written-terms, many-comparison, many-column}
-use Rattle.limits.specs.Light.{few-written, few-in-column}
+use Rattle.syntax.specs.Syntax.{Domain, Range, Enumerative, lower-bound, upper-bound, last-or, domain-of, IntExpr, IConst, IVar, Linear, If, Terms, tnil, tmore, encode-int}
+use Rattle.limits.specs.Limits.{largest, domain-weight, weight, terms-weight, heavy, heavy-terms, heavy-comparison, written, written-terms}
 use Rattle.sums.specs.LinearSum.{Term, term, LinearSum, linear-sum, constant, singleton, add-coef, add-sum, mul-sum, lowest, highest}
-use Rattle.sums.specs.Rising.{terms-of, constant-of, Rises, add-coef-rises, Each, each-map, add-coef-each, mul-sum-each, singleton-each, Among, among-left, among-right, few-terms, different-cons, different-map}
-use Rattle.sums.specs.Linear.{linear-of, linear-terms, linear-of-proper, linear-of-among}
+use Rattle.sums.specs.Rising.{terms-of, constant-of, Rises, add-coef-rises, Each, add-coef-each, Among, among-left, among-right, few-terms}
+use Rattle.sums.specs.Linear.{linear-of, linear-terms, EveryIf, EveryIfOf}
 use Rattle.sums.specs.Norm.{norm, load, constant-load, singleton-load, add-coef-norm, add-sum-load, mul-sum-load, take-norm}
 
 -- ---- weights
@@ -49,23 +48,40 @@ heavy-weight ds (IVar v) h = ltb-false max-weight (weight ds (IVar v)) h
 heavy-weight ds (If i c t f) h = ltb-false max-weight (weight ds (If i c t f)) (or-no-l (ltb max-weight (weight ds (If i c t f))) (heavy ds t || heavy ds f) h)
 heavy-weight ds (Linear ts) h = ltb-false max-weight (weight ds (Linear ts)) (or-no-l (ltb max-weight (weight ds (Linear ts))) (heavy-terms ds ts) h)
 
--- w: a weight of each emitted number, no more than its declared variable's
-module _ (ds : List Domain) (number : ℕ → ℕ) (w : ℕ → ℕ) where
+-- w: a weight of each emitted number, no more than its declared variable's or its If's
+module _ (ds : List Domain) (number made : ℕ → ℕ) (w : ℕ → ℕ) where
   mutual
-    unfolding linear-of weight written
+    unfolding linear-of weight written EveryIf
 
-    pub linear-of-load : (e : IntExpr) → ((v : ℕ) → Among (written e) v → w (number v) ≤ domain-weight (domain-of ds v)) → load w (linear-of number e) ≤ weight ds e
-    linear-of-load (IConst c) h = omega (arith, constant-load w c)
-    linear-of-load (IVar v) h = omega (arith, singleton-load w (number v), h v (or-l (eqb v v) _ (eq-eqb v v refl)))
-    linear-of-load (If i c t f) h = absurd (unread i)
-    linear-of-load (Linear ts) h = omega (arith, linear-terms-load ts (constant (pos 0)) h, constant-load w (pos 0))
+    pub linear-of-load : (at : ℕ) (e : IntExpr) → ((v : ℕ) → Among (written e) v → w (number v) ≤ domain-weight (domain-of ds v)) → EveryIf (λ n x. w n ≤ weight ds x) made at e → load w (linear-of number made at e) ≤ weight ds e
+    linear-of-load at (IConst c) h g = omega (arith, constant-load w c)
+    linear-of-load at (IVar v) h g = omega (arith, singleton-load w (number v), h v (or-l (eqb v v) _ (eq-eqb v v refl)))
+    linear-of-load at (Linear ts) h g = omega (arith, linear-terms-load (at + 2) ts (constant (pos 0)) h g, constant-load w (pos 0))
+    linear-of-load at (If i c t f) h g = omega (arith, singleton-load w (made at), g)
 
-    linear-terms-load : (ts : Terms) (sum : LinearSum) → ((v : ℕ) → Among (written-terms ts) v → w (number v) ≤ domain-weight (domain-of ds v)) → load w (linear-terms number ts sum) ≤ load w sum + terms-weight ds ts
-    linear-terms-load tnil sum h = omega arith
-    linear-terms-load (tmore k e ts) sum h =
-        let a = linear-of-load e (λ v m. h v (among-left v (written e) (written-terms ts) m)) in
-        let b = linear-terms-load ts (add-sum sum (mul-sum k (linear-of number e))) (λ v m. h v (among-right v (written e) (written-terms ts) m)) in
-        omega (arith, add-sum-load w sum (mul-sum k (linear-of number e)), mul-sum-load w k (linear-of number e), mul-le-mul-left (natAbs k) a)
+    linear-terms-load : (at : ℕ) (ts : Terms) (sum : LinearSum) → ((v : ℕ) → Among (written-terms ts) v → w (number v) ≤ domain-weight (domain-of ds v)) → EveryIfOf (λ n x. w n ≤ weight ds x) made at ts
+        → load w (linear-terms number made at ts sum) ≤ load w sum + terms-weight ds ts
+    linear-terms-load at tnil sum h g = omega arith
+    linear-terms-load at (tmore k e ts) sum h g =
+        let l = linear-of number made (at + 1) e in
+        let a = linear-of-load (at + 1) e (λ v m. h v (among-left v (written e) (written-terms ts) m)) (g .0) in
+        let b = linear-terms-load (at + 1 + length (encode-int e)) ts (add-sum sum (mul-sum k l)) (λ v m. h v (among-right v (written e) (written-terms ts) m)) (g .1) in
+        omega (arith, add-sum-load w sum (mul-sum k l), mul-sum-load w k l, mul-le-mul-left (natAbs k) a)
+
+-- an If weighs at least 1
+module _ (ds : List Domain) (made : ℕ → ℕ) where
+  mutual
+    unfolding EveryIf weight
+
+    ifs-weigh : (at : ℕ) (e : IntExpr) → EveryIf (λ n x. 1 ≤ weight ds x) made at e
+    ifs-weigh at (IConst c) = tt
+    ifs-weigh at (IVar v) = tt
+    ifs-weigh at (Linear ts) = ifs-weigh-terms (at + 2) ts
+    ifs-weigh at (If i c t f) = omega arith
+
+    ifs-weigh-terms : (at : ℕ) (ts : Terms) → EveryIfOf (λ n x. 1 ≤ weight ds x) made at ts
+    ifs-weigh-terms at tnil = tt
+    ifs-weigh-terms at (tmore k e ts) = (ifs-weigh (at + 1) e, ifs-weigh-terms (at + 1 + length (encode-int e)) ts)
 
 -- ---- every sum that is computed
 
@@ -114,22 +130,25 @@ unfoldable pub sum-steps : LinearSum → LinearSum → List LinearSum
 sum-steps a b = add-steps (constant-of a) (terms-of a) (constant-of b) (terms-of b)
 
 -- normalize_int_expr: every sum on the way
-module _ (number : ℕ → ℕ) where
+module _ (number made : ℕ → ℕ) where
   unfoldable mutual
-    pub computed : IntExpr → List LinearSum
-    computed (IConst c) = constant c ∷ []
-    computed (IVar v) = singleton (number v) ∷ []
-    computed (If i c t f) = absurd (unread i)
-    computed (Linear ts) = constant (pos 0) ∷ computed-terms ts (constant (pos 0))
+    pub computed : ℕ → IntExpr → List LinearSum
+    computed at (IConst c) = constant c ∷ []
+    computed at (IVar v) = singleton (number v) ∷ []
+    computed at (Linear ts) = constant (pos 0) ∷ computed-terms (at + 2) ts (constant (pos 0))
+    computed at (If i c t f) = singleton (made at) ∷ []
 
-    computed-terms : Terms → LinearSum → List LinearSum
-    computed-terms tnil sum = []
-    computed-terms (tmore k e ts) sum =
-        computed e ++ (mul-sum k (linear-of number e) ∷ sum-steps sum (mul-sum k (linear-of number e)) ++ computed-terms ts (add-sum sum (mul-sum k (linear-of number e))))
+    computed-terms : ℕ → Terms → LinearSum → List LinearSum
+    computed-terms at tnil sum = []
+    computed-terms at (tmore k e ts) sum =
+        let m = mul-sum k (linear-of number made (at + 1) e) in
+        computed (at + 1) e ++ (m ∷ sum-steps sum m ++ computed-terms (at + 1 + length (encode-int e)) ts (add-sum sum m))
 
   -- a comparison: both sides, the right one negated, and the difference term by term
   unfoldable pub computed-comparison : IntExpr → IntExpr → List LinearSum
-  computed-comparison a b = computed a ++ (computed b ++ (mul-sum (negsuc 0) (linear-of number b) ∷ sum-steps (linear-of number a) (mul-sum (negsuc 0) (linear-of number b))))
+  computed-comparison a b =
+      let m = mul-sum (negsuc 0) (linear-of number made (length (encode-int a)) b) in
+      computed 0 a ++ (computed (length (encode-int a)) b ++ (m ∷ sum-steps (linear-of number made 0 a) m))
 
 abbrev Small : LinearSum → Type 0
 Small l = size l ≤ max-weight
@@ -145,49 +164,50 @@ sum-steps-small : (a b : LinearSum) → size a + size b ≤ max-weight → Every
 unfolding sum-steps load
 sum-steps-small (linear-sum c ts) (linear-sum d us) h = add-steps-small c ts d us h
 
-module _ (ds : List Domain) (number : ℕ → ℕ) where
-  pub linear-of-size : (e : IntExpr) → size (linear-of number e) ≤ weight ds e
-  linear-of-size e = linear-of-load ds number (λ v. 1) e (λ v m. domain-weight-one (domain-of ds v))
+module _ (ds : List Domain) (number made : ℕ → ℕ) where
+  pub linear-of-size : (at : ℕ) (e : IntExpr) → size (linear-of number made at e) ≤ weight ds e
+  linear-of-size at e = linear-of-load ds number made (λ v. 1) at e (λ v m. domain-weight-one (domain-of ds v)) (ifs-weigh ds made at e)
 
   mutual
     unfolding computed heavy weight Every
 
-    computed-small : (e : IntExpr) → heavy ds e ≡ false → Every Small (computed number e)
-    computed-small (IConst c) h = (omega (arith, constant-load (λ v. 1) c, heavy-weight ds (IConst c) h), tt)
-    computed-small (IVar v) h = (omega (arith, singleton-load (λ v. 1) (number v)), tt)
-    computed-small (If i c t f) h = absurd (unread i)
-    computed-small (Linear ts) h =
-        (omega (arith, constant-load (λ v. 1) (pos 0)), computed-terms-small ts (constant (pos 0)) (or-no-r (ltb max-weight (terms-weight ds ts)) (heavy-terms ds ts) h) (omega (arith, constant-load (λ v. 1) (pos 0), heavy-weight ds (Linear ts) h)))
+    computed-small : (at : ℕ) (e : IntExpr) → heavy ds e ≡ false → Every Small (computed number made at e)
+    computed-small at (IConst c) h = (omega (arith, constant-load (λ v. 1) c, heavy-weight ds (IConst c) h), tt)
+    computed-small at (IVar v) h = (omega (arith, singleton-load (λ v. 1) (number v)), tt)
+    computed-small at (Linear ts) h =
+        (omega (arith, constant-load (λ v. 1) (pos 0)), computed-terms-small (at + 2) ts (constant (pos 0)) (or-no-r (ltb max-weight (terms-weight ds ts)) (heavy-terms ds ts) h) (omega (arith, constant-load (λ v. 1) (pos 0), heavy-weight ds (Linear ts) h)))
+    computed-small at (If i c t f) h = (omega (arith, singleton-load (λ v. 1) (made at)), tt)
 
-    computed-terms-small : (ts : Terms) (sum : LinearSum) → heavy-terms ds ts ≡ false → size sum + terms-weight ds ts ≤ max-weight → Every Small (computed-terms number ts sum)
-    computed-terms-small tnil sum h l = tt
-    computed-terms-small (tmore k e ts) sum h l =
-        let m = mul-sum k (linear-of number e) in
-        let s = mul-sum-load (λ v. 1) k (linear-of number e) in
-        let n = mul-le-mul-left (natAbs k) (linear-of-size e) in
+    computed-terms-small : (at : ℕ) (ts : Terms) (sum : LinearSum) → heavy-terms ds ts ≡ false → size sum + terms-weight ds ts ≤ max-weight → Every Small (computed-terms number made at ts sum)
+    computed-terms-small at tnil sum h l = tt
+    computed-terms-small at (tmore k e ts) sum h l =
+        let m = mul-sum k (linear-of number made (at + 1) e) in
+        let s = mul-sum-load (λ v. 1) k (linear-of number made (at + 1) e) in
+        let n = mul-le-mul-left (natAbs k) (linear-of-size (at + 1) e) in
         let a = add-sum-load (λ v. 1) sum m in
-        every-append Small (computed number e) _ (computed-small e (or-no-l (heavy ds e) (heavy-terms ds ts) h))
-        (omega arith, every-append Small (sum-steps sum m) _ (sum-steps-small sum m (omega arith)) (computed-terms-small ts (add-sum sum m) (or-no-r (heavy ds e) (heavy-terms ds ts) h) (omega arith)))
+        every-append Small (computed number made (at + 1) e) _ (computed-small (at + 1) e (or-no-l (heavy ds e) (heavy-terms ds ts) h))
+        (omega arith, every-append Small (sum-steps sum m) _ (sum-steps-small sum m (omega arith)) (computed-terms-small (at + 1 + length (encode-int e)) ts (add-sum sum m) (or-no-r (heavy ds e) (heavy-terms ds ts) h) (omega arith)))
 
-  comparison-small : (a b : IntExpr) → heavy-comparison ds a b ≡ false → Every Small (computed-comparison number a b)
+  comparison-small : (a b : IntExpr) → heavy-comparison ds a b ≡ false → Every Small (computed-comparison number made a b)
   unfolding computed-comparison heavy-comparison Every
   comparison-small a b h =
+      let n = length (encode-int a) in
       let r = or-no-r (heavy ds a) (heavy ds b || ltb max-weight (weight ds a + weight ds b)) h in
       let t = ltb-false max-weight (weight ds a + weight ds b) (or-no-r (heavy ds b) (ltb max-weight (weight ds a + weight ds b)) r) in
-      let m = mul-sum (negsuc 0) (linear-of number b) in
-      let s = mul-sum-load (λ v. 1) (negsuc 0) (linear-of number b) in
-      let p = linear-of-size a in
-      let q = linear-of-size b in
-      every-append Small (computed number a) _ (computed-small a (or-no-l (heavy ds a) (heavy ds b || ltb max-weight (weight ds a + weight ds b)) h))
-      (every-append Small (computed number b) _ (computed-small b (or-no-l (heavy ds b) (ltb max-weight (weight ds a + weight ds b)) r))
-      (omega arith, sum-steps-small (linear-of number a) m (omega arith)))
+      let m = mul-sum (negsuc 0) (linear-of number made n b) in
+      let s = mul-sum-load (λ v. 1) (negsuc 0) (linear-of number made n b) in
+      let p = linear-of-size 0 a in
+      let q = linear-of-size n b in
+      every-append Small (computed number made 0 a) _ (computed-small 0 a (or-no-l (heavy ds a) (heavy ds b || ltb max-weight (weight ds a + weight ds b)) h))
+      (every-append Small (computed number made n b) _ (computed-small n b (or-no-l (heavy ds b) (ltb max-weight (weight ds a + weight ds b)) r))
+      (omega arith, sum-steps-small (linear-of number made 0 a) m (omega arith)))
 
   -- the two theorems: of an expression, and of a comparison
-  pub computed-fits : (e : IntExpr) → heavy ds e ≡ false → Every Fits (computed number e)
-  computed-fits e h = every-map Small Fits size-fits (computed number e) (computed-small e h)
+  pub computed-fits : (e : IntExpr) → heavy ds e ≡ false → Every Fits (computed number made 0 e)
+  computed-fits e h = every-map Small Fits size-fits (computed number made 0 e) (computed-small 0 e h)
 
-  pub comparison-fits : (a b : IntExpr) → heavy-comparison ds a b ≡ false → Every Fits (computed-comparison number a b)
-  comparison-fits a b h = every-map Small Fits size-fits (computed-comparison number a b) (comparison-small a b h)
+  pub comparison-fits : (a b : IntExpr) → heavy-comparison ds a b ≡ false → Every Fits (computed-comparison number made a b)
+  comparison-fits a b h = every-map Small Fits size-fits (computed-comparison number made a b) (comparison-small a b h)
 
 -- ---- the bounds of a sum's domain, after each term
 
@@ -225,12 +245,12 @@ module _ (domain : ℕ → Domain) where
       let t = take-norm (λ v. reach (domain v)) i ts in
       (omega (arith, lowest-size c (take i ts)), omega (arith, highest-size c (take i ts)))
 
-  -- after i terms
-  pub domain-bounds-fit : (ds : List Domain) (number : ℕ → ℕ) (e : IntExpr) → ((v : ℕ) → Among (written e) v → domain (number v) ≡ domain-of ds v) → heavy ds e ≡ false → (i : ℕ)
-      → (natAbs (lowest domain (constant-of (linear-of number e)) (take i (terms-of (linear-of number e)))) ≤ max-weight)
-      × (natAbs (highest domain (constant-of (linear-of number e)) (take i (terms-of (linear-of number e)))) ≤ max-weight)
-  domain-bounds-fit ds number e h l i =
-      bounds-within i max-weight (linear-of number e) (le-trans (linear-of-load ds number (λ v. reach (domain v)) e (λ v m. rw (h v m) (reach-weight (domain-of ds v)))) (heavy-weight ds e l))
+  -- after i terms: within the weight, as an If's domain is, which spans its values' domains
+  pub domain-bounds-fit : (ds : List Domain) (number made : ℕ → ℕ) (e : IntExpr) → ((v : ℕ) → Among (written e) v → domain (number v) ≡ domain-of ds v) → EveryIf (λ n x. reach (domain n) ≤ weight ds x) made 0 e → (i : ℕ)
+      → (natAbs (lowest domain (constant-of (linear-of number made 0 e)) (take i (terms-of (linear-of number made 0 e)))) ≤ weight ds e)
+      × (natAbs (highest domain (constant-of (linear-of number made 0 e)) (take i (terms-of (linear-of number made 0 e)))) ≤ weight ds e)
+  domain-bounds-fit ds number made e h g i =
+      bounds-within i (weight ds e) (linear-of number made 0 e) (linear-of-load ds number made (λ v. reach (domain v)) 0 e (λ v m. rw (h v m) (reach-weight (domain-of ds v))) g)
 
 -- ---- room for the terms, of which each step of adding has at most 64
 
@@ -245,21 +265,3 @@ room-among ws n ts (term v a ∷ us) r h k =
     let r' = add-coef-rises v a ts r in
     let h' = add-coef-each (Among ws) v a ts (k .0) h in
     (omega (arith, few-terms ws 0 (add-coef v a ts) r' h'), room-among ws n (add-coef v a ts) us r' h' (k .1))
-
--- both sides of a comparison, and a column with its new variable
-pub comparison-room : (number : ℕ → ℕ) (a b : IntExpr) → many-comparison a b ≡ false → Room (terms-of (linear-of number a)) (terms-of (mul-sum (negsuc 0) (linear-of number b)))
-comparison-room number a b h =
-    let ws = written a ++ written b in
-    room-among (map number ws) (le-trans (different-map number ws) (few-written a b h)) (terms-of (linear-of number a)) (terms-of (mul-sum (negsuc 0) (linear-of number b)))
-    (linear-of-proper number a)
-    (linear-of-among number ws a (λ v m. among-left v (written a) (written b) m))
-    (mul-sum-each (Among (map number ws)) (negsuc 0) (linear-of number b) (linear-of-among number ws b (λ v m. among-right v (written a) (written b) m)))
-
-pub column-room : (number : ℕ → ℕ) (e : IntExpr) (n : ℕ) → many-column e ≡ false → Room (terms-of (linear-of number e)) (terms-of (mul-sum (negsuc 0) (singleton n)))
-column-room number e n h =
-    let ws = n ∷ map number (written e) in
-    let d = different-cons n (map number (written e)) in
-    room-among ws (omega (arith, d, different-map number (written e), few-in-column e h)) (terms-of (linear-of number e)) (terms-of (mul-sum (negsuc 0) (singleton n)))
-    (linear-of-proper number e)
-    (each-map (Among (map number (written e))) (Among ws) (terms-of (linear-of number e)) (λ v m. among-right v (n ∷ []) (map number (written e)) m) (linear-of-among number (written e) e (λ v m. m)))
-    (mul-sum-each (Among ws) (negsuc 0) (singleton n) (singleton-each (Among ws) n (or-l (eqb n n) _ (eq-eqb n n refl))))

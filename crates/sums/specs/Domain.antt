@@ -9,12 +9,10 @@ use Rattle.laws.specs.Bools.{and-l, and-r, and-i, never}
 use Rattle.laws.specs.Ints.{eqZ, times-low, times-high}
 use Rattle.laws.specs.Order.{eqZ-is, leZ-refl, leZ-trans, leZ-lt, leZ-add, times-low-le, times-high-le}
 use Rattle.laws.specs.Lists.{any}
-use Rattle.syntax.specs.Syntax.{Domain, Range, Enumerative, last-or, lower-bound, upper-bound, in-domain, IntExpr}
+use Rattle.syntax.specs.Syntax.{Domain, Range, Enumerative, last-or, lower-bound, upper-bound, in-domain}
 use Rattle.syntax.specs.Satisfies.{IVal}
-use Rattle.limits.specs.Limits.{written}
 use Rattle.sums.specs.LinearSum.{Term, term, LinearSum, linear-sum, lowest, highest, get-domain-linear-sum, sum-terms-value, sum-value}
-use Rattle.sums.specs.Rising.{terms-of, Each, Among}
-use Rattle.sums.specs.Linear.{linear-of, linear-of-each}
+use Rattle.sums.specs.Rising.{terms-of, Each}
 
 -- ---- a domain's values lie between its bounds
 
@@ -79,10 +77,3 @@ module _ (domain : ℕ → Domain) (ι : IVal) where
   unfolding get-domain-linear-sum
   domain-holds (linear-sum c ts) e =
       and-i (leZ (lowest domain c ts) (c +ℤ sum-terms-value ι ts)) (leZ (c +ℤ sum-terms-value ι ts) (highest domain c ts)) (low-holds c c ts (leZ-refl c) e) (high-holds c c ts (leZ-refl c) e)
-
--- of a written expression whose variables have values of their domains
-pub linear-of-domain : (number : ℕ → ℕ) (domain : ℕ → Domain) (ι : IVal) (e : IntExpr)
-    → ((v : ℕ) → Among (written e) v → (ordered (domain (number v)) ≡ true) × (in-domain (ι (number v)) (domain (number v)) ≡ true))
-    → in-domain (sum-value ι (linear-of number e)) (get-domain-linear-sum domain (linear-of number e)) ≡ true
-linear-of-domain number domain ι e h =
-    domain-holds domain ι (linear-of number e) (linear-of-each number (λ n. between (domain n) (ι n) ≡ true) e (λ v m. domain-between (domain (number v)) (ι (number v)) (h v m .0) (h v m .1)))

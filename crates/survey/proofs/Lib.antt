@@ -1,3 +1,2 @@
 pub mod Leaves
-mod SkipLaws
 pub mod Literals

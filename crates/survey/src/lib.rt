@@ -1,14 +1,11 @@
-// The read-only survey of the folded words: what stands at a place, where it ends, and what its numbering and its clauses will come to.
+// Small functions of the walks over the folded words: words, literals, counters, and what members of a survey come to.
 ghost use mathlib.Core.Path.{_≡_};
-ghost use mathlib.Core.Bool.{true};
 ghost use Prim.Native.Nat.{_+_, _≤_, _<_, min};
 ghost use lib.IntN.{pos};
 ghost use lib.ListN.{getD};
-ghost use Rattle.walk.specs.Item.{limit, bump as bump-of, nat, bool-at, signed as signed-of, mode-in, fresh-in, lines-in, var-item};
-ghost use Rattle.walk.specs.Decode.{word as word-in, below as below-of, int-end as int-end-of, node-of, constant-node, comparison-node, read-part, surveyed, closed-disj, closed-cross, added, Surveys, SurveysAll};
-ghost use Rattle.survey.specs.Skip.{inside-of, Skips, SkipsAll};
+ghost use Rattle.walk.specs.Item.{bump as bump-of, nat, bool-at, signed as signed-of, mode-in, fresh-in, lines-in};
+ghost use Rattle.walk.specs.Decode.{word as word-in, below as below-of, read-part, surveyed, closed-disj, closed-cross, added};
 use walk::Mode;
-use walk::Node;
 use walk::Surveyed;
 
 // The number at a place of the work slice; 0 for a negative word and past the end.
@@ -137,176 +134,12 @@ fn disj_lines(longs: usize, lits: usize, cmps: usize, lines: usize) -> usize
     }
 }
 
-// The counter behind variable v: one more where v has the counter's own number.
-pub fn met(work: &[i32], v: usize, n: usize) -> usize
-    requires { ⌜ (v < 512) × (n ≤ limit) ⌝ }
-    ensures { λ r. ⌜ r ≡ var-item v true .count (now (work .entry)) n ⌝ }
-{
-    if entry(work, 4608 + v) == n + 1 {
-        return bump(n, 1);
-    }
-    n
-}
-
-// The end of the integer expression at a place: the terms of a sum one after another.
-fn sum_end(work: &[i32], at: usize, left: usize) -> usize
-    requires { do ⌜ (4608 ≤ (← ⟦work.len()⟧)) × (at ≤ 4608) ⌝ }
-    ensures { λ r. ⌜ (r ≡ int-end-of (read-part (now (work .entry))) left at) × ((at ≤ r) × (r ≤ 4608)) ⌝ }
-{
-    if left == 0 {
-        return at;
-    }
-    let code = word(work, at);
-    let next = within(at + 2);
-    if code != 22 {
-        return next;
-    }
-    let under = left - 1;
-    let mut rest = word(work, at + 1);
-    let mut q = next;
-    while rest != 0 {
-        rest = rest - 1;
-        if under != 0 {
-            if q < 4605 {
-                let inner = work[q + 1];
-                if inner != 22 {
-                    q = q + 3;
-                    continue;
-                }
-            }
-        }
-        let p = within(q + 1);
-        q = sum_end(work, p, under);
-    }
-    q
-}
-
-// The end of the integer expression at a place.
-pub fn int_end(work: &[i32], at: usize, left: usize) -> usize
-    requires { do ⌜ (4608 ≤ (← ⟦work.len()⟧)) × (at ≤ 4608) ⌝ }
-    ensures { λ r. ⌜ (r ≡ int-end-of (read-part (now (work .entry))) left at) × ((at ≤ r) × (r ≤ 4608)) ⌝ }
-{
-    if left == 0 {
-        return at;
-    }
-    if word(work, at) != 22 {
-        return within(at + 2);
-    }
-    sum_end(work, at, left)
-}
-
-fn comparison_at(work: &[i32], under: usize, a: usize) -> Node
-    requires { do ⌜ (4608 ≤ (← ⟦work.len()⟧)) × (a ≤ 4608) ⌝ }
-    ensures { λ r. ⌜ r ≡ comparison-node (read-part (now (work .entry))) under a ⌝ }
-{
-    let b = int_end(work, a, under);
-    let q = int_end(work, b, under);
-    Node::Cmp(b, q)
-}
-
-fn constant_at(x: usize, g: bool, q: usize) -> Node
-    ensures { λ r. ⌜ r ≡ constant-node x g q ⌝ }
-{
-    if g {
-        return Node::Join(x == 1, 0, g, g, q);
-    }
-    Node::Join(x != 1, 0, g, g, q)
-}
-
-// What the code word at a place asks; `under` levels are left below it.
-pub fn node_at(work: &[i32], under: usize, g: bool, at: usize) -> Node
-    requires { do ⌜ (4608 ≤ (← ⟦work.len()⟧)) × (at ≤ 4608) ⌝ }
-    ensures { λ r. ⌜ r ≡ node-of (read-part (now (work .entry))) under g at (word-in (read-part (now (work .entry))) at) ⌝ }
-{
-    let x = word(work, at + 1);
-    let one = within(at + 1);
-    let two = within(at + 2);
-    match word(work, at) {
-        10 => constant_at(x, g, two),
-        11 => Node::Var(below(x, 512), two),
-        12 => Node::Join(g, x, g, g, two),
-        13 => Node::Join(!g, x, g, g, two),
-        14 => Node::Not(one),
-        15 => Node::Cross(g, one),
-        16 => Node::Cross(!g, one),
-        17 => Node::Join(!g, 2, !g, g, one),
-        18 => comparison_at(work, under, two),
-        _ => Node::Join(true, 0, g, g, one),
-    }
-}
-
-// ---- the end alone
+// ---- ends
 
 // Where an expression ends, and the splitting's next number behind it.
 pub struct Skipped {
     pub at: usize,
     pub base: usize,
-}
-
-// The splitting's next number inside an Xor or Iff: one below another is split.
-fn inside_base(t: bool, base: usize) -> usize
-    ensures { λ r. ⌜ r ≡ inside-of t base ⌝ }
-{
-    if t {
-        return bump(base, 2);
-    }
-    base
-}
-
-// So many members; t: an Xor or Iff stands above.
-pub fn skips(work: &[i32], at: usize, left: usize, t: bool, count: usize, base: usize) -> Skipped
-    requires { do ⌜ (4608 ≤ (← ⟦work.len()⟧)) × ((at ≤ 4608) × (base ≤ limit)) ⌝ }
-    ensures { λ r. ⌜ SkipsAll (read-part (now (work .entry))) left t count at base (r .at) (r .base) ⌝ }
-{
-    let mut q = at;
-    let mut b = base;
-    let mut rest = count;
-    while rest != 0 {
-        let s = skip(work, q, left, t, b);
-        q = s.at;
-        b = s.base;
-        rest = rest - 1;
-    }
-    Skipped { at: q, base: b }
-}
-
-// The expression at a place, whatever its polarity.
-pub fn skip(work: &[i32], at: usize, left: usize, t: bool, base: usize) -> Skipped
-    requires { do ⌜ (4608 ≤ (← ⟦work.len()⟧)) × ((at ≤ 4608) × (base ≤ limit)) ⌝ }
-    ensures { λ r. ⌜ Skips (read-part (now (work .entry))) left t at base (r .at) (r .base) ⌝ }
-{
-    if left == 0 {
-        return Skipped { at: at, base: base };
-    }
-    let under = left - 1;
-    let x = word(work, at + 1);
-    let one = within(at + 1);
-    let two = within(at + 2);
-    match word(work, at) {
-        10 => Skipped {
-            at: two,
-            base: base,
-        },
-        11 => Skipped {
-            at: two,
-            base: base,
-        },
-        12 => skips(work, two, under, t, x, base),
-        13 => skips(work, two, under, t, x, base),
-        14 => skip(work, one, under, t, base),
-        15 => skips(work, one, under, true, 2, inside_base(t, base)),
-        16 => skips(work, one, under, true, 2, inside_base(t, base)),
-        17 => skips(work, one, under, t, 2, base),
-        18 => {
-            let b = int_end(work, two, under);
-            let q = int_end(work, b, under);
-            Skipped { at: q, base: base }
-        }
-        _ => Skipped {
-            at: one,
-            base: base,
-        },
-    }
 }
 
 // ---- the survey
@@ -390,81 +223,5 @@ pub fn add_member(r: Surveyed, s: Surveyed) -> Surveyed
         cmps: r.cmps + s.cmps,
         lines: bump(r.lines, s.lines),
         all: bump(r.all, s.all),
-    }
-}
-
-// So many members, the first negated if g, the others if h; t: an Xor or Iff stands above.
-pub fn surveys(
-    work: &[i32],
-    at: usize,
-    left: usize,
-    t: bool,
-    count: usize,
-    base: usize,
-    g: bool,
-    h: bool,
-    n: usize,
-) -> Surveyed
-    requires { do ⌜ (4608 ≤ (← ⟦work.len()⟧)) × ((at ≤ 4608) × ((n ≤ limit) × (base ≤ limit))) ⌝ }
-    ensures { λ r. ⌜ SurveysAll (now (work .entry)) left t count g h at base n r ⌝ }
-{
-    let mut r = Surveyed {
-        at: at,
-        base: base,
-        n: n,
-        longs: 0,
-        lits: 0,
-        cmps: 0,
-        lines: 0,
-        all: 0,
-    };
-    let mut rest = count;
-    let mut f = g;
-    while rest != 0 {
-        let s = survey(work, r.at, left, t, r.base, f, r.n);
-        r = add_member(r, s);
-        rest = rest - 1;
-        f = h;
-    }
-    r
-}
-
-// The expression at a place, negated if g.
-pub fn survey(
-    work: &[i32],
-    at: usize,
-    left: usize,
-    t: bool,
-    base: usize,
-    g: bool,
-    n: usize,
-) -> Surveyed
-    requires { do ⌜ (4608 ≤ (← ⟦work.len()⟧)) × ((at ≤ 4608) × ((n ≤ limit) × (base ≤ limit))) ⌝ }
-    ensures { λ r. ⌜ Surveys (now (work .entry)) left t g at base n r ⌝ }
-{
-    if left == 0 {
-        return single(at, base, n, 0, 0);
-    }
-    let under = left - 1;
-    match node_at(work, under, g, at) {
-        Node::Var(v, q) => single(q, base, met(work, v, n), 1, 0),
-        Node::Cmp(_, q) => single(q, base, n, 0, 1),
-        Node::Not(q) => survey(work, q, under, t, base, !g, n),
-        Node::Join(d, k, a, b, q) => {
-            let s = surveys(work, q, under, t, k, base, a, b, n);
-            if d {
-                return close_disj(s);
-            }
-            longer(s.at, s.base, s.n, s.all)
-        }
-        Node::Cross(h, q) => {
-            if t {
-                let s = skips(work, q, under, true, 2, bump(base, 2));
-                return longer(s.at, s.base, n, 2);
-            }
-            let s = surveys(work, q, under, true, 2, base, false, h, n);
-            let u = surveys(work, q, under, true, 2, base, true, !h, s.n);
-            close_cross(s, u)
-        }
     }
 }

@@ -63,12 +63,9 @@ domain-of ds v = getD ds v (Range (pos 0) (pos 0))
 pub data CmpOp : Type 0 where
   Eq Ne Le Lt Ge Gt : CmpOp
 
--- request 2.5 is under way: no If is read yet, so none can be made. A type of its own, so that no arithmetic step is proved by it
+-- one value, which every If carries: it holds nothing, and says that code 23 is read
 pub data IfIsRead : Type 0 where
-  read-by : ⊥ → IfIsRead
-
-pub unread : IfIsRead → ⊥
-unread (read-by x) = x
+  is-read : IfIsRead
 
 -- If: a condition, the value where it holds, the value where it fails.
 -- NVar is an emitted number: splitting makes it, reading never does

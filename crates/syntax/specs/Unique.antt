@@ -10,7 +10,7 @@ use lib.IntN.{ℤ, pos, negsuc, natAbs}
 use lib.ListN.{length, getD, drop, length-append, take-append-drop}
 use Rattle.laws.specs.Ints.{eqZ}
 use Rattle.laws.specs.Slices.{Has}
-use Rattle.syntax.specs.Syntax.{unread, IfIsRead, CmpOp, Eq, Ne, Le, Lt, Ge, Gt, op-at, encode-op, IntExpr, IConst, IVar, Linear, If, Terms, tnil, tmore, BoolExpr, Const, Var, NVar, And, Or, Not, Xor, Iff, Imp, Cmp, Members, mnil, more, count-terms, count-members, encode-bit, encode-int, encode-terms, encode-bool, encode-members}
+use Rattle.syntax.specs.Syntax.{IfIsRead, is-read, CmpOp, Eq, Ne, Le, Lt, Ge, Gt, op-at, encode-op, IntExpr, IConst, IVar, Linear, If, Terms, tnil, tmore, BoolExpr, Const, Var, NVar, And, Or, Not, Xor, Iff, Imp, Cmp, Members, mnil, more, count-terms, count-members, encode-bit, encode-int, encode-terms, encode-bool, encode-members}
 
 -- ---- the reader: the expression that words begin with, and the words behind it
 
@@ -76,102 +76,91 @@ fronts p a b us vs r s h k e =
     let z = sym (h r) ∙ ap p e ∙ k s in
     (ap (λ x. x .0) z, ap (λ x. x .1) z)
 
--- made: an If of its parts
-module _ (made : BoolExpr → IntExpr → IntExpr → IntExpr) (is-made : (i : IfIsRead) (c : BoolExpr) (t f : IntExpr) → made c t f ≡ If i c t f) where
-  unfoldable int-step : Back BoolExpr → Back IntExpr → ℕ → Back IntExpr
-  int-step p q k ws =
-      cond (eqb k 20) (IConst (first ws), rest ws)
-      (cond (eqb k 21) (IVar (natAbs (first ws)), rest ws)
-      (cond (eqb k 22) (let a = back-terms q (natAbs (first ws)) (rest ws) in (Linear (a .0), a .1))
-      (let c = p ws in back-two (made (c .0)) q q (c .1))))
+-- an If has one witness
+pub same-witness : (i : IfIsRead) (c : BoolExpr) (t f : IntExpr) → If is-read c t f ≡ If i c t f
+same-witness is-read c t f = refl
 
-  -- n: how many words may still be read
-  unfoldable mutual
-    back-int : ℕ → Back IntExpr
-    back-int zero ws = (IConst (pos 0), ws)
-    back-int (suc n) ws = int-step (λ us. back-bool n us) (λ us. back-int n us) (natAbs (first ws)) (rest ws)
+unfoldable int-step : Back BoolExpr → Back IntExpr → ℕ → Back IntExpr
+int-step p q k ws =
+    cond (eqb k 20) (IConst (first ws), rest ws)
+    (cond (eqb k 21) (IVar (natAbs (first ws)), rest ws)
+    (cond (eqb k 22) (let a = back-terms q (natAbs (first ws)) (rest ws) in (Linear (a .0), a .1))
+    (let c = p ws in back-two (If is-read (c .0)) q q (c .1))))
 
-    back-bool : ℕ → Back BoolExpr
-    back-bool zero ws = (Const false, ws)
-    back-bool (suc n) ws = bool-word (λ us. back-bool n us) (λ us. back-int n us) (first ws) (rest ws)
+-- n: how many words may still be read
+unfoldable mutual
+  back-int : ℕ → Back IntExpr
+  back-int zero ws = (IConst (pos 0), ws)
+  back-int (suc n) ws = int-step (λ us. back-bool n us) (λ us. back-int n us) (natAbs (first ws)) (rest ws)
 
-  -- ---- it gives every expression back
+  back-bool : ℕ → Back BoolExpr
+  back-bool zero ws = (Const false, ws)
+  back-bool (suc n) ws = bool-word (λ us. back-bool n us) (λ us. back-int n us) (first ws) (rest ws)
 
-  mutual
-    unfolding encode-int back-int int-step bool-step back-terms back-members
+-- ---- it gives every expression back
 
-    int-back : (e : IntExpr) (n : ℕ) → length (encode-int e) ≤ n → Gives (back-int n) e (encode-int e)
-    int-back (IConst c) zero h r = absurd (omega arith)
-    int-back (IVar v) zero h r = absurd (omega arith)
-    int-back (Linear ts) zero h r = absurd (omega arith)
-    int-back (If i c t f) zero h r = absurd (omega arith)
-    int-back (IConst c) (suc n) h r = refl
-    int-back (IVar v) (suc n) h r = refl
-    int-back (Linear ts) (suc n) h r = rw (terms-back ts n (omega arith) r) refl
-    int-back (If i c t f) (suc n) h r =
-        let l = length-append (encode-bool c) (encode-int t ++ encode-int f) in
-        let m = length-append (encode-int t) (encode-int f) in
-        rw (append-assoc (encode-bool c) (encode-int t ++ encode-int f) r, bool-back c n (omega arith) ((encode-int t ++ encode-int f) ++ r), ← is-made i c t f)
-        (two-back (made c) (back-int n) (back-int n) t f (encode-int t) (encode-int f) (λ q. int-back t n (omega arith) q) (λ q. int-back f n (omega arith) q) r)
+mutual
+  unfolding encode-int back-int int-step bool-step back-terms back-members
 
-    terms-back : (ts : Terms) (n : ℕ) → length (encode-terms ts) ≤ n → Gives (back-terms (back-int n) (count-terms ts)) ts (encode-terms ts)
-    terms-back tnil n h r = refl
-    terms-back (tmore k e ts) n h r =
-        let l = length-append (encode-int e) (encode-terms ts) in
-        rw (append-assoc (encode-int e) (encode-terms ts) r, int-back e n (omega arith) (encode-terms ts ++ r), terms-back ts n (omega arith) r) refl
+  int-back : (e : IntExpr) (n : ℕ) → length (encode-int e) ≤ n → Gives (back-int n) e (encode-int e)
+  int-back (IConst c) zero h r = absurd (omega arith)
+  int-back (IVar v) zero h r = absurd (omega arith)
+  int-back (Linear ts) zero h r = absurd (omega arith)
+  int-back (If i c t f) zero h r = absurd (omega arith)
+  int-back (IConst c) (suc n) h r = refl
+  int-back (IVar v) (suc n) h r = refl
+  int-back (Linear ts) (suc n) h r = rw (terms-back ts n (omega arith) r) refl
+  int-back (If i c t f) (suc n) h r =
+      let l = length-append (encode-bool c) (encode-int t ++ encode-int f) in
+      let m = length-append (encode-int t) (encode-int f) in
+      rw (append-assoc (encode-bool c) (encode-int t ++ encode-int f) r, bool-back c n (omega arith) ((encode-int t ++ encode-int f) ++ r), ← same-witness i c t f)
+      (two-back (If is-read c) (back-int n) (back-int n) t f (encode-int t) (encode-int f) (λ q. int-back t n (omega arith) q) (λ q. int-back f n (omega arith) q) r)
 
-    bool-back : (e : BoolExpr) (n : ℕ) → length (encode-bool e) ≤ n → Gives (back-bool n) e (encode-bool e)
-    bool-back (Const b) zero h r = absurd (omega arith)
-    bool-back (Var v) zero h r = absurd (omega arith)
-    bool-back (NVar m) zero h r = absurd (omega arith)
-    bool-back (And ms) zero h r = absurd (omega arith)
-    bool-back (Or ms) zero h r = absurd (omega arith)
-    bool-back (Not e) zero h r = absurd (omega arith)
-    bool-back (Xor a b) zero h r = absurd (omega arith)
-    bool-back (Iff a b) zero h r = absurd (omega arith)
-    bool-back (Imp a b) zero h r = absurd (omega arith)
-    bool-back (Cmp o a b) zero h r = absurd (omega arith)
-    bool-back (Const b) (suc n) h r = rw (bit-back b) refl
-    bool-back (Var v) (suc n) h r = refl
-    bool-back (NVar m) (suc n) h r = refl
-    bool-back (And ms) (suc n) h r = rw (members-back ms n (omega arith) r) refl
-    bool-back (Or ms) (suc n) h r = rw (members-back ms n (omega arith) r) refl
-    bool-back (Not e) (suc n) h r = rw (bool-back e n (omega arith) r) refl
-    bool-back (Xor a b) (suc n) h r = let l = length-append (encode-bool a) (encode-bool b) in two-back Xor (back-bool n) (back-bool n) a b (encode-bool a) (encode-bool b) (λ q. bool-back a n (omega arith) q) (λ q. bool-back b n (omega arith) q) r
-    bool-back (Iff a b) (suc n) h r = let l = length-append (encode-bool a) (encode-bool b) in two-back Iff (back-bool n) (back-bool n) a b (encode-bool a) (encode-bool b) (λ q. bool-back a n (omega arith) q) (λ q. bool-back b n (omega arith) q) r
-    bool-back (Imp a b) (suc n) h r = let l = length-append (encode-bool a) (encode-bool b) in two-back Imp (back-bool n) (back-bool n) a b (encode-bool a) (encode-bool b) (λ q. bool-back a n (omega arith) q) (λ q. bool-back b n (omega arith) q) r
-    bool-back (Cmp o a b) (suc n) h r = let l = length-append (encode-int a) (encode-int b) in rw (op-back o) (two-back (Cmp o) (back-int n) (back-int n) a b (encode-int a) (encode-int b) (λ q. int-back a n (omega arith) q) (λ q. int-back b n (omega arith) q) r)
+  terms-back : (ts : Terms) (n : ℕ) → length (encode-terms ts) ≤ n → Gives (back-terms (back-int n) (count-terms ts)) ts (encode-terms ts)
+  terms-back tnil n h r = refl
+  terms-back (tmore k e ts) n h r =
+      let l = length-append (encode-int e) (encode-terms ts) in
+      rw (append-assoc (encode-int e) (encode-terms ts) r, int-back e n (omega arith) (encode-terms ts ++ r), terms-back ts n (omega arith) r) refl
 
-    members-back : (ms : Members) (n : ℕ) → length (encode-members ms) ≤ n → Gives (back-members (back-bool n) (count-members ms)) ms (encode-members ms)
-    members-back mnil n h r = refl
-    members-back (more e ms) n h r =
-        let l = length-append (encode-bool e) (encode-members ms) in
-        rw (append-assoc (encode-bool e) (encode-members ms) r, bool-back e n (omega arith) (encode-members ms ++ r), members-back ms n (omega arith) r) refl
+  bool-back : (e : BoolExpr) (n : ℕ) → length (encode-bool e) ≤ n → Gives (back-bool n) e (encode-bool e)
+  bool-back (Const b) zero h r = absurd (omega arith)
+  bool-back (Var v) zero h r = absurd (omega arith)
+  bool-back (NVar m) zero h r = absurd (omega arith)
+  bool-back (And ms) zero h r = absurd (omega arith)
+  bool-back (Or ms) zero h r = absurd (omega arith)
+  bool-back (Not e) zero h r = absurd (omega arith)
+  bool-back (Xor a b) zero h r = absurd (omega arith)
+  bool-back (Iff a b) zero h r = absurd (omega arith)
+  bool-back (Imp a b) zero h r = absurd (omega arith)
+  bool-back (Cmp o a b) zero h r = absurd (omega arith)
+  bool-back (Const b) (suc n) h r = rw (bit-back b) refl
+  bool-back (Var v) (suc n) h r = refl
+  bool-back (NVar m) (suc n) h r = refl
+  bool-back (And ms) (suc n) h r = rw (members-back ms n (omega arith) r) refl
+  bool-back (Or ms) (suc n) h r = rw (members-back ms n (omega arith) r) refl
+  bool-back (Not e) (suc n) h r = rw (bool-back e n (omega arith) r) refl
+  bool-back (Xor a b) (suc n) h r = let l = length-append (encode-bool a) (encode-bool b) in two-back Xor (back-bool n) (back-bool n) a b (encode-bool a) (encode-bool b) (λ q. bool-back a n (omega arith) q) (λ q. bool-back b n (omega arith) q) r
+  bool-back (Iff a b) (suc n) h r = let l = length-append (encode-bool a) (encode-bool b) in two-back Iff (back-bool n) (back-bool n) a b (encode-bool a) (encode-bool b) (λ q. bool-back a n (omega arith) q) (λ q. bool-back b n (omega arith) q) r
+  bool-back (Imp a b) (suc n) h r = let l = length-append (encode-bool a) (encode-bool b) in two-back Imp (back-bool n) (back-bool n) a b (encode-bool a) (encode-bool b) (λ q. bool-back a n (omega arith) q) (λ q. bool-back b n (omega arith) q) r
+  bool-back (Cmp o a b) (suc n) h r = let l = length-append (encode-int a) (encode-int b) in rw (op-back o) (two-back (Cmp o) (back-int n) (back-int n) a b (encode-int a) (encode-int b) (λ q. int-back a n (omega arith) q) (λ q. int-back b n (omega arith) q) r)
 
-  int-front-by : (a b : IntExpr) (r s : List ℤ) → encode-int a ++ r ≡ encode-int b ++ s → (a ≡ b) × (r ≡ s)
-  int-front-by a b r s e =
-      let n = length (encode-int a) + length (encode-int b) in
-      fronts (back-int n) a b (encode-int a) (encode-int b) r s (int-back a n (omega arith)) (int-back b n (omega arith)) e
-
-  bool-front-by : (a b : BoolExpr) (r s : List ℤ) → encode-bool a ++ r ≡ encode-bool b ++ s → (a ≡ b) × (r ≡ s)
-  bool-front-by a b r s e =
-      let n = length (encode-bool a) + length (encode-bool b) in
-      fronts (back-bool n) a b (encode-bool a) (encode-bool b) r s (bool-back a n (omega arith)) (bool-back b n (omega arith)) e
-
--- request 2.5 is under way: reading an If back is the one place that wants a witness from nothing; made-if is If once there is none
-abbrev made-if : BoolExpr → IntExpr → IntExpr → IntExpr
-made-if c t f = IConst (pos 0)
-
-is-made-if : (i : IfIsRead) (c : BoolExpr) (t f : IntExpr) → made-if c t f ≡ If i c t f
-is-made-if i c t f = absurd (unread i)
+  members-back : (ms : Members) (n : ℕ) → length (encode-members ms) ≤ n → Gives (back-members (back-bool n) (count-members ms)) ms (encode-members ms)
+  members-back mnil n h r = refl
+  members-back (more e ms) n h r =
+      let l = length-append (encode-bool e) (encode-members ms) in
+      rw (append-assoc (encode-bool e) (encode-members ms) r, bool-back e n (omega arith) (encode-members ms ++ r), members-back ms n (omega arith) r) refl
 
 -- ---- the same words, the same expression; the words behind it may be any
 
 pub int-front : (a b : IntExpr) (r s : List ℤ) → encode-int a ++ r ≡ encode-int b ++ s → (a ≡ b) × (r ≡ s)
-int-front = int-front-by made-if is-made-if
+int-front a b r s e =
+    let n = length (encode-int a) + length (encode-int b) in
+    fronts (back-int n) a b (encode-int a) (encode-int b) r s (int-back a n (omega arith)) (int-back b n (omega arith)) e
 
 pub bool-front : (a b : BoolExpr) (r s : List ℤ) → encode-bool a ++ r ≡ encode-bool b ++ s → (a ≡ b) × (r ≡ s)
-bool-front = bool-front-by made-if is-made-if
+bool-front a b r s e =
+    let n = length (encode-bool a) + length (encode-bool b) in
+    fronts (back-bool n) a b (encode-bool a) (encode-bool b) r s (bool-back a n (omega arith)) (bool-back b n (omega arith)) e
 
 has-split : (ws : List ℤ) (at : ℕ) (us : List ℤ) → Has ws at us → drop at ws ≡ us ++ drop (length us) (drop at ws)
 has-split ws at us h = sym (take-append-drop (length us) (drop at ws)) ∙ ap (λ (l : List ℤ). l ++ drop (length us) (drop at ws)) h

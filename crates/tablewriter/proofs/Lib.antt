@@ -1,5 +1,6 @@
 pub mod Forms
 pub mod Equation
+pub mod Puts
 pub mod Triples
 pub mod Descriptions
 pub mod Tells
@@ -7,3 +8,4 @@ pub mod Copying
 pub mod Elsewhere
 pub mod Storing
 pub mod Rows
+pub mod Tables

@@ -24,7 +24,6 @@ use Rattle.clauses.specs.Normalize.{register}
 use Rattle.clauses.specs.Disjunction.{Out}
 use Rattle.tables.specs.Tables.{star-table, plain-table, plain-clauses, sort-rows, normalize-extension-supports, normalize-table}
 use Rattle.walk.specs.Item.{limit}
-use Rattle.walk.specs.Grow.{Grows, then, grow-added}
 use Rattle.walk.specs.Decode.{read-part}
 use Rattle.walk.specs.DecodeExact.{has-part}
 use Rattle.walk.specs.declared.Counters.{Counters}
@@ -38,8 +37,7 @@ use Rattle.walks.specs.SumsFit.{WithinColumns, column-fits}
 use Rattle.memory.specs.Places.{table as table-place}
 use Rattle.stages.specs.Columns.{columns-words, ColumnsStand, stand-rest, first-stands}
 use Rattle.stages.specs.ColumnsText.{columns-vars, columns-domains, ColumnsWrite, columns-written}
-use Rattle.stages.specs.Rows.{rows-grow}
-use Rattle.stages.specs.Table.{table-grows}
+use Rattle.stages.specs.Table.{rows-behind, table-grows}
 use Rattle.scan.specs.IfLaws.{Low}
 use Rattle.sorting.specs.Rows.{rows-of, row-at}
 use Rattle.sorting.specs.Columns.{vars-of, domains-of}
@@ -51,7 +49,7 @@ use Rattle.rows.proofs.Whole.{length-vars}
 use Rattle.statements.specs.Star.{any-free, free-table}
 use Rattle.statements.specs.Table.{free-rows, free-is, starred}
 use Rattle.call.specs.WellRead.{rows-wide}
-use Rattle.numbered.specs.Fresh.{RowsStand, rows-small, some-of, some-not, free-count, stars-are, counts-are}
+use Rattle.setnumbers.specs.Fresh.{RowsStand, rows-small, some-of, some-not, free-count, stars-are, counts-are}
 use Rattle.stars.specs.Stars.{StarRows, Starred}
 use Rattle.tablewriter.specs.Columns.{Placed, Fits, AllFit}
 use Rattle.tablewriter.specs.Describing.{Near, AllNear, Describable, SomeDescribable, Described}
@@ -146,12 +144,8 @@ at-least (suc a) b c = omega (arith, suc-mul a b)
 -- ---- the table before its rows are written
 
 module _ {x : Place} {set w : List ℤ} {q : ℕ} {n : Counters} (h : At x set w q n) where
-  behind-columns : Grows (columns-of x .log) (after x)
-  unfolding normalize-table register
-  behind-columns = then (rows-grow (x .domains) (columns-of x .vars) (x .rows) (columns-of x .log)) (grow-added _ _)
-
   pub columns-ready : Ready w (columns-of x .log)
-  columns-ready = ready-back behind-columns (h .ready)
+  columns-ready = ready-back (rows-behind (x .domains) (x .exprs) (x .rows) (x .before)) (h .ready)
 
   pub before-ready : Ready w (x .before)
   before-ready = ready-back (table-grows (x .domains) (x .exprs) (x .rows) (x .before)) (h .ready)

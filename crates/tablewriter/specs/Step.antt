@@ -24,7 +24,7 @@ use Rattle.memory.specs.DomainTable.{Declares}
 use Rattle.stages.specs.Columns.{PlacedColumns, columns-words, ColumnsStand}
 use Rattle.sorting.specs.Columns.{vars-of}
 use Rattle.rows.specs.Emit.{Clauses}
-use Rattle.numbered.specs.Fresh.{RowsStand}
+use Rattle.setnumbers.specs.Fresh.{RowsStand}
 use Rattle.tablewriter.specs.declared.Columned.{Columned}
 use Rattle.tablewriter.specs.Describing.{Declared, AllTold}
 

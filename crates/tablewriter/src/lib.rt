@@ -1,8 +1,7 @@
 // The clauses of a table whose columns may hold Ifs: the words of its columns, then its rows.
-// Nothing calls it yet: it takes the place of columns and tabling when request 2.5 is complete.
 ghost use mathlib.Core.Path.{_≡_};
 ghost use mathlib.Core.List.{List, [], _∷_};
-ghost use Prim.Native.Nat.{_+_, _-_, _≤_, _<_};
+ghost use Prim.Native.Nat.{_+_, _-_, _≤_, _<_, min};
 ghost use lib.IntN.{pos};
 ghost use lib.ListN.{length, getD, take, drop};
 ghost use lib.Seq.{sets};
@@ -11,13 +10,14 @@ ghost use Rattle.syntax.specs.Syntax.{Domain, domain-of, Eq};
 ghost use Rattle.sums.specs.LinearSum.{singleton, sub-sum};
 ghost use Rattle.clauses.specs.Clause.{linear, clause};
 ghost use Rattle.answer.specs.Answer.{linear-words};
-ghost use Rattle.walk.specs.Item.{nat, clause-text};
+ghost use Rattle.walk.specs.Item.{limit, nat, clause-text};
+ghost use Rattle.walk.specs.Decode.{read-part};
 ghost use Rattle.stages.specs.ColumnsText.{column-var, column-domain};
 ghost use Rattle.rows.specs.Emit.{Clauses, Behind};
 ghost use Rattle.stars.specs.Stars.{StarRows};
-ghost use Rattle.tablewriter.specs.Columns.{Placed, form-at, item-at, Fits};
+ghost use Rattle.tablewriter.specs.Columns.{Placed, form-at, item-at, Fits, AllFit, Added, ColumnPut, ColumnsPut};
 ghost use Rattle.tablewriter.specs.Describing.{Declared, SomeDeclared, Describes, SomeTold, Told, Storable, StoredColumn, PassedColumn, SomeDescribable, Described};
-ghost use Rattle.tablewriter.specs.Step.{Place, RowsAt, SomeRowsAt, RowsDid, StarsDid};
+ghost use Rattle.tablewriter.specs.Step.{Place, At, SomeAt, Did, RowsAt, SomeRowsAt, RowsDid, StarsDid};
 use rows::Written;
 use survey::below;
 use survey::bump;
@@ -32,6 +32,21 @@ pub struct Columned {
     pub n: Counters,
     pub at: usize,
     pub clauses: usize,
+}
+
+// What the Ifs of the column at p add; nothing at once where the set has none.
+fn put_adds(work: &[i32], p: usize, n: Counters, out: &mut [i32], o: usize) -> Written
+    requires { ⌜ Placed (now work) p n × Fits (form-at (now work) p) × Open (now out) o ⌝ }
+    ensures { λ r. ⌜ Added (now (work .entry)) p n (now (out .entry)) o (now (out .exit)) (r .at) (r .clauses) ⌝ }
+{
+    if scan::has_ifs(work) {
+        let a = rulewriter::register_int(work, p, 64, 0, 0, n, out, o);
+        return Written {
+            at: a.o,
+            clauses: a.lines,
+        };
+    }
+    Written { at: o, clauses: 0 }
 }
 
 // The clause that the sum of the column at p is v.
@@ -83,6 +98,66 @@ fn pass_column(work: &[i32], p: usize, n: Counters) -> Passed
     }
     let i = scan::more_ints(work, e);
     Passed { next: b.at, n: i }
+}
+
+// The words of the column at p, behind k clauses: what its Ifs add; for one that is no declared variable, that its sum is its own number.
+fn put_column(work: &[i32], p: usize, n: Counters, out: &mut [i32], o: usize, k: usize) -> Columned
+    requires { ⌜ Placed (now work) p n × Fits (form-at (now work) p) × Open (now out) o ⌝ }
+    ensures { λ r. ⌜ ColumnPut (now (work .entry)) p n (now (out .entry)) o k (now (out .exit)) r ⌝ }
+{
+    let a = put_adds(work, p, n, out, o);
+    let b = pass_column(work, p, n);
+    let e = b.n;
+    if word(work, p) == 21 {
+        return Columned {
+            next: b.next,
+            n: e,
+            at: a.at,
+            clauses: bump(k, a.clauses),
+        };
+    }
+    let v = number_at(work, memory::CELLS + p);
+    let q = put_equation(work, p, v, n, out, a.at);
+    Columned {
+        next: b.next,
+        n: e,
+        at: q,
+        clauses: bump(k, bump(a.clauses, 1)),
+    }
+}
+
+// The same of so many columns from `at` on.
+fn put_columns(
+    work: &[i32],
+    at: usize,
+    count: usize,
+    n: Counters,
+    out: &mut [i32],
+    o: usize,
+    k: usize,
+) -> Columned
+    requires { ⌜ Placed (now work) at n × AllFit (read-part (now work)) count at × Open (now out) o × (k ≤ limit) ⌝ }
+    ensures { λ r. ⌜ ColumnsPut (now (work .entry)) at count n (now (out .entry)) o k (now (out .exit)) r ⌝ }
+{
+    let mut p = at;
+    let mut e = n;
+    let mut q = o;
+    let mut c = k;
+    let mut rest = count;
+    while rest != 0 {
+        let s = put_column(work, p, e, out, q, c);
+        p = s.next;
+        e = s.n;
+        q = s.at;
+        c = s.clauses;
+        rest = rest - 1;
+    }
+    Columned {
+        next: p,
+        n: e,
+        at: q,
+        clauses: c,
+    }
 }
 
 // ---- the words that describe the columns
@@ -257,4 +332,46 @@ fn write_rows(
         return write_stars(work, memory::TABLE, c, rows, cols, m, out, o, k);
     }
     rows::put_table(out, o, k, work, memory::TABLE, c, rows, cols, set)
+}
+
+// ---- the table
+
+// Clauses have two words at least, so there are no more than words; a larger count says that the answer is too long.
+pub fn lesser(k: usize, o: usize) -> usize
+    ensures { λ r. ⌜ r ≡ min k o ⌝ }
+{
+    if k < o { k } else { o }
+}
+
+// The clauses of the table at `at`, behind k others.
+pub fn write_table(
+    set: &[i32],
+    work: &mut [i32],
+    at: usize,
+    n: Counters,
+    out: &mut [i32],
+    o: usize,
+    k: usize,
+) -> Columned
+    requires { ⌜ SomeAt (now set) (now work) at n × Behind (now out) o k ⌝ }
+    ensures { λ r. ⌜ ((x : Place) → At x (now (set .entry)) (now (work .entry)) at n → Did x (now (work .entry)) at (now (out .entry)) o k (now (work .exit)) (now (out .exit)) r) ⌝ }
+{
+    let c = word(work, at + 1);
+    let rows = word(work, at + 2);
+    let e = put_columns(work, at + 3, c, n, out, o, k);
+    let p = e.next;
+    let b = e.n;
+    let f = setnumbers::table_fresh(work, p, c, rows);
+    let j = lesser(e.clauses, e.at);
+    let r = write_rows(set, work, at, p, c, rows, n, b.bools, out, e.at, j);
+    let i = Counters {
+        bools: bump(b.bools, f),
+        ints: b.ints,
+    };
+    Columned {
+        next: p + rows * c,
+        n: i,
+        at: r.at,
+        clauses: r.clauses,
+    }
 }

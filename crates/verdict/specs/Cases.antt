@@ -81,6 +81,10 @@ differ n es = 0 ∷ 3 ∷ 0 ∷ 0 ∷ 2 ∷ 0 ∷ 0 ∷ 2 ∷ 0 ∷ 0 ∷ 2 ∷ 
 abbrev three : List ℕ
 three = differ 3 (21 ∷ 0 ∷ 21 ∷ 1 ∷ 21 ∷ 2 ∷ [])
 
+-- x over 0 to 5: If(v0 is not v1, x, 7) = 4; If(v0, x, 7) is not 7
+abbrev chosen : List ℕ
+chosen = 2 ∷ 1 ∷ 0 ∷ 0 ∷ 5 ∷ 2 ∷ 1 ∷ 18 ∷ 0 ∷ 23 ∷ 15 ∷ 11 ∷ 0 ∷ 11 ∷ 1 ∷ 21 ∷ 0 ∷ 20 ∷ 7 ∷ 20 ∷ 4 ∷ 3 ∷ 2 ∷ 23 ∷ 11 ∷ 0 ∷ 21 ∷ 0 ∷ 20 ∷ 7 ∷ 20 ∷ 7 ∷ []
+
 -- ---- the table
 
 abbrev pub cases : List Case
@@ -126,6 +130,12 @@ cases =
     ∷ given (differ 2 (22 ∷ 2 ∷ 1 ∷ 21 ∷ 0 ∷ 2 ∷ 21 ∷ 1 ∷ 20 ∷ 5 ∷ [])) (words (2 ∷ 1 ∷ 0 ∷ [])) satisfied
     ∷ given (differ 0 []) (words (1 ∷ 1 ∷ 1 ∷ [])) satisfied
     ∷ given (differ 1 (21 ∷ 0 ∷ [])) (words (1 ∷ 1 ∷ 1 ∷ [])) satisfied
+    -- Ifs: both conditions hold; x is another; the first fails; the second fails
+    ∷ given chosen (words (1 ∷ 0 ∷ 4 ∷ [])) satisfied
+    ∷ given chosen (words (1 ∷ 0 ∷ 3 ∷ [])) (broken 1)
+    ∷ given chosen (words (1 ∷ 1 ∷ 4 ∷ [])) (broken 1)
+    ∷ given chosen (words (0 ∷ 1 ∷ 4 ∷ [])) (broken 2)
+    ∷ given chosen (words (1 ∷ 0 ∷ 6 ∷ [])) (refused 15)
     -- 14 before 15, and after 1 to 11
     ∷ given P5 [] (refused 14)
     ∷ given P5 (words (7 ∷ 7 ∷ [])) (refused 14)

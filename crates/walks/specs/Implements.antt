@@ -39,7 +39,7 @@ tally-eq a a' b b' c c' d d' p q r s = cc
 pub counters-eq : (a a' b b' : ℕ) → a ≡ a' → b ≡ b' → counters a b ≡ counters a' b'
 counters-eq a a' b b' p q = cc
 
--- a counter with room for one more: laws of their own, because `omega` takes the empty witness of an If for a contradiction
+-- a counter with room for one more
 bump-one : (k : ℕ) → suc k ≤ limit → bump k 1 ≡ suc k
 bump-one k h = omega arith
 

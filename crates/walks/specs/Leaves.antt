@@ -396,7 +396,7 @@ words-cross : (p q : Runs) (s : Log) → words-of (cross-run p q s .1) ≡ words
 unfolding cross-run
 words-cross p q s = let a = p s in let b = q (a .1) in words-disjunction (b .0) (normalize-disjunction (a .0) (b .1) .1) ∙ words-disjunction (a .0) (b .1)
 
--- ---- along runs; arithmetic is done before the witness of an If is in scope, for `omega` would use it
+-- ---- along runs
 
 module _ (ds : List Domain) where
   pub run-words : (t : Tree) (s : Log) → words-of s ≤ words-of (run ds t s .1)

@@ -1,5 +1,4 @@
--- An If that the first walk makes: its cells, and the state behind it. No witness of an If is in scope here, so that arithmetic proves nothing by it:
--- the logs are given by what they have more than those before.
+-- An If that the first walk makes: its cells, and the state behind it. The logs are given by what they have more than those before.
 use mathlib.Core.Path.{_≡_, refl, sym, ap, _∙_, subst}
 use mathlib.Core.Bool.{Bool, true, false, cond}
 use mathlib.Core.Option.{Option, none, some}

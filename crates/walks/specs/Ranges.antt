@@ -73,7 +73,6 @@ first-of (term v a ∷ ts) = v
 abbrev first-number : LinearSum → ℕ
 first-number l = first-of (terms-of l)
 
--- stands here because `omega` would use the witness of an If
 last-below : (k : ℕ) → k < suc k
 last-below k = omega arith
 

@@ -45,7 +45,7 @@ use Rattle.walks.specs.KeyAt.{pair-keys, rule-choices, pair-choices}
 use Rattle.walks.specs.Totals.{weight-of, term-weights, behind-of, Carries, CarriesTerms, constant-size, sum-reach, hull-reach, total-reach}
 use Rattle.walks.specs.SumsFit.{form-weight}
 
--- ---- sizes; they stand here because `omega` would use the witness of an If
+-- ---- sizes
 
 last : (k : ℕ) → k < suc k
 last k = omega arith

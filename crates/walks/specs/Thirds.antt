@@ -1,4 +1,4 @@
--- Sums of three parts, as an If has them. They are laws of their own because `omega` would use the empty witness of an If that is in reach.
+-- Sums of three parts, as an If has them.
 use mathlib.Core.Path.{_≡_}
 use mathlib.Core.List.{List, _++_}
 use Prim.Native.Nat.{ℕ, suc, _+_, _-_, _≤_, _<_, max}

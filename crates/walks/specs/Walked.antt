@@ -1,4 +1,4 @@
--- The first walk over every tree: `visit`. Where an If's witness is in scope, only laws are applied: arithmetic would prove anything by it.
+-- The first walk over every tree: `visit`.
 use mathlib.Core.Path.{_≡_, refl, sym, ap, _∙_, subst}
 use mathlib.Core.Bool.{Bool, true, false, _&&_, cond}
 use mathlib.Core.Option.{Option, none, some}
@@ -68,7 +68,7 @@ module _ (ds : List Domain) where
     other-named = other-made;
   }
 
--- ---- laws without a witness in scope
+-- ---- two conditions together
 
 leaves-both : (c d : Tree) → bump (leaves c) (leaves d) ≡ min (exact c + exact d) limit
 leaves-both c d = omega (arith, leaves-min c, leaves-min d)

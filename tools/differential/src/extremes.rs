@@ -1,4 +1,5 @@
-//! Sets of one AllDifferent (request 2.1) that cost most: pairs without end, wide pairs, values without end.
+//! Sets that cost most. Of one AllDifferent (request 2.1): pairs without end, wide pairs, values without end. Of Ifs (request 2.5):
+//! what is visited twice at each level, every pair of an AllDifferent made anew.
 
 /// Some expressions, each by its words, over so many variables from 0 to `high`.
 fn different(variables: usize, high: i32, exprs: Vec<Vec<i32>>) -> Vec<i32> {
@@ -25,6 +26,24 @@ fn listed(count: i32) -> Vec<i32> {
     [vec![0, count], domain.repeat(count as usize), vec![1, 3, count], variables].concat()
 }
 
+/// A rule over two Booleans: 0 equals an If of constants whose condition is such a comparison, so many times.
+fn constants(levels: usize) -> Vec<i32> {
+    let inner = [18, 0, 23].repeat(levels);
+    [vec![2, 0, 1, 1], inner, vec![12, 2, 11, 0, 11, 1], [20, 1, 20, 0, 20, 0].repeat(levels)].concat()
+}
+
+/// A column of an If whose condition has Iff in so many levels.
+fn iffs(levels: usize) -> Vec<i32> {
+    let condition = [[16].repeat(levels), vec![11, 0], [11, 1].repeat(levels)].concat();
+    [vec![2, 0, 1, 2, 1, 0, 23], condition, vec![20, 0, 20, 1]].concat()
+}
+
+/// An AllDifferent of so many Ifs.
+fn different_ifs(count: usize, condition: &[i32]) -> Vec<i32> {
+    let choice = [&[23], condition, &[21, 0, 20, 7]].concat();
+    [vec![2, 1, 0, 0, 5, 1, 3, count as i32], choice.repeat(count)].concat()
+}
+
 pub fn extremes() -> Vec<(&'static str, Vec<i32>)> {
     let variables = |count: i32| (0..count).map(|v| vec![21, v]).collect();
     vec![
@@ -34,5 +53,11 @@ pub fn extremes() -> Vec<(&'static str, Vec<i32>)> {
         ("61 variables of 61 listed values", listed(61)),
         ("1490 times a variable of 1490 values", times(1490, 1489)),
         ("2044 times a variable of 2044 values", times(2044, 2043)),
+        ("14 nested Ifs of constants", constants(14)),
+        ("30 nested Ifs of constants", constants(30)),
+        ("13 nested Iff in a column's condition", iffs(13)),
+        ("60 nested Iff in a column's condition", iffs(60)),
+        ("370 differing Ifs of one condition", different_ifs(370, &[12, 2, 11, 0, 11, 1])),
+        ("200 differing Ifs with a Xor", different_ifs(200, &[15, 11, 0, 11, 1])),
     ]
 }

@@ -1,7 +1,9 @@
-//! What the programs share: the port's entries, the command line, lent slices, sets of many passes and of many pairs.
+//! What the programs share: the port's entries, the command line, lent slices, sets of many passes and sets that cost most.
 pub mod extremes;
 pub mod links;
 pub mod slices;
+
+use reference::generate::IFS;
 
 /// An entry of the port that takes a set, an output slice and a work slice, all lent, and answers with a number.
 macro_rules! entry {
@@ -46,6 +48,19 @@ pub fn roster(set: &[i32], values: &[i32], work: &mut [i32]) -> i64 {
     unsafe { check_roster(set.as_ptr(), set.len(), values.as_ptr(), values.len(), work.as_mut_ptr(), work.len()) }
 }
 
+/// A program's own families: some of the reference's, and those with Ifs.
+pub fn with_ifs(families: &[&'static str]) -> Vec<&'static str> {
+    [families, &IFS].concat()
+}
+
+/// The families that a name stands for: `allifs` for those with Ifs.
+fn families_of(name: &str) -> Vec<&str> {
+    match name {
+        "allifs" => IFS.to_vec(),
+        name => vec![name],
+    }
+}
+
 /// Runs `SEED COUNT [FAMILY..]` of the command line: COUNT sets of every family, or of the named ones.
 pub fn run_families(
     program: &str,
@@ -57,7 +72,8 @@ pub fn run_families(
     match &arguments[..] {
         [seed, count] => run(number(seed)?, number(count)?, families),
         [seed, count, named @ ..] => {
-            run(number(seed)?, number(count)?, &named.iter().map(String::as_str).collect::<Vec<&str>>())
+            let named: Vec<&str> = named.iter().flat_map(|name| families_of(name)).collect();
+            run(number(seed)?, number(count)?, &named)
         }
         _ => Err(format!("usage: {program} SEED COUNT [FAMILY..]")),
     }

@@ -44,6 +44,16 @@ class Documents(unittest.TestCase):
         shown = re.search(r"```\n(bools=0\nints=3\n.*?)```.*?```\n(answer=compiled\n.*?)```", read("docs", "FORMAT.md"), re.S)
         self.assertEqual(listing.run(shown[1]), shown[2])
 
+    def test_the_set_with_ifs(self):
+        text, example = read("docs", "FORMAT.md"), read("docs", "EXAMPLE.md")
+        shown = re.search(r"```\n(bools=1\nints=3\n.*?)```.*?```\n(answer=compiled\n.*?)```", text, re.S)
+        self.assertEqual(listing.run(shown[1]), shown[2])
+        for line in re.findall(r"domain=1.*|clause=.*", shown[2]):
+            self.assertIn(line.removeprefix("clause="), example)
+        rules = re.search(r"```\n(\(<= .*?)```", example, re.S)[1]
+        problem = translate.translate("(bool half) (int b1 b2 b3 0 1)\n" + rules).problem
+        self.assertEqual(problem, sets.problem_of_text(shown[1]))
+
     def test_the_clauses_and_the_sheet_of_the_example(self):
         text, printed = read("docs", "EXAMPLE.md"), read("crates", "listing", "stdout").splitlines()
         counts = [line for line in printed if line.startswith(("clauses=", "total="))]

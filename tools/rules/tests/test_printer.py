@@ -6,7 +6,7 @@ import unittest
 from solve import sets
 from solve.listing import ROOT
 from solve.tests.cases import CASES
-from solve.tests.generate import Generator
+from solve.tests.generate import Generator, WithIfs
 
 from .. import printer, translate
 from .test_translate import FORMS, NAMES
@@ -24,7 +24,7 @@ class Printing(unittest.TestCase):
 
     def test_generated_sets(self):
         for seed in range(SETS):
-            self.same(Generator(seed).problem())
+            self.same((WithIfs if seed % 2 else Generator)(seed).problem())
 
     def test_cases(self):
         for _, words, _ in CASES:

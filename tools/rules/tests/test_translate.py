@@ -27,6 +27,9 @@ FORMS = [
     ("(table (x))", "2 1 0 21 0"), ("(table () () ())", "2 0 2"),
     ("(alldifferent x y)", "3 2 21 0 21 1"), ("(alldifferent)", "3 0"), ("(alldifferent (* 2 x))", "3 1 22 1 2 21 0"),
     ("(alldifferent (+ x (* 2 y)) 7 x)", "3 3 22 2 1 21 0 2 21 1 20 7 21 0"),
+    ("(= (if a 2 x) y)", "1 18 0 23 11 0 20 2 21 0 21 1"), ("(= (+ (* 2 (if (xor a b) x 0))) 1)", "1 18 0 22 1 2 23 15 11 0 11 1 21 0 20 0 20 1"),
+    ("(table ((if (= (if a 1 0) x) x y)) (1))", "2 1 1 23 18 0 23 11 0 20 1 20 0 21 0 21 0 21 1 1"),
+    ("(alldifferent (if a x y) 7)", "3 2 23 11 0 21 0 21 1 20 7"),
 ]
 
 ERRORS = [  # the text, the place, a part of what is said
@@ -44,6 +47,9 @@ ERRORS = [  # the text, the place, a part of what is said
     (NAMES + "(= x 1.5)", 2, 6, "an integer is expected, not 1.5"), (NAMES + "(not a b)", 2, 1, "not with 1 part is expected, not with 2"),
     (NAMES + "(=> a)", 2, 1, "=> with 2 parts is expected, not with 1"), (NAMES + "(= x)", 2, 1, "= with 2 parts"),
     (NAMES + "(= (* x 2) 1)", 2, 7, "a number is expected, not x"), (NAMES + "(= (- x y x) 1)", 2, 4, "- with 2 parts"),
+    (NAMES + "(if a b a)", 2, 1, "a rule is expected"), (NAMES + "(= (if x 1 2) 1)", 2, 8, "compare it"), (NAMES + "(= (if a b 2) 1)", 2, 10, "b is a Boolean"),
+    (NAMES + "(= (if a 1) 1)", 2, 4, "if with 3 parts is expected, not with 2"), ("(bool if)", 1, 7, "a name is expected"),
+    (NAMES + "(= " + "(if a 1 " * 63 + "x" + ")" * 63 + " 1)", 2, 4 + 62 * 8 + 4, "64 levels"),
     (NAMES + "(table x (1))", 2, 1, "\\(table \\(COLUMN"), (NAMES + "(table (x y) (1 2) (1))", 2, 20, "of 2 cells"),
     (NAMES + "(table (x) (y))", 2, 13, "a number is expected"), (NAMES + "(table (a) (1))", 2, 9, "a is a Boolean"),
     (NAMES + "(not " * 64 + "a" + ")" * 64, 2, 1 + 64 * 5, "64 levels"),

@@ -1,4 +1,4 @@
-"""P1 to P12 of document 01 and AllDifferents (document 02, 2.1) as words, each with the rosters that satisfy it (None: too many to list)."""
+"""P1 to P12 of document 01, AllDifferents and Ifs (document 02, 2.1 and 2.5) as words, each with the rosters that satisfy it (None: too many to list)."""
 
 X = "0 1 0 0 2"  # one integer over 0 to 2
 CASES = [
@@ -20,4 +20,9 @@ CASES = [
     ("a sum and a constant", X + " 1  3 3 21 0 22 1 2 21 0 20 1", ["2"]),
     ("none and one", X + " 2  3 0  3 1 21 0", ["0", "1", "2"]),
     ("a variable twice", X + " 1  3 2 21 0 21 0", []),
+    ("an If of constants", "1 1 0 0 9 1  1 18 0 23 11 0 20 2 20 7 21 0", ["0,7", "1,2"]),
+    ("an If with a variable in it", "1 1 0 0 2 1  1 18 0 23 11 0 21 0 20 1 20 1", ["0,0", "0,1", "0,2", "1,1"]),
+    ("an If in a column", "1 0 1  2 1 1 23 11 0 20 1 20 3 3", ["0"]),
+    ("an If in an AllDifferent", "2 1 0 0 1 1  3 2 23 15 11 0 11 1 21 0 20 1 20 0", ["0,0,0", "0,0,1", "0,1,1", "1,0,1", "1,1,0", "1,1,1"]),
+    ("an If in an If", "1 1 0 0 2 1  1 18 0 23 18 0 23 11 0 21 0 20 2 20 2 20 1 20 0 20 1", ["0,0", "0,1", "0,2", "1,2"]),
 ]

@@ -3,7 +3,7 @@
 import random
 
 from .. import sets
-from ..sets import AND, CMP, CONST, DIFFERENT, ICONST, IFF, IMP, IVAR, NOT, OR, RANGE, RULE, STAR, SUM, TABLE, VALUES, VAR, XOR
+from ..sets import AND, CMP, CONST, DIFFERENT, ICONST, IF, IFF, IMP, IVAR, NOT, OR, RANGE, RULE, STAR, SUM, TABLE, VALUES, VAR, XOR
 
 
 class Generator:
@@ -70,3 +70,21 @@ class Generator:
         cells = [STAR] if self.random.random() < 0.3 else []
         cells += list(range(-6, 7))
         return (TABLE, columns, [[self.random.choice(cells) for _ in columns] for _ in range(self.random.randint(0, 12))])
+
+
+class WithIfs(Generator):
+    """The same with Ifs, at most one in another's condition."""
+
+    inside = 0
+
+    def statement(self, bools, ints):
+        self.bools = bools
+        return super().statement(bools, ints)
+
+    def integer(self, ints, levels):
+        if self.inside > 1 or not levels or self.random.random() < 0.6:
+            return super().integer(ints, levels)
+        self.inside += 1
+        condition = self.boolean(self.bools, ints, levels - 1)
+        self.inside -= 1
+        return (IF, condition, self.integer(ints, levels - 1), self.integer(ints, levels - 1))

@@ -27,11 +27,18 @@ class Meaning(unittest.TestCase):
     def test_sums_tables_and_domains(self):
         x, y = (sets.IVAR, 0), (sets.IVAR, 1)
         nested = (sets.SUM, [(2, x), (-3, (sets.SUM, [(1, y), (0, x), (1, (sets.ICONST, 4))]))])
-        self.assertEqual(meaning.integer_value(nested, [10, 1]), 20 - 15)
+        self.assertEqual(meaning.integer_value(nested, [], [10, 1]), 20 - 15)
         table = (sets.TABLE, [x, y], [[1, sets.STAR], [2, 3]])
         self.assertEqual([meaning.statement_holds(table, [], ints) for ints in ([1, 9], [2, 3], [2, 4])], [True, True, False])
         problem = sets.Problem(0, [(sets.RANGE, 0, 4), (sets.VALUES, [0, 4])], [])
         self.assertEqual([meaning.outside(problem, ints) for ints in ([4, 4], [5, 4], [2, 2])], [None, 0, 1])
+
+    def test_ifs(self):
+        x, four = (sets.IVAR, 0), (sets.ICONST, 4)
+        inner = (sets.IF, (sets.CMP, 0, x, four), (sets.ICONST, 7), x)
+        outer = (sets.SUM, [(2, (sets.IF, (sets.NOT, (sets.VAR, 0)), inner, four))])
+        found = [meaning.integer_value(outer, bools, ints) for bools, ints in [([0], [4]), ([0], [3]), ([1], [3])]]
+        self.assertEqual(found, [14, 6, 8])
 
     def test_all_different(self):
         x, y = (sets.IVAR, 0), (sets.IVAR, 1)

@@ -1,4 +1,4 @@
-"""Both solvers against enumeration: P1 to P12, small AllDifferents, the worked example, 300 generated sets."""
+"""Both solvers against enumeration: P1 to P12, small AllDifferents and Ifs, the worked example, 300 generated sets, and as many with Ifs."""
 
 import os
 import unittest
@@ -6,7 +6,7 @@ import unittest
 from .. import listing, roster, sets, solvers
 from .cases import CASES
 from .enumerate import rosters
-from .generate import Generator
+from .generate import Generator, WithIfs
 
 SETS = int(os.environ.get("SETS", "300"))
 
@@ -43,5 +43,6 @@ class Solving(unittest.TestCase):
         self.assertEqual(roster.find(text), roster.Roster([False, True], [3], ([0], [0])))
 
     def test_generated_sets(self):
-        existing = [self.agree(Generator(seed).problem(), seed) for seed in range(SETS)]
-        self.assertTrue(SETS < 100 or min(existing.count(True), existing.count(False)) > SETS // 5, "both kinds are wanted")
+        for kind in (Generator, WithIfs):
+            existing = [self.agree(kind(seed).problem(), (kind, seed)) for seed in range(SETS)]
+            self.assertTrue(SETS < 100 or min(existing.count(True), existing.count(False)) > SETS // 5, "both answers are wanted")

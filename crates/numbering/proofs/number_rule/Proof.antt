@@ -18,13 +18,13 @@ minus-requires c κs = search needs
 advance-requires : tie.Need-advance-requires
 advance-requires c κs = search needs
 
-number-ties-requires : tie.Need-number-ties-requires
+number-extras-requires : tie.Need-number-extras-requires
 unfolding split-by
-number-ties-requires c κs = starts-as _ (c .before .before .before .before .before .before .args .work .now) (c .before .before .before .before .before .before .args .out .now) _ (c .before .before .advance .result) _ _ _ (c .before .before .advance .ensures) (rule-first ((c .before .before .before .before .before .before .args .room) .records) ((c .before .before .before .before .before .before .args .room) .cap) (state-of (c .before .before .before .before .before .before .args .work .now) (c .before .before .before .before .before .before .args .out .now) (c .before .before .before .before .before .before .args .c)) (c .before .before .before .before .before .before .args .at) (c .before .before .before .before .before .before .pre) _ (c .before .before .before .minus .ensures ∙ ap (λ (b : ℕ). b - ((c .before .before .before .before .before .before .args .c) .bools)) (c .before .before .before .before .skip .ensures .next false)))
+number-extras-requires c κs = (starts-as _ (c .before .before .before .before .before .before .args .work .now) (c .before .before .before .before .before .before .args .out .now) _ (c .before .before .advance .result) _ _ _ (c .before .before .advance .ensures) (rule-first ((c .before .before .before .before .before .before .args .room) .records) ((c .before .before .before .before .before .before .args .room) .cap) (state-of (c .before .before .before .before .before .before .args .work .now) (c .before .before .before .before .before .before .args .out .now) (c .before .before .before .before .before .before .args .c)) (c .before .before .before .before .before .before .args .at) (c .before .before .before .before .before .before .pre) _ (c .before .before .before .minus .ensures ∙ ap (λ (b : ℕ). b - ((c .before .before .before .before .before .before .args .c) .bools)) (c .before .before .before .before .skip .ensures .next false))), c .before .before .before .before .skip .ensures .next false)
 
 number-requires : tie.Need-number-requires
 unfolding split-by
-number-requires c κs = rule-second ((c .before .before .before .before .before .before .before .before .before .before .before .args .room) .records) ((c .before .before .before .before .before .before .before .before .before .before .before .args .room) .cap) (state-of (c .before .before .before .before .before .before .before .before .before .before .before .args .work .now) (c .before .before .before .before .before .before .before .before .before .before .before .args .out .now) (c .before .before .before .before .before .before .before .before .before .before .before .args .c)) (c .before .before .before .before .before .before .before .before .before .before .before .args .at) (c .before .before .before .before .before .before .before .before .before .before .before .pre) _ (c .before .before .before .before .before .before .before .before .minus .ensures ∙ ap (λ (b : ℕ). b - ((c .before .before .before .before .before .before .before .before .before .before .before .args .c) .bools)) (c .before .before .before .before .before .before .before .before .before .skip .ensures .next false)) _ (done-as _ (c .before .before .before .before .before .before .before .before .before .before .before .args .work .now) (c .before .before .before .before .before .before .before .before .before .before .before .args .out .now) _ (c .before .before .before .before .before .before .before .advance .result) _ (c .before .before .before .before .before .before .before .advance .ensures) (c .before .before .before .before .number-ties .ensures .0))
+number-requires c κs = rule-second ((c .before .before .before .before .before .before .before .before .before .before .before .args .room) .records) ((c .before .before .before .before .before .before .before .before .before .before .before .args .room) .cap) (state-of (c .before .before .before .before .before .before .before .before .before .before .before .args .work .now) (c .before .before .before .before .before .before .before .before .before .before .before .args .out .now) (c .before .before .before .before .before .before .before .before .before .before .before .args .c)) (c .before .before .before .before .before .before .before .before .before .before .before .args .at) (c .before .before .before .before .before .before .before .before .before .before .before .pre) _ (c .before .before .before .before .before .before .before .before .minus .ensures ∙ ap (λ (b : ℕ). b - ((c .before .before .before .before .before .before .before .before .before .before .before .args .c) .bools)) (c .before .before .before .before .before .before .before .before .before .skip .ensures .next false)) _ (done-as _ (c .before .before .before .before .before .before .before .before .before .before .before .args .work .now) (c .before .before .before .before .before .before .before .before .before .before .before .args .out .now) _ (c .before .before .before .before .before .before .before .advance .result) _ (c .before .before .before .before .before .before .before .advance .ensures) (c .before .before .before .before .number-extras .ensures))
 
 same-length : tie.Need-same-length
 same-length c = search needs
@@ -34,7 +34,7 @@ same-length-2 c = search needs
 
 returns : tie.Need-returns
 unfolding split-by
-returns c = rule-done ((c .before .before .before .before .before .before .before .before .before .before .before .before .before .before .before .args .room) .records) ((c .before .before .before .before .before .before .before .before .before .before .before .before .before .before .before .args .room) .cap) (state-of (c .before .before .before .before .before .before .before .before .before .before .before .before .before .before .before .args .work .now) (c .before .before .before .before .before .before .before .before .before .before .before .before .before .before .before .args .out .now) (c .before .before .before .before .before .before .before .before .before .before .before .before .before .before .before .args .c)) (c .before .before .before .before .before .before .before .before .before .before .before .before .before .before .before .args .at) (c .before .before .before .before .before .before .before .before .before .before .before .before .before .before .before .pre) _ (c .before .before .before .before .before .before .before .before .before .before .before .before .minus .ensures ∙ ap (λ (b : ℕ). b - ((c .before .before .before .before .before .before .before .before .before .before .before .before .before .before .before .args .c) .bools)) (c .before .before .before .before .before .before .before .before .before .before .before .before .before .skip .ensures .next false)) _ (done-as _ (c .before .before .before .before .before .before .before .before .before .before .before .before .before .before .before .args .work .now) (c .before .before .before .before .before .before .before .before .before .before .before .before .before .before .before .args .out .now) _ (c .before .before .before .before .before .before .before .before .before .before .before .advance .result) _ (c .before .before .before .before .before .before .before .before .before .before .before .advance .ensures) (c .before .before .before .before .before .before .before .before .number-ties .ensures .0)) _ (c .before .before .before .number .ensures .0)
+returns c = rule-done ((c .before .before .before .before .before .before .before .before .before .before .before .before .before .before .before .args .room) .records) ((c .before .before .before .before .before .before .before .before .before .before .before .before .before .before .before .args .room) .cap) (state-of (c .before .before .before .before .before .before .before .before .before .before .before .before .before .before .before .args .work .now) (c .before .before .before .before .before .before .before .before .before .before .before .before .before .before .before .args .out .now) (c .before .before .before .before .before .before .before .before .before .before .before .before .before .before .before .args .c)) (c .before .before .before .before .before .before .before .before .before .before .before .before .before .before .before .args .at) (c .before .before .before .before .before .before .before .before .before .before .before .before .before .before .before .pre) _ (c .before .before .before .before .before .before .before .before .before .before .before .before .minus .ensures ∙ ap (λ (b : ℕ). b - ((c .before .before .before .before .before .before .before .before .before .before .before .before .before .before .before .args .c) .bools)) (c .before .before .before .before .before .before .before .before .before .before .before .before .before .skip .ensures .next false)) _ (done-as _ (c .before .before .before .before .before .before .before .before .before .before .before .before .before .before .before .args .work .now) (c .before .before .before .before .before .before .before .before .before .before .before .before .before .before .before .args .out .now) _ (c .before .before .before .before .before .before .before .before .before .before .before .advance .result) _ (c .before .before .before .before .before .before .before .before .before .before .before .advance .ensures) (c .before .before .before .before .before .before .before .before .number-extras .ensures)) _ (c .before .before .before .number .ensures .0)
 
 pub number-rule-spec : {M : Type 1} → statement M
 number-rule-spec =
@@ -43,7 +43,7 @@ number-rule-spec =
     skip-requires
     minus-requires
     advance-requires
-    number-ties-requires
+    number-extras-requires
     number-requires
     same-length
     same-length-2

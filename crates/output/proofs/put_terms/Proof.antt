@@ -11,7 +11,7 @@ use Rattle.sums.specs.LinearSum.{term}
 use Rattle.sums.specs.Rising.{Each}
 use Rattle.sums.specs.Struct.{Is, terms}
 use Rattle.sums.proofs.Laws.{is-param, drop-term}
-use Rattle.nest.specs.Nest.{Word}
+use Rattle.walks.specs.Totals.{Word}
 use Rattle.laws.specs.Writes.{Wrote, wrote-length, Open}
 use Rattle.output.proofs.Laws.{open-next, put-word, put-cast, terms-words, terms-step, terms-end, each-more}
 use borrow.Author.Needs.{needs}

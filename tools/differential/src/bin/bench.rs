@@ -1,5 +1,5 @@
-//! The port's call against the Rust, in time. `bench SEED COUNT [FAMILY..]`: COUNT sets of each family, refused ones left out;
-//! `bench extremes`: the sets of `extremes`, each compared word for word before it is timed.
+//! The port's call against the Rust, in time, each set compared word for word before it is timed.
+//! `bench SEED COUNT [FAMILY..]`: COUNT sets of each family, refused ones left out; `bench extremes`: the sets of `extremes`.
 //! The port's time is a whole call: clearing both slices, reading, refusals, answer, clearing the work slice.
 //! The Rust's is building its problem from a set that was read, `optimize`, `normalize`, and writing the answer's words.
 
@@ -13,8 +13,10 @@ use reference::{call, refuse, Outcome};
 use std::hint::black_box;
 use std::time::Instant;
 
-const FAMILIES: [&str; 8] = ["rules", "chains", "links", "comparisons", "tables", "mixed", "different", "kinds"];
+const FAMILIES: [&str; 9] =
+    ["rules", "chains", "links", "comparisons", "tables", "mixed", "different", "kinds", "ifmixed"];
 const ROUNDS: u32 = 5;
+const WORK: usize = 16384;
 
 /// The least time of some rounds, in nanoseconds.
 fn least(mut work: impl FnMut()) -> f64 {
@@ -27,21 +29,23 @@ fn least(mut work: impl FnMut()) -> f64 {
 }
 
 /// Times of the Rust and of the port on one set with an output slice of the answer's length; nothing for a set that is refused.
-fn times(case: &Case, work: &mut [i32]) -> Option<(f64, f64)> {
-    let length = match call(&case.set, 1 << 22, work.len()) {
+fn times(case: &Case, slices: &mut Slices) -> Result<Option<(f64, f64)>, String> {
+    let want = call(&case.set, 1 << 22, WORK);
+    let length = match &want {
         Outcome::Compiled(words) => words.len(),
         Outcome::Contradiction => 0,
-        _ => return None,
+        _ => return Ok(None),
     };
-    let read = refuse::accept(&case.set, work.len()).ok()?;
-    let mut out = vec![0; length];
+    slices.compare(compile, &case.set, length, WORK, &want)?;
+    let read = refuse::accept(&case.set, WORK).map_err(|k| format!("refused {k}"))?;
+    let Slices { out, work } = slices;
     let rust = least(|| {
         black_box(timed(black_box(&read), false));
     });
     let port = least(|| {
-        black_box(compile(black_box(&case.set), &mut out, work));
+        black_box(compile(black_box(&case.set), out, work));
     });
-    Some((rust, port))
+    Ok(Some((rust, port)))
 }
 
 fn at(sorted: &[f64], part: f64) -> f64 {
@@ -71,11 +75,13 @@ fn line(family: &str, sizes: &str, times: &[(f64, f64)]) {
 }
 
 fn run(seed: u64, count: u64, families: &[&str]) -> Result<(), String> {
-    let mut work = vec![0; 16384];
+    let mut slices = Slices::new();
     for &family in families {
         let mut groups: [Vec<(f64, f64)>; 3] = Default::default();
-        for case in (0..count).filter_map(|index| case(family, seed, index)) {
-            if let Some(both) = times(&case, &mut work) {
+        for index in 0..count {
+            let case = case(family, seed, index).ok_or("no case")?;
+            let both = times(&case, &mut slices).map_err(|e| format!("{family} seed {seed} index {index}: {e}"))?;
+            if let Some(both) = both {
                 groups[size(case.set.len())].push(both);
             }
         }
@@ -89,7 +95,7 @@ fn run(seed: u64, count: u64, families: &[&str]) -> Result<(), String> {
 
 /// The time of the Rust in milliseconds; it is not run where the answer is too long.
 fn rust_time(set: &[i32], want: &Outcome) -> Option<f64> {
-    let read = refuse::accept(set, 16384).ok()?;
+    let read = refuse::accept(set, WORK).ok()?;
     matches!(want, Outcome::Compiled(_)).then(|| {
         least(|| {
             black_box(timed(black_box(&read), false));
@@ -97,24 +103,29 @@ fn rust_time(set: &[i32], want: &Outcome) -> Option<f64> {
     })
 }
 
-/// With an output of the longest answer's words, so that nothing but the answer's own length is refused 12.
+/// The port's time in milliseconds with an output of so many words.
+fn port_time(set: &[i32], length: usize) -> f64 {
+    let (mut out, mut work) = (vec![0; length], vec![0; WORK]);
+    least(|| {
+        black_box(compile(black_box(set), &mut out, &mut work));
+    }) / 1e6
+}
+
+/// With an output of the longest answer's words, so that nothing but the answer's own length is refused 12; then also with the listing's.
 fn extreme() -> Result<(), String> {
     let most = ANSWER as usize;
     let mut slices = Slices::new();
     for (name, set) in extremes() {
-        let want = call(&set, most, 16384);
-        slices.compare(compile, &set, most, 16384, &want).map_err(|e| format!("{name}: {e}"))?;
+        let want = call(&set, most, WORK);
+        slices.compare(compile, &set, most, WORK, &want).map_err(|e| format!("{name}: {e}"))?;
         let length = if let Outcome::Compiled(words) = &want { words.len() } else { most };
-        let (mut out, mut work) = (vec![0; length], vec![0; 16384]);
-        let port = least(|| {
-            black_box(compile(black_box(&set), &mut out, &mut work));
-        }) / 1e6;
-        let rust = match rust_time(&set, &want) {
+        let port = port_time(&set, length);
+        let beside = match rust_time(&set, &want) {
             Some(rust) => format!("Rust {rust:7.1} ms, ratio {:5.2}", rust / port),
-            None => "the Rust is not run".to_string(),
+            None => format!("with 16384 words {:7.3} ms, the Rust is not run", port_time(&set, 16384)),
         };
         println!(
-            "{name:40} {:4} words  {}, output {length:8} words  port {port:7.1} ms  {rust}",
+            "{name:40} {:4} words  {}, output {length:8} words  port {port:9.3} ms  {beside}",
             set.len(),
             kind(&want)
         );

@@ -1,11 +1,11 @@
 //! The port's call against the Rust's answers, word for word.
 //! `calls SEED COUNT [FAMILY..]`: COUNT sets of each family (or of the named ones), each with several lengths of the output and work slices;
-//! `calls stack`: the deepest and the widest sets on a thread of 512 KiB; `calls stack ifs`: those of Ifs. Status 1 on the first
-//! difference.
+//! `calls stack`: the deepest and the widest sets on a thread of 512 KiB; `calls stack ifs`: those of Ifs alone. Status 1 on the
+//! first difference.
 
 use differential::links::case;
 use differential::slices::{kind, lengths, Slices};
-use differential::{compile, exit_on_error, run_families};
+use differential::{compile, exit_on_error, run_families, with_ifs};
 use reference::call;
 use reference::generate::FAMILIES;
 use std::collections::BTreeMap;
@@ -102,8 +102,8 @@ fn stack(sets: Vec<(&'static str, Vec<i32>)>) -> Result<(), String> {
 fn main() {
     let arguments: Vec<String> = std::env::args().skip(1).collect();
     exit_on_error(match &arguments.iter().map(String::as_str).collect::<Vec<&str>>()[..] {
-        ["stack"] => stack(extremes()),
+        ["stack"] => stack([extremes(), if_extremes()].concat()),
         ["stack", "ifs"] => stack(if_extremes()),
-        _ => run_families("calls stack [ifs] | calls", &FAMILIES, run),
+        _ => run_families("calls stack [ifs] | calls", &with_ifs(&FAMILIES), run),
     });
 }

@@ -2,7 +2,7 @@
 //! `joins SEED COUNT [FAMILY..]`: COUNT pairs made from each family's sets (or the named ones'), each with several lengths of the buffer and work slices,
 //! and every joined statement by its number. Status 1 on the first difference.
 
-use differential::{compile, exit_on_error, run_families};
+use differential::{compile, exit_on_error, run_families, with_ifs};
 use reference::generate::pairs::{pair, Pair};
 use reference::generate::FAMILIES;
 use reference::join::{join, statements, Place};
@@ -184,5 +184,5 @@ fn run(seed: u64, count: u64, families: &[&str]) -> Result<(), String> {
 }
 
 fn main() {
-    exit_on_error(run_families("joins", &FAMILIES[..10], run));
+    exit_on_error(run_families("joins", &with_ifs(&FAMILIES[..10]), run));
 }

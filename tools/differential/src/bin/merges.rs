@@ -5,7 +5,7 @@
 
 use differential::links::case;
 use differential::slices::{kind, lengths, Slices};
-use differential::{compile, compile_with, exit_on_error, run_families};
+use differential::{compile, compile_with, exit_on_error, run_families, with_ifs};
 use reference::call::timed;
 use reference::generate::{Case, FAMILIES};
 use reference::meaning::{judge_with, Verdict};
@@ -183,5 +183,5 @@ fn compiled_bools(words: &[i32]) -> i32 {
 
 fn main() {
     let speeds = std::env::args().nth(1).is_some_and(|word| word == "speed");
-    exit_on_error(if speeds { speed() } else { run_families("merges speed | merges", &FAMILIES, run) });
+    exit_on_error(if speeds { speed() } else { run_families("merges speed | merges", &with_ifs(&FAMILIES), run) });
 }

@@ -1,10 +1,10 @@
-//! Refusals 1 to 11 of the port against the reference: every limit case, and damaged sets.
+//! Refusals 1 to 11 of the port against the reference: every limit case, and damaged sets, without and with Ifs.
 //! `refusals SEED COUNT`; `refusals SEED COUNT FAMILY..`: COUNT sets of each named family; `refusals speed`: the time on the sets of
 //! `extremes`. Status 1 on the first difference.
 
 use differential::extremes::extremes;
 use differential::{exit_on_error, run_families};
-use reference::generate::{self, GOOD};
+use reference::generate::{self, iflimits, limits, GOOD, IFS};
 use std::collections::BTreeMap;
 use std::hint::black_box;
 use std::time::Instant;
@@ -48,22 +48,29 @@ fn refusals(seed: u64, count: u64) -> Result<(), String> {
         seen[k] += 1;
         Ok(())
     };
-    let limits = generate::limits::all();
+    let limits = [limits::all(), iflimits::all()].concat();
     for limit in &limits {
         check(&limit.case.set, 16384)?;
         check(&limit.case.set, 16383)?;
     }
-    let whole: Vec<&str> = GOOD.into_iter().chain(["limits", "lengths"]).collect();
+    let whole: Vec<&str> = GOOD.into_iter().chain(["limits", "lengths"]).chain(IFS).collect();
     for index in 0..count {
-        let case = generate::case("damaged", seed, index).ok_or("no case")?;
-        check(&case.set, case.work_len)?;
-        let family = whole[(index % whole.len() as u64) as usize];
+        for family in ["damaged", "ifdamaged"] {
+            let case = generate::case(family, seed, index).ok_or("no case")?;
+            check(&case.set, case.work_len)?;
+        }
+        let family = whole[(index / 10 % whole.len() as u64) as usize];
         if index % 10 == 0 {
             let case = generate::case(family, seed, index).ok_or("no case")?;
             check(&case.set, case.work_len)?;
         }
     }
-    println!("{} limit cases, {count} damaged sets, {} undamaged: no difference", limits.len(), count.div_ceil(10));
+    println!(
+        "{} limit cases, {} damaged sets, {} undamaged: no difference",
+        limits.len(),
+        2 * count,
+        count.div_ceil(10)
+    );
     for (k, n) in seen.iter().enumerate() {
         println!("refusal {k}: {n}");
     }

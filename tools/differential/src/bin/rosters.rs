@@ -4,7 +4,7 @@
 //! `rosters speed`: the time of a check by its words.
 //! `rosters texts SEED COUNT`: the program target/bin/roster on COUNT texts of each family, a third of them spoilt. Status 1 on the first difference.
 
-use differential::{exit_on_error, roster, run_families};
+use differential::{exit_on_error, roster, run_families, with_ifs};
 use reference::generate::{case, Case, FAMILIES};
 use reference::listing::words;
 use reference::meaning::{passing, statement_holds};
@@ -370,7 +370,7 @@ fn spoilt(text: &str, numbers: &mut Numbers) -> String {
 fn texts(seed: u64, count: u64) -> Result<(), String> {
     let program = concat!(env!("CARGO_MANIFEST_DIR"), "/../../target/bin/roster");
     let mut answers: BTreeMap<String, u64> = BTreeMap::new();
-    for family in &FAMILIES[..9] {
+    for family in with_ifs(&FAMILIES[..9]) {
         for index in 0..count {
             let mut numbers = Numbers(seed ^ (index << 20));
             let words = case(family, seed, index).ok_or("no case")?.set;
@@ -406,5 +406,9 @@ fn main() {
         }
     }
     let speeds = std::env::args().nth(1).is_some_and(|word| word == "speed");
-    exit_on_error(if speeds { speed() } else { run_families("rosters speed | rosters", &FAMILIES[..9], run) });
+    exit_on_error(if speeds {
+        speed()
+    } else {
+        run_families("rosters speed | rosters", &with_ifs(&FAMILIES[..9]), run)
+    });
 }

@@ -3,7 +3,7 @@
 //! The family `links` is asked for by name.
 
 use differential::links::case;
-use differential::{exit_on_error, run_families, settle};
+use differential::{exit_on_error, run_families, settle, with_ifs};
 use reference::generate::FAMILIES;
 use reference::settled::{settled, Settled};
 
@@ -63,5 +63,5 @@ fn run(seed: u64, count: u64, families: &[&str]) -> Result<(), String> {
 }
 
 fn main() {
-    exit_on_error(run_families("settled", &FAMILIES[..9], run));
+    exit_on_error(run_families("settled", &with_ifs(&FAMILIES[..9]), run));
 }

@@ -3,7 +3,7 @@
 //! one less, none and some more, and outputs of exactly the answer's length and one less. Status 1 on the first difference.
 
 use differential::links::case;
-use differential::{exit_on_error, run_families};
+use differential::{exit_on_error, run_families, with_ifs};
 use reference::answer::decode;
 use reference::generate::FAMILIES;
 use reference::sheet::sheet;
@@ -94,5 +94,5 @@ fn run(seed: u64, count: u64, families: &[&str]) -> Result<(), String> {
 }
 
 fn main() {
-    exit_on_error(run_families("sheetcalls", &FAMILIES, run));
+    exit_on_error(run_families("sheetcalls", &with_ifs(&FAMILIES), run));
 }

@@ -5,8 +5,6 @@ use crate::set::{LIMIT, STAR};
 
 /// Copies of one set before the next is taken: enough for every word of a set of 64 words.
 const COPIES: u64 = 256;
-/// The code of If (request 2.5).
-const IF: i32 = 23;
 
 /// A damaged copy of a set of one of the families.
 pub fn damaged(seed: u64, index: u64, families: &[&str]) -> Case {
@@ -27,7 +25,7 @@ pub fn damage(rng: &mut Rng, mut words: Vec<i32>, copy: u64) -> Vec<i32> {
         return words;
     }
     match copy % 4 {
-        0 => words[at] = other(rng, words[at], words.contains(&IF)),
+        0 => words[at] = other(rng, words[at]),
         1 => {
             words.remove(at);
         }
@@ -37,16 +35,13 @@ pub fn damage(rng: &mut Rng, mut words: Vec<i32>, copy: u64) -> Vec<i32> {
     words
 }
 
-/// Another word: near, mirrored, a code, or beside a limit. The code of If only into a set that may have one.
-fn other(rng: &mut Rng, word: i32, ifs: bool) -> i32 {
+/// Another word: near, mirrored, a code, or beside a limit.
+fn other(rng: &mut Rng, word: i32) -> i32 {
     match rng.below(6) {
         0 => word.wrapping_add(1),
         1 => word.wrapping_sub(1),
         2 => word.wrapping_neg(),
-        3 => match rng.range(-2, 24) {
-            IF if !ifs => IF + 1,
-            code => code,
-        },
+        3 => rng.range(-2, 24),
         4 => rng.pick(&[LIMIT, LIMIT + 1, -LIMIT, -LIMIT - 1, i32::MAX, STAR, STAR + 1]),
         _ => rng.pick(&[63, 64, 65, 255, 256, 257, 511, 512, 513, 4095, 4096, 4097, 65536]),
     }

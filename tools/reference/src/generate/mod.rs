@@ -36,7 +36,7 @@ pub struct Case {
 /// The families of sets. A further one, `longest`, is asked for by name: it needs a gigabyte a case.
 pub const FAMILIES: [&str; 11] =
     ["rules", "chains", "comparisons", "tables", "mixed", "different", "kinds", "damaged", "limits", "lengths", "ties"];
-/// The families of sets with Ifs (request 2.5), asked for by name: the port does not read them yet.
+/// The families of sets with Ifs (request 2.5).
 pub const IFS: [&str; 13] = [
     "ifs",
     "ifcolumns",

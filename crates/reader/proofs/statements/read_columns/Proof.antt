@@ -10,10 +10,10 @@ use Rattle.reader.proofs.statements.read_columns.Statement.{statement}
 use Rattle.reader.proofs.statements.read_columns.Tie as tie
 
 abbrev Inv-loop : tie.InvT-loop
-Inv-loop words count ints d₀ rest₀ d rest = reads (times rest (int-of ints 64)) (d .at) words ≡ reads (times rest₀ (int-of ints 64)) (d₀ .at) words
+Inv-loop words count bools ints d₀ rest₀ d rest = reads (times rest (int-of bools ints 64)) (d .at) words ≡ reads (times rest₀ (int-of bools ints 64)) (d₀ .at) words
 
 abbrev μ-loop : tie.MeasureT-loop
-μ-loop words count ints d₀ rest₀ d rest = rest
+μ-loop words count bools ints d₀ rest₀ d rest = rest
 
 loop-holds : tie.Need-loop-holds Inv-loop μ-loop
 loop-holds c = refl
@@ -37,7 +37,7 @@ loop-less : tie.Need-loop-less Inv-loop μ-loop
 loop-less c = search needs
 
 loop-again : tie.Need-loop-again Inv-loop μ-loop
-loop-again c = times-more _ (int-exact _ 64) _ _ _ _ (c .before .before .before .before .loop-test .taken) (sym (c .before .before .before .read-int .ensures) ∙ c .before .e .given .1) ∙ c .before .before .before .before .before .loop .inv
+loop-again c = times-more _ (int-exact _ _ 64) _ _ _ _ (c .before .before .before .before .loop-test .taken) (sym (c .before .before .before .read-int .ensures) ∙ c .before .e .given .1) ∙ c .before .before .before .before .before .loop .inv
 
 returns-2 : tie.Need-returns-2 Inv-loop μ-loop
 returns-2 c = times-none _ _ _ _ (c .loop-test .left) ∙ c .before .loop .inv

@@ -18,10 +18,10 @@ read-columns-requires : tie.Need-read-columns-requires
 read-columns-requires c κs = search needs
 
 returns : tie.Need-returns
-returns c = different-no-count _ _ _ _ (sym (c .before .before .before .up-to .ensures) ∙ c .before .k .given .1)
+returns c = different-no-count _ _ _ _ _ (sym (c .before .before .before .up-to .ensures) ∙ c .before .k .given .1)
 
 returns-2 : tie.Need-returns-2
-returns-2 c = different-them _ _ _ _ _ (sym (c .before .before .before .before .up-to .ensures) ∙ c .before .before .n .given .1) _ (c .read-columns .ensures)
+returns-2 c = different-them _ _ _ _ _ _ (sym (c .before .before .before .before .up-to .ensures) ∙ c .before .before .n .given .1) _ (c .read-columns .ensures)
 
 pub read-different-spec : {M : Type 1} → statement M
 read-different-spec =

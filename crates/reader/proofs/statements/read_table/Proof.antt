@@ -36,16 +36,16 @@ read-rows-requires : tie.Need-read-rows-requires
 read-rows-requires c κs = search needs
 
 returns : tie.Need-returns
-returns c = table-no-columns _ _ _ _ (sym (c .before .before .before .up-to .ensures) ∙ c .before .k .given .1)
+returns c = table-no-columns _ _ _ _ _ (sym (c .before .before .before .up-to .ensures) ∙ c .before .k .given .1)
 
 returns-2 : tie.Need-returns-2
-returns-2 c = table-no-rows _ _ _ _ _ (sym (c .before .before .before .before .before .before .before .up-to .ensures) ∙ c .before .before .before .before .before .n .given .1) _ (sym (c .before .before .before .up-to2 .ensures) ∙ c .before .k2 .given .1)
+returns-2 c = table-no-rows _ _ _ _ _ _ (sym (c .before .before .before .before .before .before .before .up-to .ensures) ∙ c .before .before .before .before .before .n .given .1) _ (sym (c .before .before .before .up-to2 .ensures) ∙ c .before .k2 .given .1)
 
 returns-3 : tie.Need-returns-3
-returns-3 c = table-column-refused _ _ _ _ _ (sym (c .before .before .before .before .before .before .before .before .before .before .before .up-to .ensures) ∙ c .before .before .before .before .before .before .before .before .before .n .given .1) _ _ (sym (c .before .before .before .before .before .before .before .up-to2 .ensures) ∙ c .before .before .before .before .before .rows .given .1) _ (sym (c .before .before .before .read-columns .ensures) ∙ c .before .k3 .given .1)
+returns-3 c = table-column-refused _ _ _ _ _ _ (sym (c .before .before .before .before .before .before .before .before .before .before .before .up-to .ensures) ∙ c .before .before .before .before .before .before .before .before .before .n .given .1) _ _ (sym (c .before .before .before .before .before .before .before .up-to2 .ensures) ∙ c .before .before .before .before .before .rows .given .1) _ (sym (c .before .before .before .read-columns .ensures) ∙ c .before .k3 .given .1)
 
 returns-4 : tie.Need-returns-4
-returns-4 c = table-rows _ _ _ _ _ (sym (c .before .before .before .before .before .before .before .before .before .before .before .before .up-to .ensures) ∙ c .before .before .before .before .before .before .before .before .before .before .n .given .1) _ _ (sym (c .before .before .before .before .before .before .before .before .up-to2 .ensures) ∙ c .before .before .before .before .before .before .rows .given .1) _ _ (sym (c .before .before .before .before .read-columns .ensures) ∙ c .before .before .f .given .1) (c .read-rows .ensures)
+returns-4 c = table-rows _ _ _ _ _ _ (sym (c .before .before .before .before .before .before .before .before .before .before .before .before .up-to .ensures) ∙ c .before .before .before .before .before .before .before .before .before .before .n .given .1) _ _ (sym (c .before .before .before .before .before .before .before .before .up-to2 .ensures) ∙ c .before .before .before .before .before .before .rows .given .1) _ _ (sym (c .before .before .before .before .read-columns .ensures) ∙ c .before .before .f .given .1) (c .read-rows .ensures)
 
 pub read-table-spec : {M : Type 1} → statement M
 read-table-spec =

@@ -1,5 +1,0 @@
-pub mod Words
-pub mod Columns
-pub mod Entries
-pub mod Domains
-pub mod Heads

@@ -1,4 +1,0 @@
-pub mod Numbers
-pub mod Nest
-pub mod Ranges
-pub mod Column

@@ -1,3 +1,0 @@
-mod Members
-mod Terms
-mod Ties

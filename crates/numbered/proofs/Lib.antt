@@ -1,4 +1,0 @@
-pub mod Tables
-pub mod Different
-pub mod Single
-pub mod All

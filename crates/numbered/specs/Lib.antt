@@ -1,3 +1,0 @@
-pub mod Fresh
-pub mod Stands
-pub mod Numbered

@@ -1,4 +1,0 @@
-pub mod Pair
-pub mod Rows
-pub mod Values
-pub mod Different

@@ -1,5 +1,0 @@
-pub mod Known
-pub mod Stars
-pub mod TableRows
-pub mod After
-pub mod Tables

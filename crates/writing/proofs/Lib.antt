@@ -1,3 +1,0 @@
-pub mod Rules
-pub mod Different
-pub mod Sofar
