@@ -30,8 +30,8 @@ use Rattle.stages.specs.StatementsParts.{Stage, parts, parts-text, parts-lines,
 use Rattle.stages.specs.Pairs.{pair-stage, sides-words, row-stages, pairs-stages}
 use Rattle.stages.specs.Different.{values-stages, different-stages}
 use Rattle.stages.specs.StatementsEach.{parts-behind}
+use Rattle.setnumbers.specs.NoIf.{NoIf, none-int, no-splits, no-ties}
 use Rattle.differing.specs.Standing.{At, Standing}
-use Rattle.differing.specs.NoIf.{NoIf, none-int, no-splits, no-ties}
 use Rattle.differing.specs.Pair.{pair-words, PairFits}
 use Rattle.differing.specs.Rows.{end-at, row-words, RowFits, pairs-words, PairsFit, pair-count}
 use Rattle.differing.specs.Values.{Over}
@@ -64,7 +64,7 @@ module _ (w : List ℤ) where
   sides b none (e ∷ es) p count s l m =
       let i = length-append (encode-int e) (sides-words es) in
       let h = has-front (read-part w) p (encode-int e) (sides-words es) (s .words) in (
-        record { stands = record { words = h; legal = s .legal .0 }; plain = none-int (read-part w) b none e p h l (omega (arith, i)) },
+        record { stands = record { words = h; legal = s .legal .0 }; plain = none-int (read-part w) b none e 64 p (omega arith) (s .legal .0) h l (omega (arith, i)) },
         sides b none es (p + length (encode-int e)) (length es) (record { words = has-back (read-part w) p (encode-int e) (sides-words es) (s .words); counted = refl; legal = s .legal .1; size = s .size }) (omega arith) (omega (arith, i)),
       )
 

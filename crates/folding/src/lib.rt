@@ -408,6 +408,18 @@ fn fold_comparison(words: &[i32], d: usize, at: usize, work: &mut [i32], o: usiz
     }
 }
 
+// A side of Xor, Iff or Imp, mostly a variable.
+fn fold_side(words: &[i32], d: usize, at: usize, work: &mut [i32], o: usize) -> Folded
+    requires { ⌜ Ready (now words) d at (now work) o ⌝ }
+    ensures { λ r. ⌜ Fold-post (now (words .entry)) d at (now (work .entry)) o (now (work .exit)) (r .next) (r .end) (r .state) ⌝ }
+{
+    let w = domains::number(words, at);
+    if w < 12 {
+        return fold_leaf(words, d, at, work, o, w);
+    }
+    constant_folding_bool(words, d, at, work, o)
+}
+
 // As many members as `count` says, of which those that are no constant are written; b is the state that settles the list.
 fn constant_folding_members(
     words: &[i32],
@@ -468,8 +480,8 @@ pub fn constant_folding_bool(
         let m = constant_folding_members(words, d, at + 2, n, work, o + 2, w - 12);
         return close_list(work, o, m.next, m.end, w - 12, m.hit, m.kept);
     }
-    let a = constant_folding_bool(words, d, at + 1, work, o + 1);
-    let b = constant_folding_bool(words, d, a.next, work, a.end);
+    let a = fold_side(words, d, at + 1, work, o + 1);
+    let b = fold_side(words, d, a.next, work, a.end);
     let k = action(w - 15, a.state, b.state);
     close_binary(work, o, b.next, a.end, b.end, w - 15, k)
 }

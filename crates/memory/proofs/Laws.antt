@@ -1,24 +1,19 @@
 -- What a turn of each loop leaves to do, and its end. Assumes nothing.
-use mathlib.Core.Path.{_≡_, refl, sym, ap, _∙_}
-use mathlib.Core.Bool.{Bool, true, false, _&&_, _||_}
+use mathlib.Core.Path.{_≡_, refl, ap, _∙_}
 use mathlib.Core.List.{List, [], _∷_, map}
 use Prim.Native.Nat.{ℕ, suc, _+_, _-_, _*_, _≤_, _<_}
 use native.Mathlib.Omega.{arith}
 use lib.IntN.{ℤ, pos, natAbs, _+ℤ_, _-ℤ_, -ℤ-+ℤ-cancel}
-use lib.ListN.{length, getD, set, take, length-set, length-take, length-drop}
-use lib.Seq.{sets, slice, slice-cons}
+use lib.ListN.{length, set, length-set}
+use lib.Seq.{sets}
 use mir.Syntax.{w32}
-use mir.Val.{SFits, ofZ}
-use Rattle.laws.specs.Bools.{and-i, or-l}
+use mir.Val.{SFits}
 use Rattle.laws.specs.Ints.{natAbs-add, sfits-natAbs}
-use Rattle.laws.specs.Order.{is-eqZ, not-eqZ}
 use Rattle.laws.specs.Lists.{flat}
-use Rattle.laws.specs.Signed.{value-is}
 use Rattle.laws.specs.Slices.{Has, zeros, has-front, has-back}
 use Rattle.syntax.specs.Syntax.{Domain, encode-domain, lower-bound, upper-bound, num-candidates}
 use Rattle.domains.proofs.Laws.{sized-at}
 use Rattle.domains.specs.Declared.{Domain-at, Sized-at, Domains}
-use Rattle.memory.specs.Mark.{is-if, is-condition, begins-condition, finds-if}
 use Rattle.memory.specs.DomainTable.{SizeFits, Table-room, Table-post}
 
 -- ---- `clear_words`
@@ -31,47 +26,6 @@ clear-next w i to l =
 
 pub clear-none : (w : List ℤ) (i to : ℕ) → to ≤ i → sets w i (zeros (to - i)) ≡ w
 clear-none w i to l = let m : to - i ≡ 0 = omega arith in rw m refl
-
--- ---- `finds_if`
-
-few-none : (xs : List ℤ) → length xs ≤ 1 → finds-if xs ≡ false
-unfolding finds-if
-few-none [] l = refl
-few-none (x ∷ []) l = go (is-if x)
-  where
-    go : (b : Bool) → b && false || false ≡ false
-    go true = refl
-    go false = refl
-few-none (x ∷ y ∷ ys) l = absurd (omega arith)
-
-module _ (w : List ℤ) (i end : ℕ) where
-  pub none-left : end ≤ i → finds-if (slice i (end + 1) w) ≡ false
-  none-left l = few-none (slice i (end + 1) w) (omega (arith, length-drop i (take (end + 1) w), length-take (end + 1) w))
-
-  module _ (l : i < end) (k : end < length w) (f : SFits w32 (getD w i (pos 0))) where
-    here : finds-if (slice i (end + 1) w) ≡ is-if (getD w i (pos 0)) && is-condition (getD w (i + 1) (pos 0)) || finds-if (slice (i + 1) (end + 1) w)
-    unfolding finds-if
-    here =
-        let s : i + 1 ≡ suc i = omega arith in
-        let a = slice-cons i (end + 1) w (pos 0) (omega arith) (omega arith) in
-        let b : begins-condition (slice (suc i) (end + 1) w) ≡ is-condition (getD w (suc i) (pos 0)) = ap begins-condition (slice-cons (suc i) (end + 1) w (pos 0) (omega arith) (omega arith)) in
-        rw s (ap finds-if a ∙ ap (λ (t : Bool). is-if (getD w i (pos 0)) && t || finds-if (slice (suc i) (end + 1) w)) b)
-
-    pub found-here : ofZ w32 (getD w i (pos 0)) ≡ 23 → is-condition (getD w (i + 1) (pos 0)) ≡ true → finds-if (slice i (end + 1) w) ≡ true
-    found-here e h = here ∙ or-l _ _ (and-i _ _ (is-eqZ (getD w i (pos 0)) (pos 23) (value-is f e)) h)
-
-    later : (b : Bool) → is-if (getD w i (pos 0)) && is-condition (getD w (i + 1) (pos 0)) ≡ b → b ≡ false → finds-if (slice (i + 1) (end + 1) w) ≡ finds-if (slice i (end + 1) w)
-    later b e h = sym (here ∙ ap (λ (t : Bool). t || finds-if (slice (i + 1) (end + 1) w)) (e ∙ h))
-
-    pub no-condition : is-condition (getD w (i + 1) (pos 0)) ≡ false → finds-if (slice (i + 1) (end + 1) w) ≡ finds-if (slice i (end + 1) w)
-    no-condition h = later _ refl (ap (λ (t : Bool). is-if (getD w i (pos 0)) && t) h ∙ none (is-if (getD w i (pos 0))))
-      where
-        none : (b : Bool) → b && false ≡ false
-        none true = refl
-        none false = refl
-
-    pub found-later : (ofZ w32 (getD w i (pos 0)) ≡ 23 → ⊥) → finds-if (slice (i + 1) (end + 1) w) ≡ finds-if (slice i (end + 1) w)
-    found-later n = let q : is-if (getD w i (pos 0)) ≡ false = not-eqZ (getD w i (pos 0)) (pos 23) (λ e. n (ap (ofZ w32) e)) in later _ refl (ap (λ (b : Bool). b && is-condition (getD w (i + 1) (pos 0))) q)
 
 -- ---- `write_domains`
 

@@ -1,12 +1,10 @@
 // The work slice with Ifs: its places, and what is put there before the walks.
 ghost use mathlib.Core.Path.{_≡_};
-ghost use Prim.Native.Nat.{_+_, _-_, _≤_, _<_};
+ghost use Prim.Native.Nat.{_-_, _≤_};
 ghost use lib.ListN.{length};
-ghost use lib.Seq.{sets, slice};
+ghost use lib.Seq.{sets};
 ghost use Rattle.laws.specs.Slices.{zeros};
-ghost use Rattle.walks.specs.Item.{ifs-word};
-ghost use Rattle.memory.specs.Places.{folded, declared-domains};
-ghost use Rattle.memory.specs.Mark.{finds-if, marked};
+ghost use Rattle.memory.specs.Places.{declared-domains};
 ghost use Rattle.memory.specs.DomainTable.{Table-room, Table-post};
 
 // The fixed values, a word for each declared Boolean.
@@ -45,37 +43,6 @@ pub fn clear_words(work: &mut [i32], from: usize, to: usize)
         work[i] = 0;
         i += 1;
     }
-}
-
-// Whether an If's code, a condition's first word behind it, is among the words from FOLDED to `end`.
-fn finds_if(work: &[i32], end: usize) -> bool
-    requires { ⌜ end < length (now work) ⌝ }
-    ensures { λ r. ⌜ r ≡ finds-if (slice folded (end + 1) (now (work .entry))) ⌝ }
-{
-    let mut i = FOLDED;
-    while i < end {
-        let w = work[i];
-        if w == 23 {
-            let c = work[i + 1];
-            if c < 19 {
-                return true;
-            }
-        }
-        i += 1;
-    }
-    false
-}
-
-// The word for Ifs, of the folded statements up to `end`.
-pub fn mark_ifs(work: &mut [i32], end: usize)
-    requires { ⌜ (end < length (now work)) × (ifs-word < length (now work)) ⌝ }
-    ensures { λ _. ⌜ now (work .exit) ≡ marked (now (work .entry)) end ⌝ }
-{
-    if finds_if(work, end) {
-        work[IFS_WORD] = 1;
-        return;
-    }
-    work[IFS_WORD] = 0;
 }
 
 // The table of the set's n domains, which stand from `d` on.

@@ -5,12 +5,12 @@ use Prim.Native.Nat.{ℕ, _+_, _-_, _≤_, min}
 use native.Mathlib.Omega.{arith}
 use lib.IntN.{ℤ}
 use Rattle.walk.specs.Item.{limit}
-use Rattle.walk.specs.Decode.{read-part}
+use Rattle.walk.specs.Decode.{word, read-part}
 use Rattle.walks.specs.Tree.{Splitting}
 use Rattle.walks.specs.Meet.{State}
-use Rattle.scan.specs.Skip.{Skips, SkipsAll, IntSkips, TermSkips, Skipping, skipping-first, skipping-next, skipping-last, TermSkipping, terms-first, terms-next, terms-last}
+use Rattle.scan.specs.Skip.{Skips, SkipsAll, IntSkips, TermSkips, Skipping, skipping-first, skipping-next, skipping-last, TermSkipping, terms-first, terms-next, terms-last, LeafTerm, int-leaf}
 use Rattle.numbering.specs.Task.{state-of, Task, Done, left-all, Starts}
-use Rattle.numbering.specs.Ties.{ties-of, int-ties-of, each-ties-of, terms-ties-of, EachTies, each-starts, each-next, each-last, TermTies, term-ties-starts, term-ties-next, term-ties-last}
+use Rattle.numbering.specs.Ties.{ties-of, int-ties-of, each-ties-of, terms-ties-of, EachTies, each-starts, each-next, each-last, TermTies, term-ties-starts, term-ties-next, term-ties-last, int-ties-leaf}
 use Rattle.numbering.specs.Members.{standing}
 use Rattle.numbering.specs.Walk.{starts-as}
 use Rattle.numbering.specs.declared.Progress.{Progress}
@@ -92,6 +92,18 @@ module _ (rec cap l : ℕ) (m : Splitting) (k at base : ℕ) (w₀ out₀ : List
             left = term-ties-next rec cap l m k at base (state-of w₀ out₀ c₀) rest _ _ p _ z begun-terms i (x .left) _ _ _ (y .0) j;
             skips = terms-next w₀ l m k at base (begun-terms .size) rest _ _ p _ _ (x .skips) z i j;
           }
+
+    -- a constant or a variable
+    pub term-ties-leaf : (rest ≡ 0 → ⊥) → LeafTerm w l (r .at) → (t : NumberedInt) → t ≡ standing (r .progress) (r .at + 3) (r .base) → TermTiesSofar c₀ w out t (rest - 1)
+    term-ties-leaf z h t j =
+        let p : ℕ = r .at + 1 in
+        let i : p ≡ min (r .at + 1) 4608 = omega (arith, h .1) in
+        let b : Starts (int-ties-of rec cap (read-part w) l m p (r .base)) (state-of w out (r .progress)) rec p (r .base) = term-ties-term z p i in
+        subst (λ (n : NumberedInt). TermTiesSofar c₀ w out n (rest - 1)) (sym j)
+        (term-ties-again z p i w out (standing (r .progress) (r .at + 3) (r .base)) (
+          int-ties-leaf rec cap (state-of w out (r .progress)) l m p (r .base) b (l - 1) (h .0) refl (word (read-part w) p) refl (h .2) (h .3),
+          int-leaf w (b .size) l m p (r .base) (b .inside) (b .low-base) (l - 1) (h .0) refl (word (read-part w) p) (r .at + 3) refl (h .2) (h .3) (omega (arith, h .1)),
+        ))
 
     pub term-ties-done : rest ≡ 0 → Done every (state-of w₀ out₀ c) (state-of w out (r .progress)) × TermSkips (read-part w₀) l m k at base (r .at) (r .base)
     term-ties-done z = (subst (λ (d : Progress). Done every (state-of w₀ out₀ d) (state-of w out (r .progress))) e (term-ties-last rec cap l m k at base (state-of w₀ out₀ c₀) rest _ _ _ (x .left) z), terms-last w₀ l m k at base rest _ _ (x .skips) z)

@@ -13,7 +13,7 @@ ghost use Rattle.syntax.specs.Syntax.{Domain, Range};
 ghost use Rattle.syntax.specs.Words.{max-weight};
 ghost use Rattle.walk.specs.Item.{limit, bump as bump-of};
 ghost use Rattle.walks.specs.Item.{cell as cell-of, seen-in, known-in};
-ghost use Rattle.walks.specs.Tree.{below as below-in, here};
+ghost use Rattle.walks.specs.Tree.{never, below as below-in, here};
 ghost use Rattle.walks.specs.Decode.{decode, decode-int};
 ghost use Rattle.walks.specs.Meet.{words-at, find-equal as find-equal-of, set-cells, copied, number-word as number-word-of, range-record, two-record};
 ghost use Rattle.walk.specs.Decode.{read-part};
@@ -858,7 +858,7 @@ fn number_terms(
 }
 
 // The integer expression at a place.
-fn number_int(
+pub fn number_int(
     work: &mut [i32],
     out: &mut [i32],
     at: usize,
@@ -1013,7 +1013,7 @@ fn number_each_ties(
     r
 }
 
-// Of so many terms.
+// Of so many terms; a constant or a variable has none.
 fn number_term_ties(
     work: &mut [i32],
     out: &mut [i32],
@@ -1032,6 +1032,10 @@ fn number_term_ties(
     let mut rest = count;
     while rest != 0 {
         rest = rest - 1;
+        if scan::is_leaf(work, r.at, left) {
+            r = ended(r.progress, r.at + 3, r.base);
+            continue;
+        }
         let p = within(r.at + 1);
         r = number_int_ties(work, out, p, left, m, r.base, room, r.progress);
     }
@@ -1173,23 +1177,23 @@ fn number_extras(
     c
 }
 
-// The rule at a place: the splitting's numbers first, then its extras and itself.
+// The rule at a place: the splitting's numbers first, then its extras and itself; and where it ends.
 pub fn number_rule(
     work: &mut [i32],
     out: &mut [i32],
     at: usize,
     room: Room,
     c: Progress,
-) -> Progress
+) -> NumberedInt
     requires { ⌜ Starts (rule-task (room .records) (room .cap) (read-part (now work)) at) (state-of (now work) (now out) c) (room .records) at 0 ⌝ }
-    ensures { λ r. ⌜ Done (rule-task (room .records) (room .cap) (read-part (now (work .entry))) at) (state-of (now (work .entry)) (now (out .entry)) c) (state-of (now (work .exit)) (now (out .exit)) r) ⌝ }
+    ensures { λ r. ⌜ Done (rule-task (room .records) (room .cap) (read-part (now (work .entry))) at) (state-of (now (work .entry)) (now (out .entry)) c) (state-of (now (work .exit)) (now (out .exit)) (r .progress)) × Skips (read-part (now (work .entry))) 64 below-in at (c .bools) (r .at) (r .base) ⌝ }
 {
     let n = c.bools;
     let s = skip(work, at, 64, 1, n);
     let d = advance(c, minus(s.base, n));
     let e = number_extras(work, out, at, n, s.base, room, d);
     let f = number(work, out, at, 64, 1, n, false, room, e);
-    f.progress
+    ended(f.progress, s.at, s.base)
 }
 
 // ---- a pair of an AllDifferent
@@ -1258,24 +1262,25 @@ fn make_column(
     count_int(d)
 }
 
-// The column at a place, of which nothing is split; one that is no declared variable gets an integer.
+// The column at a place, of which nothing is split; one that is no declared variable gets an integer; and where it ends.
 pub fn number_column(
     work: &mut [i32],
     out: &mut [i32],
     at: usize,
     room: Room,
     c: Progress,
-) -> Progress
+) -> NumberedInt
     requires { ⌜ Starts (column-task (room .records) (room .cap) (read-part (now work)) at) (state-of (now work) (now out) c) (room .records) at 0 ⌝ }
-    ensures { λ r. ⌜ Done (column-task (room .records) (room .cap) (read-part (now (work .entry))) at) (state-of (now (work .entry)) (now (out .entry)) c) (state-of (now (work .exit)) (now (out .exit)) r) ⌝ }
+    ensures { λ r. ⌜ Done (column-task (room .records) (room .cap) (read-part (now (work .entry))) at) (state-of (now (work .entry)) (now (out .entry)) c) (state-of (now (work .exit)) (now (out .exit)) (r .progress)) × IntSkips (read-part (now (work .entry))) 64 never at 0 (r .at) (r .base) ⌝ }
 {
     let a = number_int(work, out, at, 64, 0, 0, room, c);
     let d = a.progress;
     if is_full(room, d) {
-        return d;
+        return a;
     }
     if word(work, at) == 21 {
-        return d;
+        return a;
     }
-    make_column(work, out, at, room, c, d)
+    let e = make_column(work, out, at, room, c, d);
+    ended(e, a.at, a.base)
 }

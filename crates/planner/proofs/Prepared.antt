@@ -17,8 +17,8 @@ use Rattle.walk.specs.Decode.{read-part}
 use Rattle.walks.specs.Item.{has-ifs, ifs-word}
 use Rattle.walks.specs.Meet.{State}
 use Rattle.memory.specs.Places.{declared-domains, table}
-use Rattle.memory.specs.Mark.{marked, mark-own}
 use Rattle.memory.specs.DomainTable.{domain-table, Table-room, Table-post, word-at, Declares, declares, sizes-fit}
+use Rattle.marking.specs.Mark.{marked, mark-own}
 use Rattle.statements.specs.Stages.{settled-short}
 use Rattle.stages.specs.StatementsPlaces.{stmts-words}
 use Rattle.stages.specs.Start.{Begun}
@@ -101,7 +101,7 @@ module _ (p : Problem) (f : Fixed) (ss : List Stmt) (set' w : List ℤ) (i end :
   prepared =
       let s = settles-low part last-size (h .settles) in
       record {
-        lent = lent p f ss set' (marked tabled end) end s (h .words) (mark-own tabled end (omega (arith, tabled-size, long)) (omega (arith, ends-low)));
+        lent = lent p f ss set' (marked tabled end) end s (h .words) (mark-own tabled end (omega (arith, tabled-size, long)));
         values = s .values;
         domains = declared;
         size = s .size;
@@ -110,10 +110,10 @@ module _ (p : Problem) (f : Fixed) (ss : List Stmt) (set' w : List ℤ) (i end :
 pub table-asks : (set' w : List ℤ) (i end : ℕ) → SomeHeld set' w i end → {x : List ℤ} → x ≡ sets w declared-domains (zeros (table - declared-domains)) → Table-room set' 2 i x declared-domains
 table-asks set' w i end s e = subst (λ (l : List ℤ). Table-room set' 2 i l declared-domains) (sym e) (table-room (s .it) (s .fixed) (s .stmts) set' w i end (s .held))
 
-pub mark-asks : (set' w : List ℤ) (i end : ℕ) → SomeHeld set' w i end → {k : ℕ} → k ≡ length w → (end < k) × (ifs-word < k)
+pub mark-asks : (set' w : List ℤ) (i end : ℕ) → SomeHeld set' w i end → {k : ℕ} → k ≡ length w → (ifs-word < k) × (end ≤ 4608)
 mark-asks set' w i end s e =
     let h = s .held in
-    (omega (arith, ends-low (s .it) (s .fixed) (s .stmts) set' w i end h, h .settles .size), omega (arith, h .settles .size))
+    (omega (arith, h .settles .size), ends-low (s .it) (s .fixed) (s .stmts) set' w i end h)
 
 pub prepares : (set' w : List ℤ) (i end : ℕ) {x y z : List ℤ} → x ≡ sets w declared-domains (zeros (table - declared-domains)) → Table-post set' 2 i x declared-domains y → z ≡ marked y end → Prepares set' w i end z
 prepares set' w i end {x} {y} {z} a b c p f ss h =

@@ -25,7 +25,7 @@ fn prepare(set: &[i32], work: &mut [i32], ints: usize, end: usize)
 {
     memory::clear_words(work, memory::DECLARED_DOMAINS, memory::TABLE);
     memory::write_domains(set, 2, ints, work);
-    memory::mark_ifs(work, end);
+    marking::mark_ifs(work, end);
 }
 
 // The clauses of all statements from a place on, by the slice that the first walk leaves: from its maps where no If stands, else each statement is

@@ -7,7 +7,7 @@ use native.Mathlib.Omega.{arith}
 use native.Mathlib.Numerals.{add-one}
 use lib.IntN.{ℤ, pos, negsuc, negℤ, natAbs, _-ℤ_, +ℤ-idl}
 use lib.Signed.{ltZ}
-use lib.ListN.{length, getD, set, take, drop, length-append}
+use lib.ListN.{length, getD, set, take, drop, length-append, length-set}
 use lib.Seq.{getD-drop, getD-take}
 use borrow.Author.Tests.{ltb-true}
 use mir.Syntax.{w32}
@@ -62,6 +62,17 @@ five o a b c d r s s1 s2 s3 s4 s5 w1 w2 w3 w4 w5 u1 u2 u3 u4 u5 l p1 p2 p3 p4 p5
     let l2 : length s2 ≤ cap = omega (arith, wrote-length p2) in
     let l3 : length s3 ≤ cap = omega (arith, wrote-length p3) in
     wrote-to (rw (e1, e2, e3, e4, e5) refl) (wrote-then l p1 (wrote-then l1 p2 (wrote-then l2 p3 (wrote-then l3 p4 p5))))
+
+-- where there is room for five words
+pub set-inside : (s : List ℤ) (o i : ℕ) (w : ℤ) → i < length s → i < length (set s o w)
+set-inside s o i w h = omega (arith, h, length-set s o w)
+
+pub stored-five : (s : List ℤ) (o : ℕ) (w1 w2 w3 w4 w5 u1 u2 u3 u4 u5 : ℤ) → o + 5 ≤ length s → length s ≤ cap → w1 ≡ u1 → w2 ≡ u2 → w3 ≡ u3 → w4 ≡ u4 → w5 ≡ u5
+    → Wrote s o (u1 ∷ u2 ∷ u3 ∷ u4 ∷ u5 ∷ []) (set (set (set (set (set s o w1) (o + 1) w2) (o + 2) w3) (o + 3) w4) (o + 4) w5) (o + 5)
+stored-five s o w1 w2 w3 w4 w5 u1 u2 u3 u4 u5 h l e1 e2 e3 e4 e5 = five o (o + 1) (o + 2) (o + 3) (o + 4) (o + 5) s _ _ _ _ _ w1 w2 w3 w4 w5 u1 u2 u3 u4 u5 l (one s o (o + 1) w1 (omega arith) (omega arith)) (one _ (o + 1) (o + 2) w2 (omega arith) (omega arith)) (one _ (o + 2) (o + 3) w3 (omega arith) (omega arith)) (one _ (o + 3) (o + 4) w4 (omega arith) (omega arith)) (one _ (o + 4) (o + 5) w5 (omega arith) (omega arith)) e1 e2 e3 e4 e5
+  where
+    one : (t : List ℤ) (i j : ℕ) (w : ℤ) → j ≡ i + 1 → j ≤ cap → Wrote t i (w ∷ []) (set t i w) j
+    one t i j w e k = record { words = refl; at = omega arith }
 
 -- ---- the prefix
 

@@ -1372,7 +1372,7 @@ fn two_ties(a: Tied, b: Tied) -> Tied
     }
 }
 
-// Of so many terms.
+// Of so many terms; a constant or a variable has none.
 fn term_ties(
     work: &[i32],
     at: usize,
@@ -1391,10 +1391,15 @@ fn term_ties(
     let mut x = no_ties(at, base, n, o);
     let mut rest = count;
     while rest != 0 {
+        rest = rest - 1;
+        if scan::is_leaf(work, x.at, left) {
+            let e = no_ties(x.at + 3, x.base, x.n, x.o);
+            x = two_ties(x, e);
+            continue;
+        }
         let q = within(x.at + 1);
         let y = int_ties(work, q, left, m, x.base, x.n, out, x.o);
         x = two_ties(x, y);
-        rest = rest - 1;
     }
     x
 }

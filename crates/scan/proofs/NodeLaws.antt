@@ -1,5 +1,5 @@
 -- Laws of nodes.
-use mathlib.Core.Path.{_≡_, _∙_}
+use mathlib.Core.Path.{_≡_, sym, ap, _∙_}
 use mathlib.Core.Bool.{Bool, true, not}
 use mathlib.Core.List.{List}
 use Prim.Native.Nat.{ℕ, _+_, _≤_, _<_, min}
@@ -7,7 +7,8 @@ use native.Mathlib.Omega.{arith}
 use lib.IntN.{ℤ, pos, negsuc}
 use lib.ListN.{length, getD}
 use mir.Syntax.{w32}
-use mir.Val.{ofZ}
+use mir.Val.{SFits, ofZ, toZ}
+use Rattle.laws.specs.Signed.{value-is}
 use borrow.Author.Tests.{ne-eqb}
 use Rattle.walk.specs.Item.{nat}
 use Rattle.walk.specs.Decode.{word, past, below, constant-node, read-part}
@@ -76,3 +77,8 @@ not-code (negsuc n) k l h e = omega arith
 
 pub no-code-at : (w : List ℤ) (at k : ℕ) → at < 4608 → 0 < k → (ofZ w32 (getD w at (pos 0)) ≡ k → ⊥) → word (read-part w) at ≡ k → ⊥
 no-code-at w at k h l ne e = not-code (getD w at (pos 0)) k l ne (word-inside w at h ∙ e)
+
+-- a word with the bits of a code, which are the code's own
+pub code-at : (w : List ℤ) (at k : ℕ) → at < 4608 → toZ w32 k ≡ pos k → SFits w32 (getD w at (pos 0)) → ofZ w32 (getD w at (pos 0)) ≡ k → word (read-part w) at ≡ k
+unfolding nat
+code-at w at k h p f e = sym (word-inside w at h) ∙ ap nat (value-is f e ∙ p)

@@ -10,7 +10,7 @@ use lib.ListN.{length}
 use lib.Dec.{eqb}
 use borrow.Author.Tests.{ne-eqb}
 use Rattle.walk.specs.Item.{limit, bump}
-use Rattle.walk.specs.Decode.{word, past, read-part}
+use Rattle.walk.specs.Decode.{word, past, below as lowered, read-part}
 use Rattle.walk.specs.declared.Node.{Node}
 use Rattle.walk.specs.declared.Node.the-variants.{Var, Cmp, Not, Join, Cross}
 use Rattle.walks.specs.Tree.{Splitting, never, below, here, inner}
@@ -174,6 +174,27 @@ module _ (w : List ℤ) (size : 4608 ≤ length w) (l : ℕ) (m : Splitting) (at
         int-ends k a q'' b'' (rw (i, past-is (at + 1) one e, ← c .end false, ← c .next false, ← t .end, ← t .next) (f .end, f .next)) (omega (arith, c .start, t .start, f .start)) (f .inside) (f .low)
 
 -- ---- members
+
+var-node : (w : List ℤ) (g : Bool) (q p : ℕ) → 4608 ≤ length w → p ≤ 4608 → p ≡ q + 2 → word (read-part w) q ≡ 11 → Var (lowered 512 (word (read-part w) (q + 1))) p ≡ node-of (read-part w) g q (word (read-part w) q)
+unfolding node-of
+var-node w g q p size h x e = let i : past (read-part w) (q + 2) ≡ p = omega (arith, part-length w size) in rw (e, i)
+
+not-node : (w : List ℤ) (g : Bool) (q : ℕ) → 4608 ≤ length w → q + 1 ≤ 4608 → word (read-part w) q ≡ 14 → Not (q + 1) ≡ node-of (read-part w) g q (word (read-part w) q)
+unfolding node-of
+not-node w g q size h e = let i : past (read-part w) (q + 1) ≡ q + 1 = omega (arith, part-length w size) in rw (e, i)
+
+-- the expression at q has k words, and takes no number
+abbrev pub LiteralMember : List ℤ → ℕ → ℕ → ℕ → Type 0
+LiteralMember w l q k = (m : Splitting) (base : ℕ) → base ≤ limit → Skips (read-part w) l m q base (q + k) base
+
+pub variable-words : (w : List ℤ) (l q : ℕ) → 4608 ≤ length w → (l ≡ 0 → ⊥) → q + 2 ≤ 4608 → word (read-part w) q ≡ 11 → LiteralMember w l q 2
+variable-words w l q size z h e m base low =
+    skips-var w size l m q base (omega arith) low (l - 1) z refl false _ (q + 2) (var-node w false q (q + 2) size h refl e)
+
+pub negation-words : (w : List ℤ) (l q : ℕ) → 4608 ≤ length w → 2 ≤ l → q + 3 ≤ 4608 → word (read-part w) q ≡ 14 → word (read-part w) (q + 1) ≡ 11 → LiteralMember w l q 3
+negation-words w l q size z h e i m base low =
+    let s : Skips (read-part w) (l - 1) m (q + 1) base (q + 3) base = skips-var w size (l - 1) m (q + 1) base (omega arith) low (l - 1 - 1) (λ x. omega arith) refl true _ (q + 3) (var-node w true (q + 1) (q + 3) size (omega arith) (omega arith) i) in
+    skips-not w size l m q base (omega arith) low (l - 1) (λ x. omega arith) refl false (q + 1) (q + 3) base (not-node w false q size (omega arith) e) s
 
 -- as many members as are left end where all do
 pub record Skipping (ws : List ℤ) (l : ℕ) (m : Splitting) (k at base rest q b : ℕ) : Type 0 where

@@ -7,7 +7,7 @@ ghost use Rattle.walk.specs.Decode.{word as word-in, constant-node, read-part};
 ghost use Rattle.walks.specs.Tree.{inner as inner-of};
 ghost use Rattle.walks.specs.Item.{has-ifs as has-ifs-in, more-ints as more-ints-of, more-bools as more-bools-of, meets-bool, meets-int, cell as cell-of, seen-in};
 ghost use Rattle.walks.specs.Decode.{node-of};
-ghost use Rattle.scan.specs.Skip.{split-by, inside-of, Skips, SkipsAll, IntSkips, TermSkips, LeafTerm};
+ghost use Rattle.scan.specs.Skip.{split-by, inside-of, Skips, SkipsAll, IntSkips, TermSkips, LiteralMember, LeafTerm};
 use survey::Skipped;
 ghost use Rattle.scan.specs.LeafLaws.{counted, swapped as swapped-of, LeavesAt, LeavesAll};
 ghost use Rattle.scan.specs.IfLaws.{seen-code, seen-at, passed-at, Low};
@@ -82,6 +82,30 @@ pub fn inside_base(m: usize, base: usize) -> usize
     bump(base, 2)
 }
 
+// The words of the member at a place, with levels left, if it is a variable or the negation of one; otherwise 0.
+fn literal_words(work: &[i32], q: usize, left: usize) -> usize
+    requires { do ⌜ 4608 ≤ (← ⟦work.len()⟧) ⌝ }
+    ensures { λ r. ⌜ ((r ≡ 0 → ⊥) → LiteralMember (now (work .entry)) left q r) ⌝ }
+{
+    let other = 0;
+    if left < 2 {
+        return other;
+    }
+    if q < 4606 {
+        let k = work[q];
+        if k == 11 {
+            return 2;
+        }
+        if k == 14 {
+            let c = work[q + 1];
+            if c == 11 {
+                return 3;
+            }
+        }
+    }
+    other
+}
+
 // So many members.
 pub fn skips(work: &[i32], at: usize, left: usize, m: usize, count: usize, base: usize) -> Skipped
     requires { do ⌜ (4608 ≤ (← ⟦work.len()⟧)) × ((at ≤ 4608) × (base ≤ limit)) ⌝ }
@@ -91,10 +115,15 @@ pub fn skips(work: &[i32], at: usize, left: usize, m: usize, count: usize, base:
     let mut b = base;
     let mut rest = count;
     while rest != 0 {
+        rest = rest - 1;
+        let k = literal_words(work, q, left);
+        if k != 0 {
+            q = q + k;
+            continue;
+        }
         let s = skip(work, q, left, m, b);
         q = s.at;
         b = s.base;
-        rest = rest - 1;
     }
     Skipped { at: q, base: b }
 }
@@ -122,7 +151,7 @@ pub fn skip(work: &[i32], at: usize, left: usize, m: usize, base: usize) -> Skip
 }
 
 // Whether the term at a place, with levels left, is a constant or a variable: its three words are passed at once.
-fn is_leaf(work: &[i32], q: usize, left: usize) -> bool
+pub fn is_leaf(work: &[i32], q: usize, left: usize) -> bool
     requires { do ⌜ 4608 ≤ (← ⟦work.len()⟧) ⌝ }
     ensures { λ r. ⌜ (r ≡ true → LeafTerm (now (work .entry)) left q) ⌝ }
 {

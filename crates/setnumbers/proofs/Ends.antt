@@ -2,7 +2,7 @@
 use mathlib.Core.Path.{_≡_, refl, ap, _∙_}
 use mathlib.Core.Bool.{false}
 use mathlib.Core.List.{List}
-use Prim.Native.Nat.{ℕ, suc, _+_, _*_, _≤_, _<_}
+use Prim.Native.Nat.{ℕ, suc, _+_, _*_, _≤_, _<_, min}
 use native.Mathlib.Omega.{arith}
 use lib.IntN.{ℤ, pos}
 use lib.ListN.{length}
@@ -12,11 +12,15 @@ use Rattle.syntax.specs.Codes.{stmt-code, stmt-code-word}
 use Rattle.walk.specs.Item.{limit, nat}
 use Rattle.walk.specs.Decode.{word, read-part}
 use Rattle.walks.specs.Tree.{below, splits}
+use Rattle.walks.specs.Decode.{decode}
 use Rattle.walks.specs.DecodeExact.{rule-stands}
 use Rattle.stages.specs.Columns.{columns-end}
 use Rattle.stages.specs.Room.{splits-low}
+use Rattle.scan.specs.Nodes.{part-length}
 use Rattle.scan.specs.Skip.{split-by, Skips}
-use Rattle.setnumbers.specs.Stands.{Stands, SomeStmt, SomeTable, SomeDifferent, StmtEnds}
+use Rattle.setnumbers.specs.Stands.{Stands, SomeStmt, SomeTable, SomeDifferent, StmtEnds, TableEnds}
+use Rattle.setnumbers.specs.KnownTie.{KnownTie, known-end}
+use Rattle.setnumbers.proofs.Steady.{same-end}
 use Rattle.setnumbers.proofs.Words.{part-short, columns-stop, table-words, table-stop, different-words}
 
 pub some-word : (t : Stmt) → 0 < length (encode-stmt t)
@@ -42,6 +46,14 @@ module _ (w : List ℤ) (at : ℕ) where
 
   pub ends-later : (q : ℕ) → StmtEnds w at q → SomeStmt w at → at < q
   ends-later q e s = omega (arith, e (s .stmt) (s .stands), some-word (s .stmt))
+
+  -- a rule is read to its end
+  rule-stop : (e : BoolExpr) → Stands w at (Rule e) → decode (read-part w) 64 below false (at + 1) 0 .end ≡ at + length (encode-stmt (Rule e))
+  rule-stop e h =
+      let l : length (encode-stmt (Rule e)) ≡ suc (length (encode-bool e)) = unfold encode-stmt in refl in
+      let i : 0 + splits e below ≤ limit = omega (arith, splits-low e below, stmt-inside (Rule e) h, l) in
+      let r = rule-stands e (read-part w) 64 (at + 1) 0 (h .legal) (rule-words e h) i in
+      omega (arith, r .end, l)
 
   -- ---- by the first word k
 
@@ -77,15 +89,17 @@ module _ (w : List ℤ) (at : ℕ) where
 
     -- ---- the end
 
-    pub rule-ends : (q b : ℕ) → k ≡ 1 → Skips (read-part w) 64 (split-by 1) (at + 1) 0 q b → StmtEnds w at q
+    pub rule-ends : (n q b : ℕ) → k ≡ 1 → Skips (read-part w) 64 (split-by 1) (at + 1) n q b → StmtEnds w at q
     unfolding split-by
-    rule-ends q b z s (Rule e) h =
-        let l : length (encode-stmt (Rule e)) ≡ suc (length (encode-bool e)) = unfold encode-stmt in refl in
-        let i : 0 + splits e below ≤ limit = omega (arith, splits-low e below, stmt-inside (Rule e) h, l) in
-        let r = rule-stands e (read-part w) 64 (at + 1) 0 (h .legal) (rule-words e h) i in
-        omega (arith, s .end false, r .end, l)
-    rule-ends q b z s (Table es rows) h = not-here (Table es rows) (λ x. omega (arith, z, x)) h
-    rule-ends q b z s (AllDifferent es) h = not-here (AllDifferent es) (λ x. omega (arith, z, x)) h
+    rule-ends n q b z s (Rule e) h = s .end false ∙ same-end (read-part w) 64 below false (at + 1) n 0 ∙ rule-stop e h
+    rule-ends n q b z s (Table es rows) h = not-here (Table es rows) (λ x. omega (arith, z, x)) h
+    rule-ends n q b z s (AllDifferent es) h = not-here (AllDifferent es) (λ x. omega (arith, z, x)) h
+
+    -- a tie of two variables that have literals
+    pub known-ends : (q : ℕ) → 4608 ≤ length w → k ≡ 1 → KnownTie w (at + 1) → q ≡ min (at + 6) 4608 → StmtEnds w at q
+    known-ends q size z t i (Rule e) h = let x = part-length w size in omega (arith, x, known-end w (at + 1) 0 t, rule-stop e h)
+    known-ends q size z t i (Table es rows) h = not-here (Table es rows) (λ x. omega (arith, z, x)) h
+    known-ends q size z t i (AllDifferent es) h = not-here (AllDifferent es) (λ x. omega (arith, z, x)) h
 
     pub different-ends : (n p : ℕ) → k ≡ 3 → n ≡ word (read-part w) (at + 1) → p ≡ columns-end (read-part w) n (at + 2) → StmtEnds w at p
     different-ends n p z hn hp (Rule e) h = not-here (Rule e) (λ q. omega (arith, z, q)) h
@@ -99,3 +113,8 @@ module _ (w : List ℤ) (at : ℕ) where
     table-ends n m p y z hn hm hp (Rule e) h = not-here (Rule e) y h
     table-ends n m p y z hn hm hp (AllDifferent es) h = not-here (AllDifferent es) z h
     table-ends n m p y z hn hm hp (Table es rows) h = table-stop w at es rows h n m p hn hm hp
+
+    pub table-only : (q : ℕ) → (k ≡ 1 → ⊥) → (k ≡ 3 → ⊥) → TableEnds w at q → StmtEnds w at q
+    table-only q y z t (Rule e) h = not-here (Rule e) y h
+    table-only q y z t (Table es rows) h = t es rows h
+    table-only q y z t (AllDifferent es) h = not-here (AllDifferent es) z h

@@ -1,5 +1,6 @@
 pub mod Clearing
 pub mod Words
+pub mod Steady
 pub mod Ends
 pub mod Numbering
 pub mod Tables

@@ -8,16 +8,25 @@ use native.Mathlib.Numerals.{sub-one}
 use lib.IntN.{ℤ}
 use lib.Dec.{ltb}
 use borrow.Author.Tests.{lt-ltb, le-ltb}
+use Rattle.syntax.specs.Syntax.{Domain}
 use Rattle.walk.specs.Decode.{read-part}
+use Rattle.walks.specs.Tree.{here}
+use Rattle.walks.specs.Item.{has-ifs}
+use Rattle.walks.specs.Decode.{decode-int}
 use Rattle.walks.specs.Meet.{State, with-work}
-use Rattle.stages.specs.Columns.{column-at}
+use Rattle.walks.specs.Tree.{never}
+use Rattle.stages.specs.Columns.{column-at, columns-end}
 use Rattle.scan.specs.Skip.{split-by, IntSkips}
-use Rattle.numbering.specs.Task.{Task, skip, then, Low, Done, Left, left-all, left-done, left-next, ready-next, Starts}
+use Rattle.numbering.specs.Task.{Task, skip, then, Low, kept-same, Done, Left, left-all, left-done, left-next, ready-next, Starts}
+use Rattle.numbering.specs.Steps.{int-at}
+use Rattle.numbering.specs.TieWalk.{int-skips-as}
 use Rattle.numbering.specs.Rules.{pair-task}
 use Rattle.numbering.specs.Columns.{column-task}
 use Rattle.setnumbers.specs.Cleared.{Cleared, pair-ifs}
 use Rattle.setnumbers.specs.Tasks.{stopping, columns-task, clear-task, cleared-task, row-task, pairs-task, Quits, quits-skip, Before, before-none, row-before, row-quits, pairs-quit}
+use Rattle.setnumbers.specs.Once.{each-task, PlainSides, once-meets, once-fits}
 use Rattle.setnumbers.specs.Numbered.{Asks}
+use Rattle.setnumbers.proofs.Words.{columns-more, columns-none}
 
 -- ---- stopping
 
@@ -42,10 +51,10 @@ starts-of i a = record { size = omega (arith, a .long); inside = i; low-base = z
 
 module _ (rec cap : ℕ) (n at : ℕ) (st : State) where
   abbrev pub Columns : ℕ → ℕ → State → Type 0
-  Columns rest q st' = (q ≤ 4608) × Left (columns-task rec cap (read-part (st .work)) n at) st (columns-task rec cap (read-part (st .work)) rest q) st'
+  Columns rest q st' = (q ≤ 4608) × Left (columns-task rec cap (read-part (st .work)) n at) st (columns-task rec cap (read-part (st .work)) rest q) st' × (columns-end (read-part (st .work)) rest q ≡ columns-end (read-part (st .work)) n at)
 
   pub columns-first : at ≤ 4608 → Low st → Columns n at st
-  columns-first h l = (h, left-all (columns-task rec cap (read-part (st .work)) n at) st l)
+  columns-first h l = (h, left-all (columns-task rec cap (read-part (st .work)) n at) st l, refl)
 
   module _ (rest q : ℕ) (st' : State) (z : rest ≡ 0 → ⊥) (x : Columns rest q st') where
     columns-some : Left (columns-task rec cap (read-part (st .work)) n at) st (then (column-task rec cap (read-part (st .work)) q) (columns-task rec cap (read-part (st .work)) (rest - 1) (column-at (read-part (st .work)) q .end))) st'
@@ -59,14 +68,17 @@ module _ (rec cap : ℕ) (n at : ℕ) (st : State) where
     pub column-asks : Asks (columns-task rec cap (read-part (st .work)) n at) st rec → Asks (column-task rec cap (read-part (st' .work)) q) st' rec
     column-asks k = asks-next (λ ws. column-task rec cap ws q) (columns-task rec cap (read-part (st .work)) n at) (columns-task rec cap (read-part (st .work)) (rest - 1) (column-at (read-part (st .work)) q .end)) st st' rec k columns-some
 
-    pub columns-next : (st'' : State) (q' b : ℕ) → IntSkips (read-part (st' .work)) 64 (split-by 0) q 0 q' b → Done (column-task rec cap (read-part (st' .work)) q) st' st'' → Columns (rest - 1) q' st''
+    pub columns-next : (st'' : State) (q' b : ℕ) → IntSkips (read-part (st' .work)) 64 never q 0 q' b → Done (column-task rec cap (read-part (st' .work)) q) st' st'' → Columns (rest - 1) q' st''
     unfolding split-by
     columns-next st'' q' b s y =
-        let e : column-at (read-part (st .work)) q .end ≡ q' = ap (λ (ws : List ℤ). column-at ws q .end) (sym (x .1 .kept .part)) ∙ sym (s .end) in
-        (s .inside, subst (λ (i : ℕ). Left (columns-task rec cap (read-part (st .work)) n at) st (columns-task rec cap (read-part (st .work)) (rest - 1) i) st'') e (left-next (λ ws. column-task rec cap ws q) columns-some y))
+        let e : column-at (read-part (st .work)) q .end ≡ q' = ap (λ (ws : List ℤ). column-at ws q .end) (sym (x .1 .kept .part)) ∙ sym (s .end) in (
+          s .inside,
+          subst (λ (i : ℕ). Left (columns-task rec cap (read-part (st .work)) n at) st (columns-task rec cap (read-part (st .work)) (rest - 1) i) st'') e (left-next (λ ws. column-task rec cap ws q) columns-some y),
+          columns-more (read-part (st .work)) rest q q' b z (int-skips-as (x .1 .kept .part) s) ∙ x .2,
+        )
 
-  pub columns-last : (rest q : ℕ) (st' : State) → rest ≡ 0 → Columns rest q st' → Done (columns-task rec cap (read-part (st .work)) n at) st st'
-  columns-last rest q st' z x = go rest z (x .1)
+  pub columns-last : (rest q : ℕ) (st' : State) → rest ≡ 0 → Columns rest q st' → Done (columns-task rec cap (read-part (st .work)) n at) st st' × (q ≡ columns-end (read-part (st .work)) n at)
+  columns-last rest q st' z x = (go rest z (x .1), columns-none (read-part (st .work)) rest q z ∙ x .2)
     where
       go : (k : ℕ) → k ≡ 0 → Left (columns-task rec cap (read-part (st .work)) n at) st (columns-task rec cap (read-part (st .work)) k q) st' → Done (columns-task rec cap (read-part (st .work)) n at) st st'
       go zero i y = left-done (unfold columns-task in y)
@@ -172,3 +184,75 @@ module _ (rec cap n at : ℕ) (st : State) where
       go : (k : ℕ) → k ≡ 0 → Left (pairs-of n at) st (pairs-of k p) st' → Done (pairs-of n at) st st'
       go zero i y = left-done (unfold pairs-task in y)
       go (suc k) i y = absurd (omega arith)
+
+-- ---- each expression once
+
+module _ (rec cap n at : ℕ) (st : State) where
+  abbrev each-of : ℕ → ℕ → Task
+  each-of k q = each-task rec cap (read-part (st .work)) k q
+
+  abbrev pub Expressions : ℕ → ℕ → State → Type 0
+  Expressions rest q st' = (q ≤ 4608) × Left (each-of n at) st (each-of rest q) st'
+
+  pub each-first : at ≤ 4608 → Low st → Expressions n at st
+  each-first h l = (h, left-all (each-of n at) st l)
+
+  module _ (rest q : ℕ) (st' : State) (z : rest ≡ 0 → ⊥) (x : Expressions rest q st') where
+    abbrev expression : List ℤ → Task
+    expression ws = int-at rec cap ws 64 here q 0
+
+    abbrev behind : ℕ
+    behind = decode-int (read-part (st .work)) 64 here q 0 .end
+
+    each-some : Left (each-of n at) st (then (expression (read-part (st .work))) (each-of (rest - 1) behind)) st'
+    each-some = go rest z (x .1)
+      where
+        go : (k : ℕ) → (k ≡ 0 → ⊥) → Left (each-of n at) st (each-of k q) st' → Left (each-of n at) st (then (expression (read-part (st .work))) (each-of (k - 1) behind)) st'
+        go zero i y = absurd (i refl)
+        go (suc k) i y = rw sub-one (unfold each-task in y)
+
+    pub each-asks : Asks (each-of n at) st rec → Starts (int-at rec cap (read-part (st' .work)) 64 (split-by 2) q 0) st' rec q 0
+    unfolding split-by
+    each-asks k = starts-of (x .0) (asks-next expression (each-of n at) (each-of (rest - 1) behind) st st' rec k each-some)
+
+    pub each-next : (st'' : State) (q' b : ℕ) → Done (int-at rec cap (read-part (st' .work)) 64 (split-by 2) q 0) st' st'' × IntSkips (read-part (st' .work)) 64 (split-by 2) q 0 q' b → Expressions (rest - 1) q' st''
+    unfolding split-by
+    each-next st'' q' b y =
+        let e : behind ≡ q' = ap (λ (ws : List ℤ). decode-int ws 64 here q 0 .end) (sym (x .1 .kept .part)) ∙ sym (y .1 .end) in
+        (y .1 .inside, subst (λ (i : ℕ). Left (each-of n at) st (each-of (rest - 1) i) st'') e (left-next expression each-some (y .0)))
+
+  pub each-last : (rest q : ℕ) (st' : State) → rest ≡ 0 → Expressions rest q st' → Done (each-of n at) st st'
+  each-last rest q st' z x = go rest z (x .1)
+    where
+      go : (k : ℕ) → k ≡ 0 → Left (each-of n at) st (each-of k q) st' → Done (each-of n at) st st'
+      go zero i y = left-done (unfold each-task in y)
+      go (suc k) i y = absurd (omega arith)
+
+-- ---- all pairs without Ifs
+
+module _ (rec cap n at : ℕ) (st : State) where
+  abbrev pairs-here : Task
+  pairs-here = pairs-task rec cap (read-part (st .work)) n at skip
+
+  abbrev each-here : Task
+  each-here = each-task rec cap (read-part (st .work)) n at
+
+  -- no pair
+  pub few-done : n < 2 → Low st → Done pairs-here st st
+  few-done h l = record { state = λ ds d f. go ds n h; kept = kept-same st; low = l }
+    where
+      go : (ds : List Domain) (k : ℕ) → k < 2 → st ≡ pairs-task rec cap (read-part (st .work)) k at skip .meet ds st
+      go ds zero i = unfold pairs-task in refl
+      go ds (suc zero) i = unfold pairs-task row-task in refl
+      go ds (suc (suc k)) i = absurd (omega arith)
+
+  module _ (sides : PlainSides (read-part (st .work)) n at) where
+    pub once-asks : Asks pairs-here st rec → Asks each-here st rec
+    once-asks a = record { long = a .long; records = a .records; low = a .low; ready = record { domains = a .ready .domains; declares = a .ready .declares; fits = once-fits (a .ready .domains) rec cap (read-part (st .work)) n at sides st } }
+
+    pub once-done : 2 ≤ n → st .used ≤ cap → has-ifs (st .work) ≡ false → Asks pairs-here st rec → (st' : State) → Done each-here st st' → Done pairs-here st st'
+    once-done h u i a st' x = record {
+      state = λ ds d f. x .state ds d (once-fits ds rec cap (read-part (st .work)) n at sides st) ∙ sym (once-meets ds rec cap (read-part (st .work)) n at sides h st (record { size = a .long; bools = a .low .bools; used = u; word = i }));
+      kept = x .kept;
+      low = x .low;
+    }

@@ -1,21 +1,28 @@
 -- One statement's numbering by its first word, and all of them one after another.
-use mathlib.Core.Path.{_≡_, refl, sym, _∙_, subst}
-use mathlib.Core.Bool.{false}
+use mathlib.Core.Path.{_≡_, refl, sym, ap, _∙_, subst}
+use mathlib.Core.Bool.{false, not}
 use mathlib.Core.List.{List, [], _∷_}
 use Prim.Native.Nat.{ℕ, _+_, _≤_, _<_}
 use native.Mathlib.Omega.{arith}
-use lib.IntN.{ℤ}
-use lib.ListN.{length, length-append}
+use lib.IntN.{ℤ, pos}
+use lib.ListN.{length, drop, getD, length-append}
+use lib.Seq.{getD-drop}
 use lib.Dec.{ltb}
 use borrow.Author.Tests.{le-ltb}
+use Rattle.laws.specs.Ints.{is-zero}
 use Rattle.laws.specs.Slices.{Has, has-front, has-back}
 use Rattle.syntax.specs.Syntax.{Stmt, Rule, Table, AllDifferent, encode-stmt}
+use Rattle.words.specs.Exact.{Each}
 use Rattle.walk.specs.Decode.{word, read-part}
+use Rattle.walks.specs.Item.{has-ifs}
 use Rattle.walks.specs.Meet.{State}
 use Rattle.stages.specs.StatementsPlaces.{stmts-words}
+use Rattle.numbering.specs.Declares.{upper}
 use Rattle.numbering.specs.Task.{Task, skip, then, Low, kept-same, Done, Left, left-all, left-done, left-next}
 use Rattle.numbering.specs.Rules.{rule-task}
 use Rattle.setnumbers.specs.Stands.{Stands, SomeStmt, StmtEnds}
+use Rattle.setnumbers.specs.PlainStmt.{PlainStmt}
+use Rattle.setnumbers.specs.Once.{PlainSides}
 use Rattle.setnumbers.specs.Tasks.{stopping, pairs-task, table-task, stmt-task, stmts-task, stmt-before, stmts-quit}
 use Rattle.setnumbers.specs.KnownTie.{KnownTie, known-stays}
 use Rattle.setnumbers.specs.Numbered.{Asks, AsksTable, DoneTable, AsksStmt, DoneStmt, StandAll, AsksAll, DoneAll}
@@ -65,6 +72,14 @@ module _ (rec cap at : ℕ) (st : State) (k : ℕ) (hk : k ≡ word (read-part (
         go (Table es rows) h x = not-here (st .work) at k hk (Table es rows) (λ q. omega (arith, z, q)) h
         go (AllDifferent es) h x = subst (λ (m : ℕ). Asks (pairs-task rec cap (read-part (st .work)) m (at + 2) skip) st rec) (sym (hn ∙ different-words (st .work) at es h .count)) (unfold stmt-task in x)
 
+    pub different-plain : k ≡ 3 → AsksStmt rec cap at st → has-ifs (st .work) ≡ false → PlainSides (read-part (st .work)) n (at + 2)
+    different-plain z a i = go (a .stmt) (a .stands) (a .plain i)
+      where
+        go : (t : Stmt) → Stands (st .work) at t → PlainStmt t → PlainSides (read-part (st .work)) n (at + 2)
+        go (Rule e) h x = not-here (st .work) at k hk (Rule e) (λ q. omega (arith, z, q)) h
+        go (Table es rows) h x = not-here (st .work) at k hk (Table es rows) (λ q. omega (arith, z, q)) h
+        go (AllDifferent es) h x = let d = different-words (st .work) at es h in record { exprs = es; count = sym (hn ∙ d .count); sides = record { words = d .stands; legal = h .legal; plain = x } }
+
     pub different-done : k ≡ 3 → (st' : State) → Done (pairs-task rec cap (read-part (st .work)) n (at + 2) skip) st st' → DoneStmt rec cap at st st'
     unfolding stmt-task
     different-done z st' d (Rule e) h = not-here (st .work) at k hk (Rule e) (λ q. omega (arith, z, q)) h
@@ -87,6 +102,11 @@ module _ (rec cap at : ℕ) (st : State) (k : ℕ) (hk : k ≡ word (read-part (
 
 -- ---- all statements from `from` to `end`
 
+-- the word for Ifs lies behind what is written
+ifs-kept : (w w' : List ℤ) → drop upper w' ≡ drop upper w → has-ifs w' ≡ has-ifs w
+unfolding has-ifs
+ifs-kept w w' e = ap (λ (z : ℤ). not (is-zero z)) (sym (getD-drop upper w' 0 (pos 0)) ∙ ap (λ (l : List ℤ). getD l 0 (pos 0)) e ∙ getD-drop upper w 0 (pos 0))
+
 module _ (rec cap from end : ℕ) (st : State) where
   abbrev all-of : ℕ → List Stmt → Task
   all-of q ts = stmts-task rec cap (read-part (st .work)) q ts
@@ -94,6 +114,7 @@ module _ (rec cap from end : ℕ) (st : State) where
   pub record Rest (ts : List Stmt) (q : ℕ) (st' : State) : Type 0 where
     pub rest : List Stmt
     pub stand : StandAll (st .work) q end rest
+    pub plain : Each PlainStmt ts → Each PlainStmt rest
     pub left : Left (all-of from ts) st (all-of q rest) st'
 
   pub record Walking (q : ℕ) (st' : State) : Type 0 where
@@ -102,22 +123,23 @@ module _ (rec cap from end : ℕ) (st : State) where
     pub left : (ts : List Stmt) → StandAll (st .work) from end ts → Rest ts q st'
 
   pub walking-first : Low st → Walking from st
-  walking-first l = record { size = refl; room = refl; left = λ ts h. record { rest = ts; stand = h; left = left-all (all-of from ts) st l } }
+  walking-first l = record { size = refl; room = refl; left = λ ts h. record { rest = ts; stand = h; plain = λ k. k; left = left-all (all-of from ts) st l } }
 
   -- the first of those that are left
   record First (ts : List Stmt) (q : ℕ) (st' : State) : Type 0 where
     pub stmt : Stmt
     pub others : List Stmt
     pub stands : Stands (st' .work) q stmt
+    pub plain : Each PlainStmt ts → Each PlainStmt (stmt ∷ others)
     pub behind : StandAll (st .work) (q + length (encode-stmt stmt)) end others
     pub left : Left (all-of from ts) st (then (stmt-task rec cap (read-part (st .work)) q stmt skip) (all-of (q + length (encode-stmt stmt)) others)) st'
 
   first-of : (ts : List Stmt) (q : ℕ) (st' : State) → q < end → Rest ts q st' → First ts q st'
-  first-of ts q st' l x = go (x .rest) (x .stand) (x .left)
+  first-of ts q st' l x = go (x .rest) (x .stand) (x .plain) (x .left)
     where
-      go : (us : List Stmt) → StandAll (st .work) q end us → Left (all-of from ts) st (all-of q us) st' → First ts q st'
-      go [] h y = absurd (omega (arith, h .stop, l))
-      go (t ∷ us) h y =
+      go : (us : List Stmt) → StandAll (st .work) q end us → (Each PlainStmt ts → Each PlainStmt us) → Left (all-of from ts) st (all-of q us) st' → First ts q st'
+      go [] h k y = absurd (omega (arith, h .stop, l))
+      go (t ∷ us) h k y =
           let b = q + length (encode-stmt t) in
           let n = length-append (encode-stmt t) (stmts-words us) in
           let w = has-front (read-part (st .work)) q (encode-stmt t) (stmts-words us) (h .words) in
@@ -125,6 +147,7 @@ module _ (rec cap from end : ℕ) (st : State) where
             stmt = t;
             others = us;
             stands = record { words = subst (λ (ws : List ℤ). Has ws q (encode-stmt t)) (sym (y .kept .part)) w; legal = h .legal .0; rows = h .rows .0 };
+            plain = k;
             behind = record { words = has-back (read-part (st .work)) q (encode-stmt t) (stmts-words us) (h .words); legal = h .legal .1; rows = h .rows .1; stop = omega (arith, h .stop, n) };
             left = left-before (all-of from ts) (stmt-task rec cap (read-part (st .work)) q t skip) (all-of b us) (stmt-task rec cap (read-part (st .work)) q t (all-of b us)) st st' (stmt-before rec cap (read-part (st .work)) q t (all-of b us) (stmts-quit rec cap (read-part (st .work)) b us)) (unfold stmts-task in y);
           }
@@ -133,7 +156,7 @@ module _ (rec cap from end : ℕ) (st : State) where
     pub stmt-asks : AsksAll rec cap from end st → AsksStmt rec cap q st'
     stmt-asks a =
         let f = first-of (a .stmts) q st' l (x .left (a .stmts) (a .stand)) in
-        record { stmt = f .stmt; stands = f .stands; asks = asks-next (λ ws. stmt-task rec cap ws q (f .stmt) skip) (all-of from (a .stmts)) (all-of (q + length (encode-stmt (f .stmt))) (f .others)) st st' rec (a .asks) (f .left) }
+        record { stmt = f .stmt; stands = f .stands; plain = λ e. f .plain (a .plain (sym (ifs-kept (st .work) (st' .work) (f .left .kept .behind)) ∙ e)) .0; asks = asks-next (λ ws. stmt-task rec cap ws q (f .stmt) skip) (all-of from (a .stmts)) (all-of (q + length (encode-stmt (f .stmt))) (f .others)) st st' rec (a .asks) (f .left) }
 
     pub stmt-some : AsksAll rec cap from end st → SomeStmt (st' .work) q
     stmt-some a = let f = first-of (a .stmts) q st' l (x .left (a .stmts) (a .stand)) in record { stmt = f .stmt; stands = f .stands }
@@ -148,6 +171,7 @@ module _ (rec cap from end : ℕ) (st : State) where
             record {
               rest = f .others;
               stand = subst (λ (j : ℕ). StandAll (st .work) j end (f .others)) i (f .behind);
+              plain = λ k. f .plain k .1;
               left = subst (λ (j : ℕ). Left (all-of from ts) st (all-of j (f .others)) st'') i (left-next (λ ws. stmt-task rec cap ws q (f .stmt) skip) (f .left) (d (f .stmt) (f .stands)));
             }
 

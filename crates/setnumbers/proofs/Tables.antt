@@ -2,6 +2,7 @@
 use mathlib.Core.Path.{_≡_, sym, ap, _∙_, subst}
 use mathlib.Core.List.{List}
 use Prim.Native.Nat.{ℕ, _+_}
+use lib.IntN.{ℤ}
 use lib.ListN.{length}
 use Rattle.laws.specs.Slices.{Has}
 use Rattle.syntax.specs.Syntax.{IntExpr, Cell, Table}
@@ -21,7 +22,7 @@ use Rattle.setnumbers.specs.Tasks.{columns-task}
 use Rattle.setnumbers.specs.Numbered.{Asks, AsksTable, DoneTable}
 use Rattle.setnumbers.proofs.Words.{table-words, rows-place}
 
-module _ (rec cap at : ℕ) (st : State) (n k p : ℕ) (hn : n ≡ word (read-part (st .work)) (at + 1)) (hk : k ≡ word (read-part (st .work)) (at + 2)) (hp : p ≡ columns-end (read-part (st .work)) n (at + 3)) where
+module _ (rec cap at : ℕ) (st : State) (n : ℕ) (hn : n ≡ word (read-part (st .work)) (at + 1)) where
   pub columns-asks : AsksTable rec cap at st → Asks (columns-task rec cap (read-part (st .work)) n (at + 3)) st rec
   columns-asks t =
       let a = t .asks in
@@ -29,20 +30,23 @@ module _ (rec cap at : ℕ) (st : State) (n k p : ℕ) (hn : n ≡ word (read-pa
       subst (λ (m : ℕ). Asks (columns-task rec cap (read-part (st .work)) m (at + 3)) st rec) (sym (hn ∙ x .columns))
       (record { long = a .long; records = a .records; low = a .low; ready = record { domains = a .ready .domains; declares = a .ready .declares; fits = a .ready .fits } })
 
-  rows-stand : (es : List IntExpr) (rows : List (List Cell)) → Stands (st .work) at (Table es rows) → RowsStand (st .work) p n k rows
-  rows-stand es rows h =
-      let x = table-words (st .work) at es rows h in
-      record {
-        stands = has-part (st .work) p (cells-words rows) (subst (λ (i : ℕ). Has (read-part (st .work)) i (cells-words rows)) (sym (rows-place (st .work) at es rows h n k p hn hk hp)) (x .cells));
-        count = hk ∙ x .row-count;
-        well = subst (λ (m : ℕ). Each (WellRow m) rows) (sym (hn ∙ x .columns)) (h .rows);
-      }
+  -- st': behind the columns
+  module _ (k p : ℕ) (hk : k ≡ word (read-part (st .work)) (at + 2)) (hp : p ≡ columns-end (read-part (st .work)) n (at + 3)) (st' : State) where
+    rows-stand : (es : List IntExpr) (rows : List (List Cell)) → Stands (st .work) at (Table es rows) → read-part (st' .work) ≡ read-part (st .work) → RowsStand (st' .work) p n k rows
+    rows-stand es rows h e =
+        let x = table-words (st .work) at es rows h in
+        let y : Has (read-part (st .work)) p (cells-words rows) = subst (λ (i : ℕ). Has (read-part (st .work)) i (cells-words rows)) (sym (rows-place (st .work) at es rows h n k p hn hk hp)) (x .cells) in
+        record {
+          stands = has-part (st' .work) p (cells-words rows) (subst (λ (ws : List ℤ). Has ws p (cells-words rows)) (sym e) y);
+          count = hk ∙ x .row-count;
+          well = subst (λ (m : ℕ). Each (WellRow m) rows) (sym (hn ∙ x .columns)) (h .rows);
+        }
 
-  -- b: the next Boolean's number behind it
-  pub table-done : (f b : ℕ) (st' : State) → Freshens (st .work) p n k f → Done (columns-task rec cap (read-part (st .work)) n (at + 3)) st st' → b ≡ bump (st' .bools) f → DoneTable rec cap at st (record { work = st' .work; out = st' .out; bools = b; ints = st' .ints; used = st' .used })
-  table-done f b st' y d e es rows h =
-      let x = table-words (st .work) at es rows h in
-      let c = hn ∙ x .columns in
-      let i : f ≡ table-fresh (length es) rows = y rows (rows-stand es rows h) ∙ ap (λ (m : ℕ). table-fresh m rows) c in
-      let g : Done (columns-task rec cap (read-part (st .work)) (length es) (at + 3)) st st' = subst (λ (m : ℕ). Done (columns-task rec cap (read-part (st .work)) m (at + 3)) st st') c d in
-      rw e (done-bools (λ ds. table-fresh (length es) rows) f (λ ds. i) g)
+    -- b: the next Boolean's number behind it
+    pub table-done : (f b : ℕ) → Freshens (st' .work) p n k f → Done (columns-task rec cap (read-part (st .work)) n (at + 3)) st st' → b ≡ bump (st' .bools) f → DoneTable rec cap at st (record { work = st' .work; out = st' .out; bools = b; ints = st' .ints; used = st' .used })
+    table-done f b y d e es rows h =
+        let x = table-words (st .work) at es rows h in
+        let c = hn ∙ x .columns in
+        let i : f ≡ table-fresh (length es) rows = y rows (rows-stand es rows h (d .kept .part)) ∙ ap (λ (m : ℕ). table-fresh m rows) c in
+        let g : Done (columns-task rec cap (read-part (st .work)) (length es) (at + 3)) st st' = subst (λ (m : ℕ). Done (columns-task rec cap (read-part (st .work)) m (at + 3)) st st') c d in
+        rw e (done-bools (λ ds. table-fresh (length es) rows) f (λ ds. i) g)

@@ -1,4 +1,4 @@
--- A rule that ties two variables which have literals takes no number and changes nothing (`known-stays`), so that it need not be walked.
+-- A rule that ties two variables which have literals takes no number and changes nothing (`known-stays`), so that it need not be walked; and where it ends (`known-end`).
 use mathlib.Core.Path.{_≡_, refl, ap, _∙_}
 use mathlib.Core.Bool.{Bool, true, false, not}
 use mathlib.Core.List.{List}
@@ -14,7 +14,7 @@ use Rattle.walk.specs.declared.Node.the-variants.{Cross}
 use Rattle.walks.specs.Tree.{Splitting, below, here}
 use Rattle.walks.specs.Form.{var, cross, Forms, nil, cons}
 use Rattle.walks.specs.Item.{tallies, form-item, var-item}
-use Rattle.walks.specs.Decode.{node-of, many, cross-step, step, decode, many-ties, cross-ties, ties-step, ties-at}
+use Rattle.walks.specs.Decode.{node-of, Read, many, cross-step, step, decode, many-ties, cross-ties, ties-step, ties-at}
 use Rattle.walks.specs.DecodeExact.{rule-at}
 use Rattle.walks.specs.Meet.{State, more-bools, meet-bool, form-meet, form-meets}
 use Rattle.numbering.specs.Rules.{rule-task}
@@ -112,3 +112,23 @@ known-stays ds rec cap at st low k = go (k .code)
     go : word ws at ≡ 15 ⊎ word ws at ≡ 16 → form-meets ds rec cap (rule-at ws 64 at n) (more-bools (decode ws 64 below false at n .next - n) st) ≡ st
     go (inl e) = stays false (unfold node-of in rw e refl)
     go (inr e) = stays true (unfold node-of in rw e refl)
+
+-- where it ends
+pub known-end : (w : List ℤ) (at n : ℕ) → KnownTie w at → (let ws = read-part w in decode ws 64 below false at n .end ≡ past ws (past ws (past ws (at + 1) + 2) + 2))
+known-end w at n k = go (k .code)
+  where
+    ws : List ℤ
+    ws = read-part w
+
+    p : ℕ
+    p = past ws (at + 1)
+
+    q : ℕ
+    q = past ws (p + 2)
+
+    ends : (h : Bool) → node-of ws false at (word ws at) ≡ Cross h p → decode ws 64 below false at n .end ≡ past ws (q + 2)
+    ends h e = ap (λ (r : Read). r .end) (tie-read ws 62 p q n refl (k .sides .first) (k .sides .second) at h e)
+
+    go : word ws at ≡ 15 ⊎ word ws at ≡ 16 → decode ws 64 below false at n .end ≡ past ws (q + 2)
+    go (inl e) = ends false (unfold node-of in rw e refl)
+    go (inr e) = ends true (unfold node-of in rw e refl)

@@ -3,7 +3,11 @@ pub mod Cleared
 pub mod PairIfs
 pub mod Fresh
 pub mod Stands
+pub mod NoIf
+pub mod PlainStmt
 pub mod Tasks
+pub mod MeetVars
+pub mod Once
 pub mod Follow
 pub mod FollowStatements
 pub mod Rows

@@ -1,27 +1,30 @@
 -- What numbering folded statements asks and does: the tasks of whatever statements stand there. A state of the log gives it (`all-ask`), and what that is for the
 -- log (`all-agree`).
-use mathlib.Core.Path.{_≡_, sym, subst}
-use mathlib.Core.Bool.{Bool}
+use mathlib.Core.Path.{_≡_, sym, _∙_, subst}
+use mathlib.Core.Bool.{Bool, false}
 use mathlib.Core.List.{List}
 use Prim.Native.Nat.{ℕ, _+_, _≤_, _<_}
 use native.Mathlib.Omega.{arith}
 use lib.IntN.{ℤ}
 use lib.ListN.{length}
+use Rattle.laws.specs.Bools.{never}
 use Rattle.laws.specs.Slices.{Has}
 use Rattle.syntax.specs.Syntax.{Domain, IntExpr, Cell, Stmt, Table}
 use Rattle.words.specs.Exact.{Each}
 use Rattle.clauses.specs.Log.{Log}
 use Rattle.walk.specs.Item.{limit}
 use Rattle.walk.specs.Decode.{read-part}
+use Rattle.walks.specs.Item.{has-ifs}
 use Rattle.walks.specs.Meet.{State}
 use Rattle.walks.specs.Leaves.{words-of}
-use Rattle.stages.specs.StatementsParts.{meet-parts, parts, rooms, Standing}
+use Rattle.stages.specs.StatementsParts.{meet-parts, parts, rooms, NoIfs, Standing}
 use Rattle.stages.specs.StatementsPlaces.{stmts-words, LegalStmt, PartedFrom, Marked}
 use Rattle.stages.specs.Statements.{stmts-stages}
 use Rattle.stages.specs.StartFits.{StmtWithin}
 use Rattle.memory.specs.DomainTable.{Declares}
 use Rattle.numbering.specs.Task.{Task, skip, Low, Ready, Done}
 use Rattle.setnumbers.specs.Stands.{WellRows, Stands, SomeTable}
+use Rattle.setnumbers.specs.PlainStmt.{PlainStmt, plain-stmts}
 use Rattle.setnumbers.specs.Tasks.{table-task, stmt-task, stmts-task}
 use Rattle.setnumbers.specs.Follow.{Agree, Followed}
 use Rattle.setnumbers.specs.FollowStatements.{stmts-followed}
@@ -40,10 +43,11 @@ pub record AsksTable (rec cap at : ℕ) (st : State) : Type 0 where
 abbrev pub DoneTable : ℕ → ℕ → ℕ → State → State → Type 0
 DoneTable rec cap at st st' = (es : List IntExpr) (rows : List (List Cell)) → Stands (st .work) at (Table es rows) → Done (table-task rec cap (read-part (st .work)) at es rows) st st'
 
--- some statement stands at a place
+-- some statement stands at a place; without Ifs where the word for Ifs is 0
 pub record AsksStmt (rec cap at : ℕ) (st : State) : Type 0 where
   pub stmt : Stmt
   pub stands : Stands (st .work) at stmt
+  pub plain : has-ifs (st .work) ≡ false → PlainStmt stmt
   pub asks : Asks (stmt-task rec cap (read-part (st .work)) at stmt skip) st rec
 
 abbrev pub DoneStmt : ℕ → ℕ → ℕ → State → State → Type 0
@@ -59,6 +63,7 @@ pub record StandAll (w : List ℤ) (at end : ℕ) (ts : List Stmt) : Type 0 wher
 pub record AsksAll (rec cap at end : ℕ) (st : State) : Type 0 where
   pub stmts : List Stmt
   pub stand : StandAll (st .work) at end stmts
+  pub plain : has-ifs (st .work) ≡ false → Each PlainStmt stmts
   pub asks : Asks (stmts-task rec cap (read-part (st .work)) at stmts) st rec
 
 abbrev pub DoneAll : ℕ → ℕ → ℕ → ℕ → State → State → Type 0
@@ -68,6 +73,10 @@ DoneAll rec cap at end st st' = (ts : List Stmt) → StandAll (st .work) at end 
 module _ {ds : List Domain} {F : List ℤ} {parted : ℕ → Bool} {rec cap : ℕ} {with-ifs : Bool} {before : List ℤ} {low : cap < limit} {from n : ℕ} {st : State} {s : Log} where
   pub standing-low : Standing ds F parted rec cap with-ifs before low from n st s → Low st
   standing-low h = record { bools = omega (arith, h .state .room); ints = omega (arith, h .state .room); used = omega (arith, h .state .used) }
+
+  -- the word for Ifs is 0: none stands
+  pub standing-plain : {b : ℕ} → Marked F b with-ifs → Standing ds F parted rec cap with-ifs before low from n st s → has-ifs (st .work) ≡ false → NoIfs F b
+  standing-plain marked h e q x i k l m = never (sym e ∙ h .state .word ∙ marked q x i k l m)
 
 -- from a state of the log s, what is done leaves the state that stages' parts leave, or both walks are full; as in stages, parted and with-ifs
 module _ (ds : List Domain) (parted : ℕ → Bool) (rec cap : ℕ) (with-ifs : Bool) (before : List ℤ) (low : cap < limit) (at end : ℕ) (inside : end ≤ 4608) (st : State) where
@@ -83,6 +92,7 @@ module _ (ds : List Domain) (parted : ℕ → Bool) (rec cap : ℕ) (with-ifs : 
     all-ask l d = record {
       stmts = ts;
       stand = stand;
+      plain = λ e. plain-stmts F end (standing-plain marked standing e) at ts (stand .legal) (stand .words) from (omega (arith, stand .stop));
       asks = record { long = standing .state .size; records = l; low = standing-low standing; ready = record { domains = ds; declares = d; fits = followed .fits } };
     }
 

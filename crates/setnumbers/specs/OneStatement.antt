@@ -24,10 +24,11 @@ use Rattle.stages.specs.StartFits.{StmtWithin}
 use Rattle.memory.specs.DomainTable.{Declares}
 use Rattle.numbering.specs.Task.{skip}
 use Rattle.setnumbers.specs.Stands.{WellRows}
+use Rattle.setnumbers.specs.PlainStmt.{plain-stmt}
 use Rattle.setnumbers.specs.Tasks.{stmt-task}
 use Rattle.setnumbers.specs.Follow.{Agree, same, full, Followed}
 use Rattle.setnumbers.specs.FollowStatements.{stmt-followed}
-use Rattle.setnumbers.specs.Numbered.{standing-low, AsksStmt, DoneStmt}
+use Rattle.setnumbers.specs.Numbered.{standing-low, standing-plain, AsksStmt, DoneStmt}
 
 -- the statement t at q, ts behind it; end: where the statements end; st: the state before it, of the log s
 module _ (ds : List Domain) (parted : ℕ → Bool) (rec cap : ℕ) (with-ifs : Bool) (before : List ℤ) (low : cap < limit) (end : ℕ) (inside : end ≤ 4608)
@@ -59,6 +60,7 @@ module _ (ds : List Domain) (parted : ℕ → Bool) (rec cap : ℕ) (with-ifs : 
   stmt-asks l r d = record {
     stmt = t;
     stands = record { words = words; legal = legal .0; rows = r };
+    plain = λ e. plain-stmt F end (standing-plain marked standing-before e) q t (legal .0) words start to;
     asks = record { long = standing-before .state .size; records = l; low = standing-low standing-before; ready = record { domains = ds; declares = d; fits = followed .fits } };
   }
 

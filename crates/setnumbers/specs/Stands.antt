@@ -39,3 +39,7 @@ pub record SomeDifferent (w : List ℤ) (at : ℕ) : Type 0 where
 -- r: where whatever statement stands there ends
 abbrev pub StmtEnds : List ℤ → ℕ → ℕ → Type 0
 StmtEnds w at r = (t : Stmt) → Stands w at t → r ≡ at + length (encode-stmt t)
+
+-- where whatever table stands there ends
+abbrev pub TableEnds : List ℤ → ℕ → ℕ → Type 0
+TableEnds w at r = (es : List IntExpr) (rows : List (List Cell)) → Stands w at (Table es rows) → r ≡ at + length (encode-stmt (Table es rows))

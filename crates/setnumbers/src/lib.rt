@@ -1,17 +1,19 @@
 // The first walk over all folded statements of the work slice with Ifs: numbers at first meeting and creation, and the records of the emitted integers.
 ghost use mathlib.Core.Path.{_≡_};
-ghost use mathlib.Core.Bool.{true};
+ghost use mathlib.Core.Bool.{true, false};
 ghost use Prim.Native.Nat.{ℕ, _+_, _*_, _≤_};
 ghost use lib.ListN.{length};
 ghost use Rattle.walk.specs.Item.{limit};
-ghost use Rattle.walk.specs.Decode.{read-part};
+ghost use Rattle.walk.specs.Decode.{word as word-in, read-part};
+ghost use Rattle.walks.specs.Item.{has-ifs as has-ifs-in};
 ghost use Rattle.walks.specs.Clear.{clear-place};
 ghost use Rattle.stages.specs.Start.{start};
 ghost use Rattle.stages.specs.Columns.{columns-end as columns-end-in};
 ghost use Rattle.setnumbers.specs.Fresh.{Freshens};
-ghost use Rattle.setnumbers.specs.Stands.{SomeStmt, StmtEnds};
+ghost use Rattle.setnumbers.specs.Stands.{SomeStmt, StmtEnds, TableEnds};
 ghost use Rattle.numbering.specs.Task.{skip as nothing, state-of, Done};
 ghost use Rattle.setnumbers.specs.Tasks.{columns-task, row-task, pairs-task};
+ghost use Rattle.setnumbers.specs.Once.{each-task, PlainSides};
 ghost use Rattle.setnumbers.specs.KnownTie.{KnownSides, KnownTie};
 ghost use Rattle.setnumbers.specs.Numbered.{Asks, AsksTable, DoneTable, AsksStmt, DoneStmt, AsksAll, DoneAll};
 ghost use Rattle.setnumbers.specs.Ifs.{place-at};
@@ -20,6 +22,7 @@ use memory::CELLS;
 use numbering::Progress;
 use numbering::Room;
 use numbering::number_column;
+use numbering::number_int;
 use numbering::number_pair;
 use numbering::number_rule;
 use scan::node_at;
@@ -196,7 +199,13 @@ pub fn clear_pair(work: &mut [i32], p: usize, q: usize)
 
 // ---- statements
 
-// So many columns from a place on.
+// The progress, and where what was numbered ends.
+pub struct NumberedStmt {
+    pub progress: Progress,
+    pub next: usize,
+}
+
+// So many columns from a place on, and where they end.
 fn number_columns(
     work: &mut [i32],
     out: &mut [i32],
@@ -204,21 +213,23 @@ fn number_columns(
     count: usize,
     room: Room,
     c: Progress,
-) -> Progress
+) -> NumberedStmt
     requires { ⌜ (at ≤ 4608) × Asks (columns-task (room .records) (room .cap) (read-part (now work)) count at) (state-of (now work) (now out) c) (room .records) ⌝ }
-    ensures { λ r. ⌜ Done (columns-task (room .records) (room .cap) (read-part (now (work .entry))) count at) (state-of (now (work .entry)) (now (out .entry)) c) (state-of (now (work .exit)) (now (out .exit)) r) ⌝ }
+    ensures { λ r. ⌜ Done (columns-task (room .records) (room .cap) (read-part (now (work .entry))) count at) (state-of (now (work .entry)) (now (out .entry)) c) (state-of (now (work .exit)) (now (out .exit)) (r .progress)) × (r .next ≡ columns-end-in (read-part (now (work .entry))) count at) ⌝ }
 {
     let mut d = c;
     let mut q = at;
     let mut rest = count;
     while rest != 0 {
-        let p = q;
-        let s = scan::skip_int(work, p, 64, 0, 0);
-        d = number_column(work, out, p, room, d);
+        let s = number_column(work, out, q, room, d);
+        d = s.progress;
         q = s.at;
         rest = rest - 1;
     }
-    d
+    NumberedStmt {
+        progress: d,
+        next: q,
+    }
 }
 
 // The expression at p with each of so many from a place on.
@@ -276,21 +287,78 @@ fn number_different(
     d
 }
 
-// The table at a place: its columns, then the new numbers of its rows.
-fn number_table(work: &mut [i32], out: &mut [i32], at: usize, room: Room, c: Progress) -> Progress
+// Each of so many expressions from a place on, once.
+fn number_each(
+    work: &mut [i32],
+    out: &mut [i32],
+    at: usize,
+    count: usize,
+    room: Room,
+    c: Progress,
+) -> Progress
+    requires { ⌜ (at ≤ 4608) × Asks (each-task (room .records) (room .cap) (read-part (now work)) count at) (state-of (now work) (now out) c) (room .records) ⌝ }
+    ensures { λ r. ⌜ Done (each-task (room .records) (room .cap) (read-part (now (work .entry))) count at) (state-of (now (work .entry)) (now (out .entry)) c) (state-of (now (work .exit)) (now (out .exit)) r) ⌝ }
+{
+    let mut d = c;
+    let mut q = at;
+    let mut rest = count;
+    while rest != 0 {
+        let s = number_int(work, out, q, 64, 2, 0, room, d);
+        d = s.progress;
+        q = s.at;
+        rest = rest - 1;
+    }
+    d
+}
+
+// All pairs of so many expressions from a place on, where the walk is not full. Without Ifs each expression is numbered once.
+fn number_all_different(
+    work: &mut [i32],
+    out: &mut [i32],
+    at: usize,
+    n: usize,
+    room: Room,
+    c: Progress,
+) -> Progress
+    requires { ⌜ (c .used ≤ room .cap) × ((at ≤ 4608) × (Asks (pairs-task (room .records) (room .cap) (read-part (now work)) n at nothing) (state-of (now work) (now out) c) (room .records) × (has-ifs-in (now work) ≡ false → PlainSides (read-part (now work)) n at))) ⌝ }
+    ensures { λ r. ⌜ Done (pairs-task (room .records) (room .cap) (read-part (now (work .entry))) n at nothing) (state-of (now (work .entry)) (now (out .entry)) c) (state-of (now (work .exit)) (now (out .exit)) r) ⌝ }
+{
+    if scan::has_ifs(work) {
+        return number_different(work, out, at, n, room, c);
+    }
+    if n < 2 {
+        return c;
+    }
+    number_each(work, out, at, n, room, c)
+}
+
+// The table at a place: its columns, then the new numbers of its rows; and where it ends.
+fn number_table(
+    work: &mut [i32],
+    out: &mut [i32],
+    at: usize,
+    room: Room,
+    c: Progress,
+) -> NumberedStmt
     requires { ⌜ AsksTable (room .records) (room .cap) at (state-of (now work) (now out) c) ⌝ }
-    ensures { λ r. ⌜ DoneTable (room .records) (room .cap) at (state-of (now (work .entry)) (now (out .entry)) c) (state-of (now (work .exit)) (now (out .exit)) r) × ((length (now (work .exit)) ≡ length (now (work .entry))) × (length (now (out .exit)) ≡ length (now (out .entry)))) ⌝ }
+    ensures { λ r. ⌜ DoneTable (room .records) (room .cap) at (state-of (now (work .entry)) (now (out .entry)) c) (state-of (now (work .exit)) (now (out .exit)) (r .progress)) × ((length (now (work .exit)) ≡ length (now (work .entry))) × (length (now (out .exit)) ≡ length (now (out .entry)))) × TableEnds (now (work .entry)) at (r .next) ⌝ }
 {
     let n = word(work, at + 1);
     let k = word(work, at + 2);
-    let p = columns_end(work, at + 3, n);
+    let r = number_columns(work, out, at + 3, n, room, c);
+    let p = r.next;
     let f = table_fresh(work, p, n, k);
-    let d = number_columns(work, out, at + 3, n, room, c);
+    let d = r.progress;
     let b = bump(d.bools, f);
-    Progress {
+    let e = Progress {
         bools: b,
         ints: d.ints,
         used: d.used,
+    };
+    let size = k * n;
+    NumberedStmt {
+        progress: e,
+        next: p + size,
     }
 }
 
@@ -332,27 +400,54 @@ fn known_tie(work: &[i32], at: usize) -> bool
     false
 }
 
-// The statement at a place, where the walk is not full.
+// The AllDifferent at a place, and where it ends.
+fn number_different_at(
+    work: &mut [i32],
+    out: &mut [i32],
+    at: usize,
+    room: Room,
+    c: Progress,
+) -> NumberedStmt
+    requires { ⌜ (c .used ≤ room .cap) × ((word-in (read-part (now work)) at ≡ 3) × AsksStmt (room .records) (room .cap) at (state-of (now work) (now out) c)) ⌝ }
+    ensures { λ r. ⌜ DoneStmt (room .records) (room .cap) at (state-of (now (work .entry)) (now (out .entry)) c) (state-of (now (work .exit)) (now (out .exit)) (r .progress)) × ((length (now (work .exit)) ≡ length (now (work .entry))) × (length (now (out .exit)) ≡ length (now (out .entry)))) × StmtEnds (now (work .entry)) at (r .next) ⌝ }
+{
+    let n = word(work, at + 1);
+    let end = columns_end(work, at + 2, n);
+    let d = number_all_different(work, out, at + 2, n, room, c);
+    NumberedStmt {
+        progress: d,
+        next: end,
+    }
+}
+
+// The statement at a place, where the walk is not full, and where it ends. A known tie has six words.
 pub fn number_statement(
     work: &mut [i32],
     out: &mut [i32],
     at: usize,
     room: Room,
     c: Progress,
-) -> Progress
+) -> NumberedStmt
     requires { ⌜ (c .used ≤ room .cap) × AsksStmt (room .records) (room .cap) at (state-of (now work) (now out) c) ⌝ }
-    ensures { λ r. ⌜ DoneStmt (room .records) (room .cap) at (state-of (now (work .entry)) (now (out .entry)) c) (state-of (now (work .exit)) (now (out .exit)) r) × ((length (now (work .exit)) ≡ length (now (work .entry))) × (length (now (out .exit)) ≡ length (now (out .entry)))) ⌝ }
+    ensures { λ r. ⌜ DoneStmt (room .records) (room .cap) at (state-of (now (work .entry)) (now (out .entry)) c) (state-of (now (work .exit)) (now (out .exit)) (r .progress)) × ((length (now (work .exit)) ≡ length (now (work .entry))) × (length (now (out .exit)) ≡ length (now (out .entry)))) × StmtEnds (now (work .entry)) at (r .next) ⌝ }
 {
     let kind = word(work, at);
     if kind == 1 {
         if known_tie(work, at + 1) {
-            return c;
+            return NumberedStmt {
+                progress: c,
+                next: within(at + 6),
+            };
         }
-        return number_rule(work, out, at + 1, room, c);
+        let r = number_rule(work, out, at + 1, room, c);
+        let d = r.progress;
+        return NumberedStmt {
+            progress: d,
+            next: r.at,
+        };
     }
     if kind == 3 {
-        let n = word(work, at + 1);
-        return number_different(work, out, at + 2, n, room, c);
+        return number_different_at(work, out, at, room, c);
     }
     number_table(work, out, at, room, c)
 }
@@ -378,9 +473,9 @@ pub fn number_statements(
         if room.cap < c.used {
             return c;
         }
-        let p = q;
-        q = statement_end(work, p);
-        c = number_statement(work, out, p, room, c);
+        let r = number_statement(work, out, q, room, c);
+        q = r.next;
+        c = r.progress;
     }
     c
 }

@@ -179,7 +179,8 @@ fn rewrite_one(
     ensures { λ r. ⌜ DoesAgain (now (set .entry)) (now (work .entry)) at room c (now (out .entry)) o k (now (work .exit)) (now (out .exit)) (r .next) (r .c) (r .at) (r .clauses) ⌝ }
 {
     let mut none = [0i32; 0];
-    let d = setnumbers::number_statement(work, &mut none, at, room, c);
+    let s = setnumbers::number_statement(work, &mut none, at, room, c);
+    let d = s.progress;
     if room.cap < d.used {
         return Walked {
             next: at,

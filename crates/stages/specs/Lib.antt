@@ -1,4 +1,5 @@
 pub mod Room
+pub mod LegalKeys
 pub mod StatementsParts
 pub mod StatementsTrees
 pub mod StatementsRules

@@ -41,6 +41,7 @@ use Rattle.walks.specs.Clear.{clear-place, clear-places, Each as EachPlace, non
 use Rattle.walks.specs.Rule.{pair-key, pair-written, pair-walks}
 use Rattle.stages.specs.Room.{splits-int-low, pair-room, pair-weight}
 use Rattle.stages.specs.StatementsParts.{Stage, steps, rooms, AllKnown, Chains, chains-less, chains-more, UpTo, Standing, Walks, AllWalk}
+use Rattle.stages.specs.LegalKeys.{keys-int-legal}
 use Rattle.stages.specs.StatementsTrees.{Never, no-keys, meet-trees, trees-stage, Visited, Facts, trees-walk}
 
 -- ---- rules one after another
@@ -144,7 +145,7 @@ module _ (ds : List Domain) (F : List ℤ) (parted : ℕ → Bool) (rec cap : �
     pair-facts = record {
       ifs = λ s h. pair-low ds a b s (legal-int-bound a 64 first) (legal-int-bound b 64 second) h;
       clears = λ n st. refl;
-      without = λ none n. pair-choices Never (λ x. ⊥) (λ i c t f m at k h. h) a b p q n (no-keys F stop none (within n) (stand n) (plain n) from to);
+      without = λ none n. pair-choices Never (λ x. ⊥) (λ i c t f m at k h. h) a b p q n (no-keys F stop none (within n) (stand n) (every-append (keys-int-legal a here p n first) (keys-int-legal b here q (n + splits-int a here) second)) from to);
       writes = λ w s i r h. pair-written ds F parted rec cap with-ifs before low a b 64 p q first second words others from then inside s (agree (next-bool s)) w i r h;
       visits = visits;
     }

@@ -21,7 +21,7 @@ use Rattle.walks.specs.Meet.{State, counters-of, is-full}
 use Rattle.walks.specs.Implements.{at, Ready, ready-back, Registers, registers-same, registers-then, registers-after}
 use Rattle.walks.specs.Plain.{PlainInt}
 use Rattle.walks.specs.Constant.{Named}
-use Rattle.walks.specs.Cells.{IsIf, Places}
+use Rattle.walks.specs.Cells.{Places}
 use Rattle.walks.specs.Good.{good-less}
 use Rattle.walks.specs.Leaves.{words-of, grows-words}
 use Rattle.walks.specs.Walked.{fixed}
@@ -30,6 +30,7 @@ use Rattle.walks.specs.Next.{Ahead, ahead-more}
 use Rattle.walks.specs.Reach.{LightIfs}
 use Rattle.walks.specs.Rule.{GoodFor}
 use Rattle.statements.specs.Different.{Found}
+use Rattle.stages.specs.LegalKeys.{LegalIf}
 
 -- ---- the walks
 
@@ -141,9 +142,9 @@ own-stays : (a : ℕ) (w w' : List ℤ) (os : List Owned) → Stays a w w' → O
 own-stays a w w' [] h i o = tt
 own-stays a w w' (x ∷ os) h i o = (h (x .place) (i .0 .0) (i .0 .1) ∙ o .0, own-stays a w w' os h (i .1) (o .1))
 
--- no If stands in the folded words F before b
+-- no legal If stands in the folded words F before b
 abbrev pub NoIfs : List ℤ → ℕ → Type 0
-NoIfs F b = (q : ℕ) (e : IntExpr) → IsIf e → Has F q (encode-int e) → 512 ≤ q → q < b → ⊥
+NoIfs F b = (q : ℕ) (e : IntExpr) → LegalIf e → Has F q (encode-int e) → 512 ≤ q → q < b → ⊥
 
 -- ---- as in walks' Rule
 

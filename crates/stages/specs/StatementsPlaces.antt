@@ -13,11 +13,11 @@ use Rattle.laws.specs.Slices.{Has, has-front, has-back}
 use Rattle.syntax.specs.Syntax.{IntExpr, encode-int, BoolExpr, encode-bool, Cell, Stmt, Rule, Table, AllDifferent, encode-stmt}
 use Rattle.words.specs.Exact.{Each}
 use Rattle.walks.specs.Tree.{below, here}
-use Rattle.walks.specs.Cells.{IsIf}
-use Rattle.walks.specs.Legal.{LegalInt, LegalRule, true-rule, legal-rule, legal-bound, legal-plain, legal-int-bound, legal-int-plain}
+use Rattle.walks.specs.Legal.{LegalInt, LegalRule, true-rule, legal-rule, legal-bound, legal-int-bound}
 use Rattle.walks.specs.Keys.{Key, keys, keys-int, Every, every-none, every-more, every-map, every-append, every-found, Distinct, Within, Written, keys-within, keys-int-within, keys-distinct, keys-int-distinct, keys-written, keys-int-written}
 use Rattle.walks.specs.KeyAt.{is-parted, parted-in, places, found-parted, same-places}
-use Rattle.walks.specs.KeyPlaces.{AgreesWith, PlainIf, every-both, keys-plain, keys-int-plain}
+use Rattle.walks.specs.KeyPlaces.{AgreesWith, every-both}
+use Rattle.stages.specs.LegalKeys.{LegalIf, LegalKey, keys-legal, keys-int-legal}
 use Rattle.stages.specs.Columns.{columns-keys, columns-words}
 use Rattle.stages.specs.ColumnsAgree.{columns-agree}
 use Rattle.stages.specs.Pairs.{sides-words, sides-keys, agrees-same}
@@ -167,28 +167,28 @@ module _ (parted : ℕ → Bool) (at : ℕ) (t : Stmt) (ts : List Stmt) (legal :
   agreed : Agreed parted (stmt-keys at t)
   agreed = agreed-where (parted-in (places (stmt-keys at t))) parted within (stmt-span at t (legal .0)) (stmt-agreed at t (legal .0))
 
--- an If that stands in the folded words F before b is marked
+-- a legal If that stands in the folded words F before b is marked
 abbrev pub Marked : List ℤ → ℕ → Bool → Type 0
-Marked F b with-ifs = (q : ℕ) (e : IntExpr) → IsIf e → Has F q (encode-int e) → 512 ≤ q → q < b → with-ifs ≡ true
+Marked F b with-ifs = (q : ℕ) (e : IntExpr) → LegalIf e → Has F q (encode-int e) → 512 ≤ q → q < b → with-ifs ≡ true
 
 module _ (F : List ℤ) (b : ℕ) (with-ifs : Bool) (marked : Marked F b with-ifs) where
   abbrev Marks : List Key → Type 0
   Marks xs = Every (λ x. with-ifs ≡ true) xs
 
-  keys-marked : {at stop n next size : ℕ} {xs : List Key} → Every (Within at stop n next size) xs → Every (Written F) xs → Every PlainIf xs → 512 ≤ at → stop ≤ b → Marks xs
-  keys-marked h k p l m = every-map (λ x y. marked (x .place .at) (x .written) (y .1 .1 .0) (y .1 .0 .stands) (omega (arith, y .0 .from)) (omega (arith, y .0 .to))) (every-both h (every-both k p))
+  keys-marked : {at stop n next size : ℕ} {xs : List Key} → Every (Within at stop n next size) xs → Every (Written F) xs → Every LegalKey xs → 512 ≤ at → stop ≤ b → Marks xs
+  keys-marked h k p l m = every-map (λ x y. marked (x .place .at) (x .written) (y .1 .1) (y .1 .0 .stands) (omega (arith, y .0 .from)) (omega (arith, y .0 .to))) (every-both h (every-both k p))
 
   rule-marked : (e : BoolExpr) (p : ℕ) → LegalRule e 64 → Has F p (encode-bool e) → 512 ≤ p → p + length (encode-bool e) ≤ b → Marks (keys e below p 0)
   unfolding keys
   rule-marked e p (true-rule x) h l m = every-none
-  rule-marked e p (legal-rule x) h l m = keys-marked (keys-within e below p 0 (legal-bound e 64 x)) (keys-written F e below p 0 h) (keys-plain e below p 0 (legal-plain e 64 x)) l m
+  rule-marked e p (legal-rule x) h l m = keys-marked (keys-within e below p 0 (legal-bound e 64 x)) (keys-written F e below p 0 h) (keys-legal e below p 0 x) l m
 
   sides-marked : (es : List IntExpr) (p : ℕ) → Each (λ e. LegalInt e 64) es → Has F p (sides-words es) → 512 ≤ p → p + length (sides-words es) ≤ b → Marks (sides-keys es p)
   unfolding sides-keys
   sides-marked [] p h k l m = every-none
   sides-marked (e ∷ es) p h k l m =
       let n = length-append (encode-int e) (sides-words es) in
-      every-append (keys-marked (keys-int-within e here p 0 (legal-int-bound e 64 (h .0))) (keys-int-written F e here p 0 (has-front F p (encode-int e) (sides-words es) k)) (keys-int-plain e here p 0 (legal-int-plain e 64 (h .0))) l (omega (arith, n)))
+      every-append (keys-marked (keys-int-within e here p 0 (legal-int-bound e 64 (h .0))) (keys-int-written F e here p 0 (has-front F p (encode-int e) (sides-words es) k)) (keys-int-legal e here p 0 (h .0)) l (omega (arith, n)))
       (sides-marked es (p + length (encode-int e)) (h .1) (has-back F p (encode-int e) (sides-words es) k) (omega arith) (omega (arith, n)))
 
   module _ (parted : ℕ → Bool) (at : ℕ) (ts : List Stmt) where

@@ -28,13 +28,14 @@ use Rattle.walks.specs.Leaves.{words-of, weights}
 use Rattle.walks.specs.Walked.{fixed}
 use Rattle.walks.specs.Keys.{keys, Every, keys-within, keys-written, Choices}
 use Rattle.walks.specs.KeyAt.{rule-choices}
-use Rattle.walks.specs.KeyPlaces.{AgreesWith, keys-plain, parted-agrees, rule-places}
+use Rattle.walks.specs.KeyPlaces.{AgreesWith, parted-agrees, rule-places}
 use Rattle.walks.specs.LowIfs.{rule-low}
 use Rattle.walks.specs.Near.{forms-near, rule-inside}
 use Rattle.walks.specs.Next.{ahead-more}
 use Rattle.walks.specs.Rule.{Writes, rule-key, rule-written, rule-walks, rule-ahead, true-walks}
 use Rattle.stages.specs.Room.{splits-low, rule-room, rule-weight}
 use Rattle.stages.specs.StatementsParts.{Stage, Standing, Walks}
+use Rattle.stages.specs.LegalKeys.{keys-legal}
 use Rattle.stages.specs.StatementsTrees.{Never, no-keys, trees-stage, Visited, Facts, trees-walk}
 
 -- nothing is done before
@@ -71,7 +72,7 @@ module _ (ds : List Domain) (F : List ℤ) (parted : ℕ → Bool) (rec cap : �
     legal-facts = record {
       ifs = λ s h. rule-low ds e s (legal-bound e 64 legal) h;
       clears = λ n st. refl;
-      without = λ none n. rule-choices Never (λ x. ⊥) (λ i c t f m at k h. h) e p n (no-keys F stop none (keys-within e below p n (legal-bound e 64 legal)) (keys-written F e below p n words) (keys-plain e below p n (legal-plain e 64 legal)) from (omega arith));
+      without = λ none n. rule-choices Never (λ x. ⊥) (λ i c t f m at k h. h) e p n (no-keys F stop none (keys-within e below p n (legal-bound e 64 legal)) (keys-written F e below p n words) (keys-legal e below p n legal) from (omega arith));
       writes = λ w s i r h. rule-written ds F parted rec cap with-ifs before low e 64 p legal words from to s (agree (next-bool s)) w i r h;
       visits = visits;
     }

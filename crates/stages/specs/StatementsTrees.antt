@@ -29,11 +29,12 @@ use Rattle.walks.specs.Leaves.{words-of}
 use Rattle.walks.specs.Visit.{meets-spends, same-later, full, good, good-ready}
 use Rattle.walks.specs.Walked.{fixed, names}
 use Rattle.walks.specs.Keys.{Key, Every, every-map, Within, Written, Choices, ChoicesAll, ChoicesInt, ChoicesTerms}
-use Rattle.walks.specs.KeyPlaces.{PlainIf, every-both}
+use Rattle.walks.specs.KeyPlaces.{every-both}
 use Rattle.walks.specs.LowIfs.{LowIfs}
 use Rattle.walks.specs.Next.{Ahead}
 use Rattle.walks.specs.Reach.{rule-light}
 use Rattle.walks.specs.Rule.{Writes as TreesWrite, OutcomeFor}
+use Rattle.stages.specs.LegalKeys.{LegalKey}
 use Rattle.stages.specs.StatementsParts.{Part, Stage, Stays, NoIfs, Standing, Passed, full as passed-full, good as passed-good, Again, Walks, counters-are}
 
 -- ---- where no If stands, nothing is to be placed
@@ -75,8 +76,8 @@ module _ (w : List ℤ) (ds : List Domain) where
   placed-registers (cons t ts) h s = (placed t (h .0) s, placed-registers ts (h .1) (register (run ds t s)))
 
 -- the keys of what stands from `at` to `stop`
-pub no-keys : (F : List ℤ) (b : ℕ) → NoIfs F b → {at stop n next size : ℕ} {xs : List Key} → Every (Within at stop n next size) xs → Every (Written F) xs → Every PlainIf xs → 512 ≤ at → stop ≤ b → Every (λ x. ⊥) xs
-no-keys F b none h k p l m = every-map (λ x y. none (x .place .at) (x .written) (y .1 .1 .0) (y .1 .0 .stands) (omega (arith, y .0 .from)) (omega (arith, y .0 .to))) (every-both h (every-both k p))
+pub no-keys : (F : List ℤ) (b : ℕ) → NoIfs F b → {at stop n next size : ℕ} {xs : List Key} → Every (Within at stop n next size) xs → Every (Written F) xs → Every LegalKey xs → 512 ≤ at → stop ≤ b → Every (λ x. ⊥) xs
+no-keys F b none h k p l m = every-map (λ x y. none (x .place .at) (x .written) (y .1 .1) (y .1 .0 .stands) (omega (arith, y .0 .from)) (omega (arith, y .0 .to))) (every-both h (every-both k p))
 
 -- ---- the log behind a rule
 

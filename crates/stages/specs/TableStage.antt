@@ -22,16 +22,17 @@ use Rattle.walks.specs.Plain.{PlainInt}
 use Rattle.walks.specs.Constant.{Named}
 use Rattle.walks.specs.Good.{Good, good-less}
 use Rattle.walks.specs.Leaves.{words-of}
-use Rattle.walks.specs.Legal.{LegalInt, legal-int-bound, legal-int-plain}
+use Rattle.walks.specs.Legal.{LegalInt, legal-int-bound}
 use Rattle.walks.specs.Visit.{Outcome, full, good, same-later, good-ready}
 use Rattle.walks.specs.Walked.{fixed, names}
 use Rattle.walks.specs.Keys.{Every, Choices, ChoicesInt, int-choices, keys-int-within, keys-int-written}
-use Rattle.walks.specs.KeyPlaces.{AgreesWith, keys-int-plain}
+use Rattle.walks.specs.KeyPlaces.{AgreesWith}
 use Rattle.walks.specs.Next.{Ahead, ahead-more}
 use Rattle.walks.specs.Reach.{table-light}
 use Rattle.walks.specs.Column.{IsSum}
 use Rattle.statements.specs.Statements.{table-words, table-length}
 use Rattle.statements.specs.Table.{table-fresh}
+use Rattle.stages.specs.LegalKeys.{keys-int-legal}
 use Rattle.stages.specs.StatementsParts.{Owned, Own, OwnedIn, Stage, NoIfs, Standing, Passed, full as passed-full, good as passed-good, Again, Walks, counters-are}
 use Rattle.stages.specs.StatementsTrees.{Never, placed-registers, no-keys}
 use Rattle.stages.specs.Columns.{SameCells, PlacedColumns, columns-keys, columns-words, ColumnsStand, first-words, stand-rest}
@@ -97,7 +98,7 @@ module _ (ds : List Domain) (w : List ℤ) where
     column-without e es p h i =
         let l = h .legal .0 in
         let words = keys-int-written F e never p 0 (first-words F parted with-ifs e es p h) in
-        let keys = no-keys F b none (keys-int-within e never p 0 (legal-int-bound e 64 l)) words (keys-int-plain e never p 0 (legal-int-plain e 64 l)) (h .from) i in
+        let keys = no-keys F b none (keys-int-within e never p 0 (legal-int-bound e 64 l)) words (keys-int-legal e never p 0 l) (h .from) i in
         int-choices Never (λ x. ⊥) (λ i c t f m at k x. x) e never p 0 keys
 
     pub owned-placed : (es : List IntExpr) (p : ℕ) → ColumnsStand F parted with-ifs es p → p + length (columns-words es) ≤ b → (s : Log) → Own w (columns-owned ds es p s) → PlacedColumns ds w p es s

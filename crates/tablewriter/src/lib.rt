@@ -91,7 +91,7 @@ fn pass_column(work: &[i32], p: usize, n: Counters) -> Passed
     requires { ⌜ Placed (now work) p n ⌝ }
     ensures { λ r. ⌜ PassedColumn (now (work .entry)) p n r ⌝ }
 {
-    let b = scan::survey_int(work, p, 64, 0, 0, n);
+    let b = totals::end_of(work, p, 64, 0, 0, n);
     let e = b.n;
     if word(work, p) == 21 {
         return Passed { next: b.at, n: e };

@@ -165,20 +165,17 @@ module _ (w : List ℤ) (long : 4608 ≤ length w) (u : ℕ) (m : Splitting) (x 
 
 -- ---- differences
 
-module _ (w : List ℤ) (l : ℕ) (m : Splitting) (q : ℕ) (a : Nested) (h : Subtracts w l m q a) (b : Nested) (o : Linear w l m q (a .behind .base) (a .behind .n) b) where
-  second-is : (ds : List Domain) → sum-of (b .sum) ≡ total-of ds w (second w l m q a) (a .behind .n)
-  second-is ds = stands-sum (b .sum) _ (o .sum ds)
+-- what is subtracted: y
+module _ (w : List ℤ) (l : ℕ) (m : Splitting) (q : ℕ) (a : Nested) (h : Subtracts w l m q a) (y : LinearSum) (y-is : (ds : List Domain) → y ≡ total-of ds w (second w l m q a) (a .behind .n)) where
+  pub less-asks : (size (sum-of (a .sum)) + natAbs (negsuc 0) * size y < 2 ^ 31) × Room (terms (a .sum)) (terms-of (mul-sum (negsuc 0) y))
+  less-asks = let s = subst (Adds (sum-of (a .sum)) (negsuc 0)) (sym (y-is (h .domains))) (h .minus) in (s .light, s .room)
 
-  pub less-asks : (a .sum .count ≤ 64) × (b .sum .count ≤ 64) × Room (terms (a .sum)) (terms-of (mul-sum (negsuc 0) (sum-of (b .sum)))) × (size (sum-of (a .sum)) + size (sum-of (b .sum)) < 2 ^ 31)
-  less-asks =
-      let s = subst (Adds (sum-of (a .sum)) (negsuc 0)) (sym (second-is (h .domains))) (h .minus) in
-      (h .room, o .sum (h .domains) .room, s .room, omega (arith, s .light))
-
-  pub less-is : (r : Sum) → Stands r (sub-sum (sum-of (a .sum)) (sum-of (b .sum))) → Less w l m q a (record { sum = r; behind = b .behind })
-  less-is r f = record {
-    behind = o .behind;
-    sum = λ ds. stands-to r _ _ f (ap (sub-sum (sum-of (a .sum))) (second-is ds));
-    words = rw (f .same) (sub-sum-each Word (sum-of (a .sum)) (sum-of (b .sum)) (h .words) (o .words));
+  pub less-is : (r : Nested) → IntSurveys w l m q (a .behind .base) (a .behind .n) (r .behind) → Each Word (terms-of y) → Stands (r .sum) (add-sum (sum-of (a .sum)) (mul-sum (negsuc 0) y)) → Less w l m q a r
+  unfolding sub-sum
+  less-is r b v f = record {
+    behind = b;
+    sum = λ ds. stands-to (r .sum) _ _ f (ap (sub-sum (sum-of (a .sum))) (y-is ds));
+    words = rw (f .same) (sub-sum-each Word (sum-of (a .sum)) y (h .words) v);
   }
 
 module _ (w : List ℤ) (l : ℕ) (m : Splitting) (at base : ℕ) (n : Counters) (h : Compares w l m at base n) (a : Nested) (o : Linear w l m at base n a) where

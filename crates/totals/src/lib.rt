@@ -8,7 +8,7 @@ ghost use Rattle.laws.specs.Ints.{lower, higher};
 ghost use Rattle.sums.specs.LinearSum.{singleton, add-sum, mul-sum, sub-sum};
 ghost use Rattle.sums.specs.Rising.{terms-of};
 ghost use Rattle.sums.specs.Bounds.{size, Room};
-ghost use Rattle.sums.specs.Struct.{terms, sum-of, Stands};
+ghost use Rattle.sums.specs.Struct.{terms, sum-of, sum-at, Stands, Wide, Keeps};
 ghost use Rattle.walk.specs.Item.{limit, nat, int-number};
 ghost use Rattle.walk.specs.Decode.{read-part};
 ghost use Rattle.walks.specs.Item.{number-in};
@@ -21,6 +21,7 @@ ghost use Rattle.totals.specs.Linear.{Stepping, Linear, Subtracts, Less,
 ghost use Rattle.totals.specs.Ranges.{hit as hit-of, miss as miss-of, Branching, IfBounds, Branched, Finds, Bounded, Bounds, Ranging, Ranges};
 use scan::Behind;
 use sums::LinearSum;
+use sums::Partial;
 use survey::below;
 use survey::within;
 use survey::word;
@@ -115,15 +116,29 @@ fn lone_sum(x: Lone) -> LinearSum
     }
 }
 
-// k times it is added.
-fn add_lone(s: LinearSum, x: Lone, k: i32) -> LinearSum
-    requires { ⌜ (s .count ≤ 64) × (size (sum-of s) + natAbs k * size (sum-in x) < 2 ^ 31) × Room (terms s) (terms-of (mul-sum k (sum-in x))) ⌝ }
-    ensures { λ r. ⌜ Stands r (add-sum (sum-of s) (mul-sum k (sum-in x))) ⌝ }
+// k times it is added to the sum of two arrays.
+fn add_lone(vars: &mut [u32; 64], coefs: &mut [i32; 64], s: Partial, x: Lone, k: i32) -> Partial
+    requires { ⌜ (s .count ≤ 64) × Wide (now vars) (now coefs) × (size (sum-of (sum-at s (now vars) (now coefs))) + natAbs k * size (sum-in x) < 2 ^ 31) × Room (terms (sum-at s (now vars) (now coefs))) (terms-of (mul-sum k (sum-in x))) ⌝ }
+    ensures { λ r. ⌜ Keeps r (now (vars .exit)) (now (coefs .exit)) (add-sum (sum-of (sum-at s (now (vars .entry)) (now (coefs .entry)))) (mul-sum k (sum-in x))) ⌝ }
 {
     match x {
         Lone::Constant(c) => sums::add_constant(s, c, k),
-        Lone::Number(v) => sums::add_variable(s, v, k),
+        Lone::Number(v) => sums::add_variable(vars, coefs, s, v, k),
     }
+}
+
+// k times another sum is added to it.
+fn add_sum(vars: &mut [u32; 64], coefs: &mut [i32; 64], s: Partial, t: LinearSum, k: i32) -> Partial
+    requires { ⌜ (s .count ≤ 64) × (t .count ≤ 64) × Wide (now vars) (now coefs) × (size (sum-of (sum-at s (now vars) (now coefs))) + natAbs k * size (sum-of t) < 2 ^ 31) × Room (terms (sum-at s (now vars) (now coefs))) (terms-of (mul-sum k (sum-of t))) ⌝ }
+    ensures { λ r. ⌜ Keeps r (now (vars .exit)) (now (coefs .exit)) (add-sum (sum-of (sum-at s (now (vars .entry)) (now (coefs .entry)))) (mul-sum k (sum-of t))) ⌝ }
+{
+    let more = t.vars;
+    let by = t.coefs;
+    let u = Partial {
+        constant: t.constant,
+        count: t.count,
+    };
+    sums::add_product(vars, coefs, s, &more, &by, u, k)
 }
 
 // ---- sums
@@ -144,7 +159,7 @@ fn is_sum(work: &[i32], at: usize, left: usize) -> bool
 }
 
 // Behind the integer expression at a place; where no integer is counted, a constant or a variable is passed at once.
-fn end_of(work: &[i32], at: usize, left: usize, m: usize, base: usize, n: Counters) -> Behind
+pub fn end_of(work: &[i32], at: usize, left: usize, m: usize, base: usize, n: Counters) -> Behind
     requires { do ⌜ (4608 ≤ (← ⟦work.len()⟧)) × ((at ≤ 4608) × ((base ≤ limit) × Low n)) ⌝ }
     ensures { λ r. ⌜ IntSurveys (now (work .entry)) left (split-by m) at base n r ⌝ }
 {
@@ -183,12 +198,14 @@ pub fn linear_of(work: &[i32], at: usize, left: usize, m: usize, base: usize, n:
     }
     let under = left - 1;
     let mut rest = word(work, at + 1);
-    let mut r = Behind {
-        at: within(at + 2),
-        base: base,
-        n: n,
+    let two = within(at + 2);
+    let mut r = Behind { at: two, base, n };
+    let mut vars: [u32; 64] = [0; 64];
+    let mut coefs: [i32; 64] = [0; 64];
+    let mut sum = Partial {
+        constant: 0,
+        count: 0,
     };
-    let mut sum = sums::constant(0);
     while rest != 0 {
         let k = word_at(work, r.at);
         let p = within(r.at + 1);
@@ -196,18 +213,22 @@ pub fn linear_of(work: &[i32], at: usize, left: usize, m: usize, base: usize, n:
         if is_sum(work, p, under) {
             let o = linear_of(work, p, under, m, r.base, r.n);
             let s = o.sum;
-            sum = sums::add_product(sum, s, k);
+            sum = add_sum(&mut vars, &mut coefs, sum, s, k);
             r = o.behind;
             continue;
         }
         r = end_of(work, p, under, m, r.base, r.n);
         let c = r.n;
-        sum = add_lone(sum, lone_at(work, p, under, c.ints), k);
+        let x = lone_at(work, p, under, c.ints);
+        sum = add_lone(&mut vars, &mut coefs, sum, x, k);
     }
-    Nested {
-        sum: sum,
-        behind: r,
-    }
+    let s = LinearSum {
+        constant: sum.constant,
+        count: sum.count,
+        vars: vars,
+        coefs: coefs,
+    };
+    Nested { sum: s, behind: r }
 }
 
 // ---- differences
@@ -217,7 +238,19 @@ pub fn less_variable(s: LinearSum, n: u32) -> LinearSum
     requires { ⌜ (s .count ≤ 64) × Room (terms s) (terms-of (mul-sum (negsuc 0) (singleton n))) × (size (sum-of s) + 1 < 2 ^ 31) ⌝ }
     ensures { λ r. ⌜ Stands r (sub-sum (sum-of s) (singleton n)) ⌝ }
 {
-    sums::sub_sum(s, sums::singleton(n))
+    let mut vars = s.vars;
+    let mut coefs = s.coefs;
+    let p = Partial {
+        constant: s.constant,
+        count: s.count,
+    };
+    let d = sums::add_variable(&mut vars, &mut coefs, p, n, -1);
+    LinearSum {
+        constant: d.constant,
+        count: d.count,
+        vars: vars,
+        coefs: coefs,
+    }
 }
 
 // A side minus the expression at q, which is visited behind it.
@@ -226,12 +259,37 @@ pub fn less_side(a: Nested, work: &[i32], q: usize, left: usize, m: usize) -> Ne
     ensures { λ r. ⌜ Less (now (work .entry)) left (split-by m) q a r ⌝ }
 {
     let e = a.behind;
-    let b = linear_of(work, q, left, m, e.base, e.n);
     let s = a.sum;
-    let t = b.sum;
-    let d = sums::sub_sum(s, t);
-    let f = b.behind;
-    Nested { sum: d, behind: f }
+    let mut vars = s.vars;
+    let mut coefs = s.coefs;
+    let p = Partial {
+        constant: s.constant,
+        count: s.count,
+    };
+    if is_sum(work, q, left) {
+        let b = linear_of(work, q, left, m, e.base, e.n);
+        let t = b.sum;
+        let f = b.behind;
+        let d = add_sum(&mut vars, &mut coefs, p, t, -1);
+        let l = LinearSum {
+            constant: d.constant,
+            count: d.count,
+            vars: vars,
+            coefs: coefs,
+        };
+        return Nested { sum: l, behind: f };
+    }
+    let f = end_of(work, q, left, m, e.base, e.n);
+    let c = f.n;
+    let x = lone_at(work, q, left, c.ints);
+    let d = add_lone(&mut vars, &mut coefs, p, x, -1);
+    let l = LinearSum {
+        constant: d.constant,
+        count: d.count,
+        vars: vars,
+        coefs: coefs,
+    };
+    Nested { sum: l, behind: f }
 }
 
 // The left side of a comparison, which stands at a place, minus the right one behind it.

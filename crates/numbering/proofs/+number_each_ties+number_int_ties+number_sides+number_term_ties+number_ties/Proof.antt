@@ -19,6 +19,7 @@ use Rattle.numbering.proofs.+number_each_ties+number_int_ties+number_si
 use Rattle.numbering.proofs.ended.Reads as ended-reads
 use Rattle.numbering.proofs.number_tie.Reads as number-tie-reads
 use Rattle.scan.proofs.inner.Reads as inner-reads
+use Rattle.scan.proofs.is_leaf.Reads as is-leaf-reads
 use Rattle.scan.proofs.node_at.Reads as node-at-reads
 use Rattle.survey.proofs.bump.Reads as bump-reads
 use Rattle.survey.proofs.within.Reads as within-reads
@@ -39,7 +40,7 @@ use Rattle.scan.specs.Skip.{split-by, Skips, SkipsAll, IntSkips, inner-some, in
 use Rattle.numbering.specs.Task.{state-of}
 use Rattle.numbering.specs.Ties.{ties-of, int-ties-of, sides-of, ties-zero, ties-var, ties-not-starts, ties-not, ties-join-starts, ties-join, ties-cross-starts, ties-cross, ties-split-starts, ties-split, ties-cmp-first, ties-cmp-second, ties-cmp, int-ties-zero, int-ties-leaf, int-ties-sum-starts, int-ties-sum, int-ties-if-starts, int-ties-if, sides-first, sides-second, sides-third, sides-fourth, sides-done, if-ties-first, if-ties-second, if-ties-third, if-ties-done}
 use Rattle.numbering.specs.Walk.{split-below, split-here}
-use Rattle.numbering.specs.TieWalk.{int-skips-as, skips-as, walked-to, both-skip, EachSofar, each-start, each-member, each-again, each-done, TermTiesSofar, term-ties-start, term-ties-term, term-ties-again, term-ties-done}
+use Rattle.numbering.specs.TieWalk.{int-skips-as, skips-as, walked-to, both-skip, EachSofar, each-start, each-member, each-again, each-done, TermTiesSofar, term-ties-start, term-ties-term, term-ties-again, term-ties-leaf, term-ties-done}
 use Rattle.numbering.specs.declared.NumberedInt.{NumberedInt}
 
 abbrev μ-number-each-ties : Measures 2 number-each-ties-kinds.ps ℕ
@@ -135,7 +136,7 @@ abbrev number-sides-claims : ℕ → number-sides-lts.Claims
 number-sides-claims t = (bump-reads.Asked, bump-reads.Learnt, number-ties-below t, number-ties.Post, number-tie-reads.Asked, number-tie-reads.Learnt, ended-reads.Asked, ended-reads.Learnt)
 
 abbrev number-term-ties-claims : ℕ → number-term-ties-lts.Claims
-number-term-ties-claims t = (ended-reads.Asked, ended-reads.Learnt, within-reads.Asked, within-reads.Learnt, number-int-ties-below t, number-int-ties.Post)
+number-term-ties-claims t = (ended-reads.Asked, ended-reads.Learnt, is-leaf-reads.Asked, is-leaf-reads.Learnt, within-reads.Asked, within-reads.Learnt, number-int-ties-below t, number-int-ties.Post)
 
 abbrev number-ties-claims : ℕ → number-ties-lts.Claims
 number-ties-claims t = (ended-reads.Asked, ended-reads.Learnt, node-at-reads.Asked, node-at-reads.Learnt, inner-reads.Asked, inner-reads.Learnt, number-int-ties-below t, number-int-ties.Post, number-ties-below t, number-ties.Post, number-each-ties-below t, number-each-ties.Post, number-sides-below t, number-sides.Post)
@@ -289,20 +290,36 @@ number-term-ties-loop-holds t c = term-ties-start ((c .before .args .room) .reco
 number-term-ties-sub-rest : (t : ℕ) → number-term-ties-lts.Need-sub-rest (number-term-ties-claims t) (number-term-ties-at t) number-term-ties.Post number-term-ties-Inv-loop number-term-ties-μ-loop
 number-term-ties-sub-rest t c = search needs
 
-number-term-ties-add-within : (t : ℕ) → number-term-ties-lts.Need-add-within (number-term-ties-claims t) (number-term-ties-at t) number-term-ties.Post number-term-ties-Inv-loop number-term-ties-μ-loop
-number-term-ties-add-within t c = omega (arith, c .before .before .loop .inv .skips .inside)
+number-term-ties-is-leaf-requires : (t : ℕ) → number-term-ties-lts.Need-is-leaf-requires (number-term-ties-claims t) (number-term-ties-at t) number-term-ties.Post number-term-ties-Inv-loop number-term-ties-μ-loop
+number-term-ties-is-leaf-requires t c κs = search needs
 
-number-term-ties-within-requires : (t : ℕ) → number-term-ties-lts.Need-within-requires (number-term-ties-claims t) (number-term-ties-at t) number-term-ties.Post number-term-ties-Inv-loop number-term-ties-μ-loop
-number-term-ties-within-requires t c κs = search needs
+number-term-ties-add-ended : (t : ℕ) → number-term-ties-lts.Need-add-ended (number-term-ties-claims t) (number-term-ties-at t) number-term-ties.Post number-term-ties-Inv-loop number-term-ties-μ-loop
+number-term-ties-add-ended t c = omega (arith, c .before .before .is-leaf .ensures (c .before .if1 .taken) .1)
 
-number-term-ties-number-int-ties-requires : (t : ℕ) → number-term-ties-lts.Need-number-int-ties-requires (number-term-ties-claims t) (number-term-ties-at t) number-term-ties.Post number-term-ties-Inv-loop number-term-ties-μ-loop
-number-term-ties-number-int-ties-requires t c κs = (omega (arith, c .before .before .before .before .before .before .before .pre .0), term-ties-term ((c .before .before .before .before .before .before .before .args .room) .records) ((c .before .before .before .before .before .before .before .args .room) .cap) (c .before .before .before .before .before .before .before .args .left) (split-by (c .before .before .before .before .before .before .before .args .m)) (c .before .before .before .before .before .before .before .args .count) (c .before .before .before .before .before .before .before .args .at) (c .before .before .before .before .before .before .before .args .base) (c .before .before .before .before .before .before .before .args .work .now) (c .before .before .before .before .before .before .before .args .out .now) (c .before .before .before .before .before .before .before .args .c) (c .before .before .before .before .before .before .ended .result .progress) (ap (λ (x : NumberedInt). x .progress) (c .before .before .before .before .before .before .ended .ensures)) (c .before .before .before .before .before .before .before .pre .1) _ _ (c .before .before .before .before .before .loop .r) (c .before .before .before .before .before .loop .rest) (c .before .before .before .before .before .loop .inv) (c .before .before .before .before .loop-test .taken) _ (c .before .before .within .ensures))
+number-term-ties-ended-requires-2 : (t : ℕ) → number-term-ties-lts.Need-ended-requires-2 (number-term-ties-claims t) (number-term-ties-at t) number-term-ties.Post number-term-ties-Inv-loop number-term-ties-μ-loop
+number-term-ties-ended-requires-2 t c κs = search needs
 
 number-term-ties-loop-less : (t : ℕ) → number-term-ties-lts.Need-loop-less (number-term-ties-claims t) (number-term-ties-at t) number-term-ties.Post number-term-ties-Inv-loop number-term-ties-μ-loop
 number-term-ties-loop-less t c = search needs
 
 number-term-ties-loop-again : (t : ℕ) → number-term-ties-lts.Need-loop-again (number-term-ties-claims t) (number-term-ties-at t) number-term-ties.Post number-term-ties-Inv-loop number-term-ties-μ-loop
-number-term-ties-loop-again t c = term-ties-again ((c .before .before .before .before .before .before .before .before .before .before .args .room) .records) ((c .before .before .before .before .before .before .before .before .before .before .args .room) .cap) (c .before .before .before .before .before .before .before .before .before .before .args .left) (split-by (c .before .before .before .before .before .before .before .before .before .before .args .m)) (c .before .before .before .before .before .before .before .before .before .before .args .count) (c .before .before .before .before .before .before .before .before .before .before .args .at) (c .before .before .before .before .before .before .before .before .before .before .args .base) (c .before .before .before .before .before .before .before .before .before .before .args .work .now) (c .before .before .before .before .before .before .before .before .before .before .args .out .now) (c .before .before .before .before .before .before .before .before .before .before .args .c) (c .before .before .before .before .before .before .before .before .before .ended .result .progress) (ap (λ (x : NumberedInt). x .progress) (c .before .before .before .before .before .before .before .before .before .ended .ensures)) (c .before .before .before .before .before .before .before .before .before .before .pre .1) _ _ (c .before .before .before .before .before .before .before .before .loop .r) (c .before .before .before .before .before .before .before .before .loop .rest) (c .before .before .before .before .before .before .before .before .loop .inv) (c .before .before .before .before .before .before .before .loop-test .taken) _ (c .before .before .before .before .before .within .ensures) _ _ (c .before .before .number-int-ties .result) (c .before .before .number-int-ties .ensures)
+number-term-ties-loop-again t c =
+    term-ties-leaf ((c .before .before .before .before .before .before .before .before .args .room) .records) ((c .before .before .before .before .before .before .before .before .args .room) .cap) (c .before .before .before .before .before .before .before .before .args .left) (split-by (c .before .before .before .before .before .before .before .before .args .m)) (c .before .before .before .before .before .before .before .before .args .count) (c .before .before .before .before .before .before .before .before .args .at) (c .before .before .before .before .before .before .before .before .args .base) (c .before .before .before .before .before .before .before .before .args .work .now) (c .before .before .before .before .before .before .before .before .args .out .now) (c .before .before .before .before .before .before .before .before .args .c) (c .before .before .before .before .before .before .before .ended .result .progress) (ap (λ (x : NumberedInt). x .progress) (c .before .before .before .before .before .before .before .ended .ensures)) (c .before .before .before .before .before .before .before .before .pre .1) _ _ (c .before .before .before .before .before .before .loop .r) (c .before .before .before .before .before .before .loop .rest) (c .before .before .before .before .before .before .loop .inv) (c .before .before .before .before .before .loop-test .taken) (c .before .before .before .is-leaf .ensures (c .before .before .if1 .taken)) _ (c .ended2 .ensures)
+
+number-term-ties-add-within : (t : ℕ) → number-term-ties-lts.Need-add-within (number-term-ties-claims t) (number-term-ties-at t) number-term-ties.Post number-term-ties-Inv-loop number-term-ties-μ-loop
+number-term-ties-add-within t c = omega (arith, c .before .before .before .before .before .loop .inv .skips .inside)
+
+number-term-ties-within-requires : (t : ℕ) → number-term-ties-lts.Need-within-requires (number-term-ties-claims t) (number-term-ties-at t) number-term-ties.Post number-term-ties-Inv-loop number-term-ties-μ-loop
+number-term-ties-within-requires t c κs = search needs
+
+number-term-ties-number-int-ties-requires : (t : ℕ) → number-term-ties-lts.Need-number-int-ties-requires (number-term-ties-claims t) (number-term-ties-at t) number-term-ties.Post number-term-ties-Inv-loop number-term-ties-μ-loop
+number-term-ties-number-int-ties-requires t c κs = (omega (arith, c .before .before .before .before .before .before .before .before .before .before .pre .0), term-ties-term ((c .before .before .before .before .before .before .before .before .before .before .args .room) .records) ((c .before .before .before .before .before .before .before .before .before .before .args .room) .cap) (c .before .before .before .before .before .before .before .before .before .before .args .left) (split-by (c .before .before .before .before .before .before .before .before .before .before .args .m)) (c .before .before .before .before .before .before .before .before .before .before .args .count) (c .before .before .before .before .before .before .before .before .before .before .args .at) (c .before .before .before .before .before .before .before .before .before .before .args .base) (c .before .before .before .before .before .before .before .before .before .before .args .work .now) (c .before .before .before .before .before .before .before .before .before .before .args .out .now) (c .before .before .before .before .before .before .before .before .before .before .args .c) (c .before .before .before .before .before .before .before .before .before .ended .result .progress) (ap (λ (x : NumberedInt). x .progress) (c .before .before .before .before .before .before .before .before .before .ended .ensures)) (c .before .before .before .before .before .before .before .before .before .before .pre .1) _ _ (c .before .before .before .before .before .before .before .before .loop .r) (c .before .before .before .before .before .before .before .before .loop .rest) (c .before .before .before .before .before .before .before .before .loop .inv) (c .before .before .before .before .before .before .before .loop-test .taken) _ (c .before .before .within .ensures))
+
+number-term-ties-loop-less-2 : (t : ℕ) → number-term-ties-lts.Need-loop-less-2 (number-term-ties-claims t) (number-term-ties-at t) number-term-ties.Post number-term-ties-Inv-loop number-term-ties-μ-loop
+number-term-ties-loop-less-2 t c = search needs
+
+number-term-ties-loop-again-2 : (t : ℕ) → number-term-ties-lts.Need-loop-again-2 (number-term-ties-claims t) (number-term-ties-at t) number-term-ties.Post number-term-ties-Inv-loop number-term-ties-μ-loop
+number-term-ties-loop-again-2 t c = term-ties-again ((c .before .before .before .before .before .before .before .before .before .before .before .before .before .args .room) .records) ((c .before .before .before .before .before .before .before .before .before .before .before .before .before .args .room) .cap) (c .before .before .before .before .before .before .before .before .before .before .before .before .before .args .left) (split-by (c .before .before .before .before .before .before .before .before .before .before .before .before .before .args .m)) (c .before .before .before .before .before .before .before .before .before .before .before .before .before .args .count) (c .before .before .before .before .before .before .before .before .before .before .before .before .before .args .at) (c .before .before .before .before .before .before .before .before .before .before .before .before .before .args .base) (c .before .before .before .before .before .before .before .before .before .before .before .before .before .args .work .now) (c .before .before .before .before .before .before .before .before .before .before .before .before .before .args .out .now) (c .before .before .before .before .before .before .before .before .before .before .before .before .before .args .c) (c .before .before .before .before .before .before .before .before .before .before .before .before .ended .result .progress) (ap (λ (x : NumberedInt). x .progress) (c .before .before .before .before .before .before .before .before .before .before .before .before .ended .ensures)) (c .before .before .before .before .before .before .before .before .before .before .before .before .before .pre .1) _ _ (c .before .before .before .before .before .before .before .before .before .before .before .loop .r) (c .before .before .before .before .before .before .before .before .before .before .before .loop .rest) (c .before .before .before .before .before .before .before .before .before .before .before .loop .inv) (c .before .before .before .before .before .before .before .before .before .before .loop-test .taken) _ (c .before .before .before .before .before .within .ensures) _ _ (c .before .before .number-int-ties .result) (c .before .before .number-int-ties .ensures)
 
 number-term-ties-same-length : (t : ℕ) → number-term-ties-lts.Need-same-length (number-term-ties-claims t) (number-term-ties-at t) number-term-ties.Post number-term-ties-Inv-loop number-term-ties-μ-loop
 number-term-ties-same-length t c = c .before .loop .inv .left .kept .size
@@ -469,11 +486,16 @@ pub +number-each-ties+number-int-ties+number-sides+number-term-ties+number-ties-
     (number-term-ties-ended-requires t)
     (number-term-ties-loop-holds t)
     (number-term-ties-sub-rest t)
+    (number-term-ties-is-leaf-requires t)
+    (number-term-ties-add-ended t)
+    (number-term-ties-ended-requires-2 t)
+    (number-term-ties-loop-less t)
+    (number-term-ties-loop-again t)
     (number-term-ties-add-within t)
     (number-term-ties-within-requires t)
     (number-term-ties-number-int-ties-requires t)
-    (number-term-ties-loop-less t)
-    (number-term-ties-loop-again t)
+    (number-term-ties-loop-less-2 t)
+    (number-term-ties-loop-again-2 t)
     (number-term-ties-same-length t)
     (number-term-ties-same-length-2 t)
     (number-term-ties-returns t))

@@ -21,6 +21,7 @@ use Rattle.rulewriter.proofs.no_ties.Reads as no-ties-reads
 use Rattle.rulewriter.proofs.put_tie.Reads as put-tie-reads
 use Rattle.rulewriter.proofs.two_ties.Reads as two-ties-reads
 use Rattle.scan.proofs.inner.Reads as inner-reads
+use Rattle.scan.proofs.is_leaf.Reads as is-leaf-reads
 use Rattle.scan.proofs.node_at.Reads as node-at-reads
 use Rattle.survey.proofs.bump.Reads as bump-reads
 use Rattle.survey.proofs.within.Reads as within-reads
@@ -33,12 +34,12 @@ use native.Mathlib.Omega.{arith}
 use Rattle.laws.specs.Writes.{wrote-length}
 use Rattle.walk.specs.Decode.{read-part}
 use Rattle.walks.specs.Decode.{decode, decode-int, many-ties, terms-ties, ties-at, ties-int-at}
-use Rattle.scan.specs.Skip.{split-by, inside-same, inside-more, inner-some, skips-none, skips-var, skips-cmp, skips-not, skips-join, skips-cross, int-none, int-leaf, int-sum, int-if, Skipping, skipping-first, skipping-next, skipping-last, TermSkipping, terms-first as passing-first, terms-next as passing-next, terms-last as passing-last}
+use Rattle.scan.specs.Skip.{split-by, inside-same, inside-more, inner-some, skips-none, skips-var, skips-cmp, skips-not, skips-join, skips-cross, int-none, int-leaf, int-sum, int-if, Skipping, skipping-first, skipping-next, skipping-last, TermSkipping, terms-first as passing-first, terms-next as passing-next, terms-leaf as passing-leaf, terms-last as passing-last}
 use Rattle.output.proofs.Laws.{open-next}
 use Rattle.rulewriter.specs.Places.{Placed}
 use Rattle.rulewriter.proofs.Steps.{is-here, not-here, okay, placed-at, placed-skipped}
 use Rattle.rulewriter.proofs.Registered.{within-past}
-use Rattle.rulewriter.proofs.Extras.{extra-none, extra-same, extra-open, extra-length, Going, going-none, going-open, going-length, going-last, going-fit, going-more, ties-zero, int-ties-zero, ties-var, ties-not, ties-join, ties-split, ties-cross, cmp-first, cmp-second, cmp-extras, int-ties-leaf, int-ties-sum, if-first, if-second, if-third, if-extras, members-last, terms-last, members-fit, members-more, term-fits, terms-more, both-skipped, split-first, split-tie, tie-blocks, split-second, split-other, split-extras}
+use Rattle.rulewriter.proofs.Extras.{extra-none, extra-same, extra-open, extra-length, Going, going-none, going-open, going-length, going-last, going-fit, going-more, ties-zero, int-ties-zero, ties-var, ties-not, ties-join, ties-split, ties-cross, cmp-first, cmp-second, cmp-extras, int-ties-leaf, int-ties-sum, if-first, if-second, if-third, if-extras, members-last, terms-last, members-fit, members-more, term-fits, terms-more, terms-leaf, both-skipped, split-first, split-tie, tie-blocks, split-second, split-other, split-extras}
 
 abbrev μ-int-ties : Measures 2 int-ties-kinds.ps ℕ
 μ-int-ties κs a = 4 * a .1 .1 .0
@@ -121,7 +122,7 @@ abbrev split-ties-claims : ℕ → split-ties-lts.Claims
 split-ties-claims t = (bump-reads.Asked, bump-reads.Learnt, write-ties-below t, write-ties.Post, put-tie-reads.Asked, put-tie-reads.Learnt, two-ties-reads.Asked, two-ties-reads.Learnt)
 
 abbrev term-ties-claims : ℕ → term-ties-lts.Claims
-term-ties-claims t = (no-ties-reads.Asked, no-ties-reads.Learnt, within-reads.Asked, within-reads.Learnt, int-ties-below t, int-ties.Post, two-ties-reads.Asked, two-ties-reads.Learnt)
+term-ties-claims t = (no-ties-reads.Asked, no-ties-reads.Learnt, is-leaf-reads.Asked, is-leaf-reads.Learnt, two-ties-reads.Asked, two-ties-reads.Learnt, within-reads.Asked, within-reads.Learnt, int-ties-below t, int-ties.Post)
 
 abbrev write-ties-claims : ℕ → write-ties-lts.Claims
 write-ties-claims t = (no-ties-reads.Asked, no-ties-reads.Learnt, node-at-reads.Asked, node-at-reads.Learnt, inner-reads.Asked, inner-reads.Learnt, int-ties-below t, int-ties.Post, two-ties-reads.Asked, two-ties-reads.Learnt, write-ties-below t, write-ties.Post, member-ties-below t, member-ties.Post, split-ties-below t, split-ties.Post)
@@ -240,26 +241,39 @@ split-ties-returns t c =
 term-ties-loop-holds : (t : ℕ) → term-ties-lts.Need-loop-holds (term-ties-claims t) (term-ties-at t) term-ties.Post term-ties-Inv-loop term-ties-μ-loop
 term-ties-loop-holds t c = rw (c .no-ties .ensures) ((c .before) .pre .1 .0 .0, going-none _ _ _ ((c .before) .pre .1 .0 .1) ((c .before) .pre .1 .0 .0 .low) ((c .before) .pre .1 .0 .2), passing-first ((c .before) .args .work .now) _ _ _ _ _ ((c .before) .pre .1 .0 .0 .inside) ((c .before) .pre .1 .0 .0 .low-base))
 
-term-ties-add-within : (t : ℕ) → term-ties-lts.Need-add-within (term-ties-claims t) (term-ties-at t) term-ties.Post term-ties-Inv-loop term-ties-μ-loop
-term-ties-add-within t c = omega (arith, c .before .before .loop .inv .0 .inside)
-
-term-ties-int-ties-requires : (t : ℕ) → term-ties-lts.Need-int-ties-requires (term-ties-claims t) (term-ties-at t) term-ties.Post term-ties-Inv-loop term-ties-μ-loop
-term-ties-int-ties-requires t c κs =
-    let i = c .before .before .before .before .loop .inv in
-    (omega (arith, (c .before .before .before .before .before .before) .pre .0), ((record { size = i .0 .size; inside = omega (arith, c .before .within .ensures); low-base = i .0 .low-base; low = i .0 .low }, going-open (i .1), term-fits ((c .before .before .before .before .before .before) .args .work .now) _ _ _ _ (c .before .before .before .loop-test .taken) _ (sym (within-past ((c .before .before .before .before .before .before) .args .work .now) (i .0 .size) _ _ (c .before .within .ensures))) (i .1)), omega (arith, (c .before .before .before .before .before .before) .pre .1 .1)))
-
 term-ties-sub-rest : (t : ℕ) → term-ties-lts.Need-sub-rest (term-ties-claims t) (term-ties-at t) term-ties.Post term-ties-Inv-loop term-ties-μ-loop
-term-ties-sub-rest t c = let y = c .before .before .before .before .before .before .loop-test .taken in omega (arith, y)
+term-ties-sub-rest t c = let y = c .loop-test .taken in omega (arith, y)
+
+term-ties-add-no-ties : (t : ℕ) → term-ties-lts.Need-add-no-ties (term-ties-claims t) (term-ties-at t) term-ties.Post term-ties-Inv-loop term-ties-μ-loop
+term-ties-add-no-ties t c = omega (arith, c .before .before .is-leaf .ensures (c .before .if1 .taken) .1)
 
 term-ties-loop-less : (t : ℕ) → term-ties-lts.Need-loop-less (term-ties-claims t) (term-ties-at t) term-ties.Post term-ties-Inv-loop term-ties-μ-loop
-term-ties-loop-less t c = let y = c .before .before .before .before .before .before .loop-test .taken in omega (arith, y)
+term-ties-loop-less t c = let y = c .before .before .before .before .before .loop-test .taken in omega (arith, y)
 
 term-ties-loop-again : (t : ℕ) → term-ties-lts.Need-loop-again (term-ties-claims t) (term-ties-at t) term-ties.Post term-ties-Inv-loop term-ties-μ-loop
 term-ties-loop-again t c =
-    let i = c .before .before .before .before .before .before .before .loop .inv in
-    let z = c .before .before .before .before .before .before .loop-test .taken in
+    let i = c .before .before .before .before .before .before .loop .inv in
+    let z = c .before .before .before .before .before .loop-test .taken in
+    let h = c .before .before .before .before .is-leaf .ensures (c .before .before .before .if1 .taken) in
+    rw (c .two-ties .ensures, c .before .no-ties2 .ensures) (record { size = i .0 .size; inside = omega (arith, h .1); low-base = i .0 .low-base; low = i .0 .low }, terms-leaf (c .before .before .before .before .before .before .before .before .args .work .now) _ _ _ (c .before .before .before .before .before .before .loop .x) z (i .1) (i .0 .size) (i .0 .low-base) (i .0 .low) h, passing-leaf (c .before .before .before .before .before .before .before .before .args .work .now) _ _ _ _ _ (i .0 .size) _ _ _ (i .2) z h)
+
+term-ties-add-within : (t : ℕ) → term-ties-lts.Need-add-within (term-ties-claims t) (term-ties-at t) term-ties.Post term-ties-Inv-loop term-ties-μ-loop
+term-ties-add-within t c = omega (arith, c .before .before .before .before .loop .inv .0 .inside)
+
+term-ties-int-ties-requires : (t : ℕ) → term-ties-lts.Need-int-ties-requires (term-ties-claims t) (term-ties-at t) term-ties.Post term-ties-Inv-loop term-ties-μ-loop
+term-ties-int-ties-requires t c κs =
+    let i = c .before .before .before .before .before .before .loop .inv in
+    (omega (arith, c .before .before .before .before .before .before .before .before .pre .0), ((record { size = i .0 .size; inside = omega (arith, c .before .within .ensures); low-base = i .0 .low-base; low = i .0 .low }, going-open (i .1), term-fits (c .before .before .before .before .before .before .before .before .args .work .now) _ _ _ _ (c .before .before .before .before .before .loop-test .taken) _ (sym (within-past (c .before .before .before .before .before .before .before .before .args .work .now) (i .0 .size) _ _ (c .before .within .ensures))) (i .1)), omega (arith, c .before .before .before .before .before .before .before .before .pre .1 .1)))
+
+term-ties-loop-less-2 : (t : ℕ) → term-ties-lts.Need-loop-less-2 (term-ties-claims t) (term-ties-at t) term-ties.Post term-ties-Inv-loop term-ties-μ-loop
+term-ties-loop-less-2 t c = let y = c .before .before .before .before .before .before .before .before .loop-test .taken in omega (arith, y)
+
+term-ties-loop-again-2 : (t : ℕ) → term-ties-lts.Need-loop-again-2 (term-ties-claims t) (term-ties-at t) term-ties.Post term-ties-Inv-loop term-ties-μ-loop
+term-ties-loop-again-2 t c =
+    let i = c .before .before .before .before .before .before .before .before .before .loop .inv in
+    let z = c .before .before .before .before .before .before .before .before .loop-test .taken in
     let f = c .before .before .int-ties .ensures in
-    rw (c .two-ties .ensures) (record { size = i .0 .size; inside = f .1 .inside; low-base = f .1 .low; low = f .0 .listed .low }, terms-more ((c .before .before .before .before .before .before .before .before .before) .args .work .now) _ _ _ _ z _ (sym (within-past ((c .before .before .before .before .before .before .before .before .before) .args .work .now) (i .0 .size) _ _ (c .before .before .before .before .within .ensures))) _ (i .1) (f .1) (f .0), passing-next ((c .before .before .before .before .before .before .before .before .before) .args .work .now) _ _ _ _ _ (i .0 .size) _ _ _ _ _ _ (i .2) z (c .before .before .before .before .within .ensures) (f .1))
+    rw (c .two-ties2 .ensures) (record { size = i .0 .size; inside = f .1 .inside; low-base = f .1 .low; low = f .0 .listed .low }, terms-more (c .before .before .before .before .before .before .before .before .before .before .before .args .work .now) _ _ _ _ z _ (sym (within-past (c .before .before .before .before .before .before .before .before .before .before .before .args .work .now) (i .0 .size) _ _ (c .before .before .before .before .within .ensures))) _ (i .1) (f .1) (f .0), passing-next (c .before .before .before .before .before .before .before .before .before .before .before .args .work .now) _ _ _ _ _ (i .0 .size) _ _ _ _ _ _ (i .2) z (c .before .before .before .before .within .ensures) (f .1))
 
 term-ties-same-length : (t : ℕ) → term-ties-lts.Need-same-length (term-ties-claims t) (term-ties-at t) term-ties.Post term-ties-Inv-loop term-ties-μ-loop
 term-ties-same-length t c = going-length (c .before .loop .inv .1)
@@ -409,13 +423,19 @@ pub +int-ties+member-ties+split-ties+term-ties+write-ties-spec : {M : Type 1} �
     (λ t. term-ties-lts.spec (term-ties-claims t) (term-ties-at t) term-ties.Post term-ties-Inv-loop term-ties-μ-loop
     (λ c κs. search needs)
     (term-ties-loop-holds t)
+    (term-ties-sub-rest t)
+    (λ c κs. search needs)
+    (term-ties-add-no-ties t)
+    (λ c κs. search needs)
+    (λ c κs. search needs)
+    (term-ties-loop-less t)
+    (term-ties-loop-again t)
     (term-ties-add-within t)
     (λ c κs. search needs)
     (term-ties-int-ties-requires t)
     (λ c κs. search needs)
-    (term-ties-sub-rest t)
-    (term-ties-loop-less t)
-    (term-ties-loop-again t)
+    (term-ties-loop-less-2 t)
+    (term-ties-loop-again-2 t)
     (term-ties-same-length t)
     (term-ties-returns t))
     (λ t. write-ties-lts.spec (write-ties-claims t) (write-ties-at t) write-ties.Post

@@ -16,6 +16,7 @@ use Rattle.scan.proofs.+skip+skip_int+skip_terms+skips.Lts-skips as ski
 use Rattle.scan.proofs.inner.Reads as inner-reads
 use Rattle.scan.proofs.inside_base.Reads as inside-base-reads
 use Rattle.scan.proofs.is_leaf.Reads as is-leaf-reads
+use Rattle.scan.proofs.literal_words.Reads as literal-words-reads
 use Rattle.scan.proofs.node_at.Reads as node-at-reads
 use Rattle.survey.proofs.within.Reads as within-reads
 use Rattle.survey.proofs.word.Reads as word-reads
@@ -78,7 +79,7 @@ abbrev skip-terms-claims : ℕ → skip-terms-lts.Claims
 skip-terms-claims t = (is-leaf-reads.Asked, is-leaf-reads.Learnt, within-reads.Asked, within-reads.Learnt, skip-int-below t, skip-int.Post)
 
 abbrev skips-claims : ℕ → skips-lts.Claims
-skips-claims t = (skip-below t, skip.Post)
+skips-claims t = (literal-words-reads.Asked, literal-words-reads.Learnt, skip-below t, skip.Post)
 
 abbrev skip-terms-Inv-loop : skip-terms-lts.InvT-loop
 skip-terms-Inv-loop work at left m count base q₀ b₀ rest₀ q b rest = TermSkipping (read-part work) left (split-by m) count at base rest q b
@@ -246,17 +247,29 @@ skip-terms-returns t c = terms-last _ _ _ _ _ _ _ _ _ (c .before .loop .inv) (c 
 skips-loop-holds : (t : ℕ) → skips-lts.Need-loop-holds (skips-claims t) (skips-at t) skips.Post skips-Inv-loop skips-μ-loop
 skips-loop-holds t c = skipping-first _ _ _ _ _ _ (c .pre .1 .1 .0) (c .pre .1 .1 .1)
 
-skips-skip-requires : (t : ℕ) → skips-lts.Need-skip-requires (skips-claims t) (skips-at t) skips.Post skips-Inv-loop skips-μ-loop
-skips-skip-requires t c κs = (omega (arith, (c .before .before) .pre .0), (((c .before .before) .pre .1 .0), (c .before .loop .inv .inside, c .before .loop .inv .low)))
-
 skips-sub-rest : (t : ℕ) → skips-lts.Need-sub-rest (skips-claims t) (skips-at t) skips.Post skips-Inv-loop skips-μ-loop
 skips-sub-rest t c = search needs
+
+skips-literal-words-requires : (t : ℕ) → skips-lts.Need-literal-words-requires (skips-claims t) (skips-at t) skips.Post skips-Inv-loop skips-μ-loop
+skips-literal-words-requires t c κs = (c .before .before) .pre .1 .0
+
+skips-add-q : (t : ℕ) → skips-lts.Need-add-q (skips-claims t) (skips-at t) skips.Post skips-Inv-loop skips-μ-loop
+skips-add-q t c = let s = c .before .literal-words .ensures (c .if1 .taken) (split-by (c .before .before .before .before .args .m)) _ (c .before .before .before .loop .inv .low) in omega (arith, s .inside)
 
 skips-loop-less : (t : ℕ) → skips-lts.Need-loop-less (skips-claims t) (skips-at t) skips.Post skips-Inv-loop skips-μ-loop
 skips-loop-less t c = search needs
 
 skips-loop-again : (t : ℕ) → skips-lts.Need-loop-again (skips-claims t) (skips-at t) skips.Post skips-Inv-loop skips-μ-loop
-skips-loop-again t c = skipping-next _ _ _ _ _ _ _ _ _ _ _ (c .before .before .loop .inv) (c .before .loop-test .taken) (c .skip .ensures)
+skips-loop-again t c = skipping-next _ _ _ _ _ _ _ _ _ _ _ (c .before .before .before .loop .inv) (c .before .before .loop-test .taken) (c .before .literal-words .ensures (c .if1 .taken) _ _ (c .before .before .before .loop .inv .low))
+
+skips-skip-requires : (t : ℕ) → skips-lts.Need-skip-requires (skips-claims t) (skips-at t) skips.Post skips-Inv-loop skips-μ-loop
+skips-skip-requires t c κs = (omega (arith, (c .before .before .before .before) .pre .0), (((c .before .before .before .before) .pre .1 .0), (c .before .before .before .loop .inv .inside, c .before .before .before .loop .inv .low)))
+
+skips-loop-less-2 : (t : ℕ) → skips-lts.Need-loop-less-2 (skips-claims t) (skips-at t) skips.Post skips-Inv-loop skips-μ-loop
+skips-loop-less-2 t c = search needs
+
+skips-loop-again-2 : (t : ℕ) → skips-lts.Need-loop-again-2 (skips-claims t) (skips-at t) skips.Post skips-Inv-loop skips-μ-loop
+skips-loop-again-2 t c = skipping-next _ _ _ _ _ _ _ _ _ _ _ (c .before .before .before .before .loop .inv) (c .before .before .before .loop-test .taken) (c .skip .ensures)
 
 skips-returns : (t : ℕ) → skips-lts.Need-returns (skips-claims t) (skips-at t) skips.Post skips-Inv-loop skips-μ-loop
 skips-returns t c = skipping-last _ _ _ _ _ _ _ _ _ (c .before .loop .inv) (c .loop-test .left)
@@ -318,8 +331,12 @@ pub +skip+skip-int+skip-terms+skips-spec : {M : Type 1} → statement M
     (skip-terms-returns t))
     (λ t. skips-lts.spec (skips-claims t) (skips-at t) skips.Post skips-Inv-loop skips-μ-loop
     (skips-loop-holds t)
-    (skips-skip-requires t)
     (skips-sub-rest t)
+    (skips-literal-words-requires t)
+    (skips-add-q t)
     (skips-loop-less t)
     (skips-loop-again t)
+    (skips-skip-requires t)
+    (skips-loop-less-2 t)
+    (skips-loop-again-2 t)
     (skips-returns t))

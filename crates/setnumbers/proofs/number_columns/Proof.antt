@@ -1,4 +1,3 @@
-use native.Mathlib.Omega.{arith}
 use Rattle.numbering.specs.Task.{state-of}
 use Rattle.setnumbers.proofs.Numbering.{starts-of, Columns, columns-first, column-asks, columns-next, columns-last}
 use borrow.Author.Needs.{needs}
@@ -14,11 +13,8 @@ abbrev μ-loop : tie.MeasureT-loop
 loop-holds : tie.Need-loop-holds Inv-loop μ-loop
 loop-holds c = columns-first _ _ _ _ _ (c .pre .0) (c .pre .1 .low)
 
-skip-int-requires : tie.Need-skip-int-requires Inv-loop μ-loop
-skip-int-requires c κs = (omega (arith, c .before .before .before .pre .1 .long, c .before .before .loop .inv .1 .kept .size), (c .before .before .loop .inv .0, omega arith))
-
 number-column-requires : tie.Need-number-column-requires Inv-loop μ-loop
-number-column-requires c κs = starts-of (c .before .before .before .before .before .loop .inv .0) (column-asks _ _ _ _ _ _ _ _ (c .before .before .before .before .loop-test .taken) (c .before .before .before .before .before .loop .inv) (c .before .before .before .before .before .before .pre .1))
+number-column-requires c κs = starts-of (c .before .before .before .loop .inv .0) (column-asks _ _ _ _ _ _ _ _ (c .before .before .loop-test .taken) (c .before .before .before .loop .inv) (c .before .before .before .before .pre .1))
 
 sub-rest : tie.Need-sub-rest Inv-loop μ-loop
 sub-rest c = search needs
@@ -27,7 +23,7 @@ loop-less : tie.Need-loop-less Inv-loop μ-loop
 loop-less c = search needs
 
 loop-again : tie.Need-loop-again Inv-loop μ-loop
-loop-again c = columns-next _ _ _ _ _ _ _ _ (c .before .before .before .before .before .before .before .loop-test .taken) (c .before .before .before .before .before .before .before .before .loop .inv) _ _ _ (c .before .before .before .before .before .skip-int .ensures) (c .before .before .number-column .ensures)
+loop-again c = columns-next _ _ _ _ _ _ _ _ (c .before .before .before .before .before .before .loop-test .taken) (c .before .before .before .before .before .before .before .loop .inv) _ _ _ (c .before .before .before .number-column .ensures .1) (c .before .before .before .number-column .ensures .0)
 
 same-length : tie.Need-same-length Inv-loop μ-loop
 same-length c = c .before .loop .inv .1 .kept .size
@@ -45,7 +41,6 @@ number-columns-spec =
     Inv-loop
     μ-loop
     loop-holds
-    skip-int-requires
     number-column-requires
     sub-rest
     loop-less

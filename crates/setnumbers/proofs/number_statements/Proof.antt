@@ -25,17 +25,14 @@ same-length-2 c = c .before .before .before .before .loop .inv .room
 returns : tie.Need-returns Inv-loop μ-loop
 returns c = walking-full _ _ _ _ _ _ _ (omega (arith, c .if1 .taken)) (c .before .before .before .before .loop .inv)
 
-statement-end-requires : tie.Need-statement-end-requires Inv-loop μ-loop
-statement-end-requires c κs = (stmt-some _ _ _ _ _ _ _ (omega (arith, c .before .before .before .before .loop-test .taken)) (c .before .before .before .before .before .loop .inv) (c .before .before .before .before .before .before .pre), omega (arith, c .before .before .before .before .before .before .pre .asks .long, c .before .before .before .before .before .loop .inv .size))
-
 number-statement-requires : tie.Need-number-statement-requires Inv-loop μ-loop
-number-statement-requires c κs = (omega (arith, c .before .before .before .before .if1 .left), stmt-asks _ _ _ _ _ _ _ (omega (arith, c .before .before .before .before .before .before .before .loop-test .taken)) (c .before .before .before .before .before .before .before .before .loop .inv) (c .before .before .before .before .before .before .before .before .before .pre))
+number-statement-requires c κs = (omega (arith, c .before .before .if1 .left), stmt-asks _ _ _ _ _ _ _ (omega (arith, c .before .before .before .before .before .loop-test .taken)) (c .before .before .before .before .before .before .loop .inv) (c .before .before .before .before .before .before .before .pre))
 
 loop-less : tie.Need-loop-less Inv-loop μ-loop
-loop-less c = omega (arith, ends-later _ _ _ (c .before .before .before .before .before .statement-end .ensures) (stmt-some _ _ _ _ _ _ _ (omega (arith, c .before .before .before .before .before .before .before .before .before .before .loop-test .taken)) (c .before .before .before .before .before .before .before .before .before .before .before .loop .inv) (c .before .before .before .before .before .before .before .before .before .before .before .before .pre)), c .before .before .before .before .before .before .before .before .before .before .loop-test .taken)
+loop-less c = omega (arith, ends-later _ _ _ (c .before .before .before .number-statement .ensures .2) (stmt-some _ _ _ _ _ _ _ (omega (arith, c .before .before .before .before .before .before .before .before .before .loop-test .taken)) (c .before .before .before .before .before .before .before .before .before .before .loop .inv) (c .before .before .before .before .before .before .before .before .before .before .before .pre)), c .before .before .before .before .before .before .before .before .before .loop-test .taken)
 
 loop-again : tie.Need-loop-again Inv-loop μ-loop
-loop-again c = walking-next _ _ _ _ _ _ _ (omega (arith, c .before .before .before .before .before .before .before .before .before .before .loop-test .taken)) (c .before .before .before .before .before .before .before .before .before .before .before .loop .inv) _ _ (c .before .before .before .before .before .statement-end .ensures) (c .before .before .number-statement .ensures .0) (c .before .before .number-statement .ensures .1 .0) (c .before .before .number-statement .ensures .1 .1)
+loop-again c = walking-next _ _ _ _ _ _ _ (omega (arith, c .before .before .before .before .before .before .before .before .before .loop-test .taken)) (c .before .before .before .before .before .before .before .before .before .before .loop .inv) _ _ (c .before .before .before .number-statement .ensures .2) (c .before .before .before .number-statement .ensures .0) (c .before .before .before .number-statement .ensures .1 .0) (c .before .before .before .number-statement .ensures .1 .1)
 
 same-length-3 : tie.Need-same-length-3 Inv-loop μ-loop
 same-length-3 c = c .before .loop .inv .size
@@ -56,7 +53,6 @@ number-statements-spec =
     same-length
     same-length-2
     returns
-    statement-end-requires
     number-statement-requires
     loop-less
     loop-again

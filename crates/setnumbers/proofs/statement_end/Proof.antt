@@ -21,7 +21,7 @@ skip-requires : tie.Need-skip-requires
 skip-requires c κs = let s = c .before .before in (s .pre .1, (some-inside _ _ (s .pre .0), omega arith))
 
 returns : tie.Need-returns
-returns c = rule-ends _ _ _ (c .before .before .word .ensures) _ _ (c .before .if1 .taken) (c .skip .ensures)
+returns c = rule-ends _ _ _ (c .before .before .word .ensures) _ _ _ (c .before .if1 .taken) (c .skip .ensures)
 
 add-word : tie.Need-add-word
 add-word c = omega (arith, second-inside _ _ _ (c .before .word .ensures) (c .before .before .pre .0) (c .if1 .left))

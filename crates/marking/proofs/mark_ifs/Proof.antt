@@ -5,11 +5,11 @@ use lib.IntN.{pos}
 use lib.ListN.{set}
 use Rattle.walks.specs.Item.{ifs-word}
 use borrow.Author.Needs.{needs}
-use Rattle.memory.proofs.mark_ifs.Statement.{statement}
-use Rattle.memory.proofs.mark_ifs.Tie as tie
+use Rattle.marking.proofs.mark_ifs.Statement.{statement}
+use Rattle.marking.proofs.mark_ifs.Tie as tie
 
-finds-if-requires : tie.Need-finds-if-requires
-finds-if-requires c κs = search needs
+any-if-requires : tie.Need-any-if-requires
+any-if-requires c κs = search needs
 
 slice-set-of-work : tie.Need-slice-set-of-work
 slice-set-of-work c = search needs
@@ -18,7 +18,7 @@ same-length : tie.Need-same-length
 same-length c = search needs
 
 returns : tie.Need-returns
-returns c = ap (λ (b : Bool). set (c .before .before .before .args .work .now) ifs-word (cond b (pos 1) (pos 0))) (sym (c .if1 .taken) ∙ c .before .finds-if .ensures)
+returns c = ap (λ (b : Bool). set (c .before .before .before .args .work .now) ifs-word (cond b (pos 1) (pos 0))) (sym (c .if1 .taken) ∙ c .before .any-if .ensures)
 
 slice-set-of-work-2 : tie.Need-slice-set-of-work-2
 slice-set-of-work-2 c = search needs
@@ -27,13 +27,13 @@ same-length-2 : tie.Need-same-length-2
 same-length-2 c = search needs
 
 returns-2 : tie.Need-returns-2
-returns-2 c = ap (λ (b : Bool). set (c .before .before .before .args .work .now) ifs-word (cond b (pos 1) (pos 0))) (sym (c .if1 .left) ∙ c .before .finds-if .ensures)
+returns-2 c = ap (λ (b : Bool). set (c .before .before .before .args .work .now) ifs-word (cond b (pos 1) (pos 0))) (sym (c .if1 .left) ∙ c .before .any-if .ensures)
 
 pub mark-ifs-spec : {M : Type 1} → statement M
 mark-ifs-spec =
     tie.close
     (tie.spec
-    finds-if-requires
+    any-if-requires
     slice-set-of-work
     same-length
     returns

@@ -3,22 +3,25 @@ use borrow.Fn.Kinds.{In}
 use borrow.Fn.PlainCycle.{Measures, is, falls, and}
 use Rattle.folding.proofs.constant_folding_bool.Reads as constant-folding-bool
 use Rattle.folding.proofs.constant_folding_bool.Kinds as constant-folding-bool-kinds
-use Rattle.folding.proofs.+constant_folding_bool+constant_folding_int+constant_folding_members+constant_folding_terms+fold_comparison+fold_if.Lts-constant_folding_bool as constant-folding-bool-lts
+use Rattle.folding.proofs.+constant_folding_bool+constant_folding_int+constant_folding_members+constant_folding_terms+fold_comparison+fold_if+fold_side.Lts-constant_folding_bool as constant-folding-bool-lts
 use Rattle.folding.proofs.constant_folding_int.Reads as constant-folding-int
 use Rattle.folding.proofs.constant_folding_int.Kinds as constant-folding-int-kinds
-use Rattle.folding.proofs.+constant_folding_bool+constant_folding_int+constant_folding_members+constant_folding_terms+fold_comparison+fold_if.Lts-constant_folding_int as constant-folding-int-lts
+use Rattle.folding.proofs.+constant_folding_bool+constant_folding_int+constant_folding_members+constant_folding_terms+fold_comparison+fold_if+fold_side.Lts-constant_folding_int as constant-folding-int-lts
 use Rattle.folding.proofs.constant_folding_members.Reads as constant-folding-members
 use Rattle.folding.proofs.constant_folding_members.Kinds as constant-folding-members-kinds
-use Rattle.folding.proofs.+constant_folding_bool+constant_folding_int+constant_folding_members+constant_folding_terms+fold_comparison+fold_if.Lts-constant_folding_members as constant-folding-members-lts
+use Rattle.folding.proofs.+constant_folding_bool+constant_folding_int+constant_folding_members+constant_folding_terms+fold_comparison+fold_if+fold_side.Lts-constant_folding_members as constant-folding-members-lts
 use Rattle.folding.proofs.constant_folding_terms.Reads as constant-folding-terms
 use Rattle.folding.proofs.constant_folding_terms.Kinds as constant-folding-terms-kinds
-use Rattle.folding.proofs.+constant_folding_bool+constant_folding_int+constant_folding_members+constant_folding_terms+fold_comparison+fold_if.Lts-constant_folding_terms as constant-folding-terms-lts
+use Rattle.folding.proofs.+constant_folding_bool+constant_folding_int+constant_folding_members+constant_folding_terms+fold_comparison+fold_if+fold_side.Lts-constant_folding_terms as constant-folding-terms-lts
 use Rattle.folding.proofs.fold_comparison.Reads as fold-comparison
 use Rattle.folding.proofs.fold_comparison.Kinds as fold-comparison-kinds
-use Rattle.folding.proofs.+constant_folding_bool+constant_folding_int+constant_folding_members+constant_folding_terms+fold_comparison+fold_if.Lts-fold_comparison as fold-comparison-lts
+use Rattle.folding.proofs.+constant_folding_bool+constant_folding_int+constant_folding_members+constant_folding_terms+fold_comparison+fold_if+fold_side.Lts-fold_comparison as fold-comparison-lts
 use Rattle.folding.proofs.fold_if.Reads as fold-if
 use Rattle.folding.proofs.fold_if.Kinds as fold-if-kinds
-use Rattle.folding.proofs.+constant_folding_bool+constant_folding_int+constant_folding_members+constant_folding_terms+fold_comparison+fold_if.Lts-fold_if as fold-if-lts
+use Rattle.folding.proofs.+constant_folding_bool+constant_folding_int+constant_folding_members+constant_folding_terms+fold_comparison+fold_if+fold_side.Lts-fold_if as fold-if-lts
+use Rattle.folding.proofs.fold_side.Reads as fold-side
+use Rattle.folding.proofs.fold_side.Kinds as fold-side-kinds
+use Rattle.folding.proofs.+constant_folding_bool+constant_folding_int+constant_folding_members+constant_folding_terms+fold_comparison+fold_if+fold_side.Lts-fold_side as fold-side-lts
 use Rattle.domains.proofs.number.Reads as number-reads
 use Rattle.folding.proofs.action.Reads as action-reads
 use Rattle.folding.proofs.at_state.Reads as at-state-reads
@@ -34,8 +37,8 @@ use Rattle.folding.proofs.kept_end.Reads as kept-end-reads
 use Rattle.folding.proofs.put.Reads as put-reads
 use Rattle.folding.proofs.put_int_var.Reads as put-int-var-reads
 use Rattle.folding.proofs.put_two.Reads as put-two-reads
-use Rattle.folding.proofs.+constant_folding_bool+constant_folding_int+constant_folding_members+constant_folding_terms+fold_comparison+fold_if.{statement}
-use Rattle.folding.proofs.+constant_folding_bool+constant_folding_int+constant_folding_members+constant_folding_terms+fold_comparison+fold_if.Tie.{close}
+use Rattle.folding.proofs.+constant_folding_bool+constant_folding_int+constant_folding_members+constant_folding_terms+fold_comparison+fold_if+fold_side.{statement}
+use Rattle.folding.proofs.+constant_folding_bool+constant_folding_int+constant_folding_members+constant_folding_terms+fold_comparison+fold_if+fold_side.Tie.{close}
 use mathlib.Core.Path.{_≡_, refl, sym, _∙_}
 use mathlib.Core.Bool.{Bool, _||_}
 use mathlib.Core.List.{List}
@@ -67,6 +70,9 @@ abbrev μ-fold-comparison : Measures 2 fold-comparison-kinds.ps ℕ
 
 abbrev μ-fold-if : Measures 2 fold-if-kinds.ps ℕ
 μ-fold-if κs a = 3 * (length (a .0 .now) - a .1 .1 .0)
+
+abbrev μ-fold-side : Measures 2 fold-side-kinds.ps ℕ
+μ-fold-side κs a = 3 * (length (a .0 .now) - a .1 .1 .0) + 2
 
 abbrev constant-folding-bool-at : ℕ → In 2 constant-folding-bool-kinds.ps
 constant-folding-bool-at t = and 2 constant-folding-bool-kinds.ps (is 2 constant-folding-bool-kinds.ps μ-constant-folding-bool t) constant-folding-bool.Pre
@@ -104,8 +110,14 @@ fold-if-at t = and 2 fold-if-kinds.ps (is 2 fold-if-kinds.ps μ-fold-if t) fold-
 abbrev fold-if-below : ℕ → In 2 fold-if-kinds.ps
 fold-if-below t = and 2 fold-if-kinds.ps (falls 2 fold-if-kinds.ps _<_ μ-fold-if t) fold-if.Pre
 
+abbrev fold-side-at : ℕ → In 2 fold-side-kinds.ps
+fold-side-at t = and 2 fold-side-kinds.ps (is 2 fold-side-kinds.ps μ-fold-side t) fold-side.Pre
+
+abbrev fold-side-below : ℕ → In 2 fold-side-kinds.ps
+fold-side-below t = and 2 fold-side-kinds.ps (falls 2 fold-side-kinds.ps _<_ μ-fold-side t) fold-side.Pre
+
 abbrev constant-folding-bool-claims : ℕ → constant-folding-bool-lts.Claims
-constant-folding-bool-claims t = (number-reads.Asked, number-reads.Learnt, fold-leaf-reads.Asked, fold-leaf-reads.Learnt, fold-comparison-below t, fold-comparison.Post, constant-folding-bool-below t, constant-folding-bool.Post, close-not-reads.Asked, close-not-reads.Learnt, constant-folding-members-below t, constant-folding-members.Post, close-list-reads.Asked, close-list-reads.Learnt, action-reads.Asked, action-reads.Learnt, close-binary-reads.Asked, close-binary-reads.Learnt)
+constant-folding-bool-claims t = (number-reads.Asked, number-reads.Learnt, fold-leaf-reads.Asked, fold-leaf-reads.Learnt, fold-comparison-below t, fold-comparison.Post, constant-folding-bool-below t, constant-folding-bool.Post, close-not-reads.Asked, close-not-reads.Learnt, constant-folding-members-below t, constant-folding-members.Post, close-list-reads.Asked, close-list-reads.Learnt, fold-side-below t, fold-side.Post, action-reads.Asked, action-reads.Learnt, close-binary-reads.Asked, close-binary-reads.Learnt)
 
 constant-folding-bool-number-requires : (t : ℕ) → constant-folding-bool-lts.Need-number-requires (constant-folding-bool-claims t) (constant-folding-bool-at t) constant-folding-bool.Post
 constant-folding-bool-number-requires t c κs = ready-first _ _ _ _ _ (c .pre .1)
@@ -170,35 +182,35 @@ constant-folding-bool-same-length-4 t c = c .before .close-list .kept .0 ∙ c .
 constant-folding-bool-returns-4 : (t : ℕ) → constant-folding-bool-lts.Need-returns-4 (constant-folding-bool-claims t) (constant-folding-bool-at t) constant-folding-bool.Post
 constant-folding-bool-returns-4 t c = list-folds _ _ _ _ _ _ (c .before .before .before .before .before .before .before .before .before .before .before .number .ensures .0) (c .before .before .before .before .before .before .before .before .before .before .if1 .left) (c .before .before .before .before .before .before .before .if4 .taken) _ (c .before .before .before .before .before .before .number2 .ensures .0) _ _ _ _ _ (c .before .before .before .before .constant-folding-members .ensures) _ _ _ _ (c .before .before .before .before .before .before .before .before .before .before .before .before .pre .1) (c .before .close-list .ensures .0) (c .before .close-list .ensures .1) (c .before .close-list .ensures .2)
 
-constant-folding-bool-add-constant-folding-bool-3 : (t : ℕ) → constant-folding-bool-lts.Need-add-constant-folding-bool-3 (constant-folding-bool-claims t) (constant-folding-bool-at t) constant-folding-bool.Post
-constant-folding-bool-add-constant-folding-bool-3 t c = let q = (ready-inside _ _ _ _ _ (c .before .before .before .before .before .pre .1)) in omega (arith, (c .before .before .before .before .before .good .0 .0))
+constant-folding-bool-add-fold-side : (t : ℕ) → constant-folding-bool-lts.Need-add-fold-side (constant-folding-bool-claims t) (constant-folding-bool-at t) constant-folding-bool.Post
+constant-folding-bool-add-fold-side t c = let q = (ready-inside _ _ _ _ _ (c .before .before .before .before .before .pre .1)) in omega (arith, (c .before .before .before .before .before .good .0 .0))
 
-constant-folding-bool-add-constant-folding-bool-4 : (t : ℕ) → constant-folding-bool-lts.Need-add-constant-folding-bool-4 (constant-folding-bool-claims t) (constant-folding-bool-at t) constant-folding-bool.Post
-constant-folding-bool-add-constant-folding-bool-4 t c = let q = (ready-inside _ _ _ _ _ (c .before .before .before .before .before .before .pre .1)) in omega (arith, (c .before .before .before .before .before .before .good .1 .1 .1 .0 .0))
+constant-folding-bool-add-fold-side-2 : (t : ℕ) → constant-folding-bool-lts.Need-add-fold-side-2 (constant-folding-bool-claims t) (constant-folding-bool-at t) constant-folding-bool.Post
+constant-folding-bool-add-fold-side-2 t c = let q = (ready-inside _ _ _ _ _ (c .before .before .before .before .before .before .pre .1)) in omega (arith, (c .before .before .before .before .before .before .good .1 .1 .1 .0 .0))
 
-constant-folding-bool-constant-folding-bool-requires-2 : (t : ℕ) → constant-folding-bool-lts.Need-constant-folding-bool-requires-2 (constant-folding-bool-claims t) (constant-folding-bool-at t) constant-folding-bool.Post
-constant-folding-bool-constant-folding-bool-requires-2 t c κs = let q = (ready-inside _ _ _ _ _ (c .before .before .before .before .before .before .pre .1)) in (omega (arith, c .before .before .before .before .before .before .pre .0), left-ready _ _ _ _ _ _ (c .before .before .before .before .before .number .ensures .0) (binary-low _ (c .before .before .if3 .left) (c .before .if4 .left)) (c .before .before .before .if2 .left) (c .before .before .before .before .before .before .pre .1))
+constant-folding-bool-fold-side-requires : (t : ℕ) → constant-folding-bool-lts.Need-fold-side-requires (constant-folding-bool-claims t) (constant-folding-bool-at t) constant-folding-bool.Post
+constant-folding-bool-fold-side-requires t c κs = let q = (ready-inside _ _ _ _ _ (c .before .before .before .before .before .before .pre .1)) in (omega (arith, c .before .before .before .before .before .before .pre .0), left-ready _ _ _ _ _ _ (c .before .before .before .before .before .number .ensures .0) (binary-low _ (c .before .before .if3 .left) (c .before .if4 .left)) (c .before .before .before .if2 .left) (c .before .before .before .before .before .before .pre .1))
 
-constant-folding-bool-constant-folding-bool-requires-3 : (t : ℕ) → constant-folding-bool-lts.Need-constant-folding-bool-requires-3 (constant-folding-bool-claims t) (constant-folding-bool-at t) constant-folding-bool.Post
-constant-folding-bool-constant-folding-bool-requires-3 t c κs = let q = (ready-inside _ _ _ _ _ (c .before .before .before .before .before .before .before .before .before .pre .1)) in let s = right-ready _ _ _ _ _ _ (c .before .before .before .before .before .before .before .before .number .ensures .0) (binary-low _ (c .before .before .before .before .before .if3 .left) (c .before .before .before .before .if4 .left)) (c .before .before .before .before .before .before .if2 .left) _ _ _ _ (c .before .before .constant-folding-bool2 .ensures) (c .before .before .before .before .before .before .before .before .before .pre .1) (c .before .before .constant-folding-bool2 .kept .1 .1 .1 .0) in (omega (arith, c .before .before .before .before .before .before .before .before .before .pre .0, s .1), s .0)
+constant-folding-bool-fold-side-requires-2 : (t : ℕ) → constant-folding-bool-lts.Need-fold-side-requires-2 (constant-folding-bool-claims t) (constant-folding-bool-at t) constant-folding-bool.Post
+constant-folding-bool-fold-side-requires-2 t c κs = let q = (ready-inside _ _ _ _ _ (c .before .before .before .before .before .before .before .before .before .pre .1)) in let s = right-ready _ _ _ _ _ _ (c .before .before .before .before .before .before .before .before .number .ensures .0) (binary-low _ (c .before .before .before .before .before .if3 .left) (c .before .before .before .before .if4 .left)) (c .before .before .before .before .before .before .if2 .left) _ _ _ _ (c .before .before .fold-side .ensures) (c .before .before .before .before .before .before .before .before .before .pre .1) (c .before .before .fold-side .kept .1 .1 .1 .0) in (omega (arith, c .before .before .before .before .before .before .before .before .before .pre .0, s .1), s .0)
 
 constant-folding-bool-sub-action : (t : ℕ) → constant-folding-bool-lts.Need-sub-action (constant-folding-bool-claims t) (constant-folding-bool-at t) constant-folding-bool.Post
 constant-folding-bool-sub-action t c = let q = (binary-low _ (c .before .before .before .before .before .before .before .if3 .left) (c .before .before .before .before .before .before .if4 .left)) in omega arith
 
 constant-folding-bool-action-requires : (t : ℕ) → constant-folding-bool-lts.Need-action-requires (constant-folding-bool-claims t) (constant-folding-bool-at t) constant-folding-bool.Post
-constant-folding-bool-action-requires t c κs = let q = (binary-closes _ _ _ _ _ _ (c .before .before .before .before .before .before .before .before .before .before .number .ensures .0) (binary-low _ (c .before .before .before .before .before .before .before .if3 .left) (c .before .before .before .before .before .before .if4 .left)) (c .before .before .before .before .before .before .before .before .if2 .left) _ _ _ _ (c .before .before .before .before .constant-folding-bool2 .ensures) _ _ _ _ (c .before .constant-folding-bool3 .ensures) (c .before .before .before .before .before .before .before .before .before .before .before .pre .1) (c .before .before .before .before .constant-folding-bool2 .kept .1 .1 .1 .0) (c .before .constant-folding-bool3 .kept .1 .1 .1 .0)) in (q .3, q .4, q .5)
+constant-folding-bool-action-requires t c κs = let q = (binary-closes _ _ _ _ _ _ (c .before .before .before .before .before .before .before .before .before .before .number .ensures .0) (binary-low _ (c .before .before .before .before .before .before .before .if3 .left) (c .before .before .before .before .before .before .if4 .left)) (c .before .before .before .before .before .before .before .before .if2 .left) _ _ _ _ (c .before .before .before .before .fold-side .ensures) _ _ _ _ (c .before .fold-side2 .ensures) (c .before .before .before .before .before .before .before .before .before .before .before .pre .1) (c .before .before .before .before .fold-side .kept .1 .1 .1 .0) (c .before .fold-side2 .kept .1 .1 .1 .0)) in (q .3, q .4, q .5)
 
 constant-folding-bool-sub-close-binary : (t : ℕ) → constant-folding-bool-lts.Need-sub-close-binary (constant-folding-bool-claims t) (constant-folding-bool-at t) constant-folding-bool.Post
 constant-folding-bool-sub-close-binary t c = let q = (binary-low _ (c .before .before .before .before .before .before .before .before .before .if3 .left) (c .before .before .before .before .before .before .before .before .if4 .left)) in omega arith
 
 constant-folding-bool-close-binary-requires : (t : ℕ) → constant-folding-bool-lts.Need-close-binary-requires (constant-folding-bool-claims t) (constant-folding-bool-at t) constant-folding-bool.Post
-constant-folding-bool-close-binary-requires t c κs = let q = (binary-closes _ _ _ _ _ _ (c .before .before .before .before .before .before .before .before .before .before .before .before .number .ensures .0) (binary-low _ (c .before .before .before .before .before .before .before .before .before .if3 .left) (c .before .before .before .before .before .before .before .before .if4 .left)) (c .before .before .before .before .before .before .before .before .before .before .if2 .left) _ _ _ _ (c .before .before .before .before .before .before .constant-folding-bool2 .ensures) _ _ _ _ (c .before .before .before .constant-folding-bool3 .ensures) (c .before .before .before .before .before .before .before .before .before .before .before .before .before .pre .1) (c .before .before .before .before .before .before .constant-folding-bool2 .kept .1 .1 .1 .0) (c .before .before .before .constant-folding-bool3 .kept .1 .1 .1 .0)) in (q .0, q .1, q .2, q .3)
+constant-folding-bool-close-binary-requires t c κs = let q = (binary-closes _ _ _ _ _ _ (c .before .before .before .before .before .before .before .before .before .before .before .before .number .ensures .0) (binary-low _ (c .before .before .before .before .before .before .before .before .before .if3 .left) (c .before .before .before .before .before .before .before .before .if4 .left)) (c .before .before .before .before .before .before .before .before .before .before .if2 .left) _ _ _ _ (c .before .before .before .before .before .before .fold-side .ensures) _ _ _ _ (c .before .before .before .fold-side2 .ensures) (c .before .before .before .before .before .before .before .before .before .before .before .before .before .pre .1) (c .before .before .before .before .before .before .fold-side .kept .1 .1 .1 .0) (c .before .before .before .fold-side2 .kept .1 .1 .1 .0)) in (q .0, q .1, q .2, q .3)
 
 constant-folding-bool-same-length-5 : (t : ℕ) → constant-folding-bool-lts.Need-same-length-5 (constant-folding-bool-claims t) (constant-folding-bool-at t) constant-folding-bool.Post
-constant-folding-bool-same-length-5 t c = c .before .close-binary .kept .0 ∙ c .before .before .before .before .before .constant-folding-bool3 .kept .1 .1 .1 .0 ∙ c .before .before .before .before .before .before .before .before .constant-folding-bool2 .kept .1 .1 .1 .0
+constant-folding-bool-same-length-5 t c = c .before .close-binary .kept .0 ∙ c .before .before .before .before .before .fold-side2 .kept .1 .1 .1 .0 ∙ c .before .before .before .before .before .before .before .before .fold-side .kept .1 .1 .1 .0
 
 constant-folding-bool-returns-5 : (t : ℕ) → constant-folding-bool-lts.Need-returns-5 (constant-folding-bool-claims t) (constant-folding-bool-at t) constant-folding-bool.Post
-constant-folding-bool-returns-5 t c = binary-folds _ _ _ _ _ _ (c .before .before .before .before .before .before .before .before .before .before .before .before .before .before .number .ensures .0) (binary-low _ (c .before .before .before .before .before .before .before .before .before .before .before .if3 .left) (c .before .before .before .before .before .before .before .before .before .before .if4 .left)) (c .before .before .before .before .before .before .before .before .before .before .before .before .if2 .left) _ _ _ _ (c .before .before .before .before .before .before .before .before .constant-folding-bool2 .ensures) _ _ _ _ (c .before .before .before .before .before .constant-folding-bool3 .ensures) _ _ _ _ _ (c .before .before .before .before .before .before .before .before .before .before .before .before .before .before .before .pre .1) (c .before .before .before .before .before .before .before .before .constant-folding-bool2 .kept .1 .1 .1 .0) (c .before .before .before .action .ensures) (c .before .close-binary .ensures .0) (c .before .close-binary .ensures .1) (c .before .close-binary .ensures .2)
+constant-folding-bool-returns-5 t c = binary-folds _ _ _ _ _ _ (c .before .before .before .before .before .before .before .before .before .before .before .before .before .before .number .ensures .0) (binary-low _ (c .before .before .before .before .before .before .before .before .before .before .before .if3 .left) (c .before .before .before .before .before .before .before .before .before .before .if4 .left)) (c .before .before .before .before .before .before .before .before .before .before .before .before .if2 .left) _ _ _ _ (c .before .before .before .before .before .before .before .before .fold-side .ensures) _ _ _ _ (c .before .before .before .before .before .fold-side2 .ensures) _ _ _ _ _ (c .before .before .before .before .before .before .before .before .before .before .before .before .before .before .before .pre .1) (c .before .before .before .before .before .before .before .before .fold-side .kept .1 .1 .1 .0) (c .before .before .before .action .ensures) (c .before .close-binary .ensures .0) (c .before .close-binary .ensures .1) (c .before .close-binary .ensures .2)
 
 abbrev constant-folding-int-claims : ℕ → constant-folding-int-lts.Claims
 constant-folding-int-claims t = (number-reads.Asked, number-reads.Learnt, put-reads.Asked, put-reads.Learnt, copy-word-reads.Asked, copy-word-reads.Learnt, put-int-var-reads.Asked, put-int-var-reads.Learnt, fold-if-below t, fold-if.Post, put-two-reads.Asked, put-two-reads.Learnt, is-single-reads.Asked, is-single-reads.Learnt, constant-folding-int-below t, constant-folding-int.Post, constant-folding-terms-below t, constant-folding-terms.Post)
@@ -449,9 +461,33 @@ fold-if-same-length t c = c .before .before .constant-folding-int2 .kept .1 .1 .
 fold-if-returns : (t : ℕ) → fold-if-lts.Need-returns (fold-if-claims t) (fold-if-at t) fold-if.Post
 fold-if-returns t c = if-folds _ _ _ _ _ (c .before .before .before .before .before .before .before .before .before .before .before .before .before .before .before .pre .1 .1) _ (c .before .before .before .before .before .before .before .before .before .before .before .before .before .put .ensures) _ _ _ _ (c .before .before .before .before .before .before .before .before .before .before .constant-folding-bool .ensures) (c .before .before .before .before .before .before .before .before .before .before .constant-folding-bool .kept .1 .1 .1 .0) _ (c .before .before .before .before .before .before .before .before .kept-end .ensures) _ _ _ (c .before .before .before .before .before .before .constant-folding-int .ensures) (c .before .before .before .before .before .before .constant-folding-int .kept .1 .1 .1 .0) _ (c .before .before .before .before .at-state .ensures) _ _ _ (c .before .before .constant-folding-int2 .ensures) _ (c .at-state2 .ensures) (c .before .before .before .before .before .before .before .before .before .before .before .before .before .before .before .pre .1 .0)
 
-pub +constant-folding-bool+constant-folding-int+constant-folding-members+constant-folding-terms+fold-comparison+fold-if-spec : {M : Type 1} → statement M
-+constant-folding-bool+constant-folding-int+constant-folding-members+constant-folding-terms+fold-comparison+fold-if-spec =
-    close μ-constant-folding-bool μ-constant-folding-int μ-constant-folding-members μ-constant-folding-terms μ-fold-comparison μ-fold-if
+abbrev fold-side-claims : ℕ → fold-side-lts.Claims
+fold-side-claims t = (number-reads.Asked, number-reads.Learnt, fold-leaf-reads.Asked, fold-leaf-reads.Learnt, constant-folding-bool-below t, constant-folding-bool.Post)
+
+fold-side-number-requires : (t : ℕ) → fold-side-lts.Need-number-requires (fold-side-claims t) (fold-side-at t) fold-side.Post
+fold-side-number-requires t c κs = ready-first _ _ _ _ _ (c .pre .1)
+
+fold-side-fold-leaf-requires : (t : ℕ) → fold-side-lts.Need-fold-leaf-requires (fold-side-claims t) (fold-side-at t) fold-side.Post
+fold-side-fold-leaf-requires t c κs = ((c .before .before .before .pre .1), ((c .before .before .number .ensures .0), c .before .if1 .taken))
+
+fold-side-same-length : (t : ℕ) → fold-side-lts.Need-same-length (fold-side-claims t) (fold-side-at t) fold-side.Post
+fold-side-same-length t c = c .before .fold-leaf .kept .1 .1 .1 .0
+
+fold-side-returns : (t : ℕ) → fold-side-lts.Need-returns (fold-side-claims t) (fold-side-at t) fold-side.Post
+fold-side-returns t c = c .before .fold-leaf .ensures
+
+fold-side-constant-folding-bool-requires : (t : ℕ) → fold-side-lts.Need-constant-folding-bool-requires (fold-side-claims t) (fold-side-at t) fold-side.Post
+fold-side-constant-folding-bool-requires t c κs = (omega (arith, c .before .before .before .pre .0), c .before .before .before .pre .1)
+
+fold-side-same-length-2 : (t : ℕ) → fold-side-lts.Need-same-length-2 (fold-side-claims t) (fold-side-at t) fold-side.Post
+fold-side-same-length-2 t c = c .before .constant-folding-bool .kept .1 .1 .1 .0
+
+fold-side-returns-2 : (t : ℕ) → fold-side-lts.Need-returns-2 (fold-side-claims t) (fold-side-at t) fold-side.Post
+fold-side-returns-2 t c = c .before .constant-folding-bool .ensures
+
+pub +constant-folding-bool+constant-folding-int+constant-folding-members+constant-folding-terms+fold-comparison+fold-if+fold-side-spec : {M : Type 1} → statement M
++constant-folding-bool+constant-folding-int+constant-folding-members+constant-folding-terms+fold-comparison+fold-if+fold-side-spec =
+    close μ-constant-folding-bool μ-constant-folding-int μ-constant-folding-members μ-constant-folding-terms μ-fold-comparison μ-fold-if μ-fold-side
     (λ t. constant-folding-bool-lts.spec (constant-folding-bool-claims t)
     (constant-folding-bool-at t)
     constant-folding-bool.Post
@@ -476,10 +512,10 @@ pub +constant-folding-bool+constant-folding-int+constant-folding-members+constan
     (constant-folding-bool-close-list-requires t)
     (constant-folding-bool-same-length-4 t)
     (constant-folding-bool-returns-4 t)
-    (constant-folding-bool-add-constant-folding-bool-3 t)
-    (constant-folding-bool-add-constant-folding-bool-4 t)
-    (constant-folding-bool-constant-folding-bool-requires-2 t)
-    (constant-folding-bool-constant-folding-bool-requires-3 t)
+    (constant-folding-bool-add-fold-side t)
+    (constant-folding-bool-add-fold-side-2 t)
+    (constant-folding-bool-fold-side-requires t)
+    (constant-folding-bool-fold-side-requires-2 t)
     (constant-folding-bool-sub-action t)
     (constant-folding-bool-action-requires t)
     (constant-folding-bool-sub-close-binary t)
@@ -565,7 +601,7 @@ pub +constant-folding-bool+constant-folding-int+constant-folding-members+constan
     (fold-comparison-constant-folding-int-requires-2 t)
     (fold-comparison-same-length t)
     (fold-comparison-returns t))
-    λ t. fold-if-lts.spec (fold-if-claims t)
+    (λ t. fold-if-lts.spec (fold-if-claims t)
     (fold-if-at t)
     fold-if.Post
     (fold-if-put-requires t)
@@ -578,4 +614,14 @@ pub +constant-folding-bool+constant-folding-int+constant-folding-members+constan
     (fold-if-constant-folding-int-requires-2 t)
     (fold-if-at-state-requires-2 t)
     (fold-if-same-length t)
-    (fold-if-returns t)
+    (fold-if-returns t))
+    λ t. fold-side-lts.spec (fold-side-claims t)
+    (fold-side-at t)
+    fold-side.Post
+    (fold-side-number-requires t)
+    (fold-side-fold-leaf-requires t)
+    (fold-side-same-length t)
+    (fold-side-returns t)
+    (fold-side-constant-folding-bool-requires t)
+    (fold-side-same-length-2 t)
+    (fold-side-returns-2 t)
