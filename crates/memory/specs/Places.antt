@@ -2,15 +2,8 @@
 -- Assumes nothing.
 use Prim.Native.Nat.{ℕ}
 
--- one word for each declared Boolean
-abbrev pub fixed-values : ℕ
-fixed-values = 0
-
 abbrev pub folded : ℕ
 folded = 512
-
-abbrev pub folded-end : ℕ
-folded-end = 4608
 
 -- three words for each declared integer
 abbrev pub declared-domains : ℕ

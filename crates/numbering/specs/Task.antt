@@ -59,9 +59,6 @@ pub record Done (t : Task) (st st' : State) : Type 0 where
   pub kept : Kept st st'
   pub low : Low st'
 
-pub done-none : (st : State) → Low st → Done skip st st
-done-none st h = record { state = λ ds d f. refl; kept = kept-same st; low = h }
-
 -- ---- a task in parts: what is left of t, begun at st, is r at st'
 
 pub record Left (t : Task) (st : State) (r : Task) (st' : State) : Type 0 where

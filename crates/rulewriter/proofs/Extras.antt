@@ -2,7 +2,7 @@
 use mathlib.Core.Path.{_≡_, refl, sym, ap, _∙_, subst}
 use mathlib.Core.Bool.{Bool, true, false, cond}
 use mathlib.Core.List.{List, [], _∷_, _++_, append-assoc}
-use Prim.Native.Nat.{ℕ, zero, suc, _+_, _-_, _≤_, min}
+use Prim.Native.Nat.{ℕ, zero, suc, _+_, _-_, _≤_}
 use native.Mathlib.Omega.{arith}
 use native.Mathlib.Numerals.{sub-one}
 use lib.IntN.{ℤ}
@@ -17,7 +17,7 @@ use Rattle.walk.specs.declared.Counters.{Counters}
 use Rattle.walk.specs.declared.Node.{Node}
 use Rattle.walk.specs.declared.Node.the-variants.{Var, Cmp, Not, Join, Cross}
 use Rattle.walks.specs.Tree.{Splitting, never, below, here, inner}
-use Rattle.walks.specs.Form.{Form, Forms, nil, cons, append}
+use Rattle.walks.specs.Form.{Forms, nil, cons, append}
 use Rattle.walks.specs.Item.{Item, counts, block-words, form-item, form-items}
 use Rattle.walks.specs.Decode.{node-of, decode, decode-int, many-ties, tie-at, cross-ties, ties-step, terms-ties, if-ties, int-ties-step, ties-at, ties-int-at}
 use Rattle.walks.specs.SumsFit.{FormFits, FormsFit}

@@ -73,7 +73,7 @@ pub fn inner(m: usize) -> usize
 }
 
 // The splitting's next number inside an Xor or Iff.
-pub fn inside_base(m: usize, base: usize) -> usize
+fn inside_base(m: usize, base: usize) -> usize
     ensures { λ r. ⌜ r ≡ inside-of (split-by m) base ⌝ }
 {
     if m < 2 {
@@ -172,14 +172,7 @@ pub fn is_leaf(work: &[i32], q: usize, left: usize) -> bool
 }
 
 // So many terms.
-pub fn skip_terms(
-    work: &[i32],
-    at: usize,
-    left: usize,
-    m: usize,
-    count: usize,
-    base: usize,
-) -> Skipped
+fn skip_terms(work: &[i32], at: usize, left: usize, m: usize, count: usize, base: usize) -> Skipped
     requires { do ⌜ (4608 ≤ (← ⟦work.len()⟧)) × ((at ≤ 4608) × (base ≤ limit)) ⌝ }
     ensures { λ r. ⌜ TermSkips (read-part (now (work .entry))) left (split-by m) count at base (r .at) (r .base) ⌝ }
 {
@@ -284,7 +277,7 @@ pub fn more_bools(n: Counters) -> Counters
 }
 
 // Behind a declared integer.
-pub fn met_int(work: &[i32], v: usize, n: Counters) -> Counters
+fn met_int(work: &[i32], v: usize, n: Counters) -> Counters
     requires { ⌜ (v < 256) × (n .ints ≤ limit) ⌝ }
     ensures { λ r. ⌜ r ≡ meets-int (now (work .entry)) v n ⌝ }
 {
@@ -375,7 +368,7 @@ fn swapped(f: bool, x: usize, y: usize) -> usize
 }
 
 // So many members, the first negated if g, the others if h.
-pub fn leaves_all(
+fn leaves_all(
     work: &[i32],
     at: usize,
     left: usize,
@@ -605,7 +598,7 @@ pub fn survey(
 }
 
 // So many terms.
-pub fn survey_terms(
+fn survey_terms(
     work: &[i32],
     at: usize,
     left: usize,

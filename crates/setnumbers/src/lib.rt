@@ -37,7 +37,7 @@ use walk::Node;
 // ---- ends
 
 // Where so many columns from a place on end.
-pub fn columns_end(work: &[i32], at: usize, count: usize) -> usize
+fn columns_end(work: &[i32], at: usize, count: usize) -> usize
     requires { do ⌜ (4608 ≤ (← ⟦work.len()⟧)) × (at ≤ 4608) ⌝ }
     ensures { λ r. ⌜ (r ≡ columns-end-in (read-part (now (work .entry))) count at) × (r ≤ 4608) ⌝ }
 {

@@ -10,7 +10,6 @@ use lib.ListN.{length, getD, set}
 use lib.Seq.{sets, set-comm}
 use Rattle.laws.specs.Writes.{sets-append}
 use Rattle.syntax.specs.Syntax.{Domain, Stmt, Problem, encode}
-use Rattle.words.specs.Exact.{Each}
 use Rattle.fold.specs.Fold.{Fixed}
 use Rattle.clauses.specs.Clause.{Clause}
 use Rattle.clauses.specs.Log.{Log, clauses-of}

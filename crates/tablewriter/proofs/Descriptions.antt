@@ -21,7 +21,6 @@ use Rattle.domains.specs.Declared.{Domain-at, Sized-at, Domain-below, Domain-po
 use Rattle.domains.proofs.Laws.{domain-inside}
 use Rattle.sums.specs.Domain.{ordered}
 use Rattle.call.specs.Demand.{domains-ordered}
-use Rattle.walk.specs.Decode.{word}
 use Rattle.sorting.specs.Columns.{domain-in}
 use Rattle.rows.specs.Described.{range-described, list-described}
 use Rattle.tablewriter.specs.Describing.{Declared, SomeDeclared, Describes}

@@ -53,7 +53,7 @@ use Rattle.setnumbers.specs.Fresh.{RowsStand, rows-small, some-of, some-not, fr
 use Rattle.stars.specs.Stars.{StarRows, Starred}
 use Rattle.tablewriter.specs.Columns.{Placed, Fits, AllFit}
 use Rattle.tablewriter.specs.Describing.{Near, AllNear, Describable, SomeDescribable, Described}
-use Rattle.tablewriter.specs.Step.{Place, after, columns-of, At, RowsAt, SomeRowsAt, RowsDid, StarsDid}
+use Rattle.tablewriter.specs.Step.{Place, columns-of, At, RowsAt, SomeRowsAt, RowsDid, StarsDid}
 use Rattle.tablewriter.proofs.Copying.{kept-below, kept-above}
 use Rattle.tablewriter.proofs.Elsewhere.{same-part}
 

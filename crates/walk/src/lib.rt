@@ -8,7 +8,7 @@ pub enum Mode {
     Each,
 }
 
-// What the code word at a position asks. A variable, and what follows. A comparison: where its second side stands, what follows.
+// What the code word at a position asks. A variable, and what follows. A comparison: its operator's code, and where its first side stands.
 // Not: what follows. Join: a disjunction?, the count, the first member negated?, the others negated?, the first member's place.
 // Cross: the second side negated in the first list?, the first side's place.
 pub enum Node {

@@ -10,25 +10,25 @@ use native.Mathlib.Nat.{mul-le-mul-left, le-trans}
 use native.Mathlib.Omega.{arith}
 use lib.IntN.{ℤ, pos, negsuc, natAbs}
 use lib.Signed.{leZ}
-use lib.ListN.{length, length-append, take}
+use lib.ListN.{length, length-append}
 use lib.Dec.{eqb}
 use borrow.Author.Tests.{eq-eqb}
 use Rattle.laws.specs.Bools.{or-l}
 use Rattle.laws.specs.Ints.{lower, higher}
 use Rattle.laws.specs.Lists.{any, different}
 use Rattle.syntax.specs.Words.{max-weight}
-use Rattle.syntax.specs.Syntax.{Domain, Range, lower-bound, upper-bound, domain-of}
+use Rattle.syntax.specs.Syntax.{Domain, lower-bound, upper-bound, domain-of}
 use Rattle.limits.specs.Limits.{domain-weight}
-use Rattle.sums.specs.LinearSum.{LinearSum, linear-sum, constant, singleton, add-sum, mul-sum, sub-sum, lowest, highest, get-domain-linear-sum}
-use Rattle.sums.specs.Rising.{terms-of, constant-of, Proper, constant-proper, singleton-proper, add-sum-proper, Each, constant-each, singleton-each, add-sum-each, mul-sum-each, sub-sum-each, Among, among-left, among-right, among-map, few-terms, different-cons, different-map}
+use Rattle.sums.specs.LinearSum.{LinearSum, linear-sum, constant, singleton, add-sum, mul-sum, get-domain-linear-sum}
+use Rattle.sums.specs.Rising.{terms-of, constant-of, Proper, constant-proper, singleton-proper, add-sum-proper, Each, constant-each, singleton-each, add-sum-each, mul-sum-each, Among, among-left, among-right, among-map, few-terms, different-cons, different-map}
 use Rattle.sums.specs.Norm.{load, constant-load, singleton-load, add-sum-load, mul-sum-load}
-use Rattle.sums.specs.Bounds.{domain-weight-one, size, reach, lowest-size, highest-size, bounds-within, Room, room-among}
+use Rattle.sums.specs.Bounds.{domain-weight-one, size, reach, lowest-size, highest-size, Room, room-among}
 use Rattle.clauses.specs.Normalize.{hull}
 use Rattle.walk.specs.Item.{limit, int-number, int-entry}
 use Rattle.walk.specs.declared.Counters.{Counters}
 use Rattle.walks.specs.Tree.{Place}
 use Rattle.walks.specs.Form.{IntForm, const, ivar, sum, choice, TermForms, none as no-terms, term}
-use Rattle.walks.specs.Item.{has-ifs, more-ints, Item, IntItem, const-item, ivar-item, sum-item, choice-item, no-terms-item, term-item, Making, constant-making, if-making, passed, if-behind, if-number, if-domain, seen-in, known-in, constant-in, number-in, cell, seen, form-item, form-int-item, form-terms-item}
+use Rattle.walks.specs.Item.{has-ifs, more-ints, Item, IntItem, const-item, ivar-item, sum-item, choice-item, no-terms-item, term-item, Making, constant-making, if-making, passed, if-behind, if-number, seen-in, known-in, constant-in, number-in, cell, seen, form-item, form-int-item, form-terms-item}
 use Rattle.walks.specs.Off.{int-form-off}
 
 -- ---- what is counted of a form
@@ -460,29 +460,8 @@ module _ (ds : List Domain) (w : List ℤ) where
     terms-total-words (term k e ts) n i l g h =
         terms-total-words ts (behind-of e n) (behind-low e n i) (add-sum l (mul-sum k (total-of e n))) (add-sum-each Word l (mul-sum k (total-of e n)) g (mul-sum-each Word k (total-of e n) (total-words e n i (h .0)))) (h .1)
 
-  -- a comparison's, and an equation's with a number that is a word
-  pub comparison-words : (a b : IntForm) (n : Counters) → Low n → Reads a → Reads b → Each Word (terms-of (sub-sum (total-of a n) (total-of b (behind-of a n))))
-  comparison-words a b n i h k = sub-sum-each Word (total-of a n) (total-of b (behind-of a n)) (total-words a n i h) (total-words b (behind-of a n) (behind-low a n i) k)
-
-  pub equation-words : (e : IntForm) (n : Counters) (v : ℕ) → Low n → Reads e → Word v → Each Word (terms-of (sub-sum (total-of e n) (singleton v)))
-  equation-words e n v i h k = sub-sum-each Word (total-of e n) (singleton v) (total-words e n i h) (singleton-each Word v k)
-
-  -- ---- the bounds of a sum's domain, after i terms and at last; domain: of each emitted number, no larger than its variable or its If weighs
+  -- ---- the bounds of a sum's domain; domain: of each emitted number, no larger than its variable or its If weighs
 
   module _ (domain : ℕ → Domain) where
-    pub total-bounds : (e : IntForm) (n : Counters) → Carries (λ v. reach (domain v)) e n → Light ds e → (i : ℕ)
-        → (natAbs (lowest domain (constant-of (total-of e n)) (take i (terms-of (total-of e n)))) ≤ max-weight) × (natAbs (highest domain (constant-of (total-of e n)) (take i (terms-of (total-of e n)))) ≤ max-weight)
-    total-bounds e n c h i = bounds-within domain i max-weight (total-of e n) (le-trans (total-load (λ v. reach (domain v)) e n c) (light-weight ds e h))
-
     pub total-reach : (e : IntForm) (n : Counters) → Carries (λ v. reach (domain v)) e n → reach (get-domain-linear-sum domain (total-of e n)) ≤ weight-of ds e
     total-reach e n c = le-trans (sum-reach domain (total-of e n)) (total-load (λ v. reach (domain v)) e n c)
-
-  -- ---- an If's own domain: no larger than the If weighs
-
-  -- between its two constants
-  pub constants-reach : (p : Place) (t f : IntForm) (n : Counters) → constant-in (seen w p) ≡ true → reach (if-domain p (form-int-item ds t) (form-int-item ds f) w n) ≤ max 1 (max (weight-of ds t) (weight-of ds f))
-  unfolding if-domain
-  constants-reach p t f n h =
-      let x = constant-of (total-of t n) in
-      let y = constant-of (total-of f (behind-of t n)) in
-      rw h (hull-reach (Range x x) (Range y y) (weight-of ds t) (weight-of ds f) (omega (arith, constant-size (λ v. 1) (total-of t n), total-size t n)) (omega (arith, constant-size (λ v. 1) (total-of f (behind-of t n)), total-size f (behind-of t n))))

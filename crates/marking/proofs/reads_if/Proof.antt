@@ -1,6 +1,5 @@
 -- `reads_if` meets its contract. Assumes nothing.
 use mathlib.Core.Path.{sym, _∙_}
-use native.Mathlib.Omega.{arith}
 use borrow.Author.Needs.{needs}
 use Rattle.marking.proofs.Laws.{reads-none, reads-one, reads-both}
 use Rattle.marking.proofs.reads_if.Statement.{statement}

@@ -1,5 +1,5 @@
 use borrow.Author.Needs.{needs}
-use Prim.Native.Nat.{ℕ, _<_, _≤_, _+_, _*_}
+use Prim.Native.Nat.{ℕ, _<_, _+_, _*_}
 use borrow.Fn.Kinds.{In}
 use borrow.Fn.PlainCycle.{Measures, is, falls, and}
 use Rattle.rulewriter.proofs.int_ties.Reads as int-ties
@@ -28,8 +28,8 @@ use Rattle.survey.proofs.within.Reads as within-reads
 use Rattle.survey.proofs.word.Reads as word-reads
 use Rattle.rulewriter.proofs.+int_ties+member_ties+split_ties+term_ties+write_ties.{statement}
 use Rattle.rulewriter.proofs.+int_ties+member_ties+split_ties+term_ties+write_ties.Tie.{close}
-use mathlib.Core.Path.{_≡_, refl, sym, _∙_}
-use mathlib.Core.Bool.{true, false}
+use mathlib.Core.Path.{refl, sym, _∙_}
+use mathlib.Core.Bool.{false}
 use native.Mathlib.Omega.{arith}
 use Rattle.laws.specs.Writes.{wrote-length}
 use Rattle.walk.specs.Decode.{read-part}
@@ -39,7 +39,7 @@ use Rattle.output.proofs.Laws.{open-next}
 use Rattle.rulewriter.specs.Places.{Placed}
 use Rattle.rulewriter.proofs.Steps.{is-here, not-here, okay, placed-at, placed-skipped}
 use Rattle.rulewriter.proofs.Registered.{within-past}
-use Rattle.rulewriter.proofs.Extras.{extra-none, extra-same, extra-open, extra-length, Going, going-none, going-open, going-length, going-last, going-fit, going-more, ties-zero, int-ties-zero, ties-var, ties-not, ties-join, ties-split, ties-cross, cmp-first, cmp-second, cmp-extras, int-ties-leaf, int-ties-sum, if-first, if-second, if-third, if-extras, members-last, terms-last, members-fit, members-more, term-fits, terms-more, terms-leaf, both-skipped, split-first, split-tie, tie-blocks, split-second, split-other, split-extras}
+use Rattle.rulewriter.proofs.Extras.{extra-none, extra-same, extra-open, extra-length, Going, going-none, going-open, going-length, ties-zero, int-ties-zero, ties-var, ties-not, ties-join, ties-split, ties-cross, cmp-first, cmp-second, cmp-extras, int-ties-leaf, int-ties-sum, if-first, if-second, if-third, if-extras, members-last, terms-last, members-fit, members-more, term-fits, terms-more, terms-leaf, both-skipped, split-first, split-tie, tie-blocks, split-second, split-other, split-extras}
 
 abbrev μ-int-ties : Measures 2 int-ties-kinds.ps ℕ
 μ-int-ties κs a = 4 * a .1 .1 .0

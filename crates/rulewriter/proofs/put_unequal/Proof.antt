@@ -2,7 +2,6 @@ use Rattle.laws.specs.Writes.{wrote-length}
 use Rattle.output.proofs.Laws.{open-next}
 use Rattle.rulewriter.proofs.Pairs.{linear-first, linear-second, words-fit, unequal-text, unequal-count}
 use mathlib.Core.Path.{_∙_}
-use borrow.Author.Needs.{needs}
 use Rattle.rulewriter.proofs.put_unequal.Statement.{statement}
 use Rattle.rulewriter.proofs.put_unequal.Tie as tie
 use Rattle.rulewriter.proofs.put_unequal.Reads as reads

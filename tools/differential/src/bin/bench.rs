@@ -15,17 +15,19 @@ use std::time::Instant;
 
 const FAMILIES: [&str; 9] =
     ["rules", "chains", "links", "comparisons", "tables", "mixed", "different", "kinds", "ifmixed"];
-const ROUNDS: u32 = 5;
+/// Rounds of a set of a family, and of one of `extremes`, which takes longer.
+const ROUNDS: u32 = 25;
+const FEW_ROUNDS: u32 = 5;
 const WORK: usize = 16384;
 
 /// The least time of some rounds, in nanoseconds.
-fn least(mut work: impl FnMut()) -> f64 {
+fn least(rounds: u32, mut work: impl FnMut()) -> f64 {
     let round = |work: &mut dyn FnMut()| {
         let start = Instant::now();
         work();
         start.elapsed().as_nanos() as f64
     };
-    (0..ROUNDS).map(|_| round(&mut work)).fold(f64::INFINITY, f64::min)
+    (0..rounds).map(|_| round(&mut work)).fold(f64::INFINITY, f64::min)
 }
 
 /// Times of the Rust and of the port on one set with an output slice of the answer's length; nothing for a set that is refused.
@@ -39,10 +41,10 @@ fn times(case: &Case, slices: &mut Slices) -> Result<Option<(f64, f64)>, String>
     slices.compare(compile, &case.set, length, WORK, &want)?;
     let read = refuse::accept(&case.set, WORK).map_err(|k| format!("refused {k}"))?;
     let Slices { out, work } = slices;
-    let rust = least(|| {
+    let rust = least(ROUNDS, || {
         black_box(timed(black_box(&read), false));
     });
-    let port = least(|| {
+    let port = least(ROUNDS, || {
         black_box(compile(black_box(&case.set), out, work));
     });
     Ok(Some((rust, port)))
@@ -69,7 +71,7 @@ fn line(family: &str, sizes: &str, times: &[(f64, f64)]) {
     ratios.sort_by(f64::total_cmp);
     let (rust, port) = times.iter().fold((0.0, 0.0), |(r, p), (rust, port)| (r + rust, p + port));
     println!(
-        "{family:12} {sizes:12} {:6} sets  Rust {:9.1} us  port {:9.1} us  ratio of sums {:6.2}  median {:6.2}  tenth {:6.2}  nine tenths {:6.2}",
+        "{family:12} {sizes:12} {:6} sets  Rust {:9.2} us  port {:9.2} us  ratio of sums {:6.2}  median {:6.2}  tenth {:6.2}  nine tenths {:6.2}",
         times.len(), rust / 1e3 / times.len() as f64, port / 1e3 / times.len() as f64, rust / port, at(&ratios, 0.5), at(&ratios, 0.1), at(&ratios, 0.9)
     );
 }
@@ -97,7 +99,7 @@ fn run(seed: u64, count: u64, families: &[&str]) -> Result<(), String> {
 fn rust_time(set: &[i32], want: &Outcome) -> Option<f64> {
     let read = refuse::accept(set, WORK).ok()?;
     matches!(want, Outcome::Compiled(_)).then(|| {
-        least(|| {
+        least(FEW_ROUNDS, || {
             black_box(timed(black_box(&read), false));
         }) / 1e6
     })
@@ -106,7 +108,7 @@ fn rust_time(set: &[i32], want: &Outcome) -> Option<f64> {
 /// The port's time in milliseconds with an output of so many words.
 fn port_time(set: &[i32], length: usize) -> f64 {
     let (mut out, mut work) = (vec![0; length], vec![0; WORK]);
-    least(|| {
+    least(FEW_ROUNDS, || {
         black_box(compile(black_box(set), &mut out, &mut work));
     }) / 1e6
 }
