@@ -8,23 +8,24 @@ use lib.IntN.{ℤ, pos, natAbs}
 use lib.ListN.{length, getD, length-append}
 use Rattle.laws.specs.Slices.{Has, has-front, has-back, has-word, has-rest}
 use Rattle.laws.specs.Ints.{pos-eq}
+use Rattle.memory.specs.Places.{bounds}
 use Rattle.syntax.specs.Syntax.{Domain, IfIsRead, IntExpr, IConst, IVar, Linear, If, Terms, tnil, tmore, count-terms, encode-int, encode-terms, BoolExpr, encode-bool}
 use Rattle.syntax.specs.Written.{EveryIntOf}
 use Rattle.syntax.specs.Lengths.{int-tag, int-tag-word, int-long, int-fits}
 use Rattle.domains.specs.Declared.{Plain, bound-inside, low-at, high-at}
 use Rattle.limits.specs.Limits.{any-comparison}
 use Rattle.limits.specs.Total.{total, terms-total, joined, product, constant-total, bounds-total, joined-assoc, joined-none, joined-cap, terms-total-cap, total-cap, cap}
-use Rattle.accept.specs.Walk.{bounds-place, Bounds, Usable-all, Int-at, Terms-at, Bool-at, Bools-at, first-of, test-branch, inside, inside-terms, test-bool, Totals, Ready-var, Var-post, Ready-int, Ready-terms, Ready-if, Ready-leaf, Ready-deep, Int-post, Leaf-post, If-post, Terms-post, Ready-branches, Branches-post, Ready-bools, Bools-post}
+use Rattle.accept.specs.Walk.{Bounds, Usable-all, Int-at, Terms-at, Bool-at, Bools-at, first-of, test-branch, inside, inside-terms, test-bool, Totals, Ready-var, Var-post, Ready-int, Ready-terms, Ready-if, Ready-leaf, Ready-deep, Int-post, Leaf-post, If-post, Terms-post, Ready-branches, Branches-post, Ready-bools, Bools-post}
 use Rattle.accept.proofs.FirstLaws.{none-before, first-cong, first-join, first-if}
 
 -- ---- `variable_total`
 
-pub var-inside : (work : List ℤ) (v : ℕ) → Ready-var work v → 7936 + (2 * v + 1) < length work
-var-inside work v r = bound-inside work bounds-place (r .ds) (r .bounds .words) v (r .below)
+pub var-inside : (work : List ℤ) (v : ℕ) → Ready-var work v → bounds + (2 * v + 1) < length work
+var-inside work v r = bound-inside work bounds (r .ds) (r .bounds .words) v (r .below)
 
-pub var-post : (work : List ℤ) (v r : ℕ) (low high : ℤ) → low ≡ getD work (7936 + 2 * v) (pos 0) → high ≡ getD work (7936 + (2 * v + 1)) (pos 0)
+pub var-post : (work : List ℤ) (v r : ℕ) (low high : ℤ) → low ≡ getD work (bounds + 2 * v) (pos 0) → high ≡ getD work (bounds + (2 * v + 1)) (pos 0)
     → r ≡ bounds-total low high → Var-post work v r
-var-post work v r low high hl hh e ds b l = rw (hl ∙ low-at work bounds-place ds (b .words) v l, hh ∙ high-at work bounds-place ds (b .words) v l) at e
+var-post work v r low high hl hh e ds b l = rw (hl ∙ low-at work bounds ds (b .words) v l, hh ∙ high-at work bounds ds (b .words) v l) at e
 
 -- ---- an integer expression, by its first word
 

@@ -13,6 +13,7 @@ use mir.Val.{SFits}
 use borrow.Author.Tests.{ltb-false}
 use Rattle.laws.specs.Bools.{or-no-l, or-no-r}
 use Rattle.laws.specs.Ints.{lower, higher, times-low, times-high, times-exchanged, times-low-size, natAbs-add, sfits-natAbs}
+use Rattle.memory.specs.Places.{bounds}
 use Rattle.syntax.specs.Words.{max-weight}
 use Rattle.syntax.specs.Syntax.{Domain, IfIsRead, IntExpr, If, Terms, tnil, tmore, count-terms, encode-int, encode-terms, BoolExpr, encode-bool}
 use Rattle.syntax.specs.Written.{EveryIntOf}
@@ -21,7 +22,7 @@ use Rattle.domains.specs.Declared.{Plain, low-at, high-at}
 use Rattle.passes.specs.Skip.{Some-members, Skip-members-post}
 use Rattle.limits.specs.Limits.{weight, terms-weight, heavy, heavy-terms, interval, terms-interval}
 use Rattle.limits.specs.Total.{interval-small}
-use Rattle.accept.specs.Walk.{bounds-place, Bounds, Int-at, Terms-at, Ready-var, Ready-range, Range-post, Ready-if-range, If-range-post, Ready-ranges, Ranges-post}
+use Rattle.accept.specs.Walk.{Bounds, Int-at, Terms-at, Ready-var, Ready-range, Range-post, Ready-if-range, If-range-post, Ready-ranges, Ranges-post}
 use Rattle.accept.proofs.Laws.{int-plain, const-inv, if-inv, second-plain, var-inv, sum-inv, if-parts, if-length, more-inv}
 use Rattle.accept.proofs.SkipLaws.{some-condition, condition-skipped}
 
@@ -57,12 +58,12 @@ module _ (ws work : List ℤ) (at : ℕ) where
       unfolding EveryIntOf
       range-var r z = var-inv ws at w hw v hv (r .it) (r .reads .words) z λ q. let g = rw q at (r .reads .vars) in record { ds = r .ds; bounds = r .bounds; below = g }
 
-      pub var-range : (x y : ℤ) → w ≡ 21 → x ≡ getD work (7936 + 2 * v) (pos 0) → y ≡ getD work (7936 + (2 * v + 1)) (pos 0) → Range-post ws work at (at + 2) x y
+      pub var-range : (x y : ℤ) → w ≡ 21 → x ≡ getD work (bounds + 2 * v) (pos 0) → y ≡ getD work (bounds + (2 * v + 1)) (pos 0) → Range-post ws work at (at + 2) x y
       unfolding encode-int interval EveryIntOf
       var-range x y z hx hy ds e b r =
           var-inv ws at w hw v hv e (r .words) z λ q.
           let g = rw q at (r .vars) in
-          rw q (refl, hx ∙ low-at work bounds-place ds (b .words) v g, hy ∙ high-at work bounds-place ds (b .words) v g)
+          rw q (refl, hx ∙ low-at work bounds ds (b .words) v g, hy ∙ high-at work bounds ds (b .words) v g)
 
       module _ (a : w ≡ 20 → ⊥) (b : w ≡ 21 → ⊥) (d : w ≡ 23 → ⊥) where
         pub sum-ranges : Ready-range ws work at → Ready-ranges ws work (at + 2) v (pos 0) (pos 0)

@@ -8,10 +8,11 @@ use lib.ListN.{length, getD}
 use lib.Seq.{sets}
 use Rattle.laws.specs.Lists.{flat}
 use Rattle.laws.specs.Ints.{pos-eq}
+use Rattle.memory.specs.Places.{bounds}
 use Rattle.syntax.specs.Syntax.{encode-domain, Problem}
 use Rattle.domains.specs.Declared.{Plain, bounds-words, Bounds-room, Bounds-post}
 use Rattle.limits.specs.Limits.{check}
-use Rattle.accept.specs.Walk.{bounds-place, Bounds, Stmts-at, Ready-stmts, Check-post}
+use Rattle.accept.specs.Walk.{Bounds, Stmts-at, Ready-stmts, Check-post}
 use Rattle.syntax.specs.Words.{min-work-words, max-set-words}
 use Rattle.words.specs.Parse.{Parsed, ok, refuse}
 use Rattle.read.specs.Read.{read-set}
@@ -34,11 +35,11 @@ module _ (ws work : List ℤ) (r : Ready-set ws work) where
     pub few-ints : ni ≤ 256
     few-ints = omega (arith, ints-are (r .it) (r .set-of), r .set-of .well .few-ints)
 
-    pub table-room : Bounds-room ws 2 ni work 7936
+    pub table-room : Bounds-room ws 2 ni work bounds
     table-room = let l = r .room in record { ds = r .it .domains; domains = domains-stand ws (r .it) (r .set-of); size = ints-are (r .it) (r .set-of); room = omega (arith, few-ints) }
 
-    module _ (work' : List ℤ) (at : ℕ) (p : Bounds-post ws 2 ni work 7936 work' at) where
-      table-of : (q : Problem) → Set-of ws q → (at ≡ 2 + length (flat (map encode-domain (q .domains)))) × (work' ≡ sets work bounds-place (bounds-words (q .domains)))
+    module _ (work' : List ℤ) (at : ℕ) (p : Bounds-post ws 2 ni work bounds work' at) where
+      table-of : (q : Problem) → Set-of ws q → (at ≡ 2 + length (flat (map encode-domain (q .domains)))) × (work' ≡ sets work bounds (bounds-words (q .domains)))
       table-of q h = let y = p (q .domains) (domains-stand ws q h) (ints-are q h) in (y .behind, y .stored)
 
       pub count-plain : Plain ws at
@@ -71,11 +72,11 @@ module _ (ws work : List ℤ) where
   abbrev Accept-post : declared-set.Set → List ℤ → Type 0
   Accept-post r work' = (r ≡ accepted (length work) ws) × (work' ≡ table-after ws work)
 
-  pub accept-short : length work < 16384 → Accept-post (set.Refused 1) work
+  pub accept-short : length work < min-work-words → Accept-post (set.Refused 1) work
   unfolding accepted table-after
   accept-short l = rw (lt-ltb (length work) min-work-words l) (refl, refl)
 
-  module _ (l : 16384 ≤ length work) where
+  module _ (l : min-work-words ≤ length work) where
     pub accept-long : 4096 < length ws → Accept-post (set.Refused 2) work
     unfolding accepted table-after
     accept-long k = rw (le-ltb (length work) min-work-words l, lt-ltb max-set-words (length ws) k) (refl, refl)

@@ -15,6 +15,7 @@ use Rattle.laws.specs.Bools.{never}
 use Rattle.laws.specs.Lists.{flat}
 use Rattle.laws.specs.Order.{leZ-refl, leZ-lt, leZ-trans}
 use Rattle.laws.specs.Slices.{Has, has-fits, has-front, has-back, has-word, has-rest, has-sets}
+use Rattle.memory.specs.Places.{bounds}
 use Rattle.syntax.specs.Words.{min-work-words, max-set-words}
 use Rattle.syntax.specs.Syntax.{Domain, Range, Enumerative, lower-bound, upper-bound, last-or, domain-of, encode-domain, Stmt, Rule, Table, AllDifferent, encode-stmt, Problem, encode}
 use Rattle.syntax.specs.Written.{None, Any}
@@ -29,7 +30,7 @@ use Rattle.read.specs.Vars.{columns-vars, bool-vars, rows-wide}
 use Rattle.domains.specs.Declared.{Domains, bounds-words, bounds-length}
 use Rattle.limits.specs.Limits.{largest, domain-weight, check}
 use Rattle.limits.specs.Total.{Bounded}
-use Rattle.accept.specs.Walk.{bounds-place, Bounds, Usable-stmt, Usable-stmts, Stmts-at, test-comparison, test-branch, test-column, test-one, check-stmts}
+use Rattle.accept.specs.Walk.{Bounds, Usable-stmt, Usable-stmts, Stmts-at, test-comparison, test-branch, test-column, test-one, check-stmts}
 
 -- ---- domains
 
@@ -97,7 +98,7 @@ pub record Ready-set (ws work : List ℤ) : Type 0 where
 
 -- the refusal, and the table of bounds in the work slice
 abbrev pub Limits-post : List ℤ → List ℤ → List ℤ → ℕ → Type 0
-Limits-post ws work work' r = (p : Problem) → Set-of ws p → (r ≡ check p) × (work' ≡ sets work bounds-place (bounds-words (p .domains)))
+Limits-post ws work work' r = (p : Problem) → Set-of ws p → (r ≡ check p) × (work' ≡ sets work bounds (bounds-words (p .domains)))
 
 -- where the domains end
 abbrev domains-end : Problem → ℕ
@@ -136,9 +137,9 @@ module _ (ws : List ℤ) (p : Problem) (h : Set-of ws p) where
     size = refl;
   }
 
-  pub table-stands : (work : List ℤ) → 8448 ≤ length work → Bounds (sets work bounds-place (bounds-words (p .domains))) (p .domains)
+  pub table-stands : (work : List ℤ) → 8448 ≤ length work → Bounds (sets work bounds (bounds-words (p .domains))) (p .domains)
   table-stands work l = record {
-    words = has-sets work bounds-place (bounds-words (p .domains)) (omega (arith, bounds-length (p .domains), h .well .few-ints));
+    words = has-sets work bounds (bounds-words (p .domains)) (omega (arith, bounds-length (p .domains), h .well .few-ints));
     bounded = well-bounded (p .domains) (h .well .domains-well);
   }
 
@@ -158,7 +159,7 @@ accepted n ws = cond (ltb n min-work-words) (set.Refused 1) (cond (ltb max-set-w
 -- the work slice then: a set that is read leaves the table of its bounds
 unfoldable pub table-read : Parsed Problem → List ℤ → List ℤ
 table-read (refuse k) work = work
-table-read (ok p r) work = sets work bounds-place (bounds-words (p .domains))
+table-read (ok p r) work = sets work bounds (bounds-words (p .domains))
 
 unfoldable pub table-after : List ℤ → List ℤ → List ℤ
 table-after ws work = cond (ltb (length work) min-work-words) work (cond (ltb max-set-words (length ws)) work (table-read (read-set ws) work))

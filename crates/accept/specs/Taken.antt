@@ -12,6 +12,7 @@ use lib.Seq.{sets}
 use borrow.Author.Tests.{ltb-false}
 use Rattle.laws.specs.Lists.{flat}
 use Rattle.laws.specs.Ints.{apart}
+use Rattle.memory.specs.Places.{bounds}
 use Rattle.syntax.specs.Words.{min-work-words, max-set-words}
 use Rattle.syntax.specs.Syntax.{Problem, encode-domain}
 use Rattle.words.specs.Parse.{Parsed, ok, refuse}
@@ -23,7 +24,7 @@ use Rattle.reader.specs.declared.Set as declared-set
 use Rattle.reader.specs.declared.Set.the-variants as set
 use Rattle.domains.specs.Declared.{bounds-words, Domains}
 use Rattle.limits.specs.Limits.{check}
-use Rattle.accept.specs.Walk.{bounds-place, Bounds, Stmts-at}
+use Rattle.accept.specs.Walk.{Bounds, Stmts-at}
 use Rattle.accept.specs.Accepted.{Set-of, domains-stand, stmts-stand, table-stands, unless-refused, limited, accepted, table-read, table-after}
 
 -- a set that 1 to 11 let through, what it says and what it declares
@@ -81,7 +82,7 @@ module _ (n : ℕ) (ws : List ℤ) (d : Declared) (t : Taken n ws d) where
   pub taken-set : Set-of ws (t .it)
   taken-set = let s = set-sound ws (t .it) [] (t .says) in record { words = s .0; well = s .1 }
 
-  pub taken-table : (work : List ℤ) → length work ≡ n → table-after ws work ≡ sets work bounds-place (bounds-words (t .it .domains))
+  pub taken-table : (work : List ℤ) → length work ≡ n → table-after ws work ≡ sets work bounds (bounds-words (t .it .domains))
   unfolding table-after table-read
   taken-table work e = rw (e, t .enough, t .short, t .says) refl
 

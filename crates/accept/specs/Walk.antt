@@ -9,6 +9,7 @@ use lib.ListN.{length, getD}
 use lib.Dec.{eqb, ltb}
 use Rattle.laws.specs.Lists.{any, flat}
 use Rattle.laws.specs.Slices.{Has}
+use Rattle.memory.specs.Places.{bounds}
 use Rattle.syntax.specs.Words.{max-weight}
 use Rattle.syntax.specs.Syntax.{Domain, lower-bound, upper-bound, domain-of, IfIsRead, IntExpr, IConst, IVar, Linear, If, Terms, count-terms, encode-int, encode-terms, BoolExpr, Const, Var, NVar, And, Or, Not, Xor, Iff, Imp, Cmp, Members, mnil, more, encode-bool, Stmt, Rule, Table, AllDifferent, encode-stmt}
 use Rattle.syntax.specs.Written.{EveryIntOf, EveryTermOf, EveryColumnOf, EveryOf, EveryMemberOf, Any, None}
@@ -19,13 +20,9 @@ use Rattle.limits.specs.Limits.{any-comparison, any-inside, any-inside-terms, a
 use Rattle.limits.specs.Total.{Bounded, total, terms-total, joined, bounds-total}
 use Rattle.limits.specs.Count.{among, marked}
 
--- where the table of bounds stands in the work slice
-abbrev pub bounds-place : ℕ
-bounds-place = 7936
-
 -- the table of the declared domains, whose bounds are in order
 pub record Bounds (work : List ℤ) (ds : List Domain) : Type 0 where
-  pub words : Has work bounds-place (bounds-words ds)
+  pub words : Has work bounds (bounds-words ds)
   pub bounded : Bounded ds
 
 -- ---- expressions that reading makes, with declared variables

@@ -41,10 +41,10 @@ fn distance(low: i32, high: i32) -> usize
 fn capped(n: usize) -> usize
     ensures { λ r. ⌜ r ≡ min n cap ⌝ }
 {
-    if n < 1073741824 {
+    if n < memory::LIMIT {
         return n;
     }
-    1073741824
+    memory::LIMIT
 }
 
 fn larger(a: usize, b: usize) -> usize
@@ -106,8 +106,8 @@ fn variable_total(work: &[i32], v: usize) -> usize
     requires { ⌜ Ready-var (now work) v ⌝ }
     ensures { λ r. ⌜ Var-post (now (work .entry)) v r ⌝ }
 {
-    let low = work[7936 + 2 * v];
-    let high = work[7936 + (2 * v + 1)];
+    let low = work[memory::BOUNDS + 2 * v];
+    let high = work[memory::BOUNDS + (2 * v + 1)];
     bounds_total(low, high)
 }
 
@@ -116,8 +116,8 @@ fn add_term(k: i32, t: usize, acc: usize) -> usize
     requires { ⌜ (t ≤ cap) × (acc ≤ cap) ⌝ }
     ensures { λ r. ⌜ r ≡ joined acc (product (natAbs k) t) ⌝ }
 {
-    if t == 1073741824 {
-        return 1073741824;
+    if t == memory::LIMIT {
+        return memory::LIMIT;
     }
     let n = size(k);
     capped(acc + n * t)
@@ -508,8 +508,8 @@ fn int_range(set: &[i32], work: &[i32], at: usize) -> Range
     }
     let v = domains::number(set, at + 1);
     if code == 21 {
-        let low = work[7936 + 2 * v];
-        let high = work[7936 + (2 * v + 1)];
+        let low = work[memory::BOUNDS + 2 * v];
+        let high = work[memory::BOUNDS + (2 * v + 1)];
         return Range {
             next: at + 2,
             low,
@@ -743,7 +743,7 @@ fn check_limits(set: &[i32], work: &mut [i32]) -> usize
     ensures { λ r. ⌜ Limits-post (now (set .entry)) (now (work .entry)) (now (work .exit)) r ⌝ }
 {
     let ni = domains::number(set, 1);
-    let at = domains::write_bounds(set, 2, ni, work, 7936);
+    let at = domains::write_bounds(set, 2, ni, work, memory::BOUNDS);
     let n = domains::number(set, at);
     check(set, work, at + 1, n, ni)
 }
@@ -752,7 +752,7 @@ fn check_limits(set: &[i32], work: &mut [i32]) -> usize
 pub fn accept(set: &[i32], work: &mut [i32]) -> Set
     ensures { λ r. ⌜ (r ≡ accepted (length (now (work .entry))) (now (set .entry))) × (now (work .exit) ≡ table-after (now (set .entry)) (now (work .entry))) ⌝ }
 {
-    if work.len() < 16384 {
+    if work.len() < memory::WORK_LENGTH {
         return Set::Refused(1);
     }
     if set.len() > 4096 {

@@ -9,11 +9,12 @@ use lib.ListN.{length, length-map}
 use lib.Dec.{ltb}
 use Rattle.laws.specs.Slices.{Has, has-back}
 use Rattle.laws.specs.Writes.{cap as last-place, wrote-length, wrote-then, wrote-to}
+use Rattle.memory.specs.Places.{folded-end, limit}
 use Rattle.syntax.specs.Syntax.{Domain, IntExpr, encode-int, encode-stmt}
 use Rattle.clauses.specs.Log.{Log}
 use Rattle.clauses.specs.Since.{clauses-since, since-is}
 use Rattle.different.specs.Different.{values-used-up}
-use Rattle.walk.specs.Item.{limit, bump}
+use Rattle.walk.specs.Item.{bump}
 use Rattle.walk.specs.Texts.{layout-words}
 use Rattle.walk.specs.Decode.{word, read-part}
 use Rattle.walks.specs.Meet.{State}
@@ -154,7 +155,7 @@ module _ {x : Place} {set w none : List ℤ} {q : ℕ} {room : Room} {c : Progre
         agree = sides-agree F (x .end) true (h .marked) (x .parted) q (x .later) es (h .legal) (h .split) d (h .from) (omega (arith, long, h .to));
       }
 
-  end : stop ≤ 4608
+  end : stop ≤ folded-end
   end = omega (arith, h .to, h .inside)
 
   own-room : rooms own ≤ 49152 * length (encode-stmt (stmt x))
@@ -294,7 +295,7 @@ module _ {set w none : List ℤ} {q : ℕ} {room : Room} {c : Progress} {i : ℕ
   count-is {x} h = e ∙ different-words w q (x .exprs) (record { words = h .words; legal = h .legal .0; rows = tt }) .count
 
   module _ (s : SomeWalked set w none q room c) where
-    pub some-place : q + 2 ≤ 4608
+    pub some-place : q + 2 ≤ folded-end
     some-place = omega (arith, long (s .it), end (s .it))
 
     pub some-asks : Asked (pairs-redo (room .records) (room .cap) (read-part w) i (q + 2)) (state-of w none c) (room .records)

@@ -12,13 +12,15 @@ use Rattle.laws.specs.Ints.{eqZ}
 use Rattle.laws.specs.Order.{is-eqZ, not-eqZ}
 use Rattle.laws.specs.Lists.{all}
 use Rattle.laws.specs.Slices.{Has}
+use Rattle.memory.specs.Places.{folded-end}
 use Rattle.syntax.specs.Words.{max-count}
 use Rattle.syntax.specs.Syntax.{Domain, enumerate, num-candidates, domain-of, encode-domain, IntExpr, IConst, IVar, Linear, If, encode-int}
 use Rattle.syntax.specs.Written.{EveryInt, EveryIntOf, EveryColumnOf}
 use Rattle.different.specs.Different.{is-like}
 use Rattle.domains.specs.Declared.{Domain-post}
 use Rattle.walk.specs.Decode.{word, read-part}
-use Rattle.differing.specs.Standing.{Standing, SomeDeclared}
+use Rattle.declared.specs.InSet.{SomeDeclared}
+use Rattle.differing.specs.Standing.{Standing}
 use Rattle.differing.proofs.Places.{first-at, rest-stands, place-inside, code-is, variable-inv, well-at}
 use Rattle.differing.specs.Values.{Sized, SomeSized, Same-of, One, SomeOne, Like, Over, SomeOver, All-like}
 
@@ -96,7 +98,7 @@ module _ (set w : List ℤ) (p rest : ℕ) where
       go [] v = absurd (z (v .standing .counted))
       go (e ∷ es) v = record { domains = o .domains; expr = e; it = first-one v }
 
-  pub place-small : (rest ≡ 0 → ⊥) → SomeOver set w p rest → p + 2 ≤ 4608
+  pub place-small : (rest ≡ 0 → ⊥) → SomeOver set w p rest → p + 2 ≤ folded-end
   place-small z o = place-inside w p (some-one z o .it .stands)
 
   -- a variable has two words

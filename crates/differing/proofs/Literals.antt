@@ -9,6 +9,7 @@ use lib.ListN.{length, drop, drop-of-length-le, length-map}
 use lib.Seq.{drop-cons}
 use Rattle.laws.specs.Ints.{*ℤ-minus-one}
 use Rattle.laws.specs.Writes.{cap, Wrote, wrote-none, wrote-length, wrote-low, wrote-then, wrote-to, Open}
+use Rattle.memory.specs.Places.{folded-end}
 use Rattle.syntax.specs.Syntax.{Domain, enumerate, IntExpr, IVar, encode-int}
 use Rattle.sums.specs.LinearSum.{add-terms, add-sum, mul-terms, mul-sum, sub-sum}
 use Rattle.sums.specs.Linear.{linear-of}
@@ -49,10 +50,10 @@ module _ (w : List ℤ) (at count : ℕ) (x : ℤ) (out₀ : List ℤ) (o : ℕ)
 
   module _ {out : List ℤ} {p q rest : ℕ} (g : Writing w at count x out₀ o out p q rest) where
     module _ (z : rest ≡ 0 → ⊥) where
-      pub writing-inside : p + 2 ≤ 4608
+      pub writing-inside : p + 2 ≤ folded-end
       writing-inside = go (g .left .vars) (g .left .standing)
         where
-          go : (vs : List ℕ) → Standing w p rest (map IVar vs) → p + 2 ≤ 4608
+          go : (vs : List ℕ) → Standing w p rest (map IVar vs) → p + 2 ≤ folded-end
           go [] s = absurd (z (s .counted))
           go (v ∷ vs) s = place-inside w p (first-at w p rest (IVar v) (map IVar vs) s)
 

@@ -7,6 +7,7 @@ use native.Mathlib.Numerals.{sub-one}
 use lib.IntN.{ℤ}
 use lib.ListN.{length}
 use Rattle.laws.specs.Writes.{cap, wrote-length, wrote-low, wrote-none, wrote-then, wrote-to, sets-out}
+use Rattle.memory.specs.Places.{folded-end}
 use Rattle.syntax.specs.Syntax.{Domain}
 use Rattle.walk.specs.Decode.{read-part}
 use Rattle.walk.specs.declared.Counters.{Counters}
@@ -17,7 +18,7 @@ use Rattle.differing.specs.Rows.{Puts, end-at, row-words, RowFits, Row, 
 
 -- ---- where an expression ends
 
-pub end-is : (w : List ℤ) (p : ℕ) {q b : ℕ} → IntSkips (read-part w) 64 (split-by 0) p 0 q b → (q ≡ end-at w p) × (q ≤ 4608)
+pub end-is : (w : List ℤ) (p : ℕ) {q b : ℕ} → IntSkips (read-part w) 64 (split-by 0) p 0 q b → (q ≡ end-at w p) × (q ≤ folded-end)
 unfolding split-by
 end-is w p s = (s .end, s .inside)
 
@@ -70,7 +71,7 @@ module _ (w : List ℤ) (n : Counters) (a p count : ℕ) (out₀ : List ℤ) (o 
     pub going-pair : {rest : ℕ} → Going w n a p count out₀ o k out b q c rest → (rest ≡ 0 → ⊥) → Pair w n a b
     going-pair {rest} g z = pair-of w n a b rest (g .left) z
 
-    pub going-next : {out' : List ℤ} {b' q' : ℕ} (rest : ℕ) → Going w n a p count out₀ o k out b q c rest → (rest ≡ 0 → ⊥) → (q ≡ cap → ⊥) → Paired w n a b out q out' q' → b' ≡ end-at w b → b' ≤ 4608 → Going w n a p count out₀ o k out' b' q' (c + 1) (rest - 1)
+    pub going-next : {out' : List ℤ} {b' q' : ℕ} (rest : ℕ) → Going w n a p count out₀ o k out b q c rest → (rest ≡ 0 → ⊥) → (q ≡ cap → ⊥) → Paired w n a b out q out' q' → b' ≡ end-at w b → b' ≤ folded-end → Going w n a p count out₀ o k out' b' q' (c + 1) (rest - 1)
     unfolding RowFits row-words
     going-next zero g z f x e l = absurd (z refl)
     going-next {out'} {b'} {q'} (suc i) g z f x e l = rw (sub-one (suc i), e) (record {
@@ -101,12 +102,12 @@ module _ (w : List ℤ) (n : Counters) (at count : ℕ) (out₀ : List ℤ) (o k
   rows-start r v = record { left = r; behind = v; same = refl; to = λ ds out' q' c' x. x }
 
   module _ {out : List ℤ} {p q c : ℕ} where
-    pub rows-row : {next : ℕ} (rest : ℕ) → Rows w n at count out₀ o k out p q c rest → (rest ≡ 0 → ⊥) → next ≡ end-at w p → next ≤ 4608 → Row w n p next (rest - 1)
+    pub rows-row : {next : ℕ} (rest : ℕ) → Rows w n at count out₀ o k out p q c rest → (rest ≡ 0 → ⊥) → next ≡ end-at w p → next ≤ folded-end → Row w n p next (rest - 1)
     unfolding PairsFit
     rows-row zero g z e l = absurd (z refl)
     rows-row (suc i) g z e l = rw (sub-one (suc i), e) (record { size = g .left .size; low = g .left .low; first = g .left .place; place = rw (← e) l; fits = g .left .fits .0 })
 
-    pub rows-next : {out' : List ℤ} {next q' c' : ℕ} (rest : ℕ) → Rows w n at count out₀ o k out p q c rest → (rest ≡ 0 → ⊥) → next ≡ end-at w p → next ≤ 4608 → PutRow w n p next (rest - 1) out q c out' q' c' → Rows w n at count out₀ o k out' next q' c' (rest - 1)
+    pub rows-next : {out' : List ℤ} {next q' c' : ℕ} (rest : ℕ) → Rows w n at count out₀ o k out p q c rest → (rest ≡ 0 → ⊥) → next ≡ end-at w p → next ≤ folded-end → PutRow w n p next (rest - 1) out q c out' q' c' → Rows w n at count out₀ o k out' next q' c' (rest - 1)
     unfolding PairsFit pairs-words pair-count
     rows-next zero g z e l x = absurd (z refl)
     rows-next {out'} {next} {q'} {c'} (suc i) g z e l x =

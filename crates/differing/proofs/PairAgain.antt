@@ -6,6 +6,7 @@ use Prim.Native.Nat.{ℕ, _≤_, _<_}
 use native.Mathlib.Omega.{arith}
 use lib.IntN.{ℤ}
 use Rattle.laws.specs.Writes.{wrote-length, wrote-low, wrote-to}
+use Rattle.memory.specs.Places.{folded-end}
 use Rattle.syntax.specs.Syntax.{Domain}
 use Rattle.walk.specs.Item.{bump}
 use Rattle.walk.specs.Decode.{read-part}
@@ -16,7 +17,7 @@ use Rattle.walks.specs.DecodeExact.{pair-at}
 use Rattle.walks.specs.Meet.{State, counters-of, with-work}
 use Rattle.walks.specs.Written.{written, written-lines}
 use Rattle.stages.specs.StatementsParts.{again-text, again-lines}
-use Rattle.memory.specs.DomainTable.{Declares}
+use Rattle.declared.specs.DomainTable.{Declares}
 use Rattle.numbering.specs.Task.{Low, Ready, Done, Left, left-all, left-next, left-last-at, ready-last, Starts}
 use Rattle.setnumbers.specs.Cleared.{Cleared, pair-ifs}
 use Rattle.numbering.specs.Rules.{pair-task}
@@ -46,7 +47,7 @@ module _ (rec cap p q : ℕ) (st : State) where
     rest : Left (cleared-task rec cap ws p q) st (pair-task rec cap ws p q) (with-work w' st)
     rest = left-next (λ (v : List ℤ). clear-task p q) (left-all (cleared-task rec cap ws p q) st l) clear-done
 
-    pub pair-starts : p ≤ 4608 → Asked (pair-redo rec cap ws p q) st rec → Starts (pair-task rec cap (read-part w') p q) (with-work w' st) rec p 0
+    pub pair-starts : p ≤ folded-end → Asked (pair-redo rec cap ws p q) st rec → Starts (pair-task rec cap (read-part w') p q) (with-work w' st) rec p 0
     pair-starts i a =
         let r : Ready (cleared-task rec cap ws p q) st = record { domains = a .domains; declares = a .declares; fits = a .asks .first } in
         record {
@@ -83,7 +84,7 @@ module _ (rec cap p q : ℕ) (st : State) where
       abbrev n : Counters
       n = counters (st .bools) (st .ints)
 
-      pub pair-placed : p ≤ 4608 → Asked (pair-redo rec cap ws p q) st rec → Placed (st' .work) p (st .bools) n
+      pub pair-placed : p ≤ folded-end → Asked (pair-redo rec cap ws p q) st rec → Placed (st' .work) p (st .bools) n
       pair-placed i x = record { size = omega (arith, x .long, y .kept .size); inside = i; low-base = x .low .bools; low = (x .low .bools, x .low .ints) }
 
       pub pair-fit : Asked (pair-redo rec cap ws p q) st rec → AllFit (forms (read-part (st' .work)))

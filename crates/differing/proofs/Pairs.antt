@@ -7,6 +7,7 @@ use native.Mathlib.Omega.{arith}
 use lib.IntN.{ℤ, pos, negsuc, natAbs}
 use lib.ListN.{length}
 use Rattle.laws.specs.Writes.{cap, Wrote, wrote-length, wrote-then, wrote-to}
+use Rattle.memory.specs.Places.{limit}
 use Rattle.syntax.specs.Syntax.{Domain, Ne}
 use Rattle.sums.specs.LinearSum.{LinearSum, sub-sum}
 use Rattle.sums.specs.Rising.{Each}
@@ -15,7 +16,6 @@ use Rattle.sums.specs.Struct.{terms, sum-of}
 use Rattle.sums.proofs.Laws.{stands-sum}
 use Rattle.clauses.specs.Clause.{linear}
 use Rattle.answer.specs.Answer.{linear-words}
-use Rattle.walk.specs.Item.{limit}
 use Rattle.walk.specs.Decode.{word, read-part}
 use Rattle.walk.specs.declared.Counters.{Counters}
 use Rattle.walks.specs.Tree.{here}

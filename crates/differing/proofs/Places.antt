@@ -8,17 +8,19 @@ use lib.ListN.{length}
 use Rattle.laws.specs.Ints.{natAbs-add, natAbs-negℤ}
 use Rattle.laws.specs.Lists.{flat}
 use Rattle.laws.specs.Slices.{Has, has-word, has-rest, has-front, has-back}
+use Rattle.memory.specs.Places.{folded-end}
+use Rattle.memory.specs.Number.{nat}
 use Rattle.syntax.specs.Lengths.{int-tag, int-tag-word, int-long, int-fits}
 use Rattle.syntax.specs.Syntax.{Domain, Range, Enumerative, num-candidates, domain-of, encode-domain, IntExpr, IConst, IVar, Linear, If, encode-int}
 use Rattle.syntax.specs.Unique.{int-unique}
 use Rattle.words.specs.Exact.{Each}
 use Rattle.read.specs.WellFormed.{WellDomain}
 use Rattle.domains.specs.Declared.{Domain-at, Sized-at, Domain-below, Domain-post}
-use Rattle.walk.specs.Item.{nat}
 use Rattle.walk.specs.Decode.{word, read-part}
 use Rattle.walk.specs.NumberingSteps.{part-short}
 use Rattle.walks.specs.Legal.{LegalInt}
-use Rattle.differing.specs.Standing.{At, Standing, Declared, SomeDeclared}
+use Rattle.declared.specs.InSet.{Declared, SomeDeclared}
+use Rattle.differing.specs.Standing.{At, Standing}
 
 -- ---- one behind another
 
@@ -47,7 +49,7 @@ same-exprs w p n (e ∷ es) (f ∷ fs) s t =
 -- ---- the expression at p
 
 module _ (w : List ℤ) (p : ℕ) where
-  pub place-inside : {e : IntExpr} → At w p e → p + 2 ≤ 4608
+  pub place-inside : {e : IntExpr} → At w p e → p + 2 ≤ folded-end
   place-inside {e} a = omega (arith, int-long e, int-fits (read-part w) p e (a .words), part-short w)
 
   pub code-is : (e : IntExpr) → At w p e → word (read-part w) p ≡ int-tag e

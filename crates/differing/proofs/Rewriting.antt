@@ -3,6 +3,7 @@ use mathlib.Core.Path.{_≡_, refl, sym, ap, _∙_, subst}
 use mathlib.Core.List.{List}
 use Prim.Native.Nat.{ℕ, _-_, _≤_, _<_}
 use lib.IntN.{ℤ}
+use Rattle.memory.specs.Places.{folded-end}
 use Rattle.walk.specs.Decode.{read-part}
 use Rattle.walks.specs.Meet.{State}
 use Rattle.stages.specs.Columns.{column-at}
@@ -20,9 +21,9 @@ module _ (rec cap p n at : ℕ) (st : State) (out : List ℤ) (o c : ℕ) where
   row k q = row-redo rec cap ws p k q
 
   abbrev pub RowGoing : ℕ → ℕ → State → List ℤ → ℕ → ℕ → Type 0
-  RowGoing rest b st' out' o' c' = (b ≤ 4608) × Going cap (row n at) (row rest b) st st' out o c out' o' c'
+  RowGoing rest b st' out' o' c' = (b ≤ folded-end) × Going cap (row n at) (row rest b) st st' out o c out' o' c'
 
-  pub row-begins : at ≤ 4608 → Low st → Ahead out o c → RowGoing n at st out o c
+  pub row-begins : at ≤ folded-end → Low st → Ahead out o c → RowGoing n at st out o c
   row-begins h l a = (h, going-start cap (row n at) st out o c l a)
 
   module _ (rest b : ℕ) (st' : State) (out' : List ℤ) (o' c' : ℕ) (g : RowGoing rest b st' out' o' c') where
@@ -37,7 +38,7 @@ module _ (rec cap p n at : ℕ) (st : State) (out : List ℤ) (o c : ℕ) where
       row-asks a = subst (λ (v : List ℤ). Asked (pair-redo rec cap v p b) st' rec) (sym (g .1 .kept .part))
           (going-asks cap (row n at) st out o c (row rest b) st' out' o' c' (g .1) more (pair-redo rec cap ws p b) (row (rest - 1) (column-at ws b .end)) (row-splits rec cap ws p rest b (column-at ws b .end) z refl) rec a)
 
-      pub row-goes : (next : ℕ) (st'' : State) (out'' : List ℤ) (o'' c'' : ℕ) → next ≡ end-at (st' .work) b → next ≤ 4608 → Redone cap (pair-redo rec cap (read-part (st' .work)) p b) st' st'' out' o' c' out'' o'' c'' → RowGoing (rest - 1) next st'' out'' o'' c''
+      pub row-goes : (next : ℕ) (st'' : State) (out'' : List ℤ) (o'' c'' : ℕ) → next ≡ end-at (st' .work) b → next ≤ folded-end → Redone cap (pair-redo rec cap (read-part (st' .work)) p b) st' st'' out' o' c' out'' o'' c'' → RowGoing (rest - 1) next st'' out'' o'' c''
       row-goes next st'' out'' o'' c'' e l y =
           let i : next ≡ column-at ws b .end = e ∙ ap (λ (v : List ℤ). column-at v b .end) (g .1 .kept .part) in (
             l,
@@ -55,9 +56,9 @@ module _ (rec cap n at : ℕ) (st : State) (out : List ℤ) (o c : ℕ) where
   rows k q = pairs-redo rec cap words k q
 
   abbrev pub PairsGoing : ℕ → ℕ → State → List ℤ → ℕ → ℕ → Type 0
-  PairsGoing rest p st' out' o' c' = (p ≤ 4608) × Going cap (rows n at) (rows rest p) st st' out o c out' o' c'
+  PairsGoing rest p st' out' o' c' = (p ≤ folded-end) × Going cap (rows n at) (rows rest p) st st' out o c out' o' c'
 
-  pub pairs-begin : at ≤ 4608 → Low st → Ahead out o c → PairsGoing n at st out o c
+  pub pairs-begin : at ≤ folded-end → Low st → Ahead out o c → PairsGoing n at st out o c
   pairs-begin h l a = (h, going-start cap (rows n at) st out o c l a)
 
   module _ (rest p : ℕ) (st' : State) (out' : List ℤ) (o' c' : ℕ) (g : PairsGoing rest p st' out' o' c') where
@@ -75,7 +76,7 @@ module _ (rec cap n at : ℕ) (st : State) (out : List ℤ) (o c : ℕ) where
       pairs-ask a = subst (λ (v : List ℤ). Asked (row-redo rec cap v p (rest - 1) next) st' rec) (sym (g .1 .kept .part))
           (going-asks cap (rows n at) st out o c (rows rest p) st' out' o' c' (g .1) more (row-redo rec cap words p (rest - 1) next) (rows (rest - 1) next) (pairs-split rec cap words rest p next z next-is) rec a)
 
-      pub pairs-go : (st'' : State) (out'' : List ℤ) (o'' c'' : ℕ) → next ≤ 4608 → Redone cap (row-redo rec cap (read-part (st' .work)) p (rest - 1) next) st' st'' out' o' c' out'' o'' c'' → PairsGoing (rest - 1) next st'' out'' o'' c''
+      pub pairs-go : (st'' : State) (out'' : List ℤ) (o'' c'' : ℕ) → next ≤ folded-end → Redone cap (row-redo rec cap (read-part (st' .work)) p (rest - 1) next) st' st'' out' o' c' out'' o'' c'' → PairsGoing (rest - 1) next st'' out'' o'' c''
       pairs-go st'' out'' o'' c'' l y = (
         l,
         going-next cap (rows n at) st out o c (rows rest p) st' out' o' c' (g .1) more (row-redo rec cap words p (rest - 1) next) (rows (rest - 1) next) (pairs-split rec cap words rest p next z next-is) st'' out'' o'' c''

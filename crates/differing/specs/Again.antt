@@ -14,14 +14,16 @@ use borrow.Author.Tests.{ltb-true, lt-ltb, le-ltb}
 use Rattle.laws.specs.Ints.{is-zero}
 use Rattle.laws.specs.Writes.{cap as last-place, Wrote, wrote-then, wrote-to, wrote-none, Open}
 use Rattle.laws.specs.Slices.{Has}
+use Rattle.memory.specs.Places.{ifs-word, limit}
 use Rattle.syntax.specs.Syntax.{Domain, Ne, IntExpr, Cmp, encode-int}
-use Rattle.walk.specs.Item.{limit, bump}
+use Rattle.syntax.specs.Words.{min-work-words}
+use Rattle.walk.specs.Item.{bump}
 use Rattle.walk.specs.declared.Counters.{Counters}
 use Rattle.walks.specs.Tree.{below, here, splits}
 use Rattle.walks.specs.Form.{Forms}
 use Rattle.walks.specs.Resolve.{pair-trees}
 use Rattle.walks.specs.Legal.{LegalInt}
-use Rattle.walks.specs.Item.{counters, ifs-word, has-ifs, more-bools, counts, form-items, items}
+use Rattle.walks.specs.Item.{counters, has-ifs, more-bools, counts, form-items, items}
 use Rattle.walks.specs.Decode.{decode-int}
 use Rattle.walks.specs.DecodeExact.{pair-at, PairStands, pair-stands}
 use Rattle.walks.specs.Meet.{State, counters-of}
@@ -30,7 +32,7 @@ use Rattle.walks.specs.SumsFit.{FormsFit, WithinSides, pair-fits}
 use Rattle.stages.specs.Columns.{column-at}
 use Rattle.stages.specs.StatementsParts.{Part, meet-parts, again-text, again-lines}
 use Rattle.stages.specs.Pairs.{pair-stage}
-use Rattle.memory.specs.DomainTable.{Declares}
+use Rattle.declared.specs.DomainTable.{Declares}
 use Rattle.numbering.specs.Declares.{declares-kept}
 use Rattle.numbering.specs.Task.{Low, Kept, kept-same, kept-then}
 use Rattle.numbering.specs.Fits.{Unless}
@@ -108,7 +110,7 @@ pub record Lines (out : List ℤ) (o c : ℕ) (ws : List ℤ) (m : ℕ) (out' : 
   pub count : c' ≡ bump c m
 
 pub record Asked (t : Redo) (st : State) (rec : ℕ) : Type 0 where
-  pub long : 16384 ≤ length (st .work)
+  pub long : min-work-words ≤ length (st .work)
   pub records : rec ≤ limit
   pub low : Low st
   pub word : has-ifs (st .work) ≡ true

@@ -8,6 +8,7 @@ use lib.IntN.{ℤ, pos, negsuc}
 use lib.ListN.{length}
 use lib.Dec.{eqb}
 use Rattle.laws.specs.Writes.{Wrote}
+use Rattle.memory.specs.Places.{folded-end}
 use Rattle.syntax.specs.Syntax.{Domain, Ne}
 use Rattle.sums.specs.LinearSum.{Term, term, LinearSum, linear-sum, add-terms, mul-terms, sub-sum}
 use Rattle.clauses.specs.Clause.{linear}
@@ -72,10 +73,10 @@ module _ (w : List ℤ) (n : Counters) (p q : ℕ) where
     pub fits : ComparisonFits domains w (left-read .tree) (right-read .tree) n
 
   pub record Pair : Type 0 where
-    pub size : 4608 ≤ length w
+    pub size : folded-end ≤ length w
     pub low : Low n
-    pub first : p ≤ 4608
-    pub second : q ≤ 4608
+    pub first : p ≤ folded-end
+    pub second : q ≤ folded-end
     pub fits : PairFits
 
   -- the comparison

@@ -10,9 +10,10 @@ use lib.ListN.{length, length-append}
 use lib.Dec.{ltb}
 use borrow.Author.Tests.{lt-ltb, le-ltb}
 use Rattle.laws.specs.Slices.{Has}
+use Rattle.memory.specs.Places.{folded-end, limit}
 use Rattle.syntax.specs.Syntax.{Domain, Ne, IntExpr, Cmp, encode-int}
 use Rattle.clauses.specs.Log.{Log}
-use Rattle.walk.specs.Item.{limit, bump}
+use Rattle.walk.specs.Item.{bump}
 use Rattle.walks.specs.Tree.{below, here, splits, splits-int}
 use Rattle.walks.specs.Legal.{LegalInt}
 use Rattle.walks.specs.Meet.{State, counters-of}
@@ -99,7 +100,7 @@ module _ (ds : List Domain) (F : List ℤ) (parted : ℕ → Bool) (rec cap : �
 
   -- ---- the pairs
 
-  module _ (stop : ℕ) (end : stop ≤ 4608) where
+  module _ (stop : ℕ) (end : stop ≤ folded-end) where
     abbrev SidesHere : List IntExpr → ℕ → Type 0
     SidesHere = SidesStand F parted with-ifs stop
 

@@ -6,6 +6,7 @@ use Prim.Native.Nat.{ℕ, zero, suc, _+_, _≤_, _<_}
 use lib.IntN.{ℤ}
 use lib.ListN.{length}
 use Rattle.laws.specs.Writes.{cap, Wrote}
+use Rattle.memory.specs.Places.{folded-end}
 use Rattle.syntax.specs.Syntax.{Domain}
 use Rattle.walk.specs.Decode.{read-part}
 use Rattle.walk.specs.declared.Counters.{Counters}
@@ -37,10 +38,10 @@ module _ (w : List ℤ) (n : Counters) where
   RowFits a q (suc k) = PairFits w n a q × RowFits a (end-at w q) k
 
   pub record Row (a p count : ℕ) : Type 0 where
-    pub size : 4608 ≤ length w
+    pub size : folded-end ≤ length w
     pub low : Low n
-    pub first : a ≤ 4608
-    pub place : p ≤ 4608
+    pub first : a ≤ folded-end
+    pub place : p ≤ folded-end
     pub fits : RowFits a p count
 
   pub record PutRow (a p count : ℕ) (out : List ℤ) (o k : ℕ) (out' : List ℤ) (o' k' : ℕ) : Type 0 where
@@ -58,9 +59,9 @@ module _ (w : List ℤ) (n : Counters) where
   PairsFit p (suc k) = RowFits p (end-at w p) k × PairsFit (end-at w p) k
 
   pub record Pairs (p count : ℕ) : Type 0 where
-    pub size : 4608 ≤ length w
+    pub size : folded-end ≤ length w
     pub low : Low n
-    pub place : p ≤ 4608
+    pub place : p ≤ folded-end
     pub fits : PairsFit p count
 
 -- how many pairs

@@ -8,10 +8,11 @@ use native.Mathlib.Omega.{arith}
 use lib.IntN.{ℤ}
 use lib.ListN.{length, length-append}
 use Rattle.laws.specs.Slices.{has-front, has-back}
+use Rattle.memory.specs.Places.{folded, folded-end, limit}
 use Rattle.syntax.specs.Syntax.{Domain, Ne, IntExpr, Cmp, encode-int}
 use Rattle.answer.specs.Answer.{clause-words}
 use Rattle.different.specs.Different.{values-used-up}
-use Rattle.walk.specs.Item.{limit, bump, lines-of}
+use Rattle.walk.specs.Item.{bump, lines-of}
 use Rattle.walk.specs.Decode.{read-part}
 use Rattle.walk.specs.declared.Counters.{Counters}
 use Rattle.walks.specs.Tree.{never, below, here, nil, cons, cmp, splits, splits-int, resolve-int}
@@ -58,7 +59,7 @@ module _ (w : List ℤ) where
   Sides p (e ∷ es) = Side p e × Sides (p + length (encode-int e)) es
 
   -- expressions that stand where no If is before b
-  pub sides : (b : ℕ) → NoIfs (read-part w) b → (es : List IntExpr) (p count : ℕ) → Standing w p count es → 512 ≤ p → p + length (sides-words es) ≤ b → Sides p es
+  pub sides : (b : ℕ) → NoIfs (read-part w) b → (es : List IntExpr) (p count : ℕ) → Standing w p count es → folded ≤ p → p + length (sides-words es) ≤ b → Sides p es
   unfolding Sides
   sides b none [] p count s l m = tt
   sides b none (e ∷ es) p count s l m =
@@ -244,7 +245,7 @@ module _ (w : List ℤ) where
     pairs-fit (e ∷ es) p s h = rw (side-end p e (s .0)) (let q = p + length (encode-int e) in (row-fits e p (s .0) es q (s .1) (h .0), pairs-fit es q (s .1) (h .1)))
 
     -- what `put_different` asks, of expressions that stand where no If is before stop
-    pub different-asked : (set : List ℤ) (es : List IntExpr) (at count stop : ℕ) → Over set w at count ds es → NoIfs (read-part w) stop → 512 ≤ at → at + length (sides-words es) ≤ stop → stop ≤ 4608 → WithinPairs ds es → SomeDifferent set w n at count
+    pub different-asked : (set : List ℤ) (es : List IntExpr) (at count stop : ℕ) → Over set w at count ds es → NoIfs (read-part w) stop → folded ≤ at → at + length (sides-words es) ≤ stop → stop ≤ folded-end → WithinPairs ds es → SomeDifferent set w n at count
     different-asked set es at count stop o none l m k h =
         let s = o .standing in
         record {

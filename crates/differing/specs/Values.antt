@@ -18,7 +18,8 @@ use Rattle.answer.specs.Answer.{clause-words}
 use Rattle.different.specs.Different.{is-like, values-used-up}
 use Rattle.rows.specs.Emit.{linears-words, Clauses, Behind}
 use Rattle.statements.specs.Different.{value-literal, value-clause}
-use Rattle.differing.specs.Standing.{At, Standing, Declared}
+use Rattle.declared.specs.InSet.{Declared}
+use Rattle.differing.specs.Standing.{At, Standing}
 
 -- ---- a domain's values
 

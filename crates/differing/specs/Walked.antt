@@ -6,16 +6,16 @@ use Prim.Native.Nat.{ℕ, _+_, _*_, _≤_, _<_}
 use lib.IntN.{ℤ}
 use lib.ListN.{length}
 use Rattle.laws.specs.Slices.{Has}
+use Rattle.memory.specs.Places.{folded, folded-end, limit}
 use Rattle.syntax.specs.Syntax.{Domain, IntExpr, Stmt, AllDifferent, encode-stmt}
 use Rattle.words.specs.Exact.{Each}
 use Rattle.clauses.specs.Log.{Log}
 use Rattle.clauses.specs.Since.{clauses-since}
 use Rattle.answer.specs.Answer.{normalize-stmt}
-use Rattle.walk.specs.Item.{limit}
 use Rattle.walk.specs.Decode.{read-part}
 use Rattle.walks.specs.Leaves.{words-of}
 use Rattle.walks.specs.SumsFit.{WithinPairs}
-use Rattle.memory.specs.DomainTable.{Declares}
+use Rattle.declared.specs.DomainTable.{Declares}
 use Rattle.stages.specs.StatementsParts.{Standing}
 use Rattle.stages.specs.StatementsPlaces.{LegalStmt, PartedFrom, Marked}
 use Rattle.numbering.specs.declared.Progress.{Progress}
@@ -50,9 +50,9 @@ pub record Walked (x : Place) (set w none : List ℤ) (q : ℕ) (room : Room) (c
   pub split : PartedFrom (x .parted) q (stmt x ∷ x .later)
   pub words : Has (read-part w) q (encode-stmt (stmt x))
   pub marked : Marked (read-part w) (x .end) true
-  pub from : 512 ≤ q
+  pub from : folded ≤ q
   pub to : q + length (encode-stmt (stmt x)) ≤ x .end
-  pub inside : x .end ≤ 4608
+  pub inside : x .end ≤ folded-end
   pub records : room .records ≤ limit
   pub low : room .cap < limit
   pub standing : Standing (x .domains) (read-part w) (x .parted) (room .records) (room .cap) true none low q (49152 * length (encode-stmt (stmt x)) + n) (state-of w none c) (x .before)

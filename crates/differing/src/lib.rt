@@ -1,16 +1,18 @@
 // The clauses of an AllDifferent whose expressions stand in the work slice: one for each pair, and one for each value where the values are used up.
 // Where no If stands among the folded words, every clause follows from the final maps; else each pair is numbered again right before it is written.
 ghost use mathlib.Core.Path.{_≡_};
-ghost use Prim.Native.Nat.{_+_, _-_, _≤_, _<_, _^_, min};
+ghost use Prim.Native.Nat.{_+_, _-_, _≤_, _<_, _^_};
 ghost use lib.IntN.{natAbs};
 ghost use lib.ListN.{length};
 ghost use Rattle.laws.specs.Lists.{counted};
 ghost use Rattle.laws.specs.Writes.{Wrote, Open};
+ghost use Rattle.memory.specs.Places.{folded-end};
+ghost use Rattle.memory.specs.Number.{nat};
 ghost use Rattle.syntax.specs.Syntax.{Ne};
 ghost use Rattle.sums.specs.LinearSum.{term, sub-sum};
 ghost use Rattle.clauses.specs.Clause.{linear};
 ghost use Rattle.answer.specs.Answer.{term-words, linear-words};
-ghost use Rattle.walk.specs.Item.{nat, int-number};
+ghost use Rattle.walk.specs.Item.{int-number};
 ghost use Rattle.rows.specs.Emit.{Behind};
 ghost use Rattle.walk.specs.Decode.{word as word-in, read-part};
 ghost use Rattle.differing.specs.Pair.{leaf-code, leaf-sum, apart-terms, IsLeaf, Pair, Compared, Paired};
@@ -43,7 +45,7 @@ fn number_at(work: &[i32], v: usize) -> usize
     requires { ⌜ v < 256 ⌝ }
     ensures { λ r. ⌜ (r ≡ int-number (now (work .entry)) v) × (r < 2147483648) ⌝ }
 {
-    let i = 5120 + v;
+    let i = memory::INT_MAP + v;
     if i < work.len() {
         let z = work[i];
         return number_in(z);
@@ -68,9 +70,12 @@ fn is_leaf(work: &[i32], p: usize) -> bool
     k != 23
 }
 
+// Below this place two words are folded ones.
+const TWO_WORDS: usize = memory::FOLDED_END - 1;
+
 // The constant or the variable at p.
 fn leaf_at(work: &[i32], p: usize) -> Leaf
-    requires { ⌜ (4608 ≤ length (now work)) × (p ≤ 4608) ⌝ }
+    requires { ⌜ (folded-end ≤ length (now work)) × (p ≤ folded-end) ⌝ }
     ensures { λ r. ⌜ IsLeaf (now (work .entry)) p (r .number) (r .constant) ⌝ }
 {
     if survey::word(work, p) == 21 {
@@ -81,7 +86,7 @@ fn leaf_at(work: &[i32], p: usize) -> Leaf
             constant: 0,
         };
     }
-    if p < 4607 {
+    if p < TWO_WORDS {
         let c = work[p + 1];
         return Leaf {
             number: 0,
@@ -179,8 +184,8 @@ fn put_pair(work: &[i32], n: Counters, a: usize, b: usize, out: &mut [i32], o: u
 
 // Behind the expression at p.
 fn end_of(work: &[i32], p: usize) -> usize
-    requires { do ⌜ (4608 ≤ (← ⟦work.len()⟧)) × (p ≤ 4608) ⌝ }
-    ensures { λ r. ⌜ (r ≡ end-at (now (work .entry)) p) × (r ≤ 4608) ⌝ }
+    requires { do ⌜ (folded-end ≤ (← ⟦work.len()⟧)) × (p ≤ folded-end) ⌝ }
+    ensures { λ r. ⌜ (r ≡ end-at (now (work .entry)) p) × (r ≤ folded-end) ⌝ }
 {
     let s = scan::skip_int(work, p, 64, 0, 0);
     s.at
@@ -205,7 +210,7 @@ fn put_row(
     let mut c = k;
     let mut rest = count;
     while rest != 0 {
-        if q == 16777217 {
+        if q == memory::CAP {
             return Written { at: q, clauses: c };
         }
         q = put_pair(work, n, a, b, out, q);
@@ -234,7 +239,7 @@ fn put_pairs(
     let mut c = k;
     let mut rest = count;
     while rest != 0 {
-        if q == 16777217 {
+        if q == memory::CAP {
             return Written { at: q, clauses: c };
         }
         let next = end_of(work, p);
@@ -384,7 +389,7 @@ fn put_each(
     let mut q = o;
     let mut c = k;
     while i < count {
-        if q == 16777217 {
+        if q == memory::CAP {
             return Written { at: q, clauses: c };
         }
         let x = value_at(set, d, i);
@@ -456,7 +461,7 @@ fn rewrite_pair(
     o: usize,
     k: usize,
 ) -> Rewritten
-    requires { ⌜ (c .used ≤ room .cap) × (p ≤ 4608) × (q ≤ 4608) × Asked (pair-redo (room .records) (room .cap) (read-part (now work)) p q) (state-of (now work) (now none) c) (room .records) × Ahead (now out) o k ⌝ }
+    requires { ⌜ (c .used ≤ room .cap) × (p ≤ folded-end) × (q ≤ folded-end) × Asked (pair-redo (room .records) (room .cap) (read-part (now work)) p q) (state-of (now work) (now none) c) (room .records) × Ahead (now out) o k ⌝ }
     ensures { λ r. ⌜ Redone (room .cap) (pair-redo (room .records) (room .cap) (read-part (now (work .entry))) p q) (state-of (now (work .entry)) (now (none .entry)) c) (state-of (now (work .exit)) (now (none .exit)) (r .walk)) (now (out .entry)) o k (now (out .exit)) (r .at) (r .clauses) ⌝ }
 {
     setnumbers::clear_pair(work, p, q);
@@ -494,7 +499,7 @@ fn rewrite_row(
     o: usize,
     k: usize,
 ) -> Rewritten
-    requires { ⌜ (p ≤ 4608) × (at ≤ 4608) × Asked (row-redo (room .records) (room .cap) (read-part (now work)) p count at) (state-of (now work) (now none) c) (room .records) × Ahead (now out) o k ⌝ }
+    requires { ⌜ (p ≤ folded-end) × (at ≤ folded-end) × Asked (row-redo (room .records) (room .cap) (read-part (now work)) p count at) (state-of (now work) (now none) c) (room .records) × Ahead (now out) o k ⌝ }
     ensures { λ r. ⌜ Redone (room .cap) (row-redo (room .records) (room .cap) (read-part (now (work .entry))) p count at) (state-of (now (work .entry)) (now (none .entry)) c) (state-of (now (work .exit)) (now (none .exit)) (r .walk)) (now (out .entry)) o k (now (out .exit)) (r .at) (r .clauses) ⌝ }
 {
     let mut d = c;
@@ -525,13 +530,6 @@ fn rewrite_row(
     }
 }
 
-// Clauses have two words at least, so there are no more than words; a larger count says that the answer is too long.
-fn lesser(k: usize, o: usize) -> usize
-    ensures { λ r. ⌜ r ≡ min k o ⌝ }
-{
-    if k < o { k } else { o }
-}
-
 // All pairs of so many expressions from `at` on.
 fn rewrite_pairs(
     work: &mut [i32],
@@ -544,7 +542,7 @@ fn rewrite_pairs(
     o: usize,
     k: usize,
 ) -> Rewritten
-    requires { ⌜ (at ≤ 4608) × Asked (pairs-redo (room .records) (room .cap) (read-part (now work)) count at) (state-of (now work) (now none) c) (room .records) × Ahead (now out) o k ⌝ }
+    requires { ⌜ (at ≤ folded-end) × Asked (pairs-redo (room .records) (room .cap) (read-part (now work)) count at) (state-of (now work) (now none) c) (room .records) × Ahead (now out) o k ⌝ }
     ensures { λ r. ⌜ Redone (room .cap) (pairs-redo (room .records) (room .cap) (read-part (now (work .entry))) count at) (state-of (now (work .entry)) (now (none .entry)) c) (state-of (now (work .exit)) (now (none .exit)) (r .walk)) (now (out .entry)) o k (now (out .exit)) (r .at) (r .clauses) ⌝ }
 {
     let mut d = c;
@@ -602,7 +600,7 @@ pub fn rewrite_different(
             clauses: m,
         };
     }
-    let w = put_values(set, work, at + 2, n, out, p, lesser(m, p));
+    let w = put_values(set, work, at + 2, n, out, p, rows::lesser(m, p));
     Rewritten {
         walk: d,
         at: w.at,

@@ -462,6 +462,6 @@ pub fn check_roster(set: &[i32], values: &[i32], work: &mut [i32]) -> Checked
     ensures { λ r. ⌜ Checks (now (set .entry)) (now (values .entry)) (now (work .entry)) (now (work .exit)) r ⌝ }
 {
     let answer = judge(set, values, work);
-    refuse::clear(work);
+    memory::clear(work);
     answer
 }

@@ -223,14 +223,6 @@ fn close_binary(
     Folded { next, end, state }
 }
 
-pub fn copy_word(words: &[i32], at: usize, work: &mut [i32], o: usize)
-    requires { ⌜ (at < length (now words)) × (o < length (now work)) ⌝ }
-    ensures { λ _. ⌜ now (work .exit) ≡ set (now (work .entry)) o (getD (now (words .entry)) at (pos 0)) ⌝ }
-{
-    let w = words[at];
-    work[o] = w;
-}
-
 // ---- integer expressions
 
 // A sum of one term, with coefficient 1.
@@ -259,7 +251,7 @@ fn put_int_var(words: &[i32], d: usize, work: &mut [i32], o: usize, v: usize) ->
         return put_two(work, o, 21, v);
     }
     put(work, o, 20);
-    copy_word(words, p, work, o + 1);
+    memory::copy_word(words, p, work, o + 1);
     o + 2
 }
 
@@ -279,7 +271,7 @@ fn constant_folding_terms(
     let mut end = o;
     let mut rest = count;
     while rest != 0 {
-        copy_word(words, next, work, end);
+        memory::copy_word(words, next, work, end);
         let a = constant_folding_int(words, d, next + 1, work, end + 1);
         next = a.next;
         end = a.end;
@@ -295,7 +287,7 @@ pub fn constant_folding_int(words: &[i32], d: usize, at: usize, work: &mut [i32]
     let w = domains::number(words, at);
     if w == 20 {
         put(work, o, 20);
-        copy_word(words, at + 1, work, o + 1);
+        memory::copy_word(words, at + 1, work, o + 1);
         return Span {
             next: at + 2,
             end: o + 2,

@@ -13,7 +13,8 @@ use mir.Val.{SFits, toZ}
 use borrow.Author.Tests.{ltb-true}
 use Rattle.laws.specs.Bools.{never}
 use Rattle.laws.specs.Writes.{cap, Wrote, wrote-none, wrote-then, wrote-length, wrote-to}
-use Rattle.walk.specs.Item.{limit, nat, bool-map, int-map}
+use Rattle.memory.specs.Places.{bool-map, int-map, limit}
+use Rattle.memory.specs.Number.{nat}
 use Rattle.walk.specs.declared.Counters.{Counters}
 use Rattle.survey.proofs.Leaves.{pos-is}
 use Rattle.front.specs.Front.{naturals, copied, maps-words, front-words}

@@ -6,9 +6,12 @@ use native.Mathlib.Omega.{arith}
 use lib.IntN.{ℤ, pos}
 use lib.ListN.{getD}
 use Rattle.laws.specs.Lists.{from, below}
+use Rattle.memory.specs.Places.{bool-map, int-map}
+use Rattle.memory.specs.Number.{nat}
+use Rattle.syntax.specs.Words.{max-bools}
 use Rattle.fold.specs.Fold.{Fixed}
 use Rattle.answer.specs.Answer.{fixed-word}
-use Rattle.walk.specs.Item.{nat, bool-map, int-map, bool-at, int-entry}
+use Rattle.walk.specs.Item.{bool-at, int-entry}
 use Rattle.walk.specs.declared.Counters.{Counters}
 
 -- n words from a place on, 0 for a negative one
@@ -51,7 +54,7 @@ fixed-copied f w i zero h = refl
 fixed-copied f w i (suc n) h = rw (h i (omega arith), fixed-copied f w (suc i) n (λ v k. h v (omega arith))) refl
 
 -- f: the fixed values; ws: what stands behind them
-pub front-is : (f : Fixed) (w : List ℤ) (bools ints : ℕ) (c : Counters) (ws : List ℤ) → bools ≤ 512 → ((v : ℕ) → v < 512 → getD w v (pos 0) ≡ fixed-word (f v))
+pub front-is : (f : Fixed) (w : List ℤ) (bools ints : ℕ) (c : Counters) (ws : List ℤ) → bools ≤ max-bools → ((v : ℕ) → v < max-bools → getD w v (pos 0) ≡ fixed-word (f v))
     → front-words w bools ints c ++ ws ≡ map fixed-word (map f (below bools)) ++ (map (bool-at w) (below bools) ++ (map (λ v. pos (int-entry w v)) (below ints) ++ (pos (c .bools) ∷ pos (c .ints) ∷ ws)))
 unfolding bool-at int-entry
 front-is f w bools ints c ws l h =

@@ -10,8 +10,7 @@ ghost use mathlib.Core.Path.{_≡_};
 ghost use mathlib.Core.Bool.{cond};
 ghost use mathlib.Core.Option.{none, some};
 ghost use Prim.Native.Nat.{_+_, _≤_, _<_};
-ghost use lib.IntN.{pos};
-ghost use lib.ListN.{length, drop, replicate};
+ghost use lib.ListN.{length, drop};
 ghost use Rattle.input.specs.ReadText.{split, after, single, read-numbers as numbers, count-line as one-count, lines as all-lines, read-text};
 ghost use Rattle.decimal.specs.Bytes.{comma};
 ghost use Rattle.decimal.specs.Numbers.{number-read};
@@ -211,25 +210,15 @@ fn read_lines(text: &[u8], words: &mut [i32]) -> Words
     Words::Count(n)
 }
 
-fn clear(words: &mut [i32])
-    ensures { λ _. ⌜ now (words .exit) ≡ replicate (length (now (words .entry))) (pos 0) ⌝ }
-{
-    let mut i = 0;
-    while i < words.len() {
-        words[i] = 0;
-        i += 1;
-    }
-}
-
 // The words of a text, stored from 0 on, and how many there are; those past the end are counted only.
 pub fn words_of_text(text: &[u8], words: &mut [i32]) -> Words
     ensures { λ r. ⌜ r ≡ words-of (read-text (now (text .entry))) ⌝ }
     ensures { λ r. ⌜ now (words .exit) ≡ words-after (length (now (words .entry))) (read-text (now (text .entry))) ⌝ }
 {
-    clear(words);
+    memory::clear(words);
     match read_lines(text, words) {
         Words::Unread => {
-            clear(words);
+            memory::clear(words);
             Words::Unread
         }
         Words::Count(n) => Words::Count(n),

@@ -12,6 +12,7 @@ use borrow.Author.Tests.{lt-ltb, le-ltb, ltb-false}
 use Rattle.laws.specs.Same.{same-words, same-is}
 use Rattle.laws.specs.Ints.{apart}
 use Rattle.laws.specs.Lists.{flat, counted, flat-append}
+use Rattle.memory.specs.Places.{bounds}
 use Rattle.syntax.specs.Words.{min-work-words, max-set-words}
 use Rattle.syntax.specs.Syntax.{Problem, encode-stmt, encode}
 use Rattle.words.specs.Parse.{Parsed, ok, refuse}
@@ -20,7 +21,7 @@ use Rattle.limits.specs.Admitted.{limited, admitted}
 use Rattle.reader.specs.declared.Declared.{Declared}
 use Rattle.reader.specs.declared.Set.the-variants as set
 use Rattle.domains.specs.Declared.{bounds-words}
-use Rattle.accept.specs.Walk.{bounds-place, Bounds}
+use Rattle.accept.specs.Walk.{Bounds}
 use Rattle.accept.specs.Accepted.{accepted, table-read, table-after}
 use Rattle.accept.specs.Taken.{Taken, accepted-ok, accepted-refused, taken-set, taken-bounds, declared-is}
 use Rattle.join.specs.Join.{declaration-words, both, Agreement, agreed, refusal, compared, agree-read, agreement}
@@ -159,7 +160,7 @@ table-length ws work = go (ltb (length work) min-work-words) (ltb max-set-words 
     go true t q = refl
     go false true q = refl
     go false false (refuse k) = refl
-    go false false (ok p r) = length-sets work bounds-place (bounds-words (p .domains))
+    go false false (ok p r) = length-sets work bounds (bounds-words (p .domains))
 
 module _ (first second work : List ℤ) where
   -- a refusal of either set

@@ -121,9 +121,9 @@ pub enum Joined {
 pub fn join(first: &[i32], second: &[i32], buffer: &mut [i32], work: &mut [i32]) -> Joined
     ensures { λ r. ⌜ Joins (now (first .entry)) (now (second .entry)) (now (buffer .entry)) (now (work .entry)) (now (buffer .exit)) (now (work .exit)) r ⌝ }
 {
-    refuse::clear(buffer);
+    memory::clear(buffer);
     let answer = agree(first, second, work);
-    refuse::clear(work);
+    memory::clear(work);
     match answer {
         Agreed::Refused(k) => Joined::Refused(k),
         Agreed::Ok(d) => {
@@ -207,7 +207,7 @@ pub fn find_place(first: &[i32], second: &[i32], work: &mut [i32], number: usize
 {
     match agree(first, second, work) {
         Agreed::Refused(_) => {
-            refuse::clear(work);
+            memory::clear(work);
             Place {
                 set: 0,
                 from: 0,
@@ -216,7 +216,7 @@ pub fn find_place(first: &[i32], second: &[i32], work: &mut [i32], number: usize
         }
         Agreed::Ok(d) => {
             let r = find(first, second, work, d, number);
-            refuse::clear(work);
+            memory::clear(work);
             r
         }
     }

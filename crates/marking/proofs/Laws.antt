@@ -12,7 +12,8 @@ use mir.Val.{SFits, ofZ}
 use borrow.Author.Tests.{ne-eqb, le-leb, lt-leb}
 use Rattle.laws.specs.Bools.{never}
 use Rattle.laws.specs.Signed.{value-is}
-use Rattle.walk.specs.Item.{nat}
+use Rattle.memory.specs.Places.{folded-end}
+use Rattle.memory.specs.Number.{nat}
 use Rattle.walk.specs.Decode.{word, read-part}
 use Rattle.walks.specs.Ends.{bool-end, int-end, decode-end, decode-int-end}
 use Rattle.survey.proofs.Leaves.{word-inside}
@@ -56,7 +57,7 @@ unfolding nat
 not-if (pos n) h e = h (rw e refl)
 not-if (negsuc n) h e = omega arith
 
-module _ (w : List ℤ) (end : ℕ) (inside : end ≤ 4608) where
+module _ (w : List ℤ) (end : ℕ) (inside : end ≤ folded-end) where
   abbrev F : List ℤ
   F = read-part w
 

@@ -12,17 +12,17 @@ use lib.Dec.{eqb, leb}
 use Rattle.laws.specs.Bools.{and-i, or-l, or-r}
 use Rattle.laws.specs.Ints.{is-zero}
 use Rattle.laws.specs.Slices.{Has, has-front, has-back, has-word, has-rest}
+use Rattle.memory.specs.Places.{folded, folded-end, ifs-word}
+use Rattle.memory.specs.Number.{nat}
 use Rattle.syntax.specs.Syntax.{IfIsRead, BoolExpr, Const, Var, NVar, And, Or, Not, Xor, Iff, Imp, Cmp, IntExpr, IConst, IVar, Linear, If, encode-bool, encode-int}
-use Rattle.walk.specs.Item.{nat}
 use Rattle.walk.specs.Decode.{word, read-part}
-use Rattle.walks.specs.Item.{ifs-word, has-ifs}
+use Rattle.walks.specs.Item.{has-ifs}
 use Rattle.walks.specs.Tree.{never}
 use Rattle.walks.specs.Resolve.{never-bool, never-int}
 use Rattle.walks.specs.Legal.{LegalInt, Legal}
 use Rattle.walks.specs.Decode.{Read, IntRead}
 use Rattle.walks.specs.DecodeExact.{decode-is, decode-int-is}
 use Rattle.walks.specs.Ends.{bool-end, int-end, decode-end, decode-int-end}
-use Rattle.memory.specs.Places.{folded}
 
 -- ---- the mark; F: the folded words
 
@@ -127,7 +127,7 @@ if-marks w end p from to i c t f g h v e = ap (λ z. not (is-zero z)) (e ∙ ap 
 
 mark-stays : (w : List ℤ) (end : ℕ) (z : ℤ) → mark-of (set w ifs-word z) end ≡ mark-of w end
 unfolding read-part
-mark-stays w end z = ap (λ (F : List ℤ). cond (finds-if F folded (end - folded)) (pos 1) (pos 0)) (take-set-le 4608 w ifs-word z (omega arith))
+mark-stays w end z = ap (λ (F : List ℤ). cond (finds-if F folded (end - folded)) (pos 1) (pos 0)) (take-set-le folded-end w ifs-word z (omega arith))
 
 -- it is the mark of the words that stand there now
 pub mark-own : (w : List ℤ) (end : ℕ) → ifs-word < length w → getD (marked w end) ifs-word (pos 0) ≡ mark-of (marked w end) end

@@ -2,9 +2,8 @@
 ghost use mathlib.Core.Path.{_≡_};
 ghost use Prim.Native.Nat.{_-_, _≤_, _<_};
 ghost use lib.ListN.{length};
+ghost use Rattle.memory.specs.Places.{folded, folded-end, ifs-word};
 ghost use Rattle.walk.specs.Decode.{read-part};
-ghost use Rattle.walks.specs.Item.{ifs-word};
-ghost use Rattle.memory.specs.Places.{folded};
 ghost use Rattle.marking.specs.Mark.{is-code, reads-if, has-code, finds-if, marked};
 use memory::FOLDED;
 use memory::IFS_WORD;
@@ -22,7 +21,7 @@ fn is_code(work: &[i32], q: usize, low: usize, high: usize) -> bool
 
 // Whether a condition and two integer expressions stand behind a place.
 fn reads_if(work: &[i32], at: usize) -> bool
-    requires { ⌜ (4608 ≤ length (now work)) × (at < 4608) ⌝ }
+    requires { ⌜ (folded-end ≤ length (now work)) × (at < folded-end) ⌝ }
     ensures { λ r. ⌜ r ≡ reads-if (read-part (now (work .entry))) at ⌝ }
 {
     if is_code(work, at + 1, 10, 18) {
@@ -37,7 +36,7 @@ fn reads_if(work: &[i32], at: usize) -> bool
 
 // Whether an If's code is among the words from FOLDED to `end`. Every word is looked at: without an early exit the loop is vectorised.
 fn has_code(work: &[i32], end: usize) -> bool
-    requires { ⌜ (4608 ≤ length (now work)) × (end ≤ 4608) ⌝ }
+    requires { ⌜ (folded-end ≤ length (now work)) × (end ≤ folded-end) ⌝ }
     ensures { λ r. ⌜ r ≡ has-code (read-part (now (work .entry))) folded (end - folded) ⌝ }
 {
     let mut found = false;
@@ -54,7 +53,7 @@ fn has_code(work: &[i32], end: usize) -> bool
 
 // Whether a place from FOLDED to `end` reads as an If.
 fn finds_if(work: &[i32], end: usize) -> bool
-    requires { ⌜ (4608 ≤ length (now work)) × (end ≤ 4608) ⌝ }
+    requires { ⌜ (folded-end ≤ length (now work)) × (end ≤ folded-end) ⌝ }
     ensures { λ r. ⌜ r ≡ finds-if (read-part (now (work .entry))) folded (end - folded) ⌝ }
 {
     let mut i = FOLDED;
@@ -71,7 +70,7 @@ fn finds_if(work: &[i32], end: usize) -> bool
 
 // The same, after a look for the code alone.
 fn any_if(work: &[i32], end: usize) -> bool
-    requires { ⌜ (4608 ≤ length (now work)) × (end ≤ 4608) ⌝ }
+    requires { ⌜ (folded-end ≤ length (now work)) × (end ≤ folded-end) ⌝ }
     ensures { λ r. ⌜ r ≡ finds-if (read-part (now (work .entry))) folded (end - folded) ⌝ }
 {
     if has_code(work, end) {
@@ -82,7 +81,7 @@ fn any_if(work: &[i32], end: usize) -> bool
 
 // The word for Ifs, of the folded statements up to `end`.
 pub fn mark_ifs(work: &mut [i32], end: usize)
-    requires { ⌜ (ifs-word < length (now work)) × (end ≤ 4608) ⌝ }
+    requires { ⌜ (ifs-word < length (now work)) × (end ≤ folded-end) ⌝ }
     ensures { λ _. ⌜ now (work .exit) ≡ marked (now (work .entry)) end ⌝ }
 {
     if any_if(work, end) {

@@ -9,7 +9,9 @@ use lib.ListN.{set, length-set}
 use lib.Seq.{getD-set-other}
 use borrow.Author.Tests.{eq-eqb, ne-eqb, lt-ltb, le-ltb}
 use Rattle.laws.specs.Ints.{is-zero}
-use Rattle.walk.specs.Item.{limit, bump, bool-map, bool-at, signed, State}
+use Rattle.memory.specs.Places.{bool-map, limit}
+use Rattle.syntax.specs.Words.{max-bools}
+use Rattle.walk.specs.Item.{bump, bool-at, signed, State}
 use Rattle.walk.specs.Decode.{word}
 use Rattle.walk.specs.NumberingSteps.{part-set}
 use Rattle.statements.specs.Whole.{start}
@@ -22,7 +24,7 @@ aside-same w = record { part = refl; behind = λ k h. refl; size = refl }
 pub aside-then : {u v w : List ℤ} → Aside u v → Aside v w → Aside u w
 aside-then a b = record { part = b .part ∙ a .part; behind = λ k h. b .behind k h ∙ a .behind k h; size = b .size ∙ a .size }
 
-aside-set : (w : List ℤ) (v : ℕ) (z : ℤ) → v < 512 → Aside w (set w (bool-map + v) z)
+aside-set : (w : List ℤ) (v : ℕ) (z : ℤ) → v < max-bools → Aside w (set w (bool-map + v) z)
 aside-set w v z h = record {
   part = part-set w (bool-map + v) z (omega arith);
   behind = λ k l. getD-set-other w (bool-map + v) k z (pos 0) (λ e. omega arith);
@@ -37,11 +39,11 @@ ties-none w n l e = record { state = sym e; aside = aside-same w; low = l }
 pub ties-as : {f g : State → State} {w w' : List ℤ} {n r : ℕ} → f (start w n) ≡ g (start w n) → Ties g w n w' r → Ties f w n w' r
 ties-as e t = record { state = t .state ∙ sym e; aside = t .aside; low = t .low }
 
-pub ties-give : {f : State → State} (w w' : List ℤ) (n v : ℕ) (y z : ℤ) → v < 512 → n ≤ limit → y ≡ z → w' ≡ set w (bool-map + v) y → f (start w n) ≡ give v z (start w n) → Ties f w n w' n
+pub ties-give : {f : State → State} (w w' : List ℤ) (n v : ℕ) (y z : ℤ) → v < max-bools → n ≤ limit → y ≡ z → w' ≡ set w (bool-map + v) y → f (start w n) ≡ give v z (start w n) → Ties f w n w' n
 ties-give w w' n v y z h l i e q = rw (e, i) (record { state = sym q; aside = aside-set w v z h; low = l })
 
 -- a new number k for x, and z, its literal, for y
-pub ties-new : (w u w' : List ℤ) (n k x y : ℕ) (a z : ℤ) (g : Bool) → x < 512 → y < 512 → n ≤ limit → k ≡ bump n 1 → a ≡ pos k → z ≡ signed (pos k) g → u ≡ set w (bool-map + x) a → w' ≡ set u (bool-map + y) z → Ties (tie-words true true x y g) w n w' k
+pub ties-new : (w u w' : List ℤ) (n k x y : ℕ) (a z : ℤ) (g : Bool) → x < max-bools → y < max-bools → n ≤ limit → k ≡ bump n 1 → a ≡ pos k → z ≡ signed (pos k) g → u ≡ set w (bool-map + x) a → w' ≡ set u (bool-map + y) z → Ties (tie-words true true x y g) w n w' k
 ties-new w u w' n k x y a z g hx hy l hk ha hz hu hw =
     rw (hw, hu, ha, hz, hk) (record {
       state = refl;
@@ -71,17 +73,17 @@ module _ (F w : List ℤ) (n at : ℕ) (g : Bool) where
   unfolding meet-sides
   sides-second a b e i f z = rw (← e, eq-eqb a 11 i, ← f, ne-eqb b 11 z) refl
 
-  pub sides-left : (a b x : ℕ) → a ≡ word F at → a ≡ 11 → b ≡ word F (at + 2) → b ≡ 11 → x ≡ word F (at + 1) → 512 ≤ x → meet-sides F at g (start w n) ≡ start w n
+  pub sides-left : (a b x : ℕ) → a ≡ word F at → a ≡ 11 → b ≡ word F (at + 2) → b ≡ 11 → x ≡ word F (at + 1) → max-bools ≤ x → meet-sides F at g (start w n) ≡ start w n
   unfolding meet-sides
-  sides-left a b x e i f j q l = rw (← e, eq-eqb a 11 i, ← f, eq-eqb b 11 j, ← q, le-ltb x 512 l) refl
+  sides-left a b x e i f j q l = rw (← e, eq-eqb a 11 i, ← f, eq-eqb b 11 j, ← q, le-ltb x max-bools l) refl
 
-  pub sides-right : (a b x y : ℕ) → a ≡ word F at → a ≡ 11 → b ≡ word F (at + 2) → b ≡ 11 → x ≡ word F (at + 1) → x < 512 → y ≡ word F (at + 3) → 512 ≤ y → meet-sides F at g (start w n) ≡ start w n
+  pub sides-right : (a b x y : ℕ) → a ≡ word F at → a ≡ 11 → b ≡ word F (at + 2) → b ≡ 11 → x ≡ word F (at + 1) → x < max-bools → y ≡ word F (at + 3) → max-bools ≤ y → meet-sides F at g (start w n) ≡ start w n
   unfolding meet-sides
-  sides-right a b x y e i f j q h r l = rw (← e, eq-eqb a 11 i, ← f, eq-eqb b 11 j, ← q, lt-ltb x 512 h, ← r, le-ltb y 512 l) refl
+  sides-right a b x y e i f j q h r l = rw (← e, eq-eqb a 11 i, ← f, eq-eqb b 11 j, ← q, lt-ltb x max-bools h, ← r, le-ltb y max-bools l) refl
 
-  pub sides-both : (a b x y : ℕ) → a ≡ word F at → a ≡ 11 → b ≡ word F (at + 2) → b ≡ 11 → x ≡ word F (at + 1) → x < 512 → y ≡ word F (at + 3) → y < 512 → meet-sides F at g (start w n) ≡ meet-tie x y g (start w n)
+  pub sides-both : (a b x y : ℕ) → a ≡ word F at → a ≡ 11 → b ≡ word F (at + 2) → b ≡ 11 → x ≡ word F (at + 1) → x < max-bools → y ≡ word F (at + 3) → y < max-bools → meet-sides F at g (start w n) ≡ meet-tie x y g (start w n)
   unfolding meet-sides
-  sides-both a b x y e i f j q h r l = rw (← e, eq-eqb a 11 i, ← f, eq-eqb b 11 j, ← q, lt-ltb x 512 h, ← r, lt-ltb y 512 l) refl
+  sides-both a b x y e i f j q h r l = rw (← e, eq-eqb a 11 i, ← f, eq-eqb b 11 j, ← q, lt-ltb x max-bools h, ← r, lt-ltb y max-bools l) refl
 
 -- ---- a statement
 

@@ -4,20 +4,20 @@ use mathlib.Core.Bool.{Bool, true, false}
 use mathlib.Core.List.{List, [], _∷_}
 use Prim.Native.Nat.{ℕ, _+_, _≤_, _<_}
 use native.Mathlib.Omega.{arith}
-use lib.IntN.{ℤ, pos}
-use lib.ListN.{length, getD, length-append}
-use lib.Seq.{getD-take}
+use lib.IntN.{ℤ}
+use lib.ListN.{length, length-append}
 use Rattle.laws.specs.Slices.{Has, has-fits, has-front, has-back}
+use Rattle.memory.specs.Places.{folded, folded-end, limit}
 use Rattle.syntax.specs.Syntax.{Stmt, encode-stmt, Problem}
 use Rattle.words.specs.Exact.{Each}
 use Rattle.fold.specs.Fold.{Fixed}
 use Rattle.clauses.specs.Log.{Log, next-bool}
 use Rattle.clauses.specs.Merge.{merge-stmt, merge-stmts}
 use Rattle.answer.specs.Answer.{start-log}
-use Rattle.walk.specs.Item.{limit, State}
+use Rattle.walk.specs.Item.{State}
 use Rattle.walk.specs.Decode.{read-part}
 use Rattle.walk.specs.Num.{Numbered}
-use Rattle.walk.specs.NumberingSteps.{part-short}
+use Rattle.walk.specs.NumberingSteps.{part-short, part-word}
 use Rattle.statements.specs.Bounds.{merge-grows, start-low}
 use Rattle.statements.specs.Whole.{start, start-numbered}
 use Rattle.statements.specs.Ties.{meet-ties-at}
@@ -49,9 +49,9 @@ pub record SomeLeft (p : Problem) (ss : List Stmt) (w : List ℤ) (end : ℕ) (w
 pub record Sofar (w : List ℤ) (end : ℕ) (w' : List ℤ) (n q : ℕ) : Type 0 where
   pub aside : Aside w w'
   pub low : n ≤ limit
-  pub some : (p : Problem) (f : Fixed) (ss : List Stmt) → Folded p f ss w → end ≡ 512 + length (stmts-words ss) → SomeLeft p ss w end w' n q
+  pub some : (p : Problem) (f : Fixed) (ss : List Stmt) → Folded p f ss w → end ≡ folded + length (stmts-words ss) → SomeLeft p ss w end w' n q
 
-pub all-start : (w : List ℤ) (end : ℕ) → Sofar w end w 0 512
+pub all-start : (w : List ℤ) (end : ℕ) → Sofar w end w 0 folded
 all-start w end = record {
   aside = aside-same w;
   low = omega arith;
@@ -71,10 +71,6 @@ all-start w end = record {
 
 -- ---- the statement at q
 
-word-kept : (w w' : List ℤ) → read-part w' ≡ read-part w → (k : ℕ) → k < 4608 → getD w' k (pos 0) ≡ getD w k (pos 0)
-unfolding read-part
-word-kept w w' e k h = sym (getD-take 4608 w' k (pos 0) h) ∙ ap (λ (l : List ℤ). getD l k (pos 0)) e ∙ getD-take 4608 w k (pos 0) h
-
 module _ (p : Problem) (f : Fixed) (ss : List Stmt) (w : List ℤ) (h : Folded p f ss w) where
   abbrev F : List ℤ
   F = read-part w
@@ -87,7 +83,7 @@ module _ (p : Problem) (f : Fixed) (ss : List Stmt) (w : List ℤ) (h : Folded p
       here : Has F q (encode-stmt t)
       here = has-front F q (encode-stmt t) (stmts-words ts) (x .stands)
 
-      inside : q + length (encode-stmt t) ≤ 4608
+      inside : q + length (encode-stmt t) ≤ folded-end
       inside = omega (arith, has-fits F q (encode-stmt t) here (some-word t), part-short w)
 
       stmt-stands : read-part w' ≡ F → Stands w' q t
@@ -111,7 +107,7 @@ module _ (p : Problem) (f : Fixed) (ss : List Stmt) (w : List ℤ) (h : Folded p
     some-stmt [] x part l = absurd (omega (arith, x .ends))
     some-stmt (t ∷ ts) x part l = record { stmt = t; stands = stmt-stands t ts x part }
 
-    stmt-inside : (rest : List Stmt) → Left p ss w end w' n q rest → q < end → q ≤ 4608
+    stmt-inside : (rest : List Stmt) → Left p ss w end w' n q rest → q < end → q ≤ folded-end
     stmt-inside [] x l = absurd (omega (arith, x .ends))
     stmt-inside (t ∷ ts) x l = omega (arith, inside t ts x)
 
@@ -124,8 +120,8 @@ module _ (p : Problem) (f : Fixed) (ss : List Stmt) (w : List ℤ) (h : Folded p
     unfolding merge-stmts
     ready [] x part l = record {
       set = h .set;
-      values = λ v k. word-kept w w' part v (omega arith) ∙ h .values v k;
-      stands = subst (λ (l : List ℤ). Has l 512 (stmts-words ss)) (sym part) (h .stands);
+      values = λ v k. part-word w w' part v (omega arith) ∙ h .values v k;
+      stands = subst (λ (l : List ℤ). Has l folded (stmts-words ss)) (sym part) (h .stands);
       numbered = subst (λ (s : Log). Numbered (start w' n) s) (x .logs) (x .numbered);
     }
     ready (t ∷ ts) x part l = absurd (omega (arith, x .ends, some-word t, length-append (encode-stmt t) (stmts-words ts)))
@@ -139,10 +135,10 @@ module _ (w : List ℤ) (end : ℕ) (s : SomeFolded w end) (w' : List ℤ) (n q 
   pub stmt-here : q < end → SomeStmt w' q
   stmt-here l = some-stmt (s .it) (s .fixed) (s .stmts) w (s .folded) end w' n q (y .rest) (y .left) (x .aside .part) l
 
-  pub here-inside : q < end → q ≤ 4608
+  pub here-inside : q < end → q ≤ folded-end
   here-inside l = stmt-inside (s .it) (s .fixed) (s .stmts) w (s .folded) end w' n q (y .rest) (y .left) l
 
-  pub size-here : 4608 ≤ length w'
+  pub size-here : folded-end ≤ length w'
   size-here = omega (arith, x .aside .size, s .folded .empty .size)
 
   pub moved : (q' : ℕ) → q < end → StmtEnds w' q q' → q < q'

@@ -3,7 +3,8 @@ ghost use mathlib.Core.Path.{_≡_};
 ghost use mathlib.Core.Bool.{true};
 ghost use Prim.Native.Nat.{_+_, _≤_, _<_};
 ghost use lib.ListN.{length, set};
-ghost use Rattle.walk.specs.Item.{limit};
+ghost use Rattle.memory.specs.Places.{folded-end, bool-map, limit};
+ghost use Rattle.syntax.specs.Words.{max-bools};
 ghost use Rattle.walk.specs.Decode.{read-part};
 ghost use Rattle.statements.specs.Ties.{tie-words, meet-tie, meet-sides, meet-ties-at};
 ghost use Rattle.statements.specs.Stages.{SomeFolded};
@@ -11,18 +12,15 @@ ghost use Rattle.merging.specs.Merging.{Ties, MergedAll};
 
 // The literal of a variable is stored in the map.
 fn give(work: &mut [i32], v: usize, z: i32)
-    requires { ⌜ v < 512 ⌝ }
-    ensures { λ r. ⌜ (now (work .exit) ≡ set (now (work .entry)) (4608 + v) z) × (length (now (work .exit)) ≡ length (now (work .entry))) ⌝ }
+    requires { ⌜ v < max-bools ⌝ }
+    ensures { λ r. ⌜ (now (work .exit) ≡ set (now (work .entry)) (bool-map + v) z) × (length (now (work .exit)) ≡ length (now (work .entry))) ⌝ }
 {
-    let i = 4608 + v;
-    if i < work.len() {
-        work[i] = z;
-    }
+    memory::store(work, memory::BOOL_MAP + v, z);
 }
 
 // x and y are without a literal: x gets a number, y its literal, negated if g. n: how many numbers there are.
 fn merge_new(work: &mut [i32], x: usize, y: usize, g: bool, n: usize) -> usize
-    requires { ⌜ (x < 512) × ((y < 512) × (n ≤ limit)) ⌝ }
+    requires { ⌜ (x < max-bools) × ((y < max-bools) × (n ≤ limit)) ⌝ }
     ensures { λ r. ⌜ Ties (tie-words true true x y g) (now (work .entry)) n (now (work .exit)) r ⌝ }
 {
     let k = survey::bump(n, 1);
@@ -34,7 +32,7 @@ fn merge_new(work: &mut [i32], x: usize, y: usize, g: bool, n: usize) -> usize
 
 // A rule ties x and y, as opposites if g: the one without a literal takes the other's. What comes back: how many numbers there are now.
 fn merge_tie(work: &mut [i32], x: usize, y: usize, g: bool, n: usize) -> usize
-    requires { ⌜ (x < 512) × ((y < 512) × (n ≤ limit)) ⌝ }
+    requires { ⌜ (x < max-bools) × ((y < max-bools) × (n ≤ limit)) ⌝ }
     ensures { λ r. ⌜ Ties (meet-tie x y g) (now (work .entry)) n (now (work .exit)) r ⌝ }
 {
     if x == y {
@@ -58,7 +56,7 @@ fn merge_tie(work: &mut [i32], x: usize, y: usize, g: bool, n: usize) -> usize
 
 // The two sides of an Xor (g) or Iff from a place on, if both are variables.
 fn merge_sides(work: &mut [i32], at: usize, g: bool, n: usize) -> usize
-    requires { ⌜ (at ≤ 4610) × (n ≤ limit) ⌝ }
+    requires { ⌜ (at ≤ folded-end + 2) × (n ≤ limit) ⌝ }
     ensures { λ r. ⌜ Ties (meet-sides (read-part (now (work .entry))) at g) (now (work .entry)) n (now (work .exit)) r ⌝ }
 {
     if survey::word(work, at) != 11 {
@@ -80,7 +78,7 @@ fn merge_sides(work: &mut [i32], at: usize, g: bool, n: usize) -> usize
 
 // The statement at a place.
 fn merge_statement(work: &mut [i32], at: usize, n: usize) -> usize
-    requires { ⌜ (at ≤ 4608) × (n ≤ limit) ⌝ }
+    requires { ⌜ (at ≤ folded-end) × (n ≤ limit) ⌝ }
     ensures { λ r. ⌜ Ties (meet-ties-at (read-part (now (work .entry))) at) (now (work .entry)) n (now (work .exit)) r ⌝ }
 {
     if survey::word(work, at) != 1 {
@@ -101,7 +99,7 @@ fn merge_statements(work: &mut [i32], end: usize) -> usize
     requires { ⌜ SomeFolded (now work) end ⌝ }
     ensures { λ r. ⌜ MergedAll true (now (work .entry)) end (now (work .exit)) r ⌝ }
 {
-    let mut q = 512;
+    let mut q = memory::FOLDED;
     let mut n = 0;
     while q < end {
         let next = setnumbers::statement_end(work, q);

@@ -7,6 +7,7 @@ use lib.ListN.{set}
 use lib.Seq.{sets}
 use mir.Syntax.{w32}
 use mir.Val.{SFits, ofZ, toZ}
+use Rattle.memory.specs.Places.{cells}
 use Rattle.syntax.specs.Syntax.{Domain, Range, lower-bound, upper-bound}
 use Rattle.syntax.specs.Words.{max-weight}
 use Rattle.walk.specs.Item.{bump}
@@ -37,6 +38,6 @@ module _ (w : List ℤ) (at : ℕ) (c d : Progress) (n : Counters) (e : n ≡ co
     span-fits = pair-bits f g (λ a b. (natAbs a ≤ max-weight) × (natAbs b ≤ max-weight))
         (subst (λ (u : Domain). natAbs (lower-bound u) ≤ max-weight) (sym span-is) (s .fits .lowest), subst (λ (u : Domain). natAbs (upper-bound u) ≤ max-weight) (sym span-is) (s .fits .highest))
 
-    pub makes : (rec : ℕ) (out w' out' : List ℤ) (r : Progress) → out' ≡ sets out (rec + 4 * d .ints) (range-record (Range (toZ w32 (ofZ w32 x)) (toZ w32 (ofZ w32 y)))) → w' ≡ set w (4864 + at) (pos (d .ints + 1))
+    pub makes : (rec : ℕ) (out w' out' : List ℤ) (r : Progress) → out' ≡ sets out (rec + 4 * d .ints) (range-record (Range (toZ w32 (ofZ w32 x)) (toZ w32 (ofZ w32 y)))) → w' ≡ set w (cells + at) (pos (d .ints + 1))
         → r ≡ record { bools = d .bools; ints = bump (d .ints) 1; used = d .used } → Makes rec at c d w out w' out' r
     makes rec out w' out' r ho hw hr = record { lowest = x; highest = y; range = branch-ranges w 64 never at 0 c n e x y h; written = opened out out' (rec + 4 * d .ints) x y f g ho; cell = hw; count = hr }

@@ -8,18 +8,18 @@ use lib.IntN.{ℤ, natAbs}
 use lib.Dec.{eqb}
 use borrow.Author.Tests.{eq-eqb, ne-eqb}
 use Rattle.laws.specs.Ints.{lower, higher}
+use Rattle.memory.specs.Places.{limit}
 use Rattle.syntax.specs.Syntax.{Domain, Range, lower-bound, upper-bound}
 use Rattle.syntax.specs.Words.{max-weight}
 use Rattle.sums.specs.LinearSum.{LinearSum, linear-sum, is-constant}
 use Rattle.sums.specs.Struct.{Stands}
 use Rattle.sums.specs.declared.LinearSum.{LinearSum as Sum}
 use Rattle.clauses.specs.Normalize.{hull}
-use Rattle.walk.specs.Item.{limit}
 use Rattle.walk.specs.declared.Counters.{Counters}
 use Rattle.walks.specs.Tree.{Splitting}
 use Rattle.walks.specs.Item.{counters, has-ifs, form-int-item}
 use Rattle.walks.specs.Meet.{range-of}
-use Rattle.memory.specs.DomainTable.{Declares}
+use Rattle.declared.specs.DomainTable.{Declares}
 use Rattle.scan.specs.IfLaws.{Low}
 use Rattle.totals.specs.Linear.{int-at, Stepping, Linear}
 use Rattle.totals.specs.Ranges.{Ranging, Ranges}

@@ -9,8 +9,10 @@ use lib.Seq.{sets}
 use mir.Syntax.{w32}
 use mir.Val.{SFits, ofZ, toZ}
 use mir.Facts.{toZ-ofZ}
+use Rattle.memory.specs.Places.{limit}
+use Rattle.memory.proofs.Laws.{number-is}
 use Rattle.syntax.specs.Syntax.{Range}
-use Rattle.walk.specs.Item.{limit, bump, bool-at}
+use Rattle.walk.specs.Item.{bump, bool-at}
 use Rattle.walk.specs.Decode.{below}
 use Rattle.walk.specs.Steps.{below-lt}
 use Rattle.walks.specs.Item.{cell, seen-in, known-in}
@@ -21,7 +23,6 @@ use Rattle.numbering.specs.Members.{numbered, new-in, beside, renewed}
 use Rattle.numbering.specs.Conditions.{follow-task, follow-fits, Follows}
 use Rattle.numbering.specs.declared.Progress.{Progress}
 use Rattle.numbering.specs.declared.Numbered.{Numbered}
-use Rattle.numbering.proofs.Stores.{number-is}
 
 pub renewed-is : (c r : Progress) (s : Numbered) (k : ℕ) → k ≡ new-in s → r ≡ record { bools = bump (c .bools) k; ints = c .ints; used = c .used } → r ≡ renewed c s
 renewed-is c r s k h e = e ∙ rw h refl

@@ -10,11 +10,9 @@ use mir.Syntax.{w32}
 use mir.Val.{SFits, ofZ, toZ}
 use mir.Facts.{toZ-ofZ}
 use Rattle.laws.specs.Ints.{natAbs-add, sfits-natAbs}
+use Rattle.memory.specs.Places.{cells}
 use Rattle.walks.specs.Item.{cell}
 use Rattle.walks.specs.Meet.{set-cells, copied}
-
-pub number-is : (x : ℕ) → x < 2147483648 → toZ w32 x ≡ pos x
-number-is x h = toZ-ofZ {w = w32} {z = pos x} (record { sfits = omega arith })
 
 -- four words one after another
 pub four-stored : (o o₁ o₂ o₃ o₄ : List ℤ) (p : ℕ) (a b c d : ℤ) → SFits w32 a → SFits w32 b → SFits w32 c → SFits w32 d → o₁ ≡ set o p (toZ w32 (ofZ w32 a)) → o₂ ≡ set o₁ (p + 1) (toZ w32 (ofZ w32 b)) → o₃ ≡ set o₂ (p + 2) (toZ w32 (ofZ w32 c)) → o₄ ≡ set o₃ (p + 3) (toZ w32 (ofZ w32 d))
@@ -38,7 +36,7 @@ declared-put o o' i x y z a b c fx fy fz ex ey ez h e = (e .0 ∙ rw (toZ-ofZ (n
 
 -- ---- an If's cells
 
-pub cells-stored : (w w₁ w₂ w₃ : List ℤ) (p : ℕ) (x y z : ℤ) → SFits w32 x → SFits w32 y → SFits w32 z → w₁ ≡ set w (4864 + (p + 1)) (toZ w32 (ofZ w32 x)) → w₂ ≡ set w₁ (4864 + (p + 2)) (toZ w32 (ofZ w32 y)) → w₃ ≡ set w₂ (4864 + (p + 3)) (toZ w32 (ofZ w32 z))
+pub cells-stored : (w w₁ w₂ w₃ : List ℤ) (p : ℕ) (x y z : ℤ) → SFits w32 x → SFits w32 y → SFits w32 z → w₁ ≡ set w (cells + (p + 1)) (toZ w32 (ofZ w32 x)) → w₂ ≡ set w₁ (cells + (p + 2)) (toZ w32 (ofZ w32 y)) → w₃ ≡ set w₂ (cells + (p + 3)) (toZ w32 (ofZ w32 z))
     → w₃ ≡ set-cells p x y z w
 unfolding set-cells
 cells-stored w w₁ w₂ w₃ p x y z f g h i j k = rw (k, j, i, toZ-ofZ f, toZ-ofZ g, toZ-ofZ h) refl

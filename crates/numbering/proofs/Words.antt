@@ -17,12 +17,12 @@ use Rattle.laws.specs.Bools.{never}
 use Rattle.laws.specs.Ints.{eqZ, natAbs-add, natAbs-negℤ, sfits-natAbs}
 use Rattle.laws.specs.Order.{eqZ-is, eqZ-refl}
 use Rattle.laws.specs.Signed.{tests-of, same-value}
+use Rattle.memory.specs.Places.{limit}
+use Rattle.memory.proofs.Laws.{number-is}
 use Rattle.syntax.specs.Syntax.{Range}
 use Rattle.syntax.specs.Words.{max-weight}
-use Rattle.walk.specs.Item.{limit}
 use Rattle.walks.specs.Item.{seen-in, known-in}
 use Rattle.walks.specs.Meet.{number-word, range-record, two-record}
-use Rattle.numbering.proofs.Stores.{number-is}
 
 pub differ : (y z : ℤ) → (ofZ w32 y ≡ ofZ w32 z → ⊥) → eqZ y z ≡ false
 differ y z h = go (eqZ y z) refl

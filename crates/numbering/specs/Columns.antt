@@ -9,9 +9,10 @@ use lib.ListN.{length, set}
 use lib.Seq.{sets, length-sets}
 use lib.Dec.{eqb, ltb}
 use borrow.Author.Tests.{ne-eqb}
+use Rattle.memory.specs.Places.{cells, limit}
 use Rattle.syntax.specs.Syntax.{Domain, Range, lower-bound, upper-bound}
 use Rattle.syntax.specs.Words.{max-weight}
-use Rattle.walk.specs.Item.{limit, bump}
+use Rattle.walk.specs.Item.{bump}
 use Rattle.walk.specs.Decode.{word, read-part}
 use Rattle.walk.specs.declared.Counters.{Counters}
 use Rattle.walks.specs.Tree.{Splitting, never}
@@ -20,7 +21,7 @@ use Rattle.walks.specs.Decode.{IntRead, Reader, IntReader, if-step, int-step, d
 use Rattle.walks.specs.Item.{form-int-item}
 use Rattle.walks.specs.Meet.{State, counters-of, range-record, range-of, is-full, new-int, form-meet-int}
 use Rattle.walks.specs.Column.{number-column, meet-sum, meet-column}
-use Rattle.memory.specs.DomainTable.{Declares}
+use Rattle.declared.specs.DomainTable.{Declares}
 use Rattle.scan.specs.Nodes.{int-level}
 use Rattle.numbering.specs.Declares.{declares-kept}
 use Rattle.numbering.specs.Task.{state-of, Task, Kept, kept-then, Done, Starts, starts-same}
@@ -59,7 +60,7 @@ pub record Makes (rec at : ℕ) (c d : Progress) (w out w' out' : List ℤ) (r :
   pub highest : ℤ
   pub range : (ds : List Domain) → Declares ds w → Range lowest highest ≡ range-of (form-int-item ds (form-of w at)) w (counters-in w c)
   pub written : out' ≡ sets out (rec + 4 * d .ints) (range-record (Range lowest highest))
-  pub cell : w' ≡ set w (4864 + at) (pos (d .ints + 1))
+  pub cell : w' ≡ set w (cells + at) (pos (d .ints + 1))
   pub count : r ≡ record { bools = d .bools; ints = bump (d .ints) 1; used = d .used }
 
 -- ---- laws for the code
@@ -183,7 +184,7 @@ module _ (rec cap : ℕ) (w out : List ℤ) (c : Progress) (at : ℕ) (s : Start
         made-is ds h = stored ds ∙ ap (λ (u : Domain). number-column ds rec cap at u behind) (range-is ds h)
 
         made-kept : Kept behind (state-of w' out' r)
-        made-kept = rw (y .cell) (kept-set w₁ out₁ out' d r (4864 + at) (pos (d .ints + 1)) (omega arith) (omega (arith, s .inside)) (ap length (y .written) ∙ length-sets out₁ (rec + 4 * d .ints) (range-record (Range (y .lowest) (y .highest)))))
+        made-kept = rw (y .cell) (kept-set w₁ out₁ out' d r (cells + at) (pos (d .ints + 1)) (omega arith) (omega (arith, s .inside)) (ap length (y .written) ∙ length-sets out₁ (rec + 4 * d .ints) (range-record (Range (y .lowest) (y .highest)))))
 
         pub column-made : Done Whole st (state-of w' out' r)
         unfolding column-task

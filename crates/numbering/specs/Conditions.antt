@@ -13,14 +13,16 @@ use mir.Syntax.{w32}
 use mir.Val.{SFits, ofZ, toZ}
 use mir.Facts.{toZ-ofZ}
 use borrow.Author.Tests.{ne-eqb}
+use Rattle.memory.specs.Places.{limit}
 use Rattle.syntax.specs.Syntax.{Domain, Range}
-use Rattle.walk.specs.Item.{limit, bump, is-none, bool-at, fresh, fresh-in, mode-in}
+use Rattle.syntax.specs.Words.{max-bools}
+use Rattle.walk.specs.Item.{bump, is-none, bool-at, fresh, fresh-in, mode-in}
 use Rattle.walk.specs.Decode.{word, below, read-part}
 use Rattle.walks.specs.Tree.{Splitting}
 use Rattle.walks.specs.Item.{Item, tallies, num-item, form-item}
 use Rattle.walks.specs.Decode.{own-at}
 use Rattle.walks.specs.Meet.{State, spend, more-bools, set-cells, number-word, range-record, two-record, form-leaves, new-int, meet-bool, meet-constant, meet-open}
-use Rattle.memory.specs.DomainTable.{Declares}
+use Rattle.declared.specs.DomainTable.{Declares}
 use Rattle.numbering.specs.Declares.{declares-kept}
 use Rattle.numbering.specs.Task.{state-of, Task, Low, Ready, Kept, kept-then, Done, Starts, starts-later}
 use Rattle.numbering.specs.Fits.{constant-fits, open-fits}
@@ -102,7 +104,7 @@ module _ (rec cap u : ℕ) (m : Splitting) (at base : ℕ) (p : IfParts) (w out 
 
   -- ---- a declared variable
 
-  module _ (k z v : ℕ) (hk : k ≡ word (read-part w) (p .cond)) (e : k ≡ 11) (hz : z ≡ word (read-part w) (p .cond + 1)) (hv : v ≡ below 512 z) where
+  module _ (k z v : ℕ) (hk : k ≡ word (read-part w) (p .cond)) (e : k ≡ 11) (hz : z ≡ word (read-part w) (p .cond + 1)) (hv : v ≡ below max-bools z) where
     own-is : own-at (read-part w) (p .cond) ≡ some v
     own-is = rw (← hk, e, ← hz, ← hv) refl
 

@@ -6,13 +6,13 @@ use native.Mathlib.Omega.{arith}
 use lib.IntN.{ℤ, pos}
 use lib.ListN.{getD, drop}
 use lib.Seq.{getD-drop}
+use Rattle.memory.specs.Places.{ifs-word, declared-domains}
 use Rattle.syntax.specs.Syntax.{Domain}
-use Rattle.memory.specs.Places.{declared-domains}
-use Rattle.memory.specs.DomainTable.{word-at, Declares}
+use Rattle.declared.specs.DomainTable.{word-at, Declares}
 
 -- the words from here on
 abbrev pub upper : ℕ
-upper = 9476
+upper = ifs-word
 
 word-kept : (w w' : List ℤ) (v k : ℕ) → drop upper w' ≡ drop upper w → word-at w' v k ≡ word-at w v k
 unfolding word-at

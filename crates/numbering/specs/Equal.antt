@@ -15,7 +15,9 @@ use Rattle.laws.specs.Bools.{never}
 use Rattle.laws.specs.Ints.{eqZ}
 use Rattle.laws.specs.Order.{eqZ-refl}
 use Rattle.laws.specs.Same.{same-words, same-is}
+use Rattle.memory.specs.Places.{folded, folded-end}
 use Rattle.walk.specs.Decode.{read-part}
+use Rattle.walk.specs.NumberingSteps.{part-length}
 use Rattle.walks.specs.Tree.{Place}
 use Rattle.walks.specs.Item.{cell, seen-in, seen}
 use Rattle.walks.specs.Meet.{is-unseen, is-shared, words-at, equal-from, find-equal}
@@ -31,13 +33,9 @@ equal-at w p q n = is-shared (seen-in (cell w (q + 1))) && same-words (words-at 
 
 -- ---- word by word
 
-part-length : (w : List ℤ) → 4608 ≤ length w → length (read-part w) ≡ 4608
-unfolding read-part
-part-length w h = omega (arith, length-take 4608 w)
-
-words-more : (w : List ℤ) (p n : ℕ) → 4608 ≤ length w → p < 4608 → words-at w p (suc n) ≡ getD w p (pos 0) ∷ words-at w (suc p) n
+words-more : (w : List ℤ) (p n : ℕ) → folded-end ≤ length w → p < folded-end → words-at w p (suc n) ≡ getD w p (pos 0) ∷ words-at w (suc p) n
 unfolding words-at read-part
-words-more w p n h i = ap (take (suc n)) (drop-cons (take 4608 w) p (pos 0) (omega (arith, length-take 4608 w))) ∙ ap (λ (x : ℤ). x ∷ take n (drop (suc p) (take 4608 w))) (getD-take 4608 w p (pos 0) i)
+words-more w p n h i = ap (take (suc n)) (drop-cons (take folded-end w) p (pos 0) (omega (arith, length-take folded-end w))) ∙ ap (λ (x : ℤ). x ∷ take n (drop (suc p) (take folded-end w))) (getD-take folded-end w p (pos 0) i)
 
 -- the first i words are the same
 pub record Sofar (w : List ℤ) (p q n i : ℕ) : Type 0 where
@@ -52,7 +50,7 @@ module _ (w : List ℤ) (p q n : ℕ) where
       let c : n - 0 ≡ n = omega arith in
       record { same = rw (a, b, c) refl; some = omega arith }
 
-  module _ (h : 4608 ≤ length w) (a : p + n ≤ 4608) (b : q + n ≤ 4608) (i : ℕ) (x : Sofar w p q n i) where
+  module _ (h : folded-end ≤ length w) (a : p + n ≤ folded-end) (b : q + n ≤ folded-end) (i : ℕ) (x : Sofar w p q n i) where
     step : i < n → same-words (words-at w (q + i) (n - i)) (words-at w (p + i) (n - i)) ≡ eqZ (getD w (q + i) (pos 0)) (getD w (p + i) (pos 0)) && same-words (words-at w (q + (i + 1)) (n - (i + 1))) (words-at w (p + (i + 1)) (n - (i + 1)))
     unfolding same-words
     step l =
@@ -91,12 +89,12 @@ shared (negsuc (suc v)) h = never (sym h)
 pub is-shared-at : (w : List ℤ) (p q n : ℕ) (z : ℤ) (b : Bool) → z ≡ cell w (q + 1) → leZ z (pos 0) ≡ false → b ≡ same-words (words-at w q n) (words-at w p n) → b ≡ equal-at w p q n
 is-shared-at w p q n z b e h i = rw (← e, shared z h) i
 
-words-size : (w : List ℤ) (k n : ℕ) → 4608 ≤ length w → length (words-at w k n) ≡ min n (4608 - k)
+words-size : (w : List ℤ) (k n : ℕ) → folded-end ≤ length w → length (words-at w k n) ≡ min n (folded-end - k)
 unfolding words-at
 words-size w k n h = length-take n (drop k (read-part w)) ∙ ap (min n) (length-drop k (read-part w) ∙ ap (λ (m : ℕ). m - k) (part-length w h))
 
 -- past the end there are fewer words
-pub too-long : (w : List ℤ) (p q n : ℕ) → 4608 ≤ length w → p + n ≤ 4608 → 4608 < q + n → q ≤ 4608 → false ≡ same-words (words-at w q n) (words-at w p n)
+pub too-long : (w : List ℤ) (p q n : ℕ) → folded-end ≤ length w → p + n ≤ folded-end → folded-end < q + n → q ≤ folded-end → false ≡ same-words (words-at w q n) (words-at w p n)
 too-long w p q n h a b c = go (same-words (words-at w q n) (words-at w p n)) refl
   where
     go : (t : Bool) → same-words (words-at w q n) (words-at w p n) ≡ t → false ≡ t
@@ -107,12 +105,12 @@ too-long w p q n h a b c = go (same-words (words-at w q n) (words-at w p n)) ref
 
 -- none before q is equal; so many places are left
 pub record Seeking (w : List ℤ) (p : Place) (k q : ℕ) : Type 0 where
-  pub rest : equal-from w p k q ≡ equal-from w p 4096 512
-  pub place : q + k ≡ 4608
-  pub start : 512 ≤ q
+  pub rest : equal-from w p k q ≡ equal-from w p 4096 folded
+  pub place : q + k ≡ folded-end
+  pub start : folded ≤ q
 
 module _ (w : List ℤ) (p : Place) where
-  pub seeking-first : Seeking w p 4096 512
+  pub seeking-first : Seeking w p 4096 folded
   seeking-first = record { rest = refl; place = refl; start = omega arith }
 
   pub seeking-next : (k q : ℕ) → Seeking w p k q → (k ≡ 0 → ⊥) → equal-at w (p .at) q (p .size) ≡ false → Seeking w p (k - 1) (q + 1)
@@ -120,12 +118,12 @@ module _ (w : List ℤ) (p : Place) where
   seeking-next zero q x z e = absurd (z refl)
   seeking-next (suc k) q x z e = let f : q + 1 ≡ suc q = omega arith in record { rest = rw (sub-one, f) (rw e at (x .rest)); place = omega (arith, x .place); start = omega (arith, x .start) }
 
-  found : (k q : ℕ) → Seeking w p k q → (k ≡ 0 → ⊥) → equal-at w (p .at) q (p .size) ≡ true → some q ≡ equal-from w p 4096 512
+  found : (k q : ℕ) → Seeking w p k q → (k ≡ 0 → ⊥) → equal-at w (p .at) q (p .size) ≡ true → some q ≡ equal-from w p 4096 folded
   unfolding equal-from
   found zero q x z e = absurd (z refl)
   found (suc k) q x z e = rw e at (x .rest)
 
-  none-left : (k q : ℕ) → Seeking w p k q → k ≡ 0 → none ≡ equal-from w p 4096 512
+  none-left : (k q : ℕ) → Seeking w p k q → k ≡ 0 → none ≡ equal-from w p 4096 folded
   unfolding equal-from
   none-left zero q x e = x .rest
   none-left (suc k) q x e = absurd (omega arith)
@@ -138,7 +136,7 @@ module _ (w : List ℤ) (p : Place) where
   unfolding find-equal
   seek-not-whole e = go (is-unseen (seen w p)) e
     where
-      go : (b : Bool) → p .whole ≡ false → none ≡ cond (b && p .whole) (equal-from w p 4096 512) none
+      go : (b : Bool) → p .whole ≡ false → none ≡ cond (b && p .whole) (equal-from w p 4096 folded) none
       go true e = rw e refl
       go false e = refl
 
@@ -158,11 +156,11 @@ module _ (w : List ℤ) (p : Place) where
   seek-seen z e h = rw (← e, unseen-not z h) refl
 
   module _ (z : ℤ) (e : z ≡ cell w (p .at + 1)) (h : eqZ z (pos 0) ≡ true) (whole : p .whole ≡ true) where
-    unseen-whole : equal-from w p 4096 512 ≡ find-equal w p
+    unseen-whole : equal-from w p 4096 folded ≡ find-equal w p
     unfolding find-equal seen
     unseen-whole = rw (← e, unseen-is z h, whole) refl
 
-    pub seek-found : (k q : ℕ) → Seeking w p k q → (k ≡ 0 → ⊥) → equal-at w (p .at) q (p .size) ≡ true → (option-of q ≡ find-equal w p) × (q ≤ 4608)
+    pub seek-found : (k q : ℕ) → Seeking w p k q → (k ≡ 0 → ⊥) → equal-at w (p .at) q (p .size) ≡ true → (option-of q ≡ find-equal w p) × (q ≤ folded-end)
     seek-found k q x y i = (some-of q (omega (arith, x .start)) ∙ found k q x y i ∙ unseen-whole, omega (arith, x .place))
 
     pub seek-none : (k q : ℕ) → Seeking w p k q → k ≡ 0 → option-of 0 ≡ find-equal w p

@@ -5,13 +5,14 @@ use mathlib.Core.Option.{Option, none, some}
 use mathlib.Core.List.{List}
 use Prim.Native.Nat.{ℕ, _+_, _≤_, _<_, _^_}
 use lib.IntN.{ℤ, negsuc, natAbs}
+use Rattle.memory.specs.Places.{limit}
 use Rattle.syntax.specs.Syntax.{Domain, lower-bound, upper-bound}
 use Rattle.syntax.specs.Words.{max-weight}
 use Rattle.sums.specs.LinearSum.{is-constant}
 use Rattle.sums.specs.Norm.{load}
 use Rattle.sums.specs.Bounds.{reach}
 use Rattle.clauses.specs.Normalize.{hull}
-use Rattle.walk.specs.Item.{limit, bump, bool-at}
+use Rattle.walk.specs.Item.{bump, bool-at}
 use Rattle.walk.specs.declared.Counters.{Counters}
 use Rattle.walks.specs.Tree.{Place}
 use Rattle.walks.specs.Form.{Form, var, num, cmp, conj, disj, cross, tied, Forms, nil, cons, IntForm, const, ivar, sum, choice, TermForms, none as no-terms, term}

@@ -11,9 +11,9 @@ use lib.ListN.{length}
 use lib.Dec.{ltb}
 use borrow.Author.Tests.{lt-ltb}
 use Rattle.laws.specs.Slices.{Has}
+use Rattle.memory.specs.Places.{folded, folded-end, limit}
 use Rattle.syntax.specs.Syntax.{Domain, Ne, IntExpr, BoolExpr, Const, Cmp, encode-int, encode-bool}
 use Rattle.clauses.specs.Log.{aux, bool, Log, next-bool}
-use Rattle.walk.specs.Item.{limit}
 use Rattle.walk.specs.declared.Counters.{Counters}
 use Rattle.walk.specs.Texts.{Auxed, here as no-aux, above}
 use Rattle.walks.specs.Tree.{IntTree, never, below, here, splits, splits-int, resolve, resolve-int, ties, run-int}
@@ -99,7 +99,7 @@ module _ (ds : List Domain) (F : List ℤ) (parted : ℕ → Bool) (rec cap : �
 
   -- ---- a rule
 
-  module _ (e : BoolExpr) (p : ℕ) (within : Within ds e) (words : Has F p (encode-bool e)) (from : 512 ≤ p) (to : p + length (encode-bool e) ≤ 4608) (s : Log) (agree : Every (AgreesWith parted with-ifs) (keys e below p (next-bool s))) (K : ℕ → Option IntExpr) (m : ℕ) (st : State)
+  module _ (e : BoolExpr) (p : ℕ) (within : Within ds e) (words : Has F p (encode-bool e)) (from : folded ≤ p) (to : p + length (encode-bool e) ≤ folded-end) (s : Log) (agree : Every (AgreesWith parted with-ifs) (keys e below p (next-bool s))) (K : ℕ → Option IntExpr) (m : ℕ) (st : State)
       (ahead : Ahead F p (st .work)) (ifs : LowIfs (next-bool s) s) (light : LightIfs ds s) (g : GoodHere K (splits e below + (weights ds (rule-trees e p (next-bool s)) + m)) st s) where
     abbrev n : ℕ
     n = next-bool s
@@ -128,7 +128,7 @@ module _ (ds : List Domain) (F : List ℤ) (parted : ℕ → Bool) (rec cap : �
   unfolding resolve ties form form-fits
   true-asks p n st = (tt, tt)
 
-  pub rule-asks : (e : BoolExpr) (p : ℕ) → LegalRule e 64 → Within ds e → Has F p (encode-bool e) → 512 ≤ p → p + length (encode-bool e) ≤ 4608
+  pub rule-asks : (e : BoolExpr) (p : ℕ) → LegalRule e 64 → Within ds e → Has F p (encode-bool e) → folded ≤ p → p + length (encode-bool e) ≤ folded-end
       → (s : Log) → Every (AgreesWith parted with-ifs) (keys e below p (next-bool s)) → (K : ℕ → Option IntExpr) (m : ℕ) (st : State) → Ahead F p (st .work) → LowIfs (next-bool s) s → LightIfs ds s
       → GoodFor ds F parted rec cap with-ifs before low K (splits e below + (weights ds (rule-trees e p (next-bool s)) + m)) st s → rule-task rec cap F p .fits ds st
   rule-asks e p (true-rule x) w d i j s a K m st h f l g = rule-read e p w d i j s a K m st h f l g (true-rule x) (true-asks p (next-bool s) _)
@@ -136,7 +136,7 @@ module _ (ds : List Domain) (F : List ℤ) (parted : ℕ → Bool) (rec cap : �
 
   -- ---- a pair, its sides at p and q, in the slice w where the cells of its Ifs with split parts are cleared
 
-  pub pair-asks : (a b : IntExpr) (p q : ℕ) → LegalInt a 64 → LegalInt b 64 → WithinSides ds a b → Has F p (encode-int a) → Has F q (encode-int b) → 512 ≤ p → p + length (encode-int a) ≤ q → q + length (encode-int b) ≤ 4608
+  pub pair-asks : (a b : IntExpr) (p q : ℕ) → LegalInt a 64 → LegalInt b 64 → WithinSides ds a b → Has F p (encode-int a) → Has F q (encode-int b) → folded ≤ p → p + length (encode-int a) ≤ q → q + length (encode-int b) ≤ folded-end
       → (s : Log) → Every (AgreesWith parted with-ifs) (pair-keys a b p q (next-bool s)) → (K : ℕ → Option IntExpr) (m : ℕ) (st : State) (w : List ℤ)
       → SameMaps ds F PlainInt parted K (looked-up (pair-keys a b p q (next-bool s))) (fixed ds) (st .work) w → Reset ds F PlainInt parted K (looked-up (pair-keys a b p q (next-bool s))) (fixed ds) (st .work) w
       → ((o : ℕ) (e : IntExpr) → looked-up (pair-keys a b p q (next-bool s)) o ≡ some e → seen-in (cell w (o + 1)) ≡ unseen) → LowIfs (next-bool s) s → LightIfs ds s
@@ -179,7 +179,7 @@ module _ (ds : List Domain) (F : List ℤ) (parted : ℕ → Bool) (rec cap : �
     bounds-fit (full x y) = rw (lt-ltb cap (a .used) x) tt
     bounds-fit (good h u r x) = unless (ltb cap (a .used)) _ (range-fits h (x (a .work) (same-later ds F PlainInt parted K (fixed ds) (a .work))))
 
-  pub column-asks : (K : ℕ → Option IntExpr) → Places ds F PlainInt parted K (fixed ds) → (e : IntExpr) (p : ℕ) → LegalInt e 64 → WithinColumn ds e → Has F p (encode-int e) → 512 ≤ p → p + length (encode-int e) ≤ 4608 → Every (AgreesWith parted with-ifs) (keys-int e never p 0)
+  pub column-asks : (K : ℕ → Option IntExpr) → Places ds F PlainInt parted K (fixed ds) → (e : IntExpr) (p : ℕ) → LegalInt e 64 → WithinColumn ds e → Has F p (encode-int e) → folded ≤ p → p + length (encode-int e) ≤ folded-end → Every (AgreesWith parted with-ifs) (keys-int e never p 0)
       → (m : ℕ) (st : State) (s : Log) → LightIfs ds s → GoodFor ds F parted rec cap with-ifs before low K m st s → column-task rec cap F p .fits ds st
   unfolding column-task
   column-asks K P e p legal within words from to agree m st s light g =

@@ -10,13 +10,14 @@ use lib.IntN.{ℤ, pos, negsuc, natAbs}
 use lib.Dec.{ltb}
 use borrow.Author.Tests.{lt-ltb, ltb-false}
 use Rattle.laws.specs.Bools.{never as no-bool}
+use Rattle.memory.specs.Places.{limit}
 use Rattle.syntax.specs.Syntax.{Domain, IntExpr}
 use Rattle.sums.specs.LinearSum.{LinearSum, constant, is-constant}
 use Rattle.clauses.specs.Clause.{BoolLit, lit}
 use Rattle.clauses.specs.Grow.{get-bool-below}
 use Rattle.clauses.specs.Log.{number-of, aux, column, bool, int, Log, next-bool, get-bool-var, get-if, convert-bool-var}
 use Rattle.answer.specs.Answer.{bool-word}
-use Rattle.walk.specs.Item.{limit, bump, bool-at}
+use Rattle.walk.specs.Item.{bump, bool-at}
 use Rattle.walk.specs.declared.Counters.{Counters}
 use Rattle.walk.specs.Texts.{here as no-aux, above}
 use Rattle.walks.specs.Tree.{Place, own-var, condition-of, Tree, var, num, cmp, conj, disj, cross, tied, Trees, nil, cons, IntTree, const, ivar, sum, choice, TermTrees, none as no-terms, term, run, run-int}

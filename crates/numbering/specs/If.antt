@@ -10,6 +10,7 @@ use lib.ListN.{set, length-set}
 use lib.Seq.{drop-set-lt}
 use lib.Dec.{ltb, leb}
 use borrow.Author.Tests.{leb-true, leb-false}
+use Rattle.memory.specs.Places.{folded-end, cells, ifs-word}
 use Rattle.syntax.specs.Syntax.{Domain}
 use Rattle.walk.specs.Item.{is-none}
 use Rattle.walk.specs.Decode.{read-part}
@@ -30,7 +31,7 @@ use Rattle.numbering.specs.declared.Progress.{Progress}
 -- where the parts stand
 pub record PartsAt (ws : List ℤ) (u : ℕ) (m : Splitting) (c base : ℕ) (p : IfParts) : Type 0 where
   pub place : p .cond ≡ c
-  pub inside : c ≤ 4608
+  pub inside : c ≤ folded-end
   pub condition : Skips ws u m c base (p .first) (p .one)
   pub first : IntSkips ws u m (p .first) (p .one) (p .second) (p .two)
   pub second : IntSkips ws u m (p .second) (p .two) (p .at) (p .base)
@@ -114,15 +115,15 @@ whole-is a b = go (leb a b) refl
 
 -- ---- passed over, found, made
 
-pub kept-cells : (w out : List ℤ) (c d : Progress) (p : ℕ) (x y z : ℤ) → p ≤ 4608 → Kept (state-of w out c) (state-of (set-cells p x y z w) out d)
+pub kept-cells : (w out : List ℤ) (c d : Progress) (p : ℕ) (x y z : ℤ) → p ≤ folded-end → Kept (state-of w out c) (state-of (set-cells p x y z w) out d)
 unfolding set-cells
 kept-cells w out c d p x y z h =
-    let a = set w (4864 + (p + 1)) x in
-    let b = set a (4864 + (p + 2)) y in
+    let a = set w (cells + (p + 1)) x in
+    let b = set a (cells + (p + 2)) y in
     record {
-      part = part-set b (4864 + (p + 3)) z (omega arith) ∙ part-set a (4864 + (p + 2)) y (omega arith) ∙ part-set w (4864 + (p + 1)) x (omega arith);
-      behind = drop-set-lt 9476 b (4864 + (p + 3)) z (omega arith) ∙ drop-set-lt 9476 a (4864 + (p + 2)) y (omega arith) ∙ drop-set-lt 9476 w (4864 + (p + 1)) x (omega arith);
-      size = length-set b (4864 + (p + 3)) z ∙ length-set a (4864 + (p + 2)) y ∙ length-set w (4864 + (p + 1)) x;
+      part = part-set b (cells + (p + 3)) z (omega arith) ∙ part-set a (cells + (p + 2)) y (omega arith) ∙ part-set w (cells + (p + 1)) x (omega arith);
+      behind = drop-set-lt ifs-word b (cells + (p + 3)) z (omega arith) ∙ drop-set-lt ifs-word a (cells + (p + 2)) y (omega arith) ∙ drop-set-lt ifs-word w (cells + (p + 1)) x (omega arith);
+      size = length-set b (cells + (p + 3)) z ∙ length-set a (cells + (p + 2)) y ∙ length-set w (cells + (p + 1)) x;
       room = refl;
     }
 

@@ -8,13 +8,14 @@ use lib.IntN.{ℤ, pos}
 use lib.ListN.{length, getD}
 use lib.Dec.{eqb}
 use borrow.Author.Tests.{ne-eqb}
-use Rattle.walk.specs.Item.{limit}
+use Rattle.memory.specs.Places.{folded-end, limit}
 use Rattle.walk.specs.Decode.{word, past, below, read-part}
+use Rattle.walk.specs.NumberingSteps.{part-length}
 use Rattle.walks.specs.Tree.{Splitting}
 use Rattle.walks.specs.Form.{IntForm, const, ivar}
 use Rattle.walks.specs.Decode.{IntRead, own-at, many-terms, if-step, int-step, decode, decode-int}
 use Rattle.walks.specs.Meet.{State, form-meet}
-use Rattle.scan.specs.Nodes.{part-length, int-level}
+use Rattle.scan.specs.Nodes.{int-level}
 use Rattle.scan.specs.Skip.{IntSkips}
 use Rattle.numbering.specs.Task.{Task, then, Ready, kept-same, Done, Left, left-done, left-next, ready-next, Starts, starts-same, starts-later}
 use Rattle.numbering.specs.Fits.{form-fits, int-task, terms-task}
@@ -73,7 +74,7 @@ module _ (rec cap : ℕ) (st : State) (l : ℕ) (m : Splitting) (at base : ℕ) 
     ready-at : Ready (code-task k) st
     ready-at = subst (λ (r : IntRead). Ready (int-task rec cap (r .tree)) st) (int-level (read-part (st .work)) l u m at base k z hu hk) (s .ready)
 
-    past-is : (p q : ℕ) → q ≡ min p 4608 → past (read-part (st .work)) p ≡ q
+    past-is : (p q : ℕ) → q ≡ min p folded-end → past (read-part (st .work)) p ≡ q
     past-is p q e = omega (arith, part-length (st .work) (s .size))
 
     leaf-code : (ws : List ℤ) (k : ℕ) → (k ≡ 22 → ⊥) → (k ≡ 23 → ⊥) → int-step ws (decode ws u) (decode-int ws u) m at base k .tree ≡ leaf-form ws at k
@@ -92,7 +93,7 @@ module _ (rec cap : ℕ) (st : State) (l : ℕ) (m : Splitting) (at base : ℕ) 
     leaf-done st' x y d = carry (subst (λ (f : IntForm). Done (int-task rec cap f) st st') (sym (leaf-code (read-part (st .work)) k x y)) d)
 
     -- a sum of n terms
-    module _ (n two : ℕ) (hn : n ≡ word (read-part (st .work)) (at + 1)) (h : two ≡ min (at + 2) 4608) (e : k ≡ 22) where
+    module _ (n two : ℕ) (hn : n ≡ word (read-part (st .work)) (at + 1)) (h : two ≡ min (at + 2) folded-end) (e : k ≡ 22) where
       sum-ready : Ready (code-task k) st → Ready (terms-at rec cap (read-part (st .work)) u m n two base) st
       unfolding int-step form-fits
       sum-ready r = let t = rw (e, ← hn, past-is (at + 2) two h) at r in record { domains = t .domains; declares = t .declares; fits = t .fits }
@@ -107,7 +108,7 @@ module _ (rec cap : ℕ) (st : State) (l : ℕ) (m : Splitting) (at base : ℕ) 
       pub sum-done : (st' : State) → Done (terms-at rec cap (read-part (st .work)) u m n two base) st st' → Here st'
       sum-done st' x = carry (sum-code x)
 
-    module _ (one : ℕ) (h : one ≡ min (at + 1) 4608) (e : k ≡ 23) where
+    module _ (one : ℕ) (h : one ≡ min (at + 1) folded-end) (e : k ≡ 23) where
       pub if-code : int-step (read-part (st .work)) (decode (read-part (st .work)) u) (decode-int (read-part (st .work)) u) m at base k ≡ if-step (own-at (read-part (st .work)) one) (decode (read-part (st .work)) u) (decode-int (read-part (st .work)) u) m at one base
       unfolding int-step
       if-code = rw (e, past-is (at + 1) one h) refl
@@ -128,7 +129,7 @@ module _ (rec cap l : ℕ) (m : Splitting) (k at base : ℕ) (st : State) where
   abbrev Parts : ℕ → ℕ → ℕ → State → Type 0
   Parts rest p b st' = let ws = read-part (st .work) in let d = decode-int ws l m p b in Left (terms-at rec cap ws l m k at base) st (then (int-at rec cap ws l m p b) (terms-at rec cap ws l m rest (d .end) (d .next))) st'
 
-  terms-more : (rest q b p : ℕ) (st' : State) → (rest ≡ 0 → ⊥) → 4608 ≤ length (st .work) → p ≡ min (q + 1) 4608 → Terms rest q b st' → Parts (rest - 1) p b st'
+  terms-more : (rest q b p : ℕ) (st' : State) → (rest ≡ 0 → ⊥) → folded-end ≤ length (st .work) → p ≡ min (q + 1) folded-end → Terms rest q b st' → Parts (rest - 1) p b st'
   unfolding many-terms form-meet form-fits
   terms-more zero q b p st' z h i x = absurd (z refl)
   terms-more (suc rest) q b p st' z h i x =
@@ -136,7 +137,7 @@ module _ (rec cap l : ℕ) (m : Splitting) (k at base : ℕ) (st : State) where
       let f : past (read-part (st .work)) (q + 1) ≡ p = omega (arith, part-length (st .work) h) in
       subst (λ (n : ℕ). Parts n p b st') e (subst (λ (n : ℕ). Parts rest n b st') f (record { fits = x .fits; state = x .state; kept = x .kept; low = x .low }))
 
-  module _ (rest q b p : ℕ) (st' : State) (z : rest ≡ 0 → ⊥) (s : Starts (terms-at rec cap (read-part (st .work)) l m k at base) st rec at base) (i : p ≡ min (q + 1) 4608) (x : Terms rest q b st') where
+  module _ (rest q b p : ℕ) (st' : State) (z : rest ≡ 0 → ⊥) (s : Starts (terms-at rec cap (read-part (st .work)) l m k at base) st rec at base) (i : p ≡ min (q + 1) folded-end) (x : Terms rest q b st') where
     pub term-starts : b ≤ limit → Starts (int-at rec cap (read-part (st' .work)) l m p b) st' rec p b
     term-starts o = starts-later s (x .kept) (x .low) (omega arith) o
         (ready-next (λ ws. int-at rec cap ws l m p b) (let d = decode-int (read-part (st .work)) l m p b in terms-at rec cap (read-part (st .work)) l m (rest - 1) (d .end) (d .next)) (s .ready) (terms-more rest q b p st' z (s .size) i x))

@@ -8,11 +8,14 @@ use lib.IntN.{ℤ, pos, natAbs, _+ℤ_}
 use lib.ListN.{length, getD, drop, set, length-set}
 use lib.Seq.{sets, length-sets, drop-set-lt}
 use Rattle.laws.specs.Ints.{is-zero}
+use Rattle.memory.specs.Places.{bool-map, int-map}
+use Rattle.memory.specs.Number.{nat}
 use Rattle.syntax.specs.Syntax.{domain-of}
-use Rattle.walk.specs.Item.{bump, nat, bool-map, int-map, bool-at, int-entry}
+use Rattle.syntax.specs.Words.{max-bools}
+use Rattle.walk.specs.Item.{bump, bool-at, int-entry}
 use Rattle.walk.specs.NumberingSteps.{part-set}
 use Rattle.walks.specs.Meet.{State, range-record, meet-bool, new-int, meet-int-var}
-use Rattle.memory.specs.DomainTable.{word-at}
+use Rattle.declared.specs.DomainTable.{word-at}
 use Rattle.numbering.specs.Declares.{upper, declares-kept}
 use Rattle.numbering.specs.Task.{state-of, Task, Low, Ready, Kept, kept-same, Done}
 use Rattle.numbering.specs.declared.Progress.{Progress}
@@ -36,7 +39,7 @@ module _ (w out : List ℤ) (c : Progress) (low : Low (state-of w out c)) where
   unfolding meet-bool
   bool-old v x e z = record { state = λ ds d f. rw (← e, z); kept = kept-same (state-of w out c); low = low }
 
-  pub bool-new : (v : ℕ) (x : ℤ) (w' : List ℤ) (r : Progress) → v < 512 → x ≡ bool-at w v → is-zero x ≡ true → w' ≡ set w (bool-map + v) (pos (c .bools + 1)) → r ≡ record { bools = bump (c .bools) 1; ints = c .ints; used = c .used }
+  pub bool-new : (v : ℕ) (x : ℤ) (w' : List ℤ) (r : Progress) → v < max-bools → x ≡ bool-at w v → is-zero x ≡ true → w' ≡ set w (bool-map + v) (pos (c .bools + 1)) → r ≡ record { bools = bump (c .bools) 1; ints = c .ints; used = c .used }
       → Done (bool-task v) (state-of w out c) (state-of w' out r)
   unfolding meet-bool
   bool-new v x w' r h e z hw hr = rw (hr, hw) (record {

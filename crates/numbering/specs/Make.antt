@@ -11,11 +11,12 @@ use lib.Dec.{ltb}
 use mir.Syntax.{w32}
 use mir.Val.{SFits, ofZ, toZ}
 use mir.Facts.{toZ-ofZ}
+use Rattle.memory.specs.Places.{folded-end, cells, ifs-word, limit}
 use Rattle.syntax.specs.Syntax.{Domain, Range}
 use Rattle.syntax.specs.Words.{max-weight}
 use Rattle.sums.specs.LinearSum.{is-constant}
 use Rattle.sums.specs.Rising.{constant-of}
-use Rattle.walk.specs.Item.{limit, bump}
+use Rattle.walk.specs.Item.{bump}
 use Rattle.walk.specs.Decode.{read-part}
 use Rattle.walk.specs.NumberingSteps.{part-set}
 use Rattle.walk.specs.declared.Counters.{Counters}
@@ -24,7 +25,7 @@ use Rattle.walks.specs.Form.{IntForm}
 use Rattle.walks.specs.Item.{counters, has-ifs, form-int-item}
 use Rattle.walks.specs.Decode.{own-at}
 use Rattle.walks.specs.Meet.{State, counters-of, with-work, spend, set-cell, is-full, meet-constant, meet-open, meet-branches, meet-new, form-meet-int}
-use Rattle.memory.specs.DomainTable.{Declares}
+use Rattle.declared.specs.DomainTable.{Declares}
 use Rattle.numbering.specs.Declares.{declares-kept}
 use Rattle.numbering.specs.Task.{state-of, Task, Low, Kept, kept-then, Done, Starts, starts-same, starts-later}
 use Rattle.numbering.specs.Fits.{Unless, BranchesFit, either-range, constant-fits, open-fits, branches-fit, new-fits}
@@ -37,11 +38,11 @@ use Rattle.numbering.specs.declared.Progress.{Progress}
 abbrev pub counters-in : List ℤ → Progress → Counters
 counters-in w c = counters (c .bools) (cond (has-ifs w) (c .ints) 0)
 
-ifs-kept : (w w' : List ℤ) → drop 9476 w' ≡ drop 9476 w → has-ifs w' ≡ has-ifs w
+ifs-kept : (w w' : List ℤ) → drop ifs-word w' ≡ drop ifs-word w → has-ifs w' ≡ has-ifs w
 unfolding has-ifs
 ifs-kept w w' e =
-    let i : 9476 + 0 ≡ 9476 = omega arith in
-    let j : getD w' 9476 (pos 0) ≡ getD w 9476 (pos 0) = ap (λ (n : ℕ). getD w' n (pos 0)) (sym i) ∙ sym (getD-drop 9476 w' 0 (pos 0)) ∙ ap (λ (l : List ℤ). getD l 0 (pos 0)) e ∙ getD-drop 9476 w 0 (pos 0) ∙ ap (λ (n : ℕ). getD w n (pos 0)) i in
+    let i : ifs-word + 0 ≡ ifs-word = omega arith in
+    let j : getD w' ifs-word (pos 0) ≡ getD w ifs-word (pos 0) = ap (λ (n : ℕ). getD w' n (pos 0)) (sym i) ∙ sym (getD-drop ifs-word w' 0 (pos 0)) ∙ ap (λ (l : List ℤ). getD l 0 (pos 0)) e ∙ getD-drop ifs-word w 0 (pos 0) ∙ ap (λ (n : ℕ). getD w n (pos 0)) i in
     rw j refl
 
 pub counters-kept : (st st' : State) (c : Progress) → Kept st st' → counters-in (st' .work) c ≡ counters-in (st .work) c
@@ -75,9 +76,9 @@ module _ (rec cap u : ℕ) (m : Splitting) (at base : ℕ) (p : IfParts) where
 
 -- where the branches begin, and their counters, which stop at the limit
 pub record Begins (p : IfParts) (s y : Progress) : Type 0 where
-  pub first : p .first ≤ 4608
+  pub first : p .first ≤ folded-end
   pub one : p .one ≤ limit
-  pub second : p .second ≤ 4608
+  pub second : p .second ≤ folded-end
   pub two : p .two ≤ limit
   pub low-first : (s .bools ≤ limit) × (s .ints ≤ limit)
   pub low-second : (y .bools ≤ limit) × (y .ints ≤ limit)
@@ -255,9 +256,9 @@ module _ (rec cap u : ℕ) (m : Splitting) (at base : ℕ) (p : IfParts) (w out 
   sums-ready = let r = s .ready in record { domains = r .domains; declares = r .declares; fits = r .fits .0 }
 
   module _ (b : Bool) (x y : ℤ) (sums : (ds : List Domain) → SumsAre ds w t-form f-form n k b x y) where
-    module _ (e : b ≡ true) (w' : List ℤ) (hw : w' ≡ set w (4864 + (at + 1)) (negsuc 0)) where
+    module _ (e : b ≡ true) (w' : List ℤ) (hw : w' ≡ set w (cells + (at + 1)) (negsuc 0)) where
       mark-kept : Kept (state-of w out c) (state-of w' out c)
-      mark-kept = rw hw (record { part = part-set w (4864 + (at + 1)) (negsuc 0) (omega arith); behind = drop-set-lt 9476 w (4864 + (at + 1)) (negsuc 0) (omega (arith, s .inside)); size = length-set w (4864 + (at + 1)) (negsuc 0); room = refl })
+      mark-kept = rw hw (record { part = part-set w (cells + (at + 1)) (negsuc 0) (omega arith); behind = drop-set-lt ifs-word w (cells + (at + 1)) (negsuc 0) (omega (arith, s .inside)); size = length-set w (cells + (at + 1)) (negsuc 0); room = refl })
 
       constant-ask : (ds : List Domain) → branches-at rec cap u m at base p n k (read-part w) .fits ds (state-of w out c) → constant-at rec cap u m at base p x y (read-part w) .fits ds (state-of w' out c)
       unfolding branches-fit

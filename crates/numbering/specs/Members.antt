@@ -6,7 +6,8 @@ use Prim.Native.Nat.{ℕ, zero, suc, _-_, _+_, _≤_}
 use native.Mathlib.Omega.{arith}
 use lib.IntN.{ℤ}
 use lib.ListN.{length}
-use Rattle.walk.specs.Item.{limit, bump, mode-in, fresh-in}
+use Rattle.memory.specs.Places.{folded-end, limit}
+use Rattle.walk.specs.Item.{bump, mode-in, fresh-in}
 use Rattle.walk.specs.Decode.{word, read-part}
 use Rattle.walk.specs.declared.Node.the-variants.{Join}
 use Rattle.walks.specs.Tree.{Splitting}
@@ -45,7 +46,7 @@ pub closes-long : (s r : Numbered) (c : Progress) → (s .longs ≡ 0 → ⊥) �
 closes-long s r c h i e = let f : r ≡ numbered (renewed (s .progress) s) (s .at) (s .base) 1 0 0 = e ∙ rw i refl in record { progress = ap (λ (t : Numbered). t .progress) f; pool = λ n. absurd (h n); long = λ _. f }
 
 -- of a disjunction at a place
-pub sized-disj : (w : List ℤ) (l : ℕ) (m : Splitting) (g : Bool) (at base : ℕ) → 4608 ≤ length w → at ≤ 4608 → base ≤ limit → (u : ℕ) → (l ≡ 0 → ⊥) → u ≡ l - 1 → (k : ℕ) (c d : Bool) (q : ℕ) (s r : Numbered)
+pub sized-disj : (w : List ℤ) (l : ℕ) (m : Splitting) (g : Bool) (at base : ℕ) → folded-end ≤ length w → at ≤ folded-end → base ≤ limit → (u : ℕ) → (l ≡ 0 → ⊥) → u ≡ l - 1 → (k : ℕ) (c d : Bool) (q : ℕ) (s r : Numbered)
     → SizedAll (read-part w) u m k c d q base (s .at) (s .base) (s .longs) (s .lits) (s .cmps) → Join true k c d q ≡ node-of (read-part w) g at (word (read-part w) at) → Closes s r
     → SizedAt (read-part w) l m g at base (r .at) (r .base) (r .longs) (r .lits) (r .cmps)
 sized-disj w l m g at base size inside low u z hu k c d q s r x e y = go (s .longs) refl
@@ -62,5 +63,5 @@ pub record IfSkips (ws : List ℤ) (u : ℕ) (m : Splitting) (at c base q b : �
   pub end : q ≡ if-step (own-at ws c) (decode ws u) (decode-int ws u) m at c base .end
   pub next : b ≡ if-step (own-at ws c) (decode ws u) (decode-int ws u) m at c base .next
   pub start : at ≤ q
-  pub inside : q ≤ 4608
+  pub inside : q ≤ folded-end
   pub low : b ≤ limit

@@ -5,8 +5,8 @@ use mathlib.Core.List.{List}
 use Prim.Native.Nat.{ℕ, _-_, _≤_, _<_}
 use native.Mathlib.Omega.{arith}
 use lib.IntN.{ℤ}
+use Rattle.memory.specs.Places.{folded-end, limit}
 use Rattle.syntax.specs.Syntax.{Ne}
-use Rattle.walk.specs.Item.{limit}
 use Rattle.walk.specs.Decode.{read-part}
 use Rattle.walks.specs.Tree.{Splitting, here}
 use Rattle.walks.specs.Form.{Forms, nil, cons, cmp, append}
@@ -39,7 +39,7 @@ append-append : (ts us vs : Forms) → append (append ts us) vs ≡ append ts (a
 append-append nil us vs = refl
 append-append (cons t ts) us vs = ap (cons t) (append-append ts us vs)
 
-module _ (rec cap : ℕ) (st : State) (p q : ℕ) (s : Starts (pair-task rec cap (read-part (st .work)) p q) st rec p 0) (inside : q ≤ 4608) (j i k : ℕ) (low : j ≤ limit)
+module _ (rec cap : ℕ) (st : State) (p q : ℕ) (s : Starts (pair-task rec cap (read-part (st .work)) p q) st rec p 0) (inside : q ≤ folded-end) (j i k : ℕ) (low : j ≤ limit)
     (hj : j ≡ decode-int (read-part (st .work)) 64 here p (st .bools) .next) (hi : i ≡ decode-int (read-part (st .work)) 64 here q j .next) (hk : k ≡ i - st .bools) where
   abbrev Whole : Task
   Whole = pair-task rec cap (read-part (st .work)) p q

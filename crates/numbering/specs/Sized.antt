@@ -6,15 +6,17 @@ use Prim.Native.Nat.{ℕ, zero, suc, _+_, _-_, _≤_}
 use native.Mathlib.Omega.{arith}
 use lib.IntN.{ℤ}
 use lib.ListN.{length}
+use Rattle.memory.specs.Places.{folded-end, limit}
 use Rattle.syntax.specs.Syntax.{Domain}
-use Rattle.walk.specs.Item.{limit, bump, Tally, mode-in, fresh-in, closed}
+use Rattle.walk.specs.Item.{bump, Tally, mode-in, fresh-in, closed}
 use Rattle.walk.specs.Decode.{word, read-part}
 use Rattle.walk.specs.declared.Node.{Node}
 use Rattle.walk.specs.declared.Node.the-variants.{Var, Cmp, Not, Join, Cross}
+use Rattle.walk.specs.NumberingSteps.{part-length}
 use Rattle.walks.specs.Tree.{Splitting, never, below, here, inner}
 use Rattle.walks.specs.Item.{tallies, var-item, cmp-item, conj-item, disj-item, cross-item, form-item, form-items}
 use Rattle.walks.specs.Decode.{node-of, Read, many, cross-step, step, decode, decode-int}
-use Rattle.scan.specs.Nodes.{part-length, okay-at, level}
+use Rattle.scan.specs.Nodes.{okay-at, level}
 use Rattle.scan.specs.Skip.{split-by, SkipsAll, IntSkips}
 use Rattle.numbering.specs.Steps.{new-of}
 
@@ -26,7 +28,7 @@ pub record Sized (u : List Domain → Tally) (at stop last q b x y z : ℕ) : Ty
   pub lits : (ds : List Domain) → y ≡ u ds .lits
   pub cmps : (ds : List Domain) → z ≡ u ds .cmps
   pub room : x + y + z + at ≤ q
-  pub inside : q ≤ 4608
+  pub inside : q ≤ folded-end
   pub low : b ≤ limit
 
 abbrev pub SizedAt : List ℤ → ℕ → Splitting → Bool → ℕ → ℕ → ℕ → ℕ → ℕ → ℕ → ℕ → Type 0
@@ -47,7 +49,7 @@ closed-some : (t : Tally) (n : ℕ) → t .longs ≡ suc n → (closed t .longs 
 unfolding closed
 closed-some t n h = rw h (refl, refl, refl)
 
-module _ (w : List ℤ) (l : ℕ) (m : Splitting) (g : Bool) (at base : ℕ) (size : 4608 ≤ length w) (inside : at ≤ 4608) (low : base ≤ limit) where
+module _ (w : List ℤ) (l : ℕ) (m : Splitting) (g : Bool) (at base : ℕ) (size : folded-end ≤ length w) (inside : at ≤ folded-end) (low : base ≤ limit) where
   abbrev Found : ℕ → ℕ → ℕ → ℕ → ℕ → Type 0
   Found q b x y z = SizedAt (read-part w) l m g at base q b x y z
 
@@ -65,7 +67,7 @@ module _ (w : List ℤ) (l : ℕ) (m : Splitting) (g : Bool) (at base : ℕ) (si
     carry : (N : Node) (q b x y v : ℕ) → At N → In N q b x y v → Found q b x y v
     carry N q b x y v e = subst (λ (d : Read). Sized (λ ds. form-item ds (d .tree) .unit) at (d .end) (d .next) q b x y v) (sym (level (read-part w) l u m g at base N z hu e))
 
-    part-size : length (read-part w) ≡ 4608
+    part-size : length (read-part w) ≡ folded-end
     part-size = part-length w size
 
     pub sized-var : (v q : ℕ) → At (Var v q) → Found q base 0 1 0
@@ -160,7 +162,7 @@ module _ (w : List ℤ) (l : ℕ) (m : Splitting) (g : Bool) (at base : ℕ) (si
         }) in
         carry (Cross h q) p b 1 0 0 e f
 
-    cross-in : (k : Splitting) (h : Bool) (q p b x y v : ℕ) → (k ≡ here → ⊥) → q + 0 ≤ 4608 → at + 1 ≤ q → SizedAll (read-part w) u (inner k) 2 true (not h) q base p b x y v
+    cross-in : (k : Splitting) (h : Bool) (q p b x y v : ℕ) → (k ≡ here → ⊥) → q + 0 ≤ folded-end → at + 1 ≤ q → SizedAll (read-part w) u (inner k) 2 true (not h) q base p b x y v
         → (let d = cross-step (decode (read-part w) u) k h q base in Sized (λ ds. form-item ds (d .tree) .unit) at (d .end) (d .next) p b 1 0 0)
     unfolding form-item cross-item cross-step
     cross-in never h q p b x y v ne i j s = record { end = s .end; next = s .next; longs = λ ds. refl; lits = λ ds. refl; cmps = λ ds. refl; room = omega (arith, j, s .room); inside = s .inside; low = s .low }
@@ -183,12 +185,12 @@ pub record Sofar (ws : List ℤ) (l : ℕ) (m : Splitting) (h : Bool) (k : ℕ) 
   pub lits : (ds : List Domain) → y + tallies (form-items ds (many (decode ws l m) rest f h q b .trees)) .lits ≡ tallies (form-items ds (many (decode ws l m) k g h at base .trees)) .lits
   pub cmps : (ds : List Domain) → z + tallies (form-items ds (many (decode ws l m) rest f h q b .trees)) .cmps ≡ tallies (form-items ds (many (decode ws l m) k g h at base .trees)) .cmps
   pub room : x + y + z + at ≤ q
-  pub inside : q ≤ 4608
+  pub inside : q ≤ folded-end
   pub low : b ≤ limit
   pub fewer : rest ≤ k
 
 module _ (ws : List ℤ) (l : ℕ) (m : Splitting) (h : Bool) (k : ℕ) (g : Bool) (at base : ℕ) where
-  pub sofar-none : at ≤ 4608 → base ≤ limit → Sofar ws l m h k g at base k g at base 0 0 0
+  pub sofar-none : at ≤ folded-end → base ≤ limit → Sofar ws l m h k g at base k g at base 0 0 0
   sofar-none i o = record { end = refl; next = refl; longs = λ ds. omega arith; lits = λ ds. omega arith; cmps = λ ds. omega arith; room = omega arith; inside = i; low = o; fewer = omega arith }
 
   pub sofar-more : (rest : ℕ) (f : Bool) (q b x y z q' b' x' y' z' : ℕ) → Sofar ws l m h k g at base rest f q b x y z → (rest ≡ 0 → ⊥) → SizedAt ws l m f q b q' b' x' y' z' → Sofar ws l m h k g at base (rest - 1) h q' b' (x + x') (y + y') (z + z')

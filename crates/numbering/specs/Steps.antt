@@ -6,16 +6,18 @@ use Prim.Native.Nat.{ℕ, zero, suc, _-_, _≤_}
 use native.Mathlib.Omega.{arith}
 use lib.IntN.{ℤ}
 use lib.ListN.{length}
+use Rattle.memory.specs.Places.{folded-end, limit}
 use Rattle.syntax.specs.Syntax.{Domain}
-use Rattle.walk.specs.Item.{limit, bump, fresh}
+use Rattle.walk.specs.Item.{bump, fresh}
 use Rattle.walk.specs.Decode.{word, read-part}
 use Rattle.walk.specs.declared.Node.{Node}
 use Rattle.walk.specs.declared.Node.the-variants.{Var, Cmp, Not, Join, Cross}
+use Rattle.walk.specs.NumberingSteps.{part-length}
 use Rattle.walks.specs.Tree.{Splitting, never, below, here, inner}
 use Rattle.walks.specs.Item.{tallies, num-item, form-items, form-item}
 use Rattle.walks.specs.Decode.{node-of, Read, many, cross-step, step, decode, decode-int}
 use Rattle.walks.specs.Meet.{State, more-bools, form-meet}
-use Rattle.scan.specs.Nodes.{part-length, okay-at, level}
+use Rattle.scan.specs.Nodes.{okay-at, level}
 use Rattle.scan.specs.Skip.{split-by, IntSkips}
 use Rattle.numbering.specs.Task.{Task, then, with-bools, Ready, kept-same, Done, done-bools, Left, left-all, left-done, left-next, left-last-at, ready-next, ready-last, Starts, starts-same, starts-later}
 use Rattle.numbering.specs.Fits.{form-fits, form-task, forms-task, int-task}
@@ -61,7 +63,7 @@ module _ (rec cap : ℕ) (st : State) (l : ℕ) (m : Splitting) (g : Bool) (at b
     ready-at : (N : Node) → At N → Ready (node-task N) st
     ready-at N e = subst (λ (r : Read). Ready (form-task rec cap (r .tree)) st) (level (read-part (st .work)) l u m g at base N z hu e) (s .ready)
 
-    part-size : length (read-part (st .work)) ≡ 4608
+    part-size : length (read-part (st .work)) ≡ folded-end
     part-size = part-length (st .work) (s .size)
 
     pub var-done : (v q : ℕ) {st' : State} → At (Var v q) → Done (bool-task v) st st' → Here st'
@@ -173,7 +175,7 @@ module _ (rec cap : ℕ) (st : State) (l : ℕ) (m : Splitting) (g : Bool) (at b
       unfolding step
       cross-carry st' x = carry (Cross h q) e (cross-done-at m st' refl (subst (λ (k : Splitting). Done (both-news k) st st') hj x))
 
-      place : q ≤ 4608
+      place : q ≤ folded-end
       place = let o = okay-at (st .work) g at (Cross h q) (s .size) (s .inside) e in omega (arith, o .1, part-size)
 
       cross-parts : Left (both (split-by j)) st (both (split-by j)) st
@@ -209,7 +211,7 @@ module _ (rec cap l : ℕ) (m : Splitting) (h : Bool) (k : ℕ) (g : Bool) (at b
       (record { fits = x .fits; state = x .state; kept = x .kept; low = x .low })
 
   module _ (rest : ℕ) (f : Bool) (q b : ℕ) (st' : State) (z : rest ≡ 0 → ⊥) (x : Members rest f q b st') where
-    pub member-starts : Starts (members-at rec cap (read-part (st .work)) l m k g h at base) st rec at base → q ≤ 4608 → b ≤ limit → Starts (form-at rec cap (read-part (st' .work)) l m f q b) st' rec q b
+    pub member-starts : Starts (members-at rec cap (read-part (st .work)) l m k g h at base) st rec at base → q ≤ folded-end → b ≤ limit → Starts (form-at rec cap (read-part (st' .work)) l m f q b) st' rec q b
     member-starts s i o = starts-later s (x .kept) (x .low) i o (ready-next (λ ws. form-at rec cap ws l m f q b) (let d = decode (read-part (st .work)) l m f q b in members-at rec cap (read-part (st .work)) l m (rest - 1) h h (d .end) (d .next)) (s .ready) (members-more rest f q b st' z x))
 
     pub members-next : (st'' : State) (q' b' : ℕ) → Done (form-at rec cap (read-part (st' .work)) l m f q b) st' st'' → q' ≡ decode (read-part (st .work)) l m f q b .end → b' ≡ decode (read-part (st .work)) l m f q b .next → Members (rest - 1) h q' b' st''

@@ -5,11 +5,11 @@ use Prim.Native.Nat.{ℕ, _≤_}
 use native.Mathlib.Omega.{arith}
 use lib.IntN.{ℤ}
 use lib.ListN.{length, drop}
+use Rattle.memory.specs.Places.{folded-end, limit}
 use Rattle.syntax.specs.Syntax.{Domain}
-use Rattle.walk.specs.Item.{limit}
 use Rattle.walk.specs.Decode.{read-part}
 use Rattle.walks.specs.Meet.{State, more-bools}
-use Rattle.memory.specs.DomainTable.{Declares}
+use Rattle.declared.specs.DomainTable.{Declares}
 use Rattle.numbering.specs.Declares.{upper, declares-kept}
 use Rattle.numbering.specs.declared.Progress.{Progress}
 
@@ -126,15 +126,15 @@ done-bools f k {t} {st} {st'} e x = record {
 -- ---- what the functions of the walk ask, at a place with the splitting's next number
 
 pub record Starts (t : Task) (st : State) (rec at base : ℕ) : Type 0 where
-  pub size : 4608 ≤ length (st .work)
-  pub inside : at ≤ 4608
+  pub size : folded-end ≤ length (st .work)
+  pub inside : at ≤ folded-end
   pub low-base : base ≤ limit
   pub records : rec ≤ limit
   pub low : Low st
   pub ready : Ready t st
 
-pub starts-same : {t r : Task} {st : State} {rec at base q b : ℕ} → Starts t st rec at base → q ≤ 4608 → b ≤ limit → Ready r st → Starts r st rec q b
+pub starts-same : {t r : Task} {st : State} {rec at base q b : ℕ} → Starts t st rec at base → q ≤ folded-end → b ≤ limit → Ready r st → Starts r st rec q b
 starts-same x i l r = record { size = x .size; inside = i; low-base = l; records = x .records; low = x .low; ready = r }
 
-pub starts-later : {t r : Task} {st st' : State} {rec at base q b : ℕ} → Starts t st rec at base → Kept st st' → Low st' → q ≤ 4608 → b ≤ limit → Ready r st' → Starts r st' rec q b
+pub starts-later : {t r : Task} {st st' : State} {rec at base q b : ℕ} → Starts t st rec at base → Kept st st' → Low st' → q ≤ folded-end → b ≤ limit → Ready r st' → Starts r st' rec q b
 starts-later x k h i l r = record { size = omega (arith, x .size, k .size); inside = i; low-base = l; records = x .records; low = h; ready = r }

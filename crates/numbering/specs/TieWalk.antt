@@ -4,7 +4,7 @@ use mathlib.Core.List.{List}
 use Prim.Native.Nat.{ℕ, _+_, _-_, _≤_, min}
 use native.Mathlib.Omega.{arith}
 use lib.IntN.{ℤ}
-use Rattle.walk.specs.Item.{limit}
+use Rattle.memory.specs.Places.{folded-end, limit}
 use Rattle.walk.specs.Decode.{word, read-part}
 use Rattle.walks.specs.Tree.{Splitting}
 use Rattle.walks.specs.Meet.{State}
@@ -28,7 +28,7 @@ pub walked-to : (t : Task) (e : ℕ → ℕ → Type 0) (st : State) (w out : Li
 walked-to t e st w out c q b r i x y = subst (λ (n : NumberedInt). Done t st (state-of w out (n .progress)) × e (n .at) (n .base)) (sym i) (x, y)
 
 -- two members
-pub both-skip : (ws : List ℤ) (l : ℕ) (m : Splitting) (at base q b q' b' : ℕ) → at ≤ 4608 → base ≤ limit → Skips ws l m at base q b → Skips ws l m q b q' b' → SkipsAll ws l m 2 at base q' b'
+pub both-skip : (ws : List ℤ) (l : ℕ) (m : Splitting) (at base q b q' b' : ℕ) → at ≤ folded-end → base ≤ limit → Skips ws l m at base q b → Skips ws l m q b q' b' → SkipsAll ws l m 2 at base q' b'
 both-skip ws l m at base q b q' b' i o x y =
     skipping-last ws l m 2 at base 0 q' b' (skipping-next ws l m 2 at base 1 q b q' b' (skipping-next ws l m 2 at base 2 at base q b (skipping-first ws l m 2 at base i o) (λ e. omega arith) x) (λ e. omega arith) y) refl
 
@@ -81,7 +81,7 @@ module _ (rec cap l : ℕ) (m : Splitting) (k at base : ℕ) (w₀ out₀ : List
     begun-terms : Starts every (state-of w₀ out₀ c₀) rec at base
     begun-terms = starts-as every w₀ out₀ c c₀ rec at base e s
 
-    module _ (z : rest ≡ 0 → ⊥) (p : ℕ) (i : p ≡ min (r .at + 1) 4608) where
+    module _ (z : rest ≡ 0 → ⊥) (p : ℕ) (i : p ≡ min (r .at + 1) folded-end) where
       pub term-ties-term : Starts (int-ties-of rec cap (read-part w) l m p (r .base)) (state-of w out (r .progress)) rec p (r .base)
       term-ties-term = term-ties-starts rec cap l m k at base (state-of w₀ out₀ c₀) rest _ _ p _ z begun-terms i (x .left) (x .skips .low)
 
@@ -97,7 +97,7 @@ module _ (rec cap l : ℕ) (m : Splitting) (k at base : ℕ) (w₀ out₀ : List
     pub term-ties-leaf : (rest ≡ 0 → ⊥) → LeafTerm w l (r .at) → (t : NumberedInt) → t ≡ standing (r .progress) (r .at + 3) (r .base) → TermTiesSofar c₀ w out t (rest - 1)
     term-ties-leaf z h t j =
         let p : ℕ = r .at + 1 in
-        let i : p ≡ min (r .at + 1) 4608 = omega (arith, h .1) in
+        let i : p ≡ min (r .at + 1) folded-end = omega (arith, h .1) in
         let b : Starts (int-ties-of rec cap (read-part w) l m p (r .base)) (state-of w out (r .progress)) rec p (r .base) = term-ties-term z p i in
         subst (λ (n : NumberedInt). TermTiesSofar c₀ w out n (rest - 1)) (sym j)
         (term-ties-again z p i w out (standing (r .progress) (r .at + 3) (r .base)) (

@@ -8,16 +8,18 @@ use lib.IntN.{ℤ}
 use lib.ListN.{length}
 use borrow.Author.Tests.{ne-eqb}
 use lib.Dec.{eqb}
+use Rattle.memory.specs.Places.{folded-end, limit}
 use Rattle.syntax.specs.Syntax.{Domain}
-use Rattle.walk.specs.Item.{limit, bump}
+use Rattle.walk.specs.Item.{bump}
 use Rattle.walk.specs.Decode.{word, past, read-part}
 use Rattle.walk.specs.declared.Node.{Node}
 use Rattle.walk.specs.declared.Node.the-variants.{Var, Cmp, Not, Join, Cross}
+use Rattle.walk.specs.NumberingSteps.{part-length}
 use Rattle.walks.specs.Tree.{Splitting, never, below, here, inner}
 use Rattle.walks.specs.Form.{Form, Forms, nil, cons, append}
 use Rattle.walks.specs.Decode.{node-of, decode, decode-int, many-ties, tie-at, cross-ties, ties-step, terms-ties, if-ties, int-ties-step, ties-at, ties-int-at}
 use Rattle.walks.specs.Meet.{State, form-meet, form-meets}
-use Rattle.scan.specs.Nodes.{part-length, okay-at}
+use Rattle.scan.specs.Nodes.{okay-at}
 use Rattle.scan.specs.Skip.{split-by, Skips, IntSkips}
 use Rattle.numbering.specs.Task.{Task, then, Low, kept-same, Done, Left, left-all, left-done, left-next, left-last-at, ready-next, ready-last, Starts, starts-same, starts-later}
 use Rattle.numbering.specs.Fits.{form-fits, forms-fit, forms-task, form-task}
@@ -118,10 +120,10 @@ module _ (rec cap : ℕ) (st : State) (l : ℕ) (m : Splitting) (at base : ℕ) 
     carry : (N : Node) {st' : State} → At N → Done (forms-task rec cap (node-ties N)) st st' → Here st'
     carry N {st'} e = subst (λ (ts : Forms). Done (forms-task rec cap ts) st st') (sym (ties-level (read-part (st .work)) l u m at base N z hu e))
 
-    starts-at : (N : Node) (q b : ℕ) → At N → q ≤ 4608 → b ≤ limit → Starts (forms-task rec cap (node-ties N)) st rec q b
+    starts-at : (N : Node) (q b : ℕ) → At N → q ≤ folded-end → b ≤ limit → Starts (forms-task rec cap (node-ties N)) st rec q b
     starts-at N q b e i o = subst (λ (ts : Forms). Starts (forms-task rec cap ts) st rec q b) (ties-level (read-part (st .work)) l u m at base N z hu e) (starts-same s i o (s .ready))
 
-    part-size : length (read-part (st .work)) ≡ 4608
+    part-size : length (read-part (st .work)) ≡ folded-end
     part-size = part-length (st .work) (s .size)
 
     pub ties-var : (v q : ℕ) → At (Var v q) → Here st
@@ -147,7 +149,7 @@ module _ (rec cap : ℕ) (st : State) (l : ℕ) (m : Splitting) (at base : ℕ) 
     -- ---- an Xor or Iff
 
     module _ (h : Bool) (q : ℕ) (e : At (Cross h q)) where
-      place : q ≤ 4608
+      place : q ≤ folded-end
       place = let o = okay-at (st .work) false at (Cross h q) (s .size) (s .inside) e in omega (arith, o .1, part-size)
 
       module _ (j : ℕ) (ne : m ≡ here → ⊥) (hj : split-by j ≡ inner m) where
@@ -220,7 +222,7 @@ module _ (rec cap l : ℕ) (m : Splitting) (k at base : ℕ) (st : State) where
   each-more (suc rest) q b st' z x = let e : rest ≡ suc rest - 1 = omega arith in subst (λ (n : ℕ). Next n q b st') e (left-append rec cap _ _ x)
 
   module _ (rest q b : ℕ) (st' : State) (z : rest ≡ 0 → ⊥) (s : Starts (each-ties-of rec cap (read-part (st .work)) l m k at base) st rec at base) (x : EachTies rest q b st') where
-    pub each-starts : q ≤ 4608 → b ≤ limit → Starts (ties-of rec cap (read-part (st' .work)) l m q b) st' rec q b
+    pub each-starts : q ≤ folded-end → b ≤ limit → Starts (ties-of rec cap (read-part (st' .work)) l m q b) st' rec q b
     each-starts i o = starts-later s (x .kept) (x .low) i o (ready-next (λ ws. ties-of rec cap ws l m q b) (let d = decode (read-part (st .work)) l m false q b in each-ties-of rec cap (read-part (st .work)) l m (rest - 1) (d .end) (d .next)) (s .ready) (each-more rest q b st' z x))
 
     pub each-next : (st'' : State) (q' b' : ℕ) → Done (ties-of rec cap (read-part (st' .work)) l m q b) st' st'' → Skips (read-part (st .work)) l m q b q' b' → EachTies (rest - 1) q' b' st''
@@ -242,7 +244,7 @@ module _ (rec cap l : ℕ) (m : Splitting) (k at base : ℕ) (st : State) where
   abbrev Following : ℕ → ℕ → ℕ → State → Type 0
   Following rest p b st' = let ws = read-part (st .work) in let d = decode-int ws l m p b in Left (terms-ties-of rec cap ws l m k at base) st (then (int-ties-of rec cap ws l m p b) (terms-ties-of rec cap ws l m rest (d .end) (d .next))) st'
 
-  term-more : (rest q b p : ℕ) (st' : State) → (rest ≡ 0 → ⊥) → 4608 ≤ length (st .work) → p ≡ min (q + 1) 4608 → TermTies rest q b st' → Following (rest - 1) p b st'
+  term-more : (rest q b p : ℕ) (st' : State) → (rest ≡ 0 → ⊥) → folded-end ≤ length (st .work) → p ≡ min (q + 1) folded-end → TermTies rest q b st' → Following (rest - 1) p b st'
   unfolding terms-ties
   term-more zero q b p st' z h i x = absurd (z refl)
   term-more (suc rest) q b p st' z h i x =
@@ -250,7 +252,7 @@ module _ (rec cap l : ℕ) (m : Splitting) (k at base : ℕ) (st : State) where
       let f : past (read-part (st .work)) (q + 1) ≡ p = omega (arith, part-length (st .work) h) in
       subst (λ (n : ℕ). Following n p b st') e (subst (λ (n : ℕ). Following rest n b st') f (left-append rec cap _ _ x))
 
-  module _ (rest q b p : ℕ) (st' : State) (z : rest ≡ 0 → ⊥) (s : Starts (terms-ties-of rec cap (read-part (st .work)) l m k at base) st rec at base) (i : p ≡ min (q + 1) 4608) (x : TermTies rest q b st') where
+  module _ (rest q b p : ℕ) (st' : State) (z : rest ≡ 0 → ⊥) (s : Starts (terms-ties-of rec cap (read-part (st .work)) l m k at base) st rec at base) (i : p ≡ min (q + 1) folded-end) (x : TermTies rest q b st') where
     pub term-ties-starts : b ≤ limit → Starts (int-ties-of rec cap (read-part (st' .work)) l m p b) st' rec p b
     term-ties-starts o = starts-later s (x .kept) (x .low) (omega arith) o
         (ready-next (λ ws. int-ties-of rec cap ws l m p b) (let d = decode-int (read-part (st .work)) l m p b in terms-ties-of rec cap (read-part (st .work)) l m (rest - 1) (d .end) (d .next)) (s .ready) (term-more rest q b p st' z (s .size) i x))
@@ -282,10 +284,10 @@ module _ (rec cap : ℕ) (st : State) (l : ℕ) (m : Splitting) (at base : ℕ) 
     code-carry : (ts : Forms) {st' : State} → code-ties ≡ ts → Done (forms-task rec cap ts) st st' → HereInt st'
     code-carry ts {st'} e = subst (λ (f : Forms). Done (forms-task rec cap f) st st') (sym (int-ties-level (read-part (st .work)) l u m at base k z hu hk ∙ e))
 
-    code-starts : (ts : Forms) (q b : ℕ) → code-ties ≡ ts → q ≤ 4608 → b ≤ limit → Starts (forms-task rec cap ts) st rec q b
+    code-starts : (ts : Forms) (q b : ℕ) → code-ties ≡ ts → q ≤ folded-end → b ≤ limit → Starts (forms-task rec cap ts) st rec q b
     code-starts ts q b e i o = subst (λ (f : Forms). Starts (forms-task rec cap f) st rec q b) (int-ties-level (read-part (st .work)) l u m at base k z hu hk ∙ e) (starts-same s i o (s .ready))
 
-    past-is : (p q : ℕ) → q ≡ min p 4608 → past (read-part (st .work)) p ≡ q
+    past-is : (p q : ℕ) → q ≡ min p folded-end → past (read-part (st .work)) p ≡ q
     past-is p q e = omega (arith, part-length (st .work) (s .size))
 
     pub int-ties-leaf : (k ≡ 22 → ⊥) → (k ≡ 23 → ⊥) → HereInt st
@@ -296,7 +298,7 @@ module _ (rec cap : ℕ) (st : State) (l : ℕ) (m : Splitting) (at base : ℕ) 
         go true = refl
         go false = refl
 
-    module _ (n two : ℕ) (hn : n ≡ word (read-part (st .work)) (at + 1)) (h : two ≡ min (at + 2) 4608) (e : k ≡ 22) where
+    module _ (n two : ℕ) (hn : n ≡ word (read-part (st .work)) (at + 1)) (h : two ≡ min (at + 2) folded-end) (e : k ≡ 22) where
       sum-code : code-ties ≡ terms-ties (read-part (st .work)) (decode-int (read-part (st .work)) u m) (ties-int-at (read-part (st .work)) u m) n two base
       unfolding int-ties-step
       sum-code = rw (e, ← hn, past-is (at + 2) two h) refl
@@ -307,7 +309,7 @@ module _ (rec cap : ℕ) (st : State) (l : ℕ) (m : Splitting) (at base : ℕ) 
       pub int-ties-sum : (st' : State) → Done (terms-ties-of rec cap (read-part (st .work)) u m n two base) st st' → HereInt st'
       int-ties-sum st' x = code-carry _ sum-code x
 
-    module _ (one : ℕ) (h : one ≡ min (at + 1) 4608) (e : k ≡ 23) where
+    module _ (one : ℕ) (h : one ≡ min (at + 1) folded-end) (e : k ≡ 23) where
       if-code : code-ties ≡ if-ties (decode (read-part (st .work)) u) (decode-int (read-part (st .work)) u) (ties-at (read-part (st .work)) u) (ties-int-at (read-part (st .work)) u) m one base
       unfolding int-ties-step
       if-code = rw (e, past-is (at + 1) one h) refl

@@ -6,6 +6,7 @@ use Prim.Native.Nat.{ℕ, zero, suc, _+_, _-_, _≤_, _<_, min}
 use native.Mathlib.Omega.{arith}
 use lib.IntN.{ℤ}
 use lib.Dec.{leb}
+use Rattle.memory.specs.Places.{folded-end}
 use Rattle.walk.specs.Item.{bump}
 use Rattle.walk.specs.Decode.{word, read-part}
 use Rattle.walk.specs.declared.Node.{Node}
@@ -116,7 +117,7 @@ module _ (rec cap l : ℕ) (m : Splitting) (h : Bool) (k : ℕ) (g : Bool) (at b
         member : SizedAt (read-part w₀) l m f (r .at) (r .base) (t .at) (t .base) (t .longs) (t .lits) (t .cmps)
         member = subst (λ (ws : List ℤ). SizedAt ws l m f (r .at) (r .base) (t .at) (t .base) (t .longs) (t .lits) (t .cmps)) (x .left .kept .part) (y .1)
 
-        pub numbers-room : (r .longs + r .lits + r .cmps ≤ 4608) × (t .longs + t .lits + t .cmps ≤ 4608)
+        pub numbers-room : (r .longs + r .lits + r .cmps ≤ folded-end) × (t .longs + t .lits + t .cmps ≤ folded-end)
         numbers-room = (omega (arith, x .sized .room, x .sized .inside), omega (arith, member .room, member .inside))
 
         pub numbers-again : (v : Numbered) → v ≡ numbered (t .progress) (t .at) (t .base) (r .longs + t .longs) (r .lits + t .lits) (r .cmps + t .cmps) → NumbersSofar c₀ w' out' v (rest - 1) h
@@ -158,7 +159,7 @@ module _ (rec cap l : ℕ) (m : Splitting) (k at base : ℕ) (w₀ out₀ : List
     begun : Starts every (state-of w₀ out₀ c₀) rec at base
     begun = starts-as every w₀ out₀ c c₀ rec at base e s
 
-    module _ (z : rest ≡ 0 → ⊥) (p : ℕ) (i : p ≡ min (r .at + 1) 4608) where
+    module _ (z : rest ≡ 0 → ⊥) (p : ℕ) (i : p ≡ min (r .at + 1) folded-end) where
       pub terms-term : Starts (int-at rec cap (read-part w) l m p (r .base)) (state-of w out (r .progress)) rec p (r .base)
       terms-term = term-starts rec cap l m k at base (state-of w₀ out₀ c₀) rest _ _ p _ z begun i (x .left) (x .skips .low)
 
@@ -196,7 +197,7 @@ pub parts-own : (ws : List ℤ) (u : ℕ) (m : Splitting) (c base : ℕ) (p : If
 parts-own ws u m c base p x = subst (λ (k : ℕ). PartsAt ws u m k base p) (sym (x .place)) x
 
 module _ (rec cap : ℕ) (st : State) (l : ℕ) (m : Splitting) (at base : ℕ) (s : Starts (int-at rec cap (read-part (st .work)) l m at base) st rec at base) (u : ℕ) (z : l ≡ 0 → ⊥) (hu : u ≡ l - 1) (k : ℕ) (hk : k ≡ word (read-part (st .work)) at)
-    (one : ℕ) (h : one ≡ min (at + 1) 4608) (e : k ≡ 23) (w out : List ℤ) (r : NumberedInt) where
+    (one : ℕ) (h : one ≡ min (at + 1) folded-end) (e : k ≡ 23) (w out : List ℤ) (r : NumberedInt) where
   pub walked-if : Done (if-at rec cap (read-part (st .work)) u m at one base) st (state-of w out (r .progress)) × IfSkips (read-part (st .work)) u m at one base (r .at) (r .base) → WalkedInt rec cap st l m at base w out r
   walked-if x =
       let i = int-level (read-part (st .work)) l u m at base k z hu hk ∙ if-code rec cap st l m at base s u z hu k hk one h e in (

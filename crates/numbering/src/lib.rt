@@ -4,20 +4,21 @@ ghost use mathlib.Core.Bool.{true, false, _||_};
 ghost use mathlib.Core.List.{List, [], _∷_};
 ghost use Prim.Native.Nat.{_+_, _-_, _*_, _≤_, _<_};
 ghost use lib.IntN.{ℤ, pos, natAbs, _+ℤ_};
-ghost use lib.ListN.{length, getD, set};
+ghost use lib.ListN.{length};
 ghost use lib.Seq.{sets};
 ghost use lib.Dec.{ltb};
 ghost use Rattle.laws.specs.Ints.{lower as lower-of, higher as higher-of};
 ghost use Rattle.laws.specs.Same.{same-words as same-words-of};
+ghost use Rattle.memory.specs.Places.{folded-end, limit};
 ghost use Rattle.syntax.specs.Syntax.{Domain, Range};
-ghost use Rattle.syntax.specs.Words.{max-weight};
-ghost use Rattle.walk.specs.Item.{limit, bump as bump-of};
+ghost use Rattle.syntax.specs.Words.{max-weight, max-bools};
+ghost use Rattle.walk.specs.Item.{bump as bump-of};
 ghost use Rattle.walks.specs.Item.{cell as cell-of, seen-in, known-in};
 ghost use Rattle.walks.specs.Tree.{never, below as below-in, here};
 ghost use Rattle.walks.specs.Decode.{decode, decode-int};
 ghost use Rattle.walks.specs.Meet.{words-at, find-equal as find-equal-of, set-cells, copied, number-word as number-word-of, range-record, two-record};
 ghost use Rattle.walk.specs.Decode.{read-part};
-ghost use Rattle.memory.specs.DomainTable.{word-at};
+ghost use Rattle.declared.specs.DomainTable.{word-at};
 ghost use Rattle.scan.specs.Skip.{split-by, Skips, SkipsAll, IntSkips, TermSkips};
 ghost use Rattle.numbering.specs.Equal.{equal-at, option-of};
 ghost use Rattle.numbering.specs.Ties.{ties-of, int-ties-of, each-ties-of, terms-ties-of, sides-of, tie-of};
@@ -33,6 +34,11 @@ ghost use Rattle.numbering.specs.Make.{counters-in, Begins, branches-at,
 ghost use Rattle.numbering.specs.Conditions.{leaves-in, follow-task, Follows, Concludes, Opens, Settles};
 ghost use Rattle.numbering.specs.Members.{numbered, standing, renewed, Closes, IfSkips};
 ghost use Rattle.numbering.specs.Leaf.{bool-task, int-var-task};
+use memory::entry;
+use memory::plain;
+use memory::store;
+use memory::store_number;
+use scan::cell;
 use scan::has_ifs;
 use scan::inner;
 use scan::leaves;
@@ -42,7 +48,6 @@ use scan::skip_int;
 use scan::skips;
 use survey::below;
 use survey::bump;
-use survey::entry;
 use survey::fresh;
 use survey::literal;
 use survey::within;
@@ -109,25 +114,7 @@ fn is_full(room: Room, c: Progress) -> bool
     room.cap < c.used
 }
 
-// ---- stores; past the end nothing is stored
-
-fn store(s: &mut [i32], i: usize, x: i32)
-    ensures { λ r. ⌜ (now (s .exit) ≡ set (now (s .entry)) i x) × (length (now (s .exit)) ≡ length (now (s .entry))) ⌝ }
-{
-    if i < s.len() {
-        s[i] = x;
-    }
-}
-
-// A number.
-fn store_number(s: &mut [i32], i: usize, x: usize)
-    requires { ⌜ x ≤ limit + 1 ⌝ }
-    ensures { λ r. ⌜ (now (s .exit) ≡ set (now (s .entry)) i (pos x)) × (length (now (s .exit)) ≡ length (now (s .entry))) ⌝ }
-{
-    if i < s.len() {
-        s[i] = x as i32;
-    }
-}
+// ---- records
 
 // The record of the emitted integer k: its kind and three words.
 fn put_record(out: &mut [i32], records: usize, k: usize, kind: i32, x: i32, y: i32, z: i32)
@@ -145,24 +132,14 @@ fn put_record(out: &mut [i32], records: usize, k: usize, kind: i32, x: i32, y: i
 
 // A declared Boolean gets its number at its first meeting.
 fn declare(work: &mut [i32], v: usize, c: Progress) -> Progress
-    requires { ⌜ (v < 512) × ((c .bools ≤ limit) × ((c .ints ≤ limit) × (c .used ≤ limit))) ⌝ }
+    requires { ⌜ (v < max-bools) × ((c .bools ≤ limit) × ((c .ints ≤ limit) × (c .used ≤ limit))) ⌝ }
     ensures { λ r. ⌜ ((out : List ℤ) → Done (bool-task v) (state-of (now (work .entry)) out c) (state-of (now (work .exit)) out r)) × (length (now (work .exit)) ≡ length (now (work .entry))) ⌝ }
 {
     if literal(work, v) == 0 {
-        store_number(work, 4608 + v, c.bools + 1);
+        store_number(work, memory::BOOL_MAP + v, c.bools + 1);
         return advance(c, 1);
     }
     c
-}
-
-// A word of the slice; 0 past the end.
-fn plain(s: &[i32], i: usize) -> i32
-    ensures { λ r. ⌜ r ≡ getD (now (s .entry)) i (pos 0) ⌝ }
-{
-    if i < s.len() {
-        return s[i];
-    }
-    0
 }
 
 // The word of the table that holds the declared domains.
@@ -170,7 +147,7 @@ fn told(work: &[i32], v: usize, k: usize) -> i32
     requires { ⌜ (v < 256) × (k < 3) ⌝ }
     ensures { λ r. ⌜ r ≡ word-at (now (work .entry)) v k ⌝ }
 {
-    plain(work, 9480 + 3 * v + k)
+    plain(work, memory::DECLARED_DOMAINS + 3 * v + k)
 }
 
 // The record of the declared integer v, whose number is k.
@@ -189,8 +166,8 @@ fn declare_int(work: &mut [i32], out: &mut [i32], v: usize, room: Room, c: Progr
     requires { ⌜ (v < 256) × ((room .records ≤ limit) × ((c .bools ≤ limit) × ((c .ints ≤ limit) × ((c .used ≤ limit) × Ready (int-var-task (room .records) (room .cap) v) (state-of (now work) (now out) c))))) ⌝ }
     ensures { λ r. ⌜ Done (int-var-task (room .records) (room .cap) v) (state-of (now (work .entry)) (now (out .entry)) c) (state-of (now (work .exit)) (now (out .exit)) r) ⌝ }
 {
-    if entry(work, 5120 + v) == 0 {
-        store_number(work, 5120 + v, c.ints + 1);
+    if entry(work, memory::INT_MAP + v) == 0 {
+        store_number(work, memory::INT_MAP + v, c.ints + 1);
         put_declared(work, out, v, room.records, c.ints);
         return count_int(c);
     }
@@ -198,14 +175,6 @@ fn declare_int(work: &mut [i32], out: &mut [i32], v: usize, room: Room, c: Progr
 }
 
 // ---- the words of Ifs
-
-// A word of the cells.
-fn cell(work: &[i32], p: usize) -> i32
-    requires { ⌜ p ≤ 4611 ⌝ }
-    ensures { λ r. ⌜ r ≡ cell-of (now (work .entry)) p ⌝ }
-{
-    plain(work, 4864 + p)
-}
 
 // Whether an If of this word has its number, and below k.
 fn is_known(z: i32, k: usize) -> bool
@@ -224,7 +193,7 @@ fn is_known(z: i32, k: usize) -> bool
 
 // Whether so many words at q are those at p.
 fn same_words(work: &[i32], p: usize, q: usize, n: usize) -> bool
-    requires { do ⌜ (4608 ≤ (← ⟦work.len()⟧)) × ((p + n ≤ 4608) × (q + n ≤ 4608)) ⌝ }
+    requires { do ⌜ (folded-end ≤ (← ⟦work.len()⟧)) × ((p + n ≤ folded-end) × (q + n ≤ folded-end)) ⌝ }
     ensures { λ r. ⌜ r ≡ same-words-of (words-at (now (work .entry)) q n) (words-at (now (work .entry)) p n) ⌝ }
 {
     let mut i = 0;
@@ -241,13 +210,13 @@ fn same_words(work: &[i32], p: usize, q: usize, n: usize) -> bool
 
 // Whether an If of the same words has its number at q.
 fn is_equal(work: &[i32], p: usize, q: usize, n: usize) -> bool
-    requires { do ⌜ (4608 ≤ (← ⟦work.len()⟧)) × ((p + n ≤ 4608) × (q ≤ 4608)) ⌝ }
+    requires { do ⌜ (folded-end ≤ (← ⟦work.len()⟧)) × ((p + n ≤ folded-end) × (q ≤ folded-end)) ⌝ }
     ensures { λ r. ⌜ r ≡ equal-at (now (work .entry)) p q n ⌝ }
 {
     if cell(work, q + 1) <= 0 {
         return false;
     }
-    if q + n > 4608 {
+    if q + n > memory::FOLDED_END {
         return false;
     }
     same_words(work, p, q, n)
@@ -255,8 +224,8 @@ fn is_equal(work: &[i32], p: usize, q: usize, n: usize) -> bool
 
 // The first place where an equal If has its number; 0 for none.
 fn find_equal(work: &[i32], at: usize, size: usize, whole: bool) -> usize
-    requires { do ⌜ (4608 ≤ (← ⟦work.len()⟧)) × (at + size ≤ 4608) ⌝ }
-    ensures { λ r. ⌜ (option-of r ≡ find-equal-of (now (work .entry)) (record { at = at; size = size; whole = whole })) × (r ≤ 4608) ⌝ }
+    requires { do ⌜ (folded-end ≤ (← ⟦work.len()⟧)) × (at + size ≤ folded-end) ⌝ }
+    ensures { λ r. ⌜ (option-of r ≡ find-equal-of (now (work .entry)) (record { at = at; size = size; whole = whole })) × (r ≤ folded-end) ⌝ }
 {
     if !whole {
         return 0;
@@ -264,7 +233,7 @@ fn find_equal(work: &[i32], at: usize, size: usize, whole: bool) -> usize
     if cell(work, at + 1) != 0 {
         return 0;
     }
-    let mut q = 512;
+    let mut q = memory::FOLDED;
     let mut k: usize = 4096;
     while k != 0 {
         if is_equal(work, at, q, size) {
@@ -278,17 +247,17 @@ fn find_equal(work: &[i32], at: usize, size: usize, whole: bool) -> usize
 
 // An If's three cells.
 fn store_cells(work: &mut [i32], p: usize, x: i32, y: i32, z: i32)
-    requires { ⌜ p ≤ 4608 ⌝ }
+    requires { ⌜ p ≤ folded-end ⌝ }
     ensures { λ r. ⌜ (now (work .exit) ≡ set-cells p x y z (now (work .entry))) × (length (now (work .exit)) ≡ length (now (work .entry))) ⌝ }
 {
-    store(work, 4864 + (p + 1), x);
-    store(work, 4864 + (p + 2), y);
-    store(work, 4864 + (p + 3), z);
+    store(work, memory::CELLS + (p + 1), x);
+    store(work, memory::CELLS + (p + 2), y);
+    store(work, memory::CELLS + (p + 3), z);
 }
 
 // Those of the If at q for the one at p.
 fn copy_cells(work: &mut [i32], p: usize, q: usize)
-    requires { ⌜ (p ≤ 4608) × (q ≤ 4608) ⌝ }
+    requires { ⌜ (p ≤ folded-end) × (q ≤ folded-end) ⌝ }
     ensures { λ r. ⌜ (now (work .exit) ≡ copied p q (now (work .entry))) × (length (now (work .exit)) ≡ length (now (work .entry))) ⌝ }
 {
     let x = cell(work, q + 1);
@@ -378,7 +347,7 @@ fn longer(c: Progress, at: usize, base: usize) -> Numbered
 
 // The members so far and the next one.
 fn add(r: Numbered, s: Numbered) -> Numbered
-    requires { ⌜ (r .longs + r .lits + r .cmps ≤ 4608) × (s .longs + s .lits + s .cmps ≤ 4608) ⌝ }
+    requires { ⌜ (r .longs + r .lits + r .cmps ≤ folded-end) × (s .longs + s .lits + s .cmps ≤ folded-end) ⌝ }
     ensures { λ t. ⌜ t ≡ numbered (s .progress) (s .at) (s .base) (r .longs + s .longs) (r .lits + s .lits) (r .cmps + s .cmps) ⌝ }
 {
     let c = s.progress;
@@ -482,7 +451,7 @@ pub struct IfParts {
 }
 
 fn parts_of(work: &[i32], one: usize, left: usize, m: usize, base: usize) -> IfParts
-    requires { ⌜ (4608 ≤ length (now work)) × ((one ≤ 4608) × (base ≤ limit)) ⌝ }
+    requires { ⌜ (folded-end ≤ length (now work)) × ((one ≤ folded-end) × (base ≤ limit)) ⌝ }
     ensures { λ r. ⌜ PartsAt (read-part (now (work .entry))) left (split-by m) one base r ⌝ }
 {
     let c = skip(work, one, left, m, base);
@@ -501,7 +470,7 @@ fn parts_of(work: &[i32], one: usize, left: usize, m: usize, base: usize) -> IfP
 
 // An If is passed over: the answer is too long already, or its number is known.
 fn is_passed(work: &[i32], at: usize, room: Room, c: Progress) -> bool
-    requires { ⌜ at ≤ 4608 ⌝ }
+    requires { ⌜ at ≤ folded-end ⌝ }
     ensures { λ r. ⌜ r ≡ ltb (room .cap) (c .used) || known-in (seen-in (cell-of (now (work .entry)) (at + 1))) (c .ints) ⌝ }
 {
     if is_full(room, c) {
@@ -543,7 +512,7 @@ fn counters_of(work: &[i32], c: Progress) -> Counters
 
 // The branches' sums; s and y: where the branches began.
 fn branch_sums(work: &[i32], left: usize, m: usize, p: IfParts, s: Progress, y: Progress) -> Sums
-    requires { ⌜ (4608 ≤ length (now work)) × (Begins p s y × SumsReady (now work) (decode-int (read-part (now work)) left (split-by m) (p .first) (p .one) .tree) (decode-int (read-part (now work)) left (split-by m) (p .second) (p .two) .tree) (counters-in (now work) s) (counters-in (now work) y)) ⌝ }
+    requires { ⌜ (folded-end ≤ length (now work)) × (Begins p s y × SumsReady (now work) (decode-int (read-part (now work)) left (split-by m) (p .first) (p .one) .tree) (decode-int (read-part (now work)) left (split-by m) (p .second) (p .two) .tree) (counters-in (now work) s) (counters-in (now work) y)) ⌝ }
     ensures { λ r. ⌜ ((ds : List Domain) → SumsAre ds (now (work .entry)) (decode-int (read-part (now (work .entry))) left (split-by m) (p .first) (p .one) .tree) (decode-int (read-part (now (work .entry))) left (split-by m) (p .second) (p .two) .tree) (counters-in (now (work .entry)) s) (counters-in (now (work .entry)) y) (r .constant) (r .first) (r .second)) ⌝ }
 {
     let a = linear_of(work, p.first, left, m, p.one, counters_of(work, s));
@@ -577,7 +546,7 @@ fn higher(x: i32, y: i32) -> i32
 
 // The domain of either branch.
 fn branch_range(work: &[i32], left: usize, m: usize, p: IfParts, s: Progress, y: Progress) -> Span
-    requires { ⌜ (4608 ≤ length (now work)) × (Begins p s y × SumsReady (now work) (decode-int (read-part (now work)) left (split-by m) (p .first) (p .one) .tree) (decode-int (read-part (now work)) left (split-by m) (p .second) (p .two) .tree) (counters-in (now work) s) (counters-in (now work) y)) ⌝ }
+    requires { ⌜ (folded-end ≤ length (now work)) × (Begins p s y × SumsReady (now work) (decode-int (read-part (now work)) left (split-by m) (p .first) (p .one) .tree) (decode-int (read-part (now work)) left (split-by m) (p .second) (p .two) .tree) (counters-in (now work) s) (counters-in (now work) y)) ⌝ }
     ensures { λ r. ⌜ RangeIs (now (work .entry)) (decode-int (read-part (now (work .entry))) left (split-by m) (p .first) (p .one) .tree) (decode-int (read-part (now (work .entry))) left (split-by m) (p .second) (p .two) .tree) (counters-in (now (work .entry)) s) (counters-in (now (work .entry)) y) (r .low) (r .high) ⌝ }
 {
     let a = range_of(work, p.first, left, m, p.one, counters_of(work, s));
@@ -592,7 +561,7 @@ fn branch_range(work: &[i32], left: usize, m: usize, p: IfParts, s: Progress, y:
 
 // The leaves of the condition in both polarities.
 fn leaves_of(work: &[i32], p: IfParts, left: usize, m: usize, base: usize) -> usize
-    requires { ⌜ (4608 ≤ length (now work)) × ((p .cond ≤ 4608) × (base ≤ limit)) ⌝ }
+    requires { ⌜ (folded-end ≤ length (now work)) × ((p .cond ≤ folded-end) × (base ≤ limit)) ⌝ }
     ensures { λ r. ⌜ r ≡ leaves-in (read-part (now (work .entry))) left (split-by m) base p ⌝ }
 {
     let l = leaves(work, p.cond, left, m, base);
@@ -609,7 +578,7 @@ fn follow(
     x: i32,
     y: i32,
 ) -> Progress
-    requires { ⌜ (v < 512) × ((room .records ≤ limit) × ((c .bools ≤ limit) × ((c .ints ≤ limit) × ((c .used ≤ limit) × Ready (follow-task v) (state-of (now work) (now out) c))))) ⌝ }
+    requires { ⌜ (v < max-bools) × ((room .records ≤ limit) × ((c .bools ≤ limit) × ((c .ints ≤ limit) × ((c .used ≤ limit) × Ready (follow-task v) (state-of (now work) (now out) c))))) ⌝ }
     ensures { λ r. ⌜ Follows (now (work .entry)) (now (out .entry)) c v (room .records) x y (now (work .exit)) (now (out .exit)) r ⌝ }
 {
     let d = declare(work, v, c);
@@ -628,7 +597,7 @@ fn conclude(
     x: i32,
     y: i32,
 ) -> Progress
-    requires { ⌜ (room .records ≤ limit) × ((n ≤ limit) × ((e .progress .ints ≤ limit) × ((d .lits ≤ 4608) × (e .lits ≤ 4608)))) ⌝ }
+    requires { ⌜ (room .records ≤ limit) × ((n ≤ limit) × ((e .progress .ints ≤ limit) × ((d .lits ≤ folded-end) × (e .lits ≤ folded-end)))) ⌝ }
     ensures { λ r. ⌜ Concludes (now (out .entry)) (room .records) n d e x y (now (out .exit)) r ⌝ }
 {
     let a = advance(e.progress, fresh(d.longs, d.lits + 1, d.cmps));
@@ -656,7 +625,7 @@ fn settle(
     hi: i32,
     c: Progress,
 ) -> Progress
-    requires { ⌜ (at ≤ 4608) × (v ≤ limit) ⌝ }
+    requires { ⌜ (at ≤ folded-end) × (v ≤ limit) ⌝ }
     ensures { λ r. ⌜ Settles (now (work .entry)) at whole v lo hi c (now (work .exit)) r ⌝ }
 {
     let z = number_word(whole, v);
@@ -744,7 +713,7 @@ fn number_branches(
 {
     let v = branch_sums(work, left, m, p, s, y);
     if v.constant {
-        store(work, 4864 + (at + 1), -1);
+        store(work, memory::CELLS + (at + 1), -1);
         return number_constant(work, out, at, left, m, base, p, room, c, v.first, v.second);
     }
     let d = branch_range(work, left, m, p, s, y);
@@ -818,7 +787,7 @@ fn number_if(
     room: Room,
     c: Progress,
 ) -> NumberedInt
-    requires { ⌜ Starts (if-at (room .records) (room .cap) (read-part (now work)) left (split-by m) at one base) (state-of (now work) (now out) c) (room .records) at base × ((at ≤ one) × (one ≤ 4608)) ⌝ }
+    requires { ⌜ Starts (if-at (room .records) (room .cap) (read-part (now work)) left (split-by m) at one base) (state-of (now work) (now out) c) (room .records) at base × ((at ≤ one) × (one ≤ folded-end)) ⌝ }
     ensures { λ r. ⌜ Done (if-at (room .records) (room .cap) (read-part (now (work .entry))) left (split-by m) at one base) (state-of (now (work .entry)) (now (out .entry)) c) (state-of (now (work .exit)) (now (out .exit)) (r .progress)) × IfSkips (read-part (now (work .entry))) left (split-by m) at one base (r .at) (r .base) ⌝ }
 {
     let p = parts_of(work, one, left, m, base);
@@ -1149,7 +1118,7 @@ fn minus(a: usize, b: usize) -> usize
 fn is_split(n: usize, next: usize) -> bool
     ensures { λ r. ⌜ (r ≡ false → Unsplit n next) ⌝ }
 {
-    if n < 1073741824 {
+    if n < memory::LIMIT {
         if next == n {
             return false;
         }
@@ -1227,7 +1196,7 @@ pub fn number_pair(
     room: Room,
     c: Progress,
 ) -> Progress
-    requires { ⌜ Starts (pair-task (room .records) (room .cap) (read-part (now work)) p q) (state-of (now work) (now out) c) (room .records) p 0 × (q ≤ 4608) ⌝ }
+    requires { ⌜ Starts (pair-task (room .records) (room .cap) (read-part (now work)) p q) (state-of (now work) (now out) c) (room .records) p 0 × (q ≤ folded-end) ⌝ }
     ensures { λ r. ⌜ Done (pair-task (room .records) (room .cap) (read-part (now (work .entry))) p q) (state-of (now (work .entry)) (now (out .entry)) c) (state-of (now (work .exit)) (now (out .exit)) r) ⌝ }
 {
     let n = c.bools;
@@ -1253,12 +1222,12 @@ fn make_column(
     c: Progress,
     d: Progress,
 ) -> Progress
-    requires { ⌜ (4608 ≤ length (now work)) × ((at ≤ 4608) × ((room .records ≤ limit) × SpanReady (now work) at c d)) ⌝ }
+    requires { ⌜ (folded-end ≤ length (now work)) × ((at ≤ folded-end) × ((room .records ≤ limit) × SpanReady (now work) at c d)) ⌝ }
     ensures { λ r. ⌜ Makes (room .records) at c d (now (work .entry)) (now (out .entry)) (now (work .exit)) (now (out .exit)) r ⌝ }
 {
     let r = range_of(work, at, 64, 0, 0, counters_of(work, c));
     put_range(out, room.records, d.ints, r.low, r.high);
-    store_number(work, 4864 + at, d.ints + 1);
+    store_number(work, memory::CELLS + at, d.ints + 1);
     count_int(d)
 }
 

@@ -15,6 +15,7 @@ use mir.Val.{SFits, ofZ, toZ}
 use mir.Facts.{toZ-ofZ}
 use Rattle.laws.specs.Lists.{flat}
 use Rattle.laws.specs.Writes.{cap, Wrote, wrote-none, wrote-then, wrote-length, wrote-low, Open}
+use Rattle.memory.specs.Places.{limit}
 use Rattle.syntax.specs.Syntax.{op-at, encode-op}
 use Rattle.sums.specs.LinearSum.{Term, term}
 use Rattle.sums.specs.Rising.{Each}
@@ -23,7 +24,7 @@ use Rattle.sums.specs.declared.LinearSum.{LinearSum as Sum}
 use Rattle.clauses.specs.Clause.{linear}
 use Rattle.clauses.specs.Normalize.{negate-op-if}
 use Rattle.answer.specs.Answer.{term-words, linear-words}
-use Rattle.walk.specs.Item.{limit, is-none, word-of, clause-text, block}
+use Rattle.walk.specs.Item.{is-none, word-of, clause-text, block}
 use Rattle.output.specs.declared.Suffix.{Suffix}
 use Rattle.output.specs.Suffix.{Stacked, suffix}
 use Rattle.survey.proofs.Leaves.{pos-is, minus-is}

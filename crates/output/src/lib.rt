@@ -5,13 +5,14 @@ ghost use Prim.Native.Nat.{_+_, _*_, _-_, _≤_};
 ghost use lib.ListN.{length};
 ghost use Rattle.laws.specs.Lists.{flat};
 ghost use Rattle.laws.specs.Writes.{Wrote, Open};
+ghost use Rattle.memory.specs.Places.{limit};
 ghost use Rattle.syntax.specs.Syntax.{op-at, encode-op};
 ghost use Rattle.sums.specs.Rising.{Each};
 ghost use Rattle.sums.specs.Struct.{terms, sum-of};
 ghost use Rattle.clauses.specs.Clause.{linear};
 ghost use Rattle.clauses.specs.Normalize.{negate-op-if};
 ghost use Rattle.answer.specs.Answer.{term-words, linear-words};
-ghost use Rattle.walk.specs.Item.{limit, word-of, clause-text, extra, block as block-of};
+ghost use Rattle.walk.specs.Item.{word-of, clause-text, extra, block as block-of};
 ghost use Rattle.walks.specs.Totals.{Word};
 ghost use Rattle.output.specs.Suffix.{suffix, Stacked, extra-lits};
 use sums::LinearSum;
@@ -21,7 +22,7 @@ use walk::Mode;
 pub fn word_of(x: usize, g: bool) -> i32
     ensures { λ r. ⌜ r ≡ word-of x g ⌝ }
 {
-    if x <= 1073741824 {
+    if x <= memory::LIMIT {
         let w = x as i32;
         if g {
             return 0 - w;
@@ -40,7 +41,7 @@ pub fn put(out: &mut [i32], o: usize, w: i32) -> usize
         out[o] = w;
         return o + 1;
     }
-    if o < 16777217 {
+    if o < memory::CAP {
         return o + 1;
     }
     o

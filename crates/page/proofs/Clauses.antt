@@ -8,6 +8,7 @@ use lib.IntN.{ℤ}
 use lib.ListN.{length, take, drop, length-drop, drop-of-length-le}
 use lib.Seq.{sets}
 use Rattle.laws.specs.Lists.{flat, flat-append}
+use Rattle.syntax.specs.Words.{max-answer-words}
 use Rattle.decimal.specs.Decimal.{print-natural}
 use Rattle.decimal.specs.Widths.{natural-short}
 use Rattle.lines.specs.Lines.{count-word, literals, after-literals, print-comparisons, print-clause}
@@ -66,7 +67,7 @@ module _ (ws : List ℤ) (from n a b : ℕ) (m : n ≡ count-word (drop from ws)
   after-are : drop b ws ≡ after-literals (drop from ws)
   after-are = s₂ .rest ∙ rw (m, s₁ .rest) refl
 
-  pub lits-few : length ws ≤ 16777216 → length (take (b - a) (drop a ws)) ≤ 16777216
+  pub lits-few : length ws ≤ max-answer-words → length (take (b - a) (drop a ws)) ≤ max-answer-words
   lits-few h = omega (arith, stop-short ws a n b s₂ .1)
 
   pub clause-written : {out o₁ o₂ o₃ out' : List ℕ} {s p q : Place} {at e next : ℕ} (k : ℕ) → from < length ws → Starts (numbered k) at out o₁ s → Moves (place-items (map literal-item (take (b - a) (drop a ws)))) (length (take (b - a) (drop a ws))) o₁ s o₂ p

@@ -11,6 +11,7 @@ use borrow.Author.Tests.{leb-true, leb-false}
 use lib.Dec.{leb}
 use Rattle.laws.specs.Bools.{and-r}
 use Rattle.laws.specs.Lists.{all, all-take, all-drop, flat}
+use Rattle.syntax.specs.Words.{max-answer-words}
 use Rattle.decimal.specs.Bytes.{comma, colon}
 use Rattle.decimal.specs.Decimal.{print-number}
 use Rattle.decimal.specs.Widths.{fitting, one-short}
@@ -41,7 +42,7 @@ head-written {out} {m₁} {m₂} {m₃} {out'} {at} {a} {b} o c x e y f =
     let v : Wrote m₃ b (58 ∷ []) out' (b + 1) = record { bytes = f; after = refl } in
     wrote-then x (wrote-then u (wrote-then y v))
 
-pub comparison-measured : (o c ts : List ℤ) (a b n : ℕ) → length o ≤ 1 → length c ≤ 1 → length ts ≤ 16777216 → a ≡ length (print-numbers o) → a ≤ 12 * length o → b ≡ length (print-numbers c) → b ≤ 12 * length c → n ≡ length (print-numbers ts) → n ≤ 12 * length ts
+pub comparison-measured : (o c ts : List ℤ) (a b n : ℕ) → length o ≤ 1 → length c ≤ 1 → length ts ≤ max-answer-words → a ≡ length (print-numbers o) → a ≤ 12 * length o → b ≡ length (print-numbers c) → b ≤ 12 * length c → n ≡ length (print-numbers ts) → n ≤ 12 * length ts
     → (a + b + 2 + n ≡ length (head-text o c) + length (print-numbers ts)) × (length (head-text o c) ≤ 26) × (a + b + 2 + n ≤ 9223372036854775807)
 comparison-measured o c ts a b n ho hc ht e f g h i j = let l = head-length o c in (omega arith, omega arith, omega arith)
 
@@ -116,8 +117,8 @@ stop-short ws from n r s =
 pub stop-one : (ws : List ℤ) (from r : ℕ) → from < length ws → Stops ws from 1 r → r ≡ from + 1
 stop-one ws from r h s = omega (arith, s .size, length-take 1 (drop from ws), length-drop from ws)
 
-module _ (ws : List ℤ) (from a b n c e : ℕ) (fit : all fitting ws ≡ true) (few : length ws ≤ 16777216) (here : from < length ws) (s₁ : Stops ws from 1 a) (s₂ : Stops ws a 1 b) (m : n ≡ count-word (drop b ws)) (s₃ : Stops ws b 1 c) (s₄ : Stops ws c (n + n) e) where
-  pub terms-fit : (length (take (e - c) (drop c ws)) ≤ 16777216) × (length (take (a - from) (drop from ws)) ≤ 1) × (length (take (b - a) (drop a ws)) ≤ 1) × (all fitting (take (e - c) (drop c ws)) ≡ true)
+module _ (ws : List ℤ) (from a b n c e : ℕ) (fit : all fitting ws ≡ true) (few : length ws ≤ max-answer-words) (here : from < length ws) (s₁ : Stops ws from 1 a) (s₂ : Stops ws a 1 b) (m : n ≡ count-word (drop b ws)) (s₃ : Stops ws b 1 c) (s₄ : Stops ws c (n + n) e) where
+  pub terms-fit : (length (take (e - c) (drop c ws)) ≤ max-answer-words) × (length (take (a - from) (drop from ws)) ≤ 1) × (length (take (b - a) (drop a ws)) ≤ 1) × (all fitting (take (e - c) (drop c ws)) ≡ true)
   terms-fit = (omega (arith, stop-short ws c (n + n) e s₄ .1), stop-short ws from 1 a s₁ .0, stop-short ws a 1 b s₂ .0, fit-part ws c (e - c) fit)
 
   rest-a : drop a ws ≡ drop 1 (drop from ws)

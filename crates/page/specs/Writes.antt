@@ -8,6 +8,7 @@ use lib.Dec.{leb}
 use lib.ListN.{length, drop}
 use lib.Seq.{sets}
 use Rattle.laws.specs.Lists.{flat}
+use Rattle.syntax.specs.Words.{max-answer-words}
 use Rattle.decimal.specs.Bytes.{comma, colon}
 use Rattle.lines.specs.Lines.{print-numbers}
 use Rattle.page.specs.Sheet.{space, width, Page, full, put, turn}
@@ -20,7 +21,7 @@ pub record Wrote (out : List ℕ) (at : ℕ) (bs : List ℕ) (out' : List ℕ) (
 
 -- an answer has no more words
 abbrev pub Few : List ℤ → Type 0
-Few ws = length ws ≤ 16777216
+Few ws = length ws ≤ max-answer-words
 
 -- the last place
 abbrev pub far : ℕ

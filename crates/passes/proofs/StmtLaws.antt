@@ -1,12 +1,11 @@
 -- What folding of statements asks and gives at each step, over variables. Assumes nothing.
 use Prim.Native.Nat.{ℕ, suc, _+_, _-_, _*_, _≤_, _<_}
 use mathlib.Core.Path.{_≡_, refl, sym, ap, _∙_}
-use mathlib.Core.List.{List, [], _∷_, _++_, map, append-assoc, append-nil}
+use mathlib.Core.List.{List, [], _∷_, _++_, map}
 use native.Mathlib.Omega.{arith}
-use native.Mathlib.Numerals.{add-one}
 use lib.IntN.{ℤ, pos}
-use lib.ListN.{length, take, drop, getD, set, length-append, length-set, length-drop}
-use lib.Seq.{take-suc, take-suc-set, drop-set-lt, getD-drop, take-set-le, length-take-le}
+use lib.ListN.{length, take, drop, getD, set, length-append, length-set}
+use lib.Seq.{take-set-le}
 use Rattle.laws.specs.Lists.{flat}
 use Rattle.laws.specs.Slices.{Has, has-fits, has-front, has-back, has-word, has-rest, Pushed, pushed-below, pushed-then, pushed-none, Stored, drop-up}
 use Rattle.laws.specs.Ints.{pos-eq}
@@ -22,36 +21,6 @@ use Rattle.domains.specs.Declared.{Plain}
 use Rattle.folding.specs.Steps.{fixed-in, same-fixed, Reads-int, Ready-int, Int-post, Reads, Ready, Fold-post}
 use Rattle.folding.proofs.IntLaws.{stored-one}
 use Rattle.passes.specs.Statements.{Declared-stmt, Declared-stmts, Reads-columns, Ready-columns, Columns-post, Reads-stmt, Reads-stmts, Ready-stmt, Ready-stmts, Stmt-post, Stmts-post}
-
--- ---- `copy_words`
-
-pub record Copying (ws : List ℤ) (at : ℕ) (out₀ : List ℤ) (o : ℕ) (out : List ℤ) (i : ℕ) : Type 0 where
-  pub size : length out ≡ length out₀
-  pub low : take (o + i) out ≡ take o out₀ ++ take i (drop at ws)
-  pub high : drop (o + i) out ≡ drop (o + i) out₀
-
-module _ (ws : List ℤ) (at : ℕ) (out₀ : List ℤ) (o : ℕ) where
-  pub copying-none : Copying ws at out₀ o out₀ 0
-  copying-none = let z : o + 0 ≡ o = omega arith in record { size = refl; low = rw z (sym (append-nil (take o out₀))); high = refl }
-
-  pub copying-next : (out : List ℤ) (i : ℕ) (out' : List ℤ) → at + i < length ws → o + i < length out → out' ≡ set out (o + i) (getD ws (at + i) (pos 0)) → Copying ws at out₀ o out i → Copying ws at out₀ o out' (i + 1)
-  copying-next out i out' h l e c =
-      let w = getD ws (at + i) (pos 0) in
-      let n : o + (i + 1) ≡ suc (o + i) = omega arith in
-      let j : i + 1 ≡ suc i = add-one i in
-      let g : getD (drop at ws) i (pos 0) ≡ w = getD-drop at ws i (pos 0) in
-      let t : take (suc i) (drop at ws) ≡ take i (drop at ws) ++ (w ∷ []) = take-suc (drop at ws) i (pos 0) (omega (arith, length-drop at ws)) ∙ ap (λ x. take i (drop at ws) ++ (x ∷ [])) g in
-      record {
-        size = ap length e ∙ length-set out (o + i) w ∙ c .size;
-        low = rw (e, n, j, take-suc-set out (o + i) w l, c .low, t) (append-assoc (take o out₀) (take i (drop at ws)) (w ∷ []));
-        high = rw (e, n) (drop-set-lt (suc (o + i)) out (o + i) w (omega arith) ∙ drop-up (o + i) (suc (o + i)) out out₀ (c .high) (omega arith));
-      }
-
-  pub copying-end : (out : List ℤ) (i n : ℕ) → i ≡ n → at + n ≤ length ws → Copying ws at out₀ o out i → Stored out₀ o (take n (drop at ws)) out (o + n)
-  copying-end out i n e h c = rw (← e) (record {
-    above = c .high;
-    pushed = record { end = omega (arith, length-take-le i (drop at ws) (omega (arith, length-drop at ws))); words = c .low };
-  })
 
 -- ---- `fold_columns`
 

@@ -1,10 +1,9 @@
 // Folding statements and requiring (constant_prop_bool): the folded statements stand in the work slice above the fixed values.
 // `want` is 0, 1, or 2 for nothing; a status is 0 (nothing changed), 1 (a variable was fixed) or 2 (unsatisfiable).
 ghost use mathlib.Core.Path.{_≡_};
-ghost use Prim.Native.Nat.{_+_, _*_, _-_, _≤_, _<_};
+ghost use Prim.Native.Nat.{_+_, _*_, _-_, _<_};
 ghost use lib.IntN.{pos};
-ghost use lib.ListN.{length, take, drop, getD};
-ghost use Rattle.laws.specs.Slices.{Stored};
+ghost use lib.ListN.{length, getD};
 ghost use Rattle.fold.specs.Table.{state-num};
 ghost use Rattle.folding.specs.Steps.{state-of};
 ghost use Rattle.passes.specs.Want.{worst-num, clash-num, set-status, set-words, flip-num, member-num, left-num, right-num};
@@ -294,19 +293,6 @@ fn constant_prop_bool(work: &mut [i32], at: usize, want: usize) -> Required
 
 // ---- folding statements
 
-// The n words from `at` on, written from `o` on.
-pub fn copy_words(words: &[i32], at: usize, n: usize, work: &mut [i32], o: usize) -> usize
-    requires { ⌜ (at + n ≤ length (now words)) × (o + n ≤ length (now work)) ⌝ }
-    ensures { λ r. ⌜ Stored (now (work .entry)) o (take n (drop at (now (words .entry)))) (now (work .exit)) r ⌝ }
-{
-    let mut i = 0;
-    while i < n {
-        folding::copy_word(words, at + i, work, o + i);
-        i += 1;
-    }
-    o + n
-}
-
 fn fold_columns(words: &[i32], d: usize, at: usize, n: usize, work: &mut [i32], o: usize) -> Span
     requires { ⌜ Ready-columns (now words) d at n (now work) o ⌝ }
     ensures { λ r. ⌜ Columns-post (now (words .entry)) d at n (now (work .entry)) o (now (work .exit)) (r .next) (r .end) ⌝ }
@@ -335,7 +321,7 @@ fn fold_table(words: &[i32], d: usize, at: usize, work: &mut [i32], o: usize) ->
     let m = folding::put_two(work, o + 1, n, k);
     let a = fold_columns(words, d, at + 3, n, work, m);
     let cells = n * k;
-    let end = copy_words(words, a.next, cells, work, a.end);
+    let end = memory::copy_words(words, a.next, cells, work, a.end);
     Span {
         next: a.next + cells,
         end,

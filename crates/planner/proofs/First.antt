@@ -8,7 +8,8 @@ use native.Mathlib.Omega.{arith}
 use lib.IntN.{ℤ, pos}
 use lib.ListN.{length, getD}
 use lib.Seq.{sets}
-use Rattle.syntax.specs.Words.{max-answer-words}
+use Rattle.memory.specs.Places.{folded}
+use Rattle.syntax.specs.Words.{max-answer-words, max-bools}
 use Rattle.syntax.specs.Syntax.{Domain, Stmt, Problem}
 use Rattle.words.specs.Exact.{Each}
 use Rattle.fold.specs.Fold.{Fixed}
@@ -18,7 +19,7 @@ use Rattle.walk.specs.Decode.{read-part}
 use Rattle.walks.specs.Item.{counters, has-ifs}
 use Rattle.walks.specs.Meet.{State}
 use Rattle.walks.specs.Good.{records-of}
-use Rattle.memory.specs.DomainTable.{Declares}
+use Rattle.declared.specs.DomainTable.{Declares}
 use Rattle.statements.specs.Stages.{log-of}
 use Rattle.stages.specs.StatementsPlaces.{Marked}
 use Rattle.stages.specs.Start.{start, Begun}
@@ -60,7 +61,7 @@ module _ (merge : Bool) (p : Problem) (f : Fixed) (ss : List Stmt) (set' w : Lis
   rows : Each WellRows ss
   rows = settled-rows p (h .lent .settled .well) f ss (h .lent .settled .ends)
 
-  stand : StandAll w 512 end ss
+  stand : StandAll w folded end ss
   stand = record {
     words = h .lent .stands;
     legal = walkable .legal;
@@ -68,14 +69,14 @@ module _ (merge : Bool) (p : Problem) (f : Fixed) (ss : List Stmt) (set' w : Lis
     stop = h .lent .ends;
   }
 
-  pub asks : AsksAll (records-from p) (length out) 512 end (start w out n)
-  asks = subst (λ (e : ℕ). AsksAll (records-from p) cap 512 e (start w out n)) (sym (h .lent .ends)) (start-asks merge p f ss F (has-ifs w) cap walkable within rows w n b (h .domains) out)
+  pub asks : AsksAll (records-from p) (length out) folded end (start w out n)
+  asks = subst (λ (e : ℕ). AsksAll (records-from p) cap folded e (start w out n)) (sym (h .lent .ends)) (start-asks merge p f ss F (has-ifs w) cap walkable within rows w n b (h .domains) out)
 
   -- ---- behind it
 
-  module _ (st : State) (d : DoneAll (records-from p) (length out) 512 end (start w out n) st) where
+  module _ (st : State) (d : DoneAll (records-from p) (length out) folded end (start w out n) st) where
     agree : Agree cap st (behind p ss F cap (start w out n))
-    agree = start-agrees merge p f ss F (has-ifs w) cap walkable within rows w n b (h .domains) out st (subst (λ (e : ℕ). DoneAll (records-from p) cap 512 e (start w out n) st) (h .lent .ends) d)
+    agree = start-agrees merge p f ss F (has-ifs w) cap walkable within rows w n b (h .domains) out st (subst (λ (e : ℕ). DoneAll (records-from p) cap folded e (start w out n) st) (h .lent .ends) d)
 
     pub kept : Kept (start w out n) st
     kept = d ss stand .kept
@@ -111,7 +112,7 @@ module _ (merge : Bool) (p : Problem) (f : Fixed) (ss : List Stmt) (set' w : Lis
       ints = ap (λ (x : State). x .ints) ends-there ∙ ended merge p f ss F (has-ifs w) cap walkable w n b out used-there .standing .state .ints
 
       abbrev Answer : State → Type 0
-      Answer x = ((v : ℕ) → v < 512 → getD (x .work) v (pos 0) ≡ fixed-word (f v))
+      Answer x = ((v : ℕ) → v < max-bools → getD (x .work) v (pos 0) ≡ fixed-word (f v))
           → layout (normalize merge p f ss) ≡ front-words (x .work) (p .bools) (length ds) (counters (x .bools) (x .ints)) ++ (records-of ds log ++ (pos (length (clauses-of log)) ∷ clauses-words (clauses-of log)))
 
       pub answer : layout (normalize merge p f ss) ≡ front-words (st .work) (p .bools) (length (p .domains)) (counters (st .bools) (st .ints)) ++ (records-of (p .domains) (log-of merge p ss) ++ (pos (length (clauses-of (log-of merge p ss))) ∷ clauses-words (clauses-of (log-of merge p ss))))

@@ -6,18 +6,20 @@ use Prim.Native.Nat.{ℕ, suc, _+_, _-_, _*_, _≤_, _<_}
 use native.Mathlib.Omega.{arith}
 use lib.IntN.{ℤ, pos}
 use lib.ListN.{length, getD, take, set, length-set, length-replicate}
-use lib.Seq.{sets, length-sets, take-set-le, getD-take, getD-drop, getD-set-other}
+use lib.Seq.{sets, length-sets, take-set-le, getD-drop, getD-set-other}
 use Rattle.laws.specs.Ints.{is-zero}
 use Rattle.laws.specs.Slices.{Has, zeros, has-sets}
+use Rattle.memory.specs.Places.{folded, folded-end, ifs-word, declared-domains, table}
 use Rattle.syntax.specs.Syntax.{Domain, Stmt, Problem}
+use Rattle.syntax.specs.Words.{min-work-words}
 use Rattle.fold.specs.Fold.{Fixed}
 use Rattle.accept.specs.Accepted.{domains-stand}
 use Rattle.answer.specs.Answer.{start-log}
 use Rattle.walk.specs.Decode.{read-part}
-use Rattle.walks.specs.Item.{has-ifs, ifs-word}
+use Rattle.walk.specs.NumberingSteps.{part-word}
+use Rattle.walks.specs.Item.{has-ifs}
 use Rattle.walks.specs.Meet.{State}
-use Rattle.memory.specs.Places.{declared-domains, table}
-use Rattle.memory.specs.DomainTable.{domain-table, Table-room, Table-post, word-at, Declares, declares, sizes-fit}
+use Rattle.declared.specs.DomainTable.{domain-table, Table-room, Table-post, word-at, Declares, declares, sizes-fit}
 use Rattle.marking.specs.Mark.{marked, mark-own}
 use Rattle.statements.specs.Stages.{settled-short}
 use Rattle.stages.specs.StatementsPlaces.{stmts-words}
@@ -34,15 +36,11 @@ take-below k l o [] h = refl
 take-below k l o (u ∷ us) h = take-below k (set l o u) (suc o) us (omega arith) ∙ take-set-le k l o u h
 
 -- words of the slice by its first words
-low-word : (w w' : List ℤ) → read-part w' ≡ read-part w → (k : ℕ) → k < 4608 → getD w' k (pos 0) ≡ getD w k (pos 0)
-unfolding read-part
-low-word w w' e k h = sym (getD-take 4608 w' k (pos 0) h) ∙ ap (λ (x : List ℤ). getD x k (pos 0)) e ∙ getD-take 4608 w k (pos 0) h
-
 settles-low : {p : Problem} {f : Fixed} {ss : List Stmt} {w w' : List ℤ} {end : ℕ} → read-part w' ≡ read-part w → length w' ≡ length w → Settles p f ss w end → Settles p f ss w' end
 settles-low {p} {f} {ss} {w} {w'} e l h = record {
   set = h .set;
-  values = λ v k. low-word w w' e v (omega arith) ∙ h .values v k;
-  stands = subst (λ (F : List ℤ). Has F 512 (stmts-words ss)) (sym e) (h .stands);
+  values = λ v k. part-word w w' e v (omega arith) ∙ h .values v k;
+  stands = subst (λ (F : List ℤ). Has F folded (stmts-words ss)) (sym e) (h .stands);
   ends = h .ends;
   size = omega (arith, h .size, l);
 }
@@ -56,10 +54,10 @@ module _ (p : Problem) (f : Fixed) (ss : List Stmt) (set' w : List ℤ) (i end :
   abbrev ds : List Domain
   ds = p .domains
 
-  long : 16384 ≤ length w
+  long : min-work-words ≤ length w
   long = h .settles .size
 
-  ends-low : end ≤ 4608
+  ends-low : end ≤ folded-end
   ends-low = omega (arith, h .settles .ends, settled-short p f ss (h .settles .set))
 
   few : length ds ≤ 256
@@ -85,7 +83,7 @@ module _ (p : Problem) (f : Fixed) (ss : List Stmt) (set' w : List ℤ) (i end :
 
   part : read-part (marked tabled end) ≡ read-part w
   unfolding read-part
-  part = take-set-le 4608 tabled ifs-word _ (omega arith) ∙ take-below 4608 (cleared w) declared-domains (domain-table ds) (omega arith) ∙ take-below 4608 w declared-domains (zeros (table - declared-domains)) (omega arith)
+  part = take-set-le folded-end tabled ifs-word _ (omega arith) ∙ take-below folded-end (cleared w) declared-domains (domain-table ds) (omega arith) ∙ take-below folded-end w declared-domains (zeros (table - declared-domains)) (omega arith)
 
   blank : Has (cleared w) declared-domains (zeros (table - declared-domains))
   blank = has-sets w declared-domains (zeros (table - declared-domains)) (omega (arith, long, length-replicate (table - declared-domains) (pos 0)))
@@ -110,7 +108,7 @@ module _ (p : Problem) (f : Fixed) (ss : List Stmt) (set' w : List ℤ) (i end :
 pub table-asks : (set' w : List ℤ) (i end : ℕ) → SomeHeld set' w i end → {x : List ℤ} → x ≡ sets w declared-domains (zeros (table - declared-domains)) → Table-room set' 2 i x declared-domains
 table-asks set' w i end s e = subst (λ (l : List ℤ). Table-room set' 2 i l declared-domains) (sym e) (table-room (s .it) (s .fixed) (s .stmts) set' w i end (s .held))
 
-pub mark-asks : (set' w : List ℤ) (i end : ℕ) → SomeHeld set' w i end → {k : ℕ} → k ≡ length w → (ifs-word < k) × (end ≤ 4608)
+pub mark-asks : (set' w : List ℤ) (i end : ℕ) → SomeHeld set' w i end → {k : ℕ} → k ≡ length w → (ifs-word < k) × (end ≤ folded-end)
 mark-asks set' w i end s e =
     let h = s .held in
     (omega (arith, h .settles .size), ends-low (s .it) (s .fixed) (s .stmts) set' w i end h)

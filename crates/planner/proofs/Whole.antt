@@ -8,8 +8,10 @@ use native.Mathlib.Omega.{arith}
 use lib.IntN.{ℤ, pos}
 use lib.ListN.{length, set, length-append}
 use lib.Seq.{sets}
-use Rattle.laws.specs.Writes.{Wrote, wrote-length}
+use Rattle.laws.specs.Writes.{Wrote, wrote-length, cap}
+use Rattle.memory.specs.Places.{folded, maps-end}
 use Rattle.syntax.specs.Syntax.{Stmt, Problem}
+use Rattle.syntax.specs.Words.{max-bools}
 use Rattle.fold.specs.Fold.{Fixed}
 use Rattle.clauses.specs.Clause.{Clause}
 use Rattle.clauses.specs.Log.{Log, clauses-of}
@@ -50,18 +52,18 @@ module _ (merge : Bool) (set' w : List ℤ) (b i end : ℕ) (out x : List ℤ) (
       front-is-long : 2 * b + i + 2 ≡ records-from p
       front-is-long = omega (arith, h .bools, h .held .ints)
 
-    pub some-asks : SomeWrites set' w b i end out → AsksAll (2 * b + i + 2) (length out) 512 end (start w' out n)
+    pub some-asks : SomeWrites set' w b i end out → AsksAll (2 * b + i + 2) (length out) folded end (start w' out n)
     some-asks s =
         let p = s .it in
         let f = s .fixed in
         let ss = s .stmts in
         let h = s .writes in
-        subst (λ (r : ℕ). AsksAll r (length out) 512 end (start w' out n)) (sym (front-is-long p f ss h)) (asks merge p f ss set' w' end n out (opened p f ss h) (begun-there p f ss h) (h .part))
+        subst (λ (r : ℕ). AsksAll r (length out) folded end (start w' out n)) (sym (front-is-long p f ss h)) (asks merge p f ss set' w' end n out (opened p f ss h) (begun-there p f ss h) (h .part))
 
-    module _ (st : State) (d : DoneAll (2 * b + i + 2) (length out) 512 end (start w' out n) st) where
+    module _ (st : State) (d : DoneAll (2 * b + i + 2) (length out) folded end (start w' out n) st) where
       module _ (p : Problem) (f : Fixed) (ss : List Stmt) (h : Writes p f ss set' w b i end out) where
-        done : DoneAll (records-from p) (length out) 512 end (start w' out n) st
-        done = subst (λ (r : ℕ). DoneAll r (length out) 512 end (start w' out n) st) (front-is-long p f ss h) d
+        done : DoneAll (records-from p) (length out) folded end (start w' out n) st
+        done = subst (λ (r : ℕ). DoneAll r (length out) folded end (start w' out n) st) (front-is-long p f ss h) d
 
       pub some-low : SomeWrites set' w b i end out → Low st
       some-low s = let h = s .writes in low merge (s .it) (s .fixed) (s .stmts) set' w' end n out (opened (s .it) (s .fixed) (s .stmts) h) (begun-there (s .it) (s .fixed) (s .stmts) h) (h .part) st (done (s .it) (s .fixed) (s .stmts) h)
@@ -118,7 +120,7 @@ module _ (merge : Bool) (set' w : List ℤ) (b i end : ℕ) (out x : List ℤ) (
           words = λ k. absurd (omega arith);
         }
 
-        pub front-asks : SomeWrites set' w b i end out → (b ≤ 512) × (i ≤ 256) × (5376 ≤ length (st .work)) × (length (st .out) ≤ 16777217)
+        pub front-asks : SomeWrites set' w b i end out → (b ≤ max-bools) × (i ≤ 256) × (maps-end ≤ length (st .work)) × (length (st .out) ≤ cap)
         front-asks s =
             let p = s .it in
             let h = s .writes in

@@ -7,17 +7,17 @@ use lib.IntN.{ℤ, pos}
 use lib.ListN.{length, getD}
 use lib.Seq.{sets}
 use Rattle.laws.specs.Slices.{zeros}
-use Rattle.syntax.specs.Words.{max-answer-words}
+use Rattle.memory.specs.Places.{limit}
+use Rattle.syntax.specs.Words.{max-answer-words, max-bools, min-work-words}
 use Rattle.syntax.specs.Syntax.{Stmt, Problem, encode}
 use Rattle.fold.specs.Fold.{Fixed}
 use Rattle.clauses.specs.Log.{clauses-of}
 use Rattle.answer.specs.Answer.{fixed-word, layout, normalize}
 use Rattle.call.specs.Call.{Result, measured, output-after}
-use Rattle.walk.specs.Item.{limit}
 use Rattle.walk.specs.Decode.{read-part}
 use Rattle.walks.specs.Item.{has-ifs}
 use Rattle.walks.specs.Leaves.{words-of}
-use Rattle.memory.specs.DomainTable.{Declares}
+use Rattle.declared.specs.DomainTable.{Declares}
 use Rattle.statements.specs.Stages.{log-of}
 use Rattle.rows.specs.Emit.{Clauses, Behind}
 use Rattle.numbering.specs.declared.Room.{Room}
@@ -48,9 +48,9 @@ pub record SomeHeld (set w : List ℤ) (i end : ℕ) : Type 0 where
 -- with the table of its domains and its word for Ifs
 pub record Prepared (p : Problem) (f : Fixed) (ss : List Stmt) (set w : List ℤ) (end : ℕ) : Type 0 where
   pub lent : Lent p f ss set (read-part w) end (has-ifs w)
-  pub values : (v : ℕ) → v < 512 → getD w v (pos 0) ≡ fixed-word (f v)
+  pub values : (v : ℕ) → v < max-bools → getD w v (pos 0) ≡ fixed-word (f v)
   pub domains : Declares (p .domains) w
-  pub size : 16384 ≤ length w
+  pub size : min-work-words ≤ length w
 
 abbrev pub Prepares : List ℤ → List ℤ → ℕ → ℕ → List ℤ → Type 0
 Prepares set w i end w' = (p : Problem) (f : Fixed) (ss : List Stmt) → Held p f ss set w i end → Prepared p f ss set w' end

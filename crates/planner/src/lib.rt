@@ -24,7 +24,7 @@ fn prepare(set: &[i32], work: &mut [i32], ints: usize, end: usize)
     ensures { λ _. ⌜ Prepares (now (set .entry)) (now (work .entry)) ints end (now (work .exit)) ⌝ }
 {
     memory::clear_words(work, memory::DECLARED_DOMAINS, memory::TABLE);
-    memory::write_domains(set, 2, ints, work);
+    declared::write_domains(set, 2, ints, work);
     marking::mark_ifs(work, end);
 }
 
@@ -107,10 +107,10 @@ fn write_answer(
 fn lent(n: usize) -> usize
     ensures { λ r. ⌜ r ≡ min n max-answer-words ⌝ }
 {
-    if n < 16777216 {
+    if n < memory::MOST_WORDS {
         return n;
     }
-    16777216
+    memory::MOST_WORDS
 }
 
 // The answer of a settled set: its words, or refusal 12 where they do not fit.
@@ -131,7 +131,7 @@ fn emit(
     if words <= room {
         return Answer::Compiled(words);
     }
-    refuse::clear(out);
+    memory::clear(out);
     Answer::Refused(12)
 }
 
@@ -139,13 +139,13 @@ fn emit(
 pub fn compile_with(set: &[i32], output: &mut [i32], work: &mut [i32], choices: Choices) -> Answer
     ensures { λ r. ⌜ Compiles choices (now (set .entry)) (now (output .entry)) (now (work .entry)) (now (output .exit)) (now (work .exit)) r ⌝ }
 {
-    refuse::clear(output);
+    memory::clear(output);
     match settle::settle(set, work) {
         Settling::Refused(k) => Answer::Refused(k),
         Settling::Contradiction => Answer::Contradiction,
         Settling::Folded(p) => {
             let r = emit(set, output, work, p.bools, p.ints, p.end, choices.merge);
-            refuse::clear(work);
+            memory::clear(work);
             r
         }
     }

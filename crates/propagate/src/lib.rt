@@ -173,7 +173,7 @@ fn push_fixed(work: &[i32], end: usize, watches: &mut [i32], queued: usize) -> u
     ensures { λ r. ⌜ r ≤ 2048 ⌝ }
 {
     let mut count = queued;
-    let mut p = 512;
+    let mut p = memory::FOLDED;
     while p < end {
         count = push_at(work, p, watches, count);
         p += 1;
@@ -188,8 +188,8 @@ fn step(words: &[i32], at: usize, work: &mut [i32]) -> Stepped
     requires { ⌜ Ready-step (now words) at (now work) ⌝ }
     ensures { λ r. ⌜ Step-post (now (words .entry)) at (now (work .entry)) (now (work .exit)) (r .end) (r .status) × Next-post (now (words .entry)) at (r .next) ⌝ }
 {
-    let a = passes::fold_stmt(words, 2, at, work, 512);
-    let b = passes::prop_stmt(work, 512);
+    let a = passes::fold_stmt(words, 2, at, work, memory::FOLDED);
+    let b = passes::prop_stmt(work, memory::FOLDED);
     Stepped {
         next: a.next,
         end: a.end,
@@ -199,7 +199,7 @@ fn step(words: &[i32], at: usize, work: &mut [i32]) -> Stepped
 
 // Whether the folded statement, once required, may fix something later: a table, an AllDifferent, a constant and a variable do not.
 fn lasting(work: &[i32], end: usize) -> bool {
-    let kind = entry(work, 512);
+    let kind = entry(work, memory::FOLDED);
     kind == 1 && end > 516
 }
 
@@ -392,7 +392,7 @@ fn after_pass(
     if s == 2 {
         return Optimized {
             status: 2,
-            end: 512,
+            end: memory::FOLDED,
         };
     }
     Optimized { status, end }
@@ -410,12 +410,12 @@ fn run_passes(words: &[i32], at: usize, count: usize, work: &mut [i32]) -> Optim
     ensures { λ r. ⌜ Passes-post (now (words .entry)) at count (now (work .entry)) (now (work .exit)) (r .status) (r .end) ⌝ }
 {
     let mut status = 1;
-    let mut end = 512;
+    let mut end = memory::FOLDED;
     let mut left = 3;
     while status == 1 {
         left = less_one(left);
-        let a = passes::fold_stmts(words, 2, at, count, work, 512);
-        let s = passes::constant_prop_stmts(work, 512, count);
+        let a = passes::fold_stmts(words, 2, at, count, work, memory::FOLDED);
+        let s = passes::constant_prop_stmts(work, memory::FOLDED, count);
         let b = after_pass(words, at, count, work, s, a.end, left);
         status = b.status;
         end = b.end;

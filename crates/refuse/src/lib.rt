@@ -6,24 +6,13 @@ ghost use Rattle.laws.specs.Slices.{zeros};
 ghost use Rattle.accept.specs.Accepted.{accepted};
 ghost use Rattle.refuse.specs.Refuse.{refusal-of};
 
-// Every word becomes 0.
-pub fn clear(s: &mut [i32])
-    ensures { λ _. ⌜ now (s .exit) ≡ zeros (length (now (s .entry))) ⌝ }
-{
-    let mut i = 0;
-    while i < s.len() {
-        s[i] = 0;
-        i += 1;
-    }
-}
-
 // The refusal, or 0.
 #[no_mangle]
 pub extern "C" fn refuse_set(set: &[i32], work: &mut [i32]) -> usize
     ensures { λ r. ⌜ (r ≡ refusal-of (accepted (length (now (work .entry))) (now (set .entry)))) × (now (work .exit) ≡ zeros (length (now (work .entry)))) ⌝ }
 {
     let answer = accept::accept(set, work);
-    clear(work);
+    memory::clear(work);
     match answer {
         Set::Ok(_) => 0,
         Set::Refused(k) => k,

@@ -12,7 +12,8 @@ use borrow.Author.Tests.{lt-ltb, le-ltb}
 use Rattle.laws.specs.Ints.{apart}
 use Rattle.laws.specs.Lists.{from, below}
 use Rattle.laws.specs.Slices.{Pushed, pushed-then, Stored, drop-up, zeros}
-use Rattle.syntax.specs.Words.{max-set-words, min-work-words}
+use Rattle.memory.specs.Places.{folded, folded-end}
+use Rattle.syntax.specs.Words.{max-set-words, min-work-words, max-bools}
 use Rattle.syntax.specs.Syntax.{Stmt, Problem}
 use Rattle.words.specs.Parse.{Parsed, ok, refuse}
 use Rattle.read.specs.Read.{read-set}
@@ -31,20 +32,20 @@ use Rattle.remaining.specs.Remaining.{remaining-words, remaining-number,
 
 -- ---- two runs, of words that stand in the work slice
 
-module _ (work : List ℤ) (bools end : ℕ) (few : bools ≤ 512) (past : 512 ≤ end) (inside : end ≤ length work) where
+module _ (work : List ℤ) (bools end : ℕ) (few : bools ≤ max-bools) (past : folded ≤ end) (inside : end ≤ length work) where
   first : length (take bools work) ≡ bools
   first = length-take-le bools work (omega arith)
 
-  second : length (take (end - 512) (drop 512 work)) ≡ end - 512
-  second = length-take-le (end - 512) (drop 512 work) (omega (arith, length-drop 512 work))
+  second : length (take (end - folded) (drop folded work)) ≡ end - folded
+  second = length-take-le (end - folded) (drop folded work) (omega (arith, length-drop folded work))
 
   abbrev both : List ℤ
-  both = take bools work ++ take (end - 512) (drop 512 work)
+  both = take bools work ++ take (end - folded) (drop folded work)
 
-  both-long : length both ≡ bools + (end - 512)
-  both-long = omega (arith, length-append (take bools work) (take (end - 512) (drop 512 work)), first, second)
+  both-long : length both ≡ bools + (end - folded)
+  both-long = omega (arith, length-append (take bools work) (take (end - folded) (drop folded work)), first, second)
 
-  pub copied-short : (out : List ℤ) → length out < bools + (end - 512) → Copied work bools end out out (bools + (end - 512))
+  pub copied-short : (out : List ℤ) → length out < bools + (end - folded) → Copied work bools end out out (bools + (end - folded))
   unfolding placed
   copied-short out h = record { count = refl; output = rw (lt-ltb (length out) (length both) (omega (arith, both-long))) refl }
 
@@ -52,10 +53,10 @@ module _ (work : List ℤ) (bools end : ℕ) (few : bools ≤ 512) (past : 512 �
   pub copied-next : (out mid : List ℤ) (m : ℕ) → Stored out 0 (take bools work) mid m → m ≡ bools
   copied-next out mid m a = omega (arith, a .pushed .end, first)
 
-  pub copied-two : (out mid : List ℤ) (m : ℕ) (out' : List ℤ) (r : ℕ) → Stored out 0 (take bools work) mid m → Stored mid m (take (end - 512) (drop 512 work)) out' r → bools + (end - 512) ≤ length out → Copied work bools end out out' r
+  pub copied-two : (out mid : List ℤ) (m : ℕ) (out' : List ℤ) (r : ℕ) → Stored out 0 (take bools work) mid m → Stored mid m (take (end - folded) (drop folded work)) out' r → bools + (end - folded) ≤ length out → Copied work bools end out out' r
   unfolding placed
   copied-two out mid m out' r a b h =
-      let p : Pushed out 0 both out' r = pushed-then out 0 (take bools work) mid m (take (end - 512) (drop 512 work)) out' r (a .pushed) (b .pushed) in
+      let p : Pushed out 0 both out' r = pushed-then out 0 (take bools work) mid m (take (end - folded) (drop folded work)) out' r (a .pushed) (b .pushed) in
       let k : r ≡ length both = omega (arith, p .end) in
       let t : drop r out' ≡ drop r out = b .above ∙ drop-up m r mid out (a .above) (omega (arith, b .pushed .end)) in
       let e : out' ≡ both ++ drop r out = sym (take-append-drop r out') ∙ ap (λ (l : List ℤ). l ++ drop r out') (p .words) ∙ ap (λ (l : List ℤ). both ++ l) t in
@@ -72,13 +73,13 @@ cells w f i (suc k) h e =
     ap (take (suc k)) (drop-cons w i (pos 0) (omega arith))
     ∙ rw (e i (omega arith), cells w f (suc i) k (omega arith) (λ v l. e v (omega arith))) refl
 
-standing : (p : Problem) (f : Fixed) (ss : List Stmt) (w : List ℤ) → Folded p f ss w → (b m : ℕ) → b ≡ p .bools → m ≡ length (stmts-words ss) → take b w ++ take m (drop 512 w) ≡ remaining-words p f ss
+standing : (p : Problem) (f : Fixed) (ss : List Stmt) (w : List ℤ) → Folded p f ss w → (b m : ℕ) → b ≡ p .bools → m ≡ length (stmts-words ss) → take b w ++ take m (drop folded w) ≡ remaining-words p f ss
 unfolding remaining-words
 standing p f ss w h b m e n =
     let few = h .set .well .few-bools in
     let a : take b w ≡ map fixed-word (map f (below (p .bools))) = ap (λ (k : ℕ). take k w) e ∙ cells w f 0 (p .bools) (omega (arith, h .empty .size, few)) (λ v l. h .values v (omega (arith, few))) in
-    let c : take m (drop 512 w) ≡ stmts-words ss = ap (λ (k : ℕ). take k (drop 512 w)) n ∙ has-part w 512 (stmts-words ss) (h .stands) in
-    ap (λ (l : List ℤ). l ++ take m (drop 512 w)) a ∙ ap (λ (l : List ℤ). map fixed-word (map f (below (p .bools))) ++ l) c
+    let c : take m (drop folded w) ≡ stmts-words ss = ap (λ (k : ℕ). take k (drop folded w)) n ∙ has-part w folded (stmts-words ss) (h .stands) in
+    ap (λ (l : List ℤ). l ++ take m (drop folded w)) a ∙ ap (λ (l : List ℤ). map fixed-word (map f (below (p .bools))) ++ l) c
 
 -- ---- what a folded answer says of the set
 
@@ -88,7 +89,7 @@ record Folded-set (ws : List ℤ) (q : Places) : Type 0 where
   stmts : List Stmt
   says : read-set ws ≡ ok it []
   ends : optimize it ≡ settled fixed stmts
-  end : q .end ≡ 512 + length (stmts-words stmts)
+  end : q .end ≡ folded + length (stmts-words stmts)
   bools : q .bools ≡ it .bools
 
 folded-set : (n : ℕ) (ws : List ℤ) (q : Places) → settling n ws ≡ settling.Folded q → Folded-set ws q
@@ -98,7 +99,7 @@ folded-set n ws q = go (ltb n min-work-words) (ltb max-set-words (length ws)) (r
     last : (p : Problem) (o : Outcome) → read-set ws ≡ ok p [] → optimize p ≡ o → settling-of p o ≡ settling.Folded q → Folded-set ws q
     last p inconsistent e i h = apart (cc)
     last p (settled f ss) e i h =
-        let z : record { end = 512 + length (stmts-words ss); bools = p .bools; ints = length (p .domains) } ≡ q = cc in
+        let z : record { end = folded + length (stmts-words ss); bools = p .bools; ints = length (p .domains) } ≡ q = cc in
         record { it = p; fixed = f; stmts = ss; says = e; ends = i; end = sym (ap (λ (x : Places). x .end) z); bools = sym (ap (λ (x : Places). x .bools) z) }
 
     free : (p : Problem) (r : List ℤ) (m : ℕ) → read-set ws ≡ ok p r → settling-checked p m ≡ settling.Folded q → Folded-set ws q
@@ -143,19 +144,19 @@ module _ (set work work' : List ℤ) (r : Settling) (s : Settle-post set work wo
     holds : Holds set work work'
     holds = subst (λ (x : Settling). Left x set work work') e (s .left)
 
-    pub copy-ready : (q .bools ≤ 512) × (512 ≤ q .end) × (q .end ≤ 4608) × (q .end ≤ length work')
+    pub copy-ready : (q .bools ≤ max-bools) × (folded ≤ q .end) × (q .end ≤ folded-end) × (q .end ≤ length work')
     copy-ready =
         let t = some-set in
         let h : Folded (t .it) (t .fixed) (t .stmts) work' = holds .folded (t .it) (t .fixed) (t .stmts) (t .says) (t .ends) in
         let k = settled-short (t .it) (t .fixed) (t .stmts) (h .set) in
         (omega (arith, t .bools, h .set .well .few-bools), omega (arith, t .end), omega (arith, t .end, k), omega (arith, t .end, k, h .empty .size))
 
-    same : (p : Problem) (f : Fixed) (ss : List Stmt) → read-set set ≡ ok p [] → optimize p ≡ settled f ss → (q .bools ≡ p .bools) × (q .end ≡ 512 + length (stmts-words ss))
+    same : (p : Problem) (f : Fixed) (ss : List Stmt) → read-set set ≡ ok p [] → optimize p ≡ settled f ss → (q .bools ≡ p .bools) × (q .end ≡ folded + length (stmts-words ss))
     same p f ss x y =
         let t = some-set in
         let m : t .it ≡ p = (let z : ok (t .it) [] ≡ ok p [] = sym (t .says) ∙ x in cc) in
         let n : t .stmts ≡ ss = (let z : settled (t .fixed) (t .stmts) ≡ settled f ss = sym (t .ends) ∙ ap optimize m ∙ y in cc) in
-        (t .bools ∙ ap (λ (z : Problem). z .bools) m, t .end ∙ ap (λ (l : List Stmt). 512 + length (stmts-words l)) n)
+        (t .bools ∙ ap (λ (z : Problem). z .bools) m, t .end ∙ ap (λ (l : List Stmt). folded + length (stmts-words l)) n)
 
     pub remains-folded : (out' : List ℤ) (m : ℕ) (last : List ℤ) → Copied work' (q .bools) (q .end) cleared out' m → last ≡ zeros (length work') → length work' ≡ length work → Remains set out work out' last (1000 + m)
     unfolding remaining-number
@@ -166,7 +167,7 @@ module _ (set work work' : List ℤ) (r : Settling) (s : Settle-post set work wo
           output = subst (λ (x : Settling). Output x set (length out) out') a (λ p f ss x y.
               let b = same p f ss x y in
               c .output
-              ∙ ap (placed cleared) (standing p f ss work' (holds .folded p f ss x y) (q .bools) (q .end - 512) (b .0) (omega (arith, b .1)))
+              ∙ ap (placed cleared) (standing p f ss work' (holds .folded p f ss x y) (q .bools) (q .end - folded) (b .0) (omega (arith, b .1)))
               ∙ ap (λ (l : List ℤ). placed l (remaining-words p f ss)) zeroed);
           zeroed = z ∙ ap zeros l;
         }

@@ -8,6 +8,7 @@ use lib.Dec.{ltb}
 use lib.ListN.{length, take, drop}
 use Rattle.laws.specs.Lists.{below}
 use Rattle.laws.specs.Slices.{zeros}
+use Rattle.memory.specs.Places.{folded}
 use Rattle.syntax.specs.Syntax.{Stmt, Problem}
 use Rattle.words.specs.Parse.{ok}
 use Rattle.read.specs.Read.{read-set}
@@ -26,7 +27,7 @@ remaining-words p f ss = map fixed-word (map f (below (p .bools))) ++ stmts-word
 unfoldable pub remaining-number : Settling → ℕ
 remaining-number (Refused k) = k
 remaining-number Contradiction = 100
-remaining-number (Folded q) = 1000 + (q .bools + (q .end - 512))
+remaining-number (Folded q) = 1000 + (q .bools + (q .end - folded))
 
 -- words in front of what stands in a slice, if it has room for all of them
 unfoldable pub placed : List ℤ → List ℤ → List ℤ
@@ -45,5 +46,5 @@ pub record Remains (set out work out' work' : List ℤ) (r : ℕ) : Type 0 where
 
 -- the first words of the work slice and those from 512 to the end, one run behind the other
 pub record Copied (work : List ℤ) (bools end : ℕ) (out out' : List ℤ) (r : ℕ) : Type 0 where
-  pub count : r ≡ bools + (end - 512)
-  pub output : out' ≡ placed out (take bools work ++ take (end - 512) (drop 512 work))
+  pub count : r ≡ bools + (end - folded)
+  pub output : out' ≡ placed out (take bools work ++ take (end - folded) (drop folded work))

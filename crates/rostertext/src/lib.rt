@@ -101,7 +101,7 @@ fn check_with_room(
     requires { ⌜ (32768 ≤ length (now words)) × (65537 ≤ length (now values)) ⌝ }
     ensures { λ r. ⌜ Told (now (text .entry)) (now (work .entry)) (now (work .exit)) (now (out .entry)) (now (out .exit)) r ⌝ }
 {
-    refuse::clear(work);
+    memory::clear(work);
     let n = text.len();
     if 65536 < n {
         return decimal::put_bytes(out, 0, &UNREAD);

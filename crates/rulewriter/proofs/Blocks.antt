@@ -7,7 +7,8 @@ use native.Mathlib.Omega.{arith}
 use lib.IntN.{ℤ}
 use lib.ListN.{length}
 use Rattle.laws.specs.Writes.{cap, Wrote, wrote-then, Open}
-use Rattle.walk.specs.Item.{limit, bump, lines-of, word-of}
+use Rattle.memory.specs.Places.{limit}
+use Rattle.walk.specs.Item.{bump, lines-of, word-of}
 use Rattle.walk.specs.declared.Counters.{Counters}
 use Rattle.walks.specs.Form.{Form}
 use Rattle.walks.specs.Item.{has-ifs, Item, counts, tied-item, form-item}

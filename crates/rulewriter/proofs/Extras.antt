@@ -10,19 +10,20 @@ use lib.ListN.{length}
 use lib.Dec.{eqb}
 use borrow.Author.Tests.{ne-eqb}
 use Rattle.laws.specs.Writes.{Wrote, wrote-none, wrote-then, wrote-length, Open}
+use Rattle.memory.specs.Places.{folded-end, limit}
 use Rattle.syntax.specs.Syntax.{Domain}
-use Rattle.walk.specs.Item.{limit, bump}
+use Rattle.walk.specs.Item.{bump}
 use Rattle.walk.specs.Decode.{word, past, read-part}
 use Rattle.walk.specs.declared.Counters.{Counters}
 use Rattle.walk.specs.declared.Node.{Node}
 use Rattle.walk.specs.declared.Node.the-variants.{Var, Cmp, Not, Join, Cross}
+use Rattle.walk.specs.NumberingSteps.{part-length}
 use Rattle.walks.specs.Tree.{Splitting, never, below, here, inner}
 use Rattle.walks.specs.Form.{Forms, nil, cons, append}
 use Rattle.walks.specs.Item.{Item, counts, block-words, form-item, form-items}
 use Rattle.walks.specs.Decode.{node-of, decode, decode-int, many-ties, tie-at, cross-ties, ties-step, terms-ties, if-ties, int-ties-step, ties-at, ties-int-at}
 use Rattle.walks.specs.SumsFit.{FormFits, FormsFit}
 use Rattle.walks.specs.Written.{written, written-lines}
-use Rattle.scan.specs.Nodes.{part-length}
 use Rattle.scan.specs.IfLaws.{Low}
 use Rattle.scan.specs.Skip.{split-by, Skips, SkipsAll, IntSkips, LeafTerm, int-leaf, skipping-first, skipping-next, skipping-last}
 use Rattle.output.proofs.Laws.{open-next}
@@ -314,14 +315,14 @@ module _ (w : List ℤ) (l : ℕ) (m : Splitting) where
         terms-more y g s f = going-more g (ties-int-at (read-part w) l m p (x .base)) (N (k - 1) (y .at) (y .base)) (terms-first k (x .at) (x .base) p (y .at) (y .base) z h (s .end) (s .next)) f
 
       -- a constant or a variable
-      pub terms-leaf : Going w ts n out₀ o (N k (x .at) (x .base)) out x → 4608 ≤ length w → x .base ≤ limit → Low (x .n) → LeafTerm w l (x .at) → Going w ts n out₀ o (N (k - 1) (x .at + 3) (x .base)) out (two-extras x (no-extras (x .at + 3) (x .base) (x .n) (x .o)))
+      pub terms-leaf : Going w ts n out₀ o (N k (x .at) (x .base)) out x → folded-end ≤ length w → x .base ≤ limit → Low (x .n) → LeafTerm w l (x .at) → Going w ts n out₀ o (N (k - 1) (x .at + 3) (x .base)) out (two-extras x (no-extras (x .at + 3) (x .base) (x .n) (x .o)))
       terms-leaf g size i low h =
           let p = x .at + 1 in
           let e : past (read-part w) (x .at + 1) ≡ p = omega (arith, part-length w size, h .1) in
           let s = int-leaf w size l m p (x .base) (omega (arith, h .1)) i (l - 1) (h .0) refl (word (read-part w) p) (x .at + 3) refl (h .2) (h .3) (omega (arith, h .1)) in
           terms-more p e (no-extras (x .at + 3) (x .base) (x .n) (x .o)) g s (extra-none (x .at + 3) (x .base) (int-ties-leaf (read-part w) l (l - 1) m p (x .base) (h .0) refl (word (read-part w) p) refl (h .2) (h .3)) (going-open g) low)
 
-pub both-skipped : (ws : List ℤ) (l : ℕ) (m : Splitting) (at n p b q c : ℕ) → at ≤ 4608 → n ≤ limit → Skips ws l m at n p b → Skips ws l m p b q c → SkipsAll ws l m 2 at n q c
+pub both-skipped : (ws : List ℤ) (l : ℕ) (m : Splitting) (at n p b q c : ℕ) → at ≤ folded-end → n ≤ limit → Skips ws l m at n p b → Skips ws l m p b q c → SkipsAll ws l m 2 at n q c
 both-skipped ws l m at n p b q c h i s t = skipping-last ws l m 2 at n 0 q c (skipping-next ws l m 2 at n 1 p b q c (skipping-next ws l m 2 at n 2 at n p b (skipping-first ws l m 2 at n h i) (λ z. omega (arith, z)) s) (λ z. omega (arith, z)) t) refl
 
 -- ---- the sides of a split Xor or Iff; c: the splitting's number behind the two

@@ -7,6 +7,7 @@ use native.Mathlib.Omega.{arith}
 use lib.IntN.{ℤ, pos, negsuc}
 use lib.ListN.{length}
 use Rattle.laws.specs.Writes.{Wrote, wrote-none, wrote-then, wrote-low, Open}
+use Rattle.memory.specs.Places.{folded-end, limit}
 use Rattle.syntax.specs.Syntax.{Domain, op-at}
 use Rattle.sums.specs.LinearSum.{LinearSum, singleton, mul-sum, sub-sum}
 use Rattle.sums.specs.Rising.{terms-of, Each, singleton-each, sub-sum-each}
@@ -17,7 +18,7 @@ use Rattle.sums.proofs.Laws.{stands-sum}
 use Rattle.clauses.specs.Clause.{linear}
 use Rattle.clauses.specs.Normalize.{negate-op-if}
 use Rattle.answer.specs.Answer.{linear-words}
-use Rattle.walk.specs.Item.{limit, bump, fresh, long, lines-of, closed, word-of, clause-text}
+use Rattle.walk.specs.Item.{bump, fresh, long, lines-of, closed, word-of, clause-text}
 use Rattle.walk.specs.Decode.{read-part}
 use Rattle.walk.specs.declared.Counters.{Counters}
 use Rattle.walks.specs.Tree.{Splitting}
@@ -71,7 +72,7 @@ named-longer v h w l t g at base n r s x z suf hs y k =
     named-long v h (form-item [] f) w n r (form-item [] f .unit .lines) (unit-long f z) (long-pool f true w n z) (omega (arith, e, x .found .low-all)) suf hs y (k ∙ e)
 
 -- a clause of one expression with a literal in front
-pub single-clause : {out a b c d e : List ℤ} {o p q r t u : ℕ} (x j : ℕ) (z : ℤ) (ls ks : List ℤ) → Open out o → length ls ≤ 4608 → x ≡ length ls + 1 → j ≤ 4608
+pub single-clause : {out a b c d e : List ℤ} {o p q r t u : ℕ} (x j : ℕ) (z : ℤ) (ls ks : List ℤ) → Open out o → length ls ≤ folded-end → x ≡ length ls + 1 → j ≤ folded-end
     → Wrote out o (word-of x false ∷ []) a p → Wrote a p (z ∷ []) b q → Wrote b q ls c r → Wrote c r (word-of j false ∷ []) d t → Wrote d t ks e u → Wrote out o (clause-text (z ∷ ls) [] j ks) e u
 unfolding clause-text
 single-clause {out} {a} {b} {c} {d} {e} {o} {p} {q} {r} {t} {u} x j z ls ks l hl hx hj w₁ w₂ w₃ w₄ w₅ =

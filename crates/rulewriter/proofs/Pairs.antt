@@ -6,6 +6,7 @@ use native.Mathlib.Omega.{arith}
 use lib.IntN.{ℤ, pos, negsuc}
 use lib.ListN.{length}
 use Rattle.laws.specs.Writes.{cap, Wrote, wrote-then, wrote-to, wrote-length, Open}
+use Rattle.memory.specs.Places.{limit}
 use Rattle.syntax.specs.Syntax.{Domain, Ne}
 use Rattle.sums.specs.LinearSum.{LinearSum, sub-sum}
 use Rattle.sums.specs.Rising.{Each}
@@ -13,7 +14,7 @@ use Rattle.sums.specs.Struct.{terms, sum-of}
 use Rattle.sums.proofs.Laws.{stands-sum}
 use Rattle.clauses.specs.Clause.{linear}
 use Rattle.answer.specs.Answer.{linear-words}
-use Rattle.walk.specs.Item.{limit, bump, lines-of, clause-text}
+use Rattle.walk.specs.Item.{bump, lines-of, clause-text}
 use Rattle.walk.specs.Decode.{read-part}
 use Rattle.walk.specs.declared.Counters.{Counters}
 use Rattle.walks.specs.Tree.{here}

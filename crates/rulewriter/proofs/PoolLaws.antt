@@ -7,6 +7,7 @@ use native.Mathlib.Omega.{arith}
 use lib.IntN.{ℤ, pos}
 use lib.ListN.{length, length-append}
 use Rattle.laws.specs.Writes.{Wrote, wrote-none, wrote-then, Open}
+use Rattle.memory.specs.Places.{folded-end}
 use Rattle.syntax.specs.Syntax.{op-at}
 use Rattle.walk.specs.Item.{bool-at, signed, is-none, Tally, closed, long, disj-lines, lines-of, word-of, clause-text, block}
 use Rattle.walk.specs.Decode.{read-part}
@@ -270,8 +271,8 @@ pool-skip w l t g at base b n c {out} {o} h = subst (λ (v : List ℤ). Wrote ou
 
 -- ---- the pool's clause
 
-pub pool-clause : {out a b c d e f : List ℤ} {o p q r t u v : ℕ} (s : Suffix) (x k j z : ℕ) (ls ks : List ℤ) → Open out o → Stacked s 0 → length ls ≤ 4609 → k ≤ 4608
-    → x ≡ length ls + k + (64 - s .from) → j ≤ 4608
+pub pool-clause : {out a b c d e f : List ℤ} {o p q r t u v : ℕ} (s : Suffix) (x k j z : ℕ) (ls ks : List ℤ) → Open out o → Stacked s 0 → length ls ≤ folded-end + 1 → k ≤ folded-end
+    → x ≡ length ls + k + (64 - s .from) → j ≤ folded-end
     → Wrote out o (word-of x false ∷ []) a p → Wrote a p ls b q → Wrote b q (block z k) c r → Wrote c r (suffix s) d t → Wrote d t (word-of j false ∷ []) e u → Wrote e u ks f v
     → Wrote out o (clause-text ls (block z k ++ suffix s) j ks) f v
 unfolding clause-text

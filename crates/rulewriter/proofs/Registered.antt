@@ -11,17 +11,19 @@ use lib.ListN.{length, getD}
 use lib.Dec.{eqb}
 use borrow.Author.Tests.{ne-eqb}
 use Rattle.laws.specs.Writes.{cap, Wrote, wrote-none, wrote-then, wrote-length, wrote-low, Open}
+use Rattle.memory.specs.Places.{folded-end, limit}
 use Rattle.sums.specs.LinearSum.{LinearSum}
-use Rattle.walk.specs.Item.{limit, bump, lines-of}
+use Rattle.walk.specs.Item.{bump, lines-of}
 use Rattle.walk.specs.Decode.{word, past, read-part}
 use Rattle.walk.specs.declared.Counters.{Counters}
 use Rattle.walk.specs.declared.Node.the-variants.{Var, Cmp, Not, Join, Cross}
+use Rattle.walk.specs.NumberingSteps.{part-length}
 use Rattle.walks.specs.Tree.{Splitting, here, inner}
 use Rattle.walks.specs.Form.{Form, Forms, TermForms, none as no-terms, term, joined}
 use Rattle.walks.specs.Item.{Item, IntItem, regs, reg-lines, counts, var-item, num-item, cmp-item, conj-item, disj-item, cross-item, const-item, ivar-item, no-terms-item, term-item, sum-item, condition-item, open-item, equal-item, more-bools, more-ints, Seen, unseen, both-constant, numbered, constant-in, number-in, passed, seen, block-words, block-lines, if-making, constant-making, choice-item, form-item, form-items, form-int-item, form-terms-item}
 use Rattle.walks.specs.Decode.{Read, IntRead, many, cross-step, step, many-terms, if-step, int-step, decode, decode-int}
 use Rattle.walks.specs.SumsFit.{FormFits, InsideFits, TermsFit}
-use Rattle.scan.specs.Nodes.{int-level, part-length}
+use Rattle.scan.specs.Nodes.{int-level}
 use Rattle.scan.specs.IfLaws.{seen-code, seen-at, passed-at}
 use Rattle.scan.specs.Skip.{Skips}
 use Rattle.scan.specs.SurveyLaws.{counters-of, Surveys, SurveysAll, IntSurveys}
@@ -127,7 +129,7 @@ abbrev IntAdds : IntItem → List ℤ → Counters → List ℤ → ℕ → List
 IntAdds i w n out o a r = Puts (i .adds w n) (i .added w n) out o a r
 
 module _ {w : List ℤ} {l : ℕ} {m : Splitting} {at base : ℕ} {n : Counters} {y : Behind} (s : IntSurveys w l m at base n y) where
-  pub second-placed : 4608 ≤ length w → Placed w (y .at) (y .base) (y .n)
+  pub second-placed : folded-end ≤ length w → Placed w (y .at) (y .base) (y .n)
   second-placed h = record { size = h; inside = s .skips .inside; low-base = s .skips .low; low = s .low }
 
   pub second-fit : IntFit (right-at w l m at base) → IntFit (decode-int (read-part w) l m (y .at) (y .base) .tree)
@@ -146,7 +148,7 @@ either : (P : IntRead → Type 0) (b : Bool) (x y : IntRead) → P x → P y →
 either P true x y p q = p
 either P false x y p q = q
 
-module _ (w : List ℤ) (size : 4608 ≤ length w) (l u : ℕ) (m : Splitting) (at base : ℕ) (z : l ≡ 0 → ⊥) (hu : u ≡ l - 1) (k : ℕ) (hk : k ≡ word (read-part w) at) where
+module _ (w : List ℤ) (size : folded-end ≤ length w) (l u : ℕ) (m : Splitting) (at base : ℕ) (z : l ≡ 0 → ⊥) (hu : u ≡ l - 1) (k : ℕ) (hk : k ≡ word (read-part w) at) where
   abbrev F : List ℤ
   F = read-part w
 
@@ -159,7 +161,7 @@ module _ (w : List ℤ) (size : 4608 ≤ length w) (l u : ℕ) (m : Splitting) (
   from : (P : IntRead → Type 0) → P (decode-int F l m at base) → P Stepped
   from P = subst P (int-level F l u m at base k z hu hk)
 
-  past-is : (p q : ℕ) → q ≡ min p 4608 → past F p ≡ q
+  past-is : (p q : ℕ) → q ≡ min p folded-end → past F p ≡ q
   past-is p q e = omega (arith, part-length w size)
 
   pub int-adds-leaf : (n : Counters) {out : List ℤ} {o : ℕ} (r : Added) → (k ≡ 22 → ⊥) → (k ≡ 23 → ⊥) → Puts [] 0 out o out r → IntAdds (int-at w l m at base) w n out o out r
@@ -167,7 +169,7 @@ module _ (w : List ℤ) (size : 4608 ≤ length w) (l u : ℕ) (m : Splitting) (
   int-adds-leaf n {out} {o} r x y p =
       to (λ (d : IntRead). IntAdds (form-int-item [] (d .tree)) w n out o out r) (rw (ne-eqb k 22 x, ne-eqb k 23 y) (either (λ (d : IntRead). IntAdds (form-int-item [] (d .tree)) w n out o out r) (eqb k 21) _ _ p p))
 
-  module _ (two x : ℕ) (e : k ≡ 22) (h : two ≡ min (at + 2) 4608) (hx : x ≡ word F (at + 1)) where
+  module _ (two x : ℕ) (e : k ≡ 22) (h : two ≡ min (at + 2) folded-end) (hx : x ≡ word F (at + 1)) where
     pub fit-sum : IntFit (decode-int F l m at base .tree) → AllTermsFit (many-terms F (decode-int F u m) x two base .trees)
     unfolding int-step FormFits
     fit-sum f = record { domains = f .domains; fits = rw (e, ← hx, past-is (at + 2) two h) at (from (λ (d : IntRead). InsideFits (f .domains) (d .tree)) (f .fits)) }
@@ -307,7 +309,7 @@ pub terms-none : (w : List ℤ) (l : ℕ) (m : Splitting) (k at base : ℕ) (n :
 unfolding many-terms form-item no-terms-item
 terms-none w l m k at base n {out} {o} e i = rw e (wrote-none out o (i .low), refl)
 
-module _ (w : List ℤ) (size : 4608 ≤ length w) (l : ℕ) (m : Splitting) (k at base : ℕ) (z : k ≡ 0 → ⊥) (p : ℕ) (hp : p ≡ min (at + 1) 4608) where
+module _ (w : List ℤ) (size : folded-end ≤ length w) (l : ℕ) (m : Splitting) (k at base : ℕ) (z : k ≡ 0 → ⊥) (p : ℕ) (hp : p ≡ min (at + 1) folded-end) where
   abbrev T : ℕ → ℕ → ℕ → TermForms
   T j q b = many-terms (read-part w) (decode-int (read-part w) l m) j q b .trees
 
@@ -347,8 +349,8 @@ next-lines k x y a b c t e f g h = omega arith
 pub last-lines : (k a t : ℕ) → bump k a ≡ t → a ≡ 0 → k ≤ limit → k ≡ t
 last-lines k a t e f h = omega arith
 
-pub within-past : (w : List ℤ) → 4608 ≤ length w → (p q : ℕ) → q ≡ min p 4608 → q ≡ past (read-part w) p
+pub within-past : (w : List ℤ) → folded-end ≤ length w → (p q : ℕ) → q ≡ min p folded-end → q ≡ past (read-part w) p
 within-past w h p q e = omega (arith, part-length w h)
 
-pub condition-skips : (w : List ℤ) (l : ℕ) (m : Splitting) (at base c q b : ℕ) → 4608 ≤ length w → c ≡ min (at + 1) 4608 → Skips (read-part w) l m c base q b → Skips (read-part w) l m (past (read-part w) (at + 1)) base q b
+pub condition-skips : (w : List ℤ) (l : ℕ) (m : Splitting) (at base c q b : ℕ) → folded-end ≤ length w → c ≡ min (at + 1) folded-end → Skips (read-part w) l m c base q b → Skips (read-part w) l m (past (read-part w) (at + 1)) base q b
 condition-skips w l m at base c q b h e s = subst (λ (x : ℕ). Skips (read-part w) l m x base q b) (within-past w h (at + 1) c e) s

@@ -13,12 +13,13 @@ use Rattle.walk.specs.Decode.{word, read-part}
 use Rattle.walk.specs.declared.Counters.{Counters}
 use Rattle.walk.specs.declared.Node.{Node}
 use Rattle.walk.specs.declared.Node.the-variants.{Cmp, Not, Join, Cross}
+use Rattle.walk.specs.NumberingSteps.{part-length}
 use Rattle.walks.specs.Tree.{Splitting, never, below, here, inner}
 use Rattle.walks.specs.Form.{Form, cross, Forms, cons, joined}
 use Rattle.walks.specs.Item.{form-item, form-items}
 use Rattle.walks.specs.Decode.{node-of, Read, Reader, many, cross-step, step, decode, decode-int}
 use Rattle.walks.specs.SumsFit.{FormFits, FormsFit}
-use Rattle.scan.specs.Nodes.{okay-at, level, part-length, Okay}
+use Rattle.scan.specs.Nodes.{okay-at, level, Okay}
 use Rattle.scan.specs.IfLaws.{Low}
 use Rattle.scan.specs.Skip.{split-by, Skips}
 use Rattle.output.proofs.Laws.{open-next}

@@ -5,6 +5,7 @@ use mathlib.Core.List.{List}
 use Prim.Native.Nat.{ℕ, _-_, _≤_}
 use lib.IntN.{ℤ}
 use lib.ListN.{length}
+use Rattle.memory.specs.Places.{folded-end}
 use Rattle.walk.specs.Decode.{word, read-part, surveyed, closed-disj}
 use Rattle.walk.specs.declared.Counters.{Counters}
 use Rattle.walk.specs.declared.Node.{Node}
@@ -19,7 +20,7 @@ use Rattle.scan.specs.SurveyLaws.{scanned, single-of, joined-of, Surveys, Surve
 use Rattle.scan.specs.declared.Behind.{Behind}
 use Rattle.scan.specs.declared.Scanned.{Scanned}
 
-module _ (w : List ℤ) (size : 4608 ≤ length w) (l : ℕ) (m : Splitting) (g : Bool) (at base : ℕ) (n : Counters) (inside : at ≤ 4608) (low : Low n) where
+module _ (w : List ℤ) (size : folded-end ≤ length w) (l : ℕ) (m : Splitting) (g : Bool) (at base : ℕ) (n : Counters) (inside : at ≤ folded-end) (low : Low n) where
   pub survey-none : (r : Scanned) → l ≡ 0 → Skips (read-part w) l m at base at base → r ≡ scanned (surveyed at base (n .bools) 0 0 0 0 1) (n .ints) → Surveys w l m g at base n r
   unfolding single-of
   survey-none r e s f = none-law w size l m g at base n inside low r e s f

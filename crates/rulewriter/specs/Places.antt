@@ -5,8 +5,9 @@ use mathlib.Core.List.{List, []}
 use Prim.Native.Nat.{ℕ, _+_, _≤_}
 use lib.IntN.{ℤ}
 use lib.ListN.{length}
+use Rattle.memory.specs.Places.{folded-end, limit}
 use Rattle.syntax.specs.Syntax.{Domain, CmpOp}
-use Rattle.walk.specs.Item.{limit, Tally, tally}
+use Rattle.walk.specs.Item.{Tally, tally}
 use Rattle.walk.specs.Decode.{read-part, surveyed, closed-cross}
 use Rattle.walk.specs.declared.Counters.{Counters}
 use Rattle.walk.specs.declared.Surveyed.{Surveyed}
@@ -23,8 +24,8 @@ use Rattle.scan.specs.declared.Scanned.{Scanned}
 
 -- a place in the folded words, the splitting's next number, the counters
 pub record Placed (w : List ℤ) (at base : ℕ) (n : Counters) : Type 0 where
-  pub size : 4608 ≤ length w
-  pub inside : at ≤ 4608
+  pub size : folded-end ≤ length w
+  pub inside : at ≤ folded-end
   pub low-base : base ≤ limit
   pub low : Low n
 
@@ -101,7 +102,7 @@ module _ (w : List ℤ) (l : ℕ) (m : Splitting) (at base : ℕ) where
 -- x has the tally of so many members
 pub record Tallied (w : List ℤ) (l : ℕ) (m : Splitting) (k : ℕ) (g h : Bool) (at base : ℕ) (x : Surveyed) : Type 0 where
   pub unit : tally (x .longs) (x .lits) (x .cmps) (x .lines) ≡ tallies (items-at w l m k g h at base)
-  pub room : x .longs + x .lits + x .cmps ≤ 4608
+  pub room : x .longs + x .lits + x .cmps ≤ folded-end
 
 -- a tally's literals (true) or comparisons
 abbrev pub share : Bool → Tally → ℕ

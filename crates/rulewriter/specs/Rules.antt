@@ -7,8 +7,9 @@ use native.Mathlib.Omega.{arith}
 use lib.IntN.{ℤ}
 use lib.ListN.{length}
 use Rattle.laws.specs.Slices.{Has}
+use Rattle.memory.specs.Places.{limit}
 use Rattle.syntax.specs.Syntax.{Domain, BoolExpr, encode-bool}
-use Rattle.walk.specs.Item.{limit, bump}
+use Rattle.walk.specs.Item.{bump}
 use Rattle.walk.specs.Decode.{read-part}
 use Rattle.walk.specs.declared.Counters.{Counters}
 use Rattle.walks.specs.Tree.{below, splits}

@@ -6,8 +6,10 @@ ghost use mathlib.Core.List.{[], _∷_, _++_};
 ghost use mathlib.Core.Option.{none};
 ghost use Prim.Native.Nat.{_+_, _≤_, _<_};
 ghost use Rattle.laws.specs.Writes.{Wrote, Open};
+ghost use Rattle.memory.specs.Places.{folded-end, limit};
 ghost use Rattle.syntax.specs.Syntax.{op-at};
-ghost use Rattle.walk.specs.Item.{limit, bump as bump-of, tally, lines-of, word-of, clause-text, block as block-of};
+ghost use Rattle.syntax.specs.Words.{max-bools};
+ghost use Rattle.walk.specs.Item.{bump as bump-of, tally, lines-of, word-of, clause-text, block as block-of};
 ghost use Rattle.walk.specs.Decode.{read-part, surveyed};
 ghost use Rattle.walks.specs.Form.{nil, cons};
 ghost use Rattle.walks.specs.Item.{more-bools, meets-bool, regs, reg-lines, block-words, block-lines, constant-making, form-int-item, equal-item, cross-item, condition-item, tallies, var-item, pools as pools-of, texts, long-texts, disj-text};
@@ -166,7 +168,7 @@ fn pool_var(
     out: &mut [i32],
     o: usize,
 ) -> usize
-    requires { ⌜ (v < 512) × Open (now out) o ⌝ }
+    requires { ⌜ (v < max-bools) × Open (now out) o ⌝ }
     ensures { λ r. ⌜ Wrote (now (out .entry)) o (var-item v g .pool b (now (work .entry)) n) (now (out .exit)) r ⌝ }
 {
     if b {
@@ -425,7 +427,7 @@ fn write_var(
     out: &mut [i32],
     o: usize,
 ) -> Walked
-    requires { ⌜ (v < 512) × Low n × Stacked s 0 × Open (now out) o ⌝ }
+    requires { ⌜ (v < max-bools) × Low n × Stacked s 0 × Open (now out) o ⌝ }
     ensures { λ r. ⌜ (r .seen ≡ scanned (surveyed q base (meets-bool (now (work .entry)) v n .bools) 0 1 0 0 1) (meets-bool (now (work .entry)) v n .ints)) × Wrote (now (out .entry)) o (var-item v g .text (now (work .entry)) n (suffix s)) (now (out .exit)) (r .o) ⌝ }
 {
     let p = put_lit(survey::signed(survey::literal(work, v), g), s, out, o);
@@ -789,7 +791,7 @@ fn put_single(
     o: usize,
 ) -> usize
     requires { ⌜ Placed (now work) at base n × Open (now out) o × Fit (decode (read-part (now work)) left (split-by m) g at base .tree) ⌝ }
-    requires { ⌜ (v ≤ limit) × (p .longs ≡ 0) × (tally (p .longs) (p .lits) (p .cmps) (p .lines) ≡ item-at (now work) left (split-by m) g at base .unit) × (p .lits + p .cmps ≤ 4608) ⌝ }
+    requires { ⌜ (v ≤ limit) × (p .longs ≡ 0) × (tally (p .longs) (p .lits) (p .cmps) (p .lines) ≡ item-at (now work) left (split-by m) g at base .unit) × (p .lits + p .cmps ≤ folded-end) ⌝ }
     ensures { λ r. ⌜ Wrote (now (out .entry)) o (clause-text (word-of (v + 1) h ∷ item-at (now (work .entry)) left (split-by m) g at base .pool true (now (work .entry)) n) [] (p .cmps) (item-at (now (work .entry)) left (split-by m) g at base .pool false (now (work .entry)) n)) (now (out .exit)) r ⌝ }
 {
     let a = put(out, o, word_of(p.lits + 1, false));
@@ -1540,7 +1542,7 @@ fn rule_ties(
     ensures { λ r. ⌜ Blocks (now (work .entry)) (ties-at (read-part (now (work .entry))) 64 below at base) n (now (out .entry)) o (now (out .exit)) r ⌝ }
 {
     if c == base {
-        if base < 1073741824 {
+        if base < memory::LIMIT {
             return no_ties(at, base, n, o);
         }
     }
@@ -1576,12 +1578,12 @@ fn pair_ties(
     out: &mut [i32],
     o: usize,
 ) -> Tied
-    requires { ⌜ Placed (now work) p base n × (q ≤ 4608) × Open (now out) o × AllFit (pair-extras (read-part (now work)) p q base) ⌝ }
+    requires { ⌜ Placed (now work) p base n × (q ≤ folded-end) × Open (now out) o × AllFit (pair-extras (read-part (now work)) p q base) ⌝ }
     requires { ⌜ next ≡ pair-next (read-part (now work)) p q base ⌝ }
     ensures { λ r. ⌜ Blocks (now (work .entry)) (pair-extras (read-part (now (work .entry))) p q base) n (now (out .entry)) o (now (out .exit)) r ⌝ }
 {
     if next == base {
-        if next < 1073741824 {
+        if next < memory::LIMIT {
             return no_ties(q, base, n, o);
         }
     }
@@ -1600,7 +1602,7 @@ fn register_pair(
     out: &mut [i32],
     o: usize,
 ) -> Added
-    requires { ⌜ Placed (now work) p base n × (q ≤ 4608) × Open (now out) o × Fit (unequal (read-part (now work)) p q base) ⌝ }
+    requires { ⌜ Placed (now work) p base n × (q ≤ folded-end) × Open (now out) o × Fit (unequal (read-part (now work)) p q base) ⌝ }
     ensures { λ r. ⌜ Puts (unequal-at (now (work .entry)) p q base .reg (now (work .entry)) n) (unequal-at (now (work .entry)) p q base .lines (now (work .entry)) n) (now (out .entry)) o (now (out .exit)) r ⌝ }
 {
     let a = register_int(work, p, 64, 2, base, n, out, o);
@@ -1619,7 +1621,7 @@ fn put_unequal(
     out: &mut [i32],
     o: usize,
 ) -> Sided
-    requires { ⌜ Placed (now work) p base n × (q ≤ 4608) × Open (now out) o × Fit (unequal (read-part (now work)) p q base) ⌝ }
+    requires { ⌜ Placed (now work) p base n × (q ≤ folded-end) × Open (now out) o × Fit (unequal (read-part (now work)) p q base) ⌝ }
     ensures { λ r. ⌜ Wrote (now (out .entry)) o (unequal-at (now (work .entry)) p q base .text (now (work .entry)) n []) (now (out .exit)) (r .o) × (r .behind .n ≡ unequal-at (now (work .entry)) p q base .count (now (work .entry)) n) × Low (r .behind .n) ⌝ }
 {
     let a = put(out, o, 0);
@@ -1642,7 +1644,7 @@ fn write_unequal(
     out: &mut [i32],
     o: usize,
 ) -> Tied
-    requires { ⌜ Placed (now work) p base n × (q ≤ 4608) × Open (now out) o × Fit (unequal (read-part (now work)) p q base) ⌝ }
+    requires { ⌜ Placed (now work) p base n × (q ≤ folded-end) × Open (now out) o × Fit (unequal (read-part (now work)) p q base) ⌝ }
     ensures { λ r. ⌜ Blocks (now (work .entry)) (cons (unequal (read-part (now (work .entry))) p q base) nil) n (now (out .entry)) o (now (out .exit)) r ⌝ }
 {
     let a = register_pair(work, p, q, base, n, out, o);
@@ -1660,7 +1662,7 @@ fn write_unequal(
 
 // The clauses that the expressions at p and q differ, n the counters before them: the numbers of the splitting come first, then the extras, then the comparison.
 pub fn write_pair(work: &[i32], p: usize, q: usize, n: Counters, out: &mut [i32], o: usize) -> Tied
-    requires { ⌜ Placed (now work) p (n .bools) n × (q ≤ 4608) × Open (now out) o × AllFit (pair-at (read-part (now work)) 64 p q (n .bools)) ⌝ }
+    requires { ⌜ Placed (now work) p (n .bools) n × (q ≤ folded-end) × Open (now out) o × AllFit (pair-at (read-part (now work)) 64 p q (n .bools)) ⌝ }
     ensures { λ r. ⌜ Blocks (now (work .entry)) (pair-at (read-part (now (work .entry))) 64 p q (n .bools)) (more-bools (pair-numbers (read-part (now (work .entry))) p q (n .bools)) n) (now (out .entry)) o (now (out .exit)) r ⌝ }
 {
     let b = n.bools;

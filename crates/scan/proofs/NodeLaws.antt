@@ -9,16 +9,18 @@ use lib.ListN.{length, getD}
 use mir.Syntax.{w32}
 use mir.Val.{SFits, ofZ, toZ}
 use Rattle.laws.specs.Signed.{value-is}
+use Rattle.memory.specs.Places.{folded-end}
+use Rattle.memory.specs.Number.{nat}
+use Rattle.syntax.specs.Words.{max-bools}
 use borrow.Author.Tests.{ne-eqb}
-use Rattle.walk.specs.Item.{nat}
 use Rattle.walk.specs.Decode.{word, past, below, constant-node, read-part}
 use Rattle.walk.specs.declared.Node.{Node}
 use Rattle.walk.specs.declared.Node.the-variants.{Var, Cmp, Not, Join, Cross}
 use Rattle.walks.specs.Decode.{node-of}
 use Rattle.survey.proofs.Leaves.{word-inside, past-is}
 
-module _ (w : List ℤ) (size : 4608 ≤ length w) (g : Bool) (at : ℕ) (x one two k : ℕ)
-    (hx : x ≡ word (read-part w) (at + 1)) (h1 : one ≡ min (at + 1) 4608) (h2 : two ≡ min (at + 2) 4608) (hk : k ≡ word (read-part w) at) where
+module _ (w : List ℤ) (size : folded-end ≤ length w) (g : Bool) (at : ℕ) (x one two k : ℕ)
+    (hx : x ≡ word (read-part w) (at + 1)) (h1 : one ≡ min (at + 1) folded-end) (h2 : two ≡ min (at + 2) folded-end) (hk : k ≡ word (read-part w) at) where
   abbrev Asks : Node → Type 0
   Asks N = N ≡ node-of (read-part w) g at (word (read-part w) at)
 
@@ -32,7 +34,7 @@ module _ (w : List ℤ) (size : 4608 ≤ length w) (g : Bool) (at : ℕ) (x one 
   unfolding node-of
   node-const N e h = rw (← hk, e, ← hx, ← p2) h
 
-  pub node-var : (v : ℕ) → k ≡ 11 → v ≡ below 512 x → Asks (Var v two)
+  pub node-var : (v : ℕ) → k ≡ 11 → v ≡ below max-bools x → Asks (Var v two)
   unfolding node-of
   node-var v e h = rw (h, ← hk, e, ← hx, ← p2)
 
@@ -75,10 +77,10 @@ unfolding nat
 not-code (pos n) k l h e = h e
 not-code (negsuc n) k l h e = omega arith
 
-pub no-code-at : (w : List ℤ) (at k : ℕ) → at < 4608 → 0 < k → (ofZ w32 (getD w at (pos 0)) ≡ k → ⊥) → word (read-part w) at ≡ k → ⊥
+pub no-code-at : (w : List ℤ) (at k : ℕ) → at < folded-end → 0 < k → (ofZ w32 (getD w at (pos 0)) ≡ k → ⊥) → word (read-part w) at ≡ k → ⊥
 no-code-at w at k h l ne e = not-code (getD w at (pos 0)) k l ne (word-inside w at h ∙ e)
 
 -- a word with the bits of a code, which are the code's own
-pub code-at : (w : List ℤ) (at k : ℕ) → at < 4608 → toZ w32 k ≡ pos k → SFits w32 (getD w at (pos 0)) → ofZ w32 (getD w at (pos 0)) ≡ k → word (read-part w) at ≡ k
+pub code-at : (w : List ℤ) (at k : ℕ) → at < folded-end → toZ w32 k ≡ pos k → SFits w32 (getD w at (pos 0)) → ofZ w32 (getD w at (pos 0)) ≡ k → word (read-part w) at ≡ k
 unfolding nat
 code-at w at k h p f e = sym (word-inside w at h) ∙ ap nat (value-is f e ∙ p)

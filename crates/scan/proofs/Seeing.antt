@@ -10,11 +10,12 @@ use lib.Signed.{ltZ, nonNeg}
 use lib.Dec.{T, ltb}
 use borrow.Author.Tests.{ltb-true, ltb-false}
 use mir.Syntax.{w32, w64}
-use mir.Val.{Fits, SFits, ofZ, toZ}
-use mir.Facts.{toZ-ofZ, fits-natAbs}
+use mir.Val.{Fits, SFits, ofZ}
+use mir.Facts.{fits-natAbs}
 use Rattle.laws.specs.Bools.{never}
 use Rattle.laws.specs.Ints.{bits-zero, bits-nonzero}
-use Rattle.walks.specs.Item.{has-ifs, cell, Seen, unseen, both-constant, numbered, seen-in, known-in}
+use Rattle.memory.specs.Places.{ifs-word}
+use Rattle.walks.specs.Item.{has-ifs, Seen, unseen, both-constant, numbered, seen-in, known-in}
 use Rattle.scan.specs.IfLaws.{seen-code, seen-at, passed-at}
 
 few-known : (s : Seen) (i : ℕ) → seen-code s < 2 → false ≡ known-in s i
@@ -40,27 +41,17 @@ module _ (w : List ℤ) (at i : ℕ) where
 -- ---- the word that says whether there are Ifs
 
 module _ (w : List ℤ) where
-  pub word-zero : SFits w32 (getD w 9476 (pos 0)) → ofZ w32 (getD w 9476 (pos 0)) ≡ 0 → false ≡ has-ifs w
+  pub word-zero : SFits w32 (getD w ifs-word (pos 0)) → ofZ w32 (getD w ifs-word (pos 0)) ≡ 0 → false ≡ has-ifs w
   unfolding has-ifs
-  word-zero f e = rw (bits-zero (getD w 9476 (pos 0)) f e) refl
+  word-zero f e = rw (bits-zero (getD w ifs-word (pos 0)) f e) refl
 
-  pub word-other : (ofZ w32 (getD w 9476 (pos 0)) ≡ 0 → ⊥) → true ≡ has-ifs w
+  pub word-other : (ofZ w32 (getD w ifs-word (pos 0)) ≡ 0 → ⊥) → true ≡ has-ifs w
   unfolding has-ifs
-  word-other e = rw (bits-nonzero (getD w 9476 (pos 0)) e) refl
+  word-other e = rw (bits-nonzero (getD w ifs-word (pos 0)) e) refl
 
-  pub word-past : length w ≤ 9476 → false ≡ has-ifs w
+  pub word-past : length w ≤ ifs-word → false ≡ has-ifs w
   unfolding has-ifs
   word-past h = rw (List·getD-eq-default w (pos 0) h) refl
-
--- ---- cells
-
-pub cell-there : (w : List ℤ) (p : ℕ) → SFits w32 (getD w (4864 + p) (pos 0)) → toZ w32 (ofZ w32 (getD w (4864 + p) (pos 0))) ≡ cell w p
-unfolding cell
-cell-there w p f = toZ-ofZ f
-
-pub cell-past : (w : List ℤ) (p : ℕ) → length w ≤ 4864 + p → pos 0 ≡ cell w p
-unfolding cell
-cell-past w p h = sym (List·getD-eq-default w (pos 0) h)
 
 -- ---- what a cell says. y, s, q: the bits of a negative z, of z + 1 and of 0 - (z + 1)
 

@@ -5,7 +5,8 @@ use Prim.Native.Nat.{ℕ, _+_, _≤_}
 use native.Mathlib.Omega.{arith}
 use lib.IntN.{ℤ}
 use lib.Dec.{eqb}
-use Rattle.walk.specs.Item.{limit, bool-entry, int-entry}
+use Rattle.memory.specs.Places.{limit}
+use Rattle.walk.specs.Item.{bool-entry, int-entry}
 use Rattle.walk.specs.declared.Counters.{Counters}
 use Rattle.walks.specs.Item.{has-ifs, more-bools, more-ints, meets-bool, meets-int, cell, Seen, unseen, both-constant, numbered, seen-in, known-in}
 

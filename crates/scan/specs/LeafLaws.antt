@@ -7,7 +7,8 @@ use native.Mathlib.Omega.{arith}
 use native.Mathlib.Numerals.{sub-one}
 use lib.IntN.{ℤ}
 use lib.Dec.{eqb}
-use Rattle.walk.specs.Item.{limit, bump}
+use Rattle.memory.specs.Places.{folded-end, limit}
+use Rattle.walk.specs.Item.{bump}
 use Rattle.walk.specs.Decode.{word}
 use Rattle.walk.specs.declared.Node.{Node}
 use Rattle.walk.specs.declared.Node.the-variants.{Var, Cmp, Not, Join, Cross}
@@ -176,7 +177,7 @@ pub record Leaving (ws : List ℤ) (l : ℕ) (m : Splitting) (k : ℕ) (g h : Bo
   pub low-negated : y ≤ limit
 
 module _ (ws : List ℤ) (l : ℕ) (m : Splitting) (k : ℕ) (g h : Bool) (at base : ℕ) where
-  pub leaving-first : at ≤ 4608 → base ≤ limit → Leaving ws l m k g h at base k g at base 0 0
+  pub leaving-first : at ≤ folded-end → base ≤ limit → Leaving ws l m k g h at base k g at base 0 0
   leaving-first i j = record {
     skips = skipping-first ws l m k at base i j;
     plain = omega (arith, all-low (many (decode ws l m) k g h at base .trees));

@@ -5,20 +5,23 @@ use mathlib.Core.List.{List}
 use Prim.Native.Nat.{ℕ, zero, suc, _+_, _-_, _≤_, _<_, min}
 use native.Mathlib.Omega.{arith}
 use lib.IntN.{ℤ, pos}
-use lib.ListN.{length, length-take, List·getD-eq-default}
+use lib.ListN.{length, List·getD-eq-default}
 use lib.Dec.{eqb, ltb}
 use borrow.Author.Tests.{ltb-true, ltb-false}
-use Rattle.walk.specs.Item.{nat}
+use Rattle.memory.specs.Places.{folded-end}
+use Rattle.memory.specs.Number.{nat}
+use Rattle.syntax.specs.Words.{max-bools}
 use Rattle.walk.specs.Decode.{word, read-part}
 use Rattle.walk.specs.Steps.{below-lt}
 use Rattle.walk.specs.declared.Node.{Node}
 use Rattle.walk.specs.declared.Node.the-variants.{Var, Cmp, Not, Join, Cross}
+use Rattle.walk.specs.NumberingSteps.{part-length}
 use Rattle.walks.specs.Tree.{Splitting}
 use Rattle.walks.specs.Decode.{node-of, step, int-step, decode, decode-int}
 
 -- what follows lies further on; members need words
 abbrev pub Okay : List ℤ → ℕ → Node → Type 0
-Okay ws at (Var v q) = (at < q) × (q ≤ length ws) × (v < 512)
+Okay ws at (Var v q) = (at < q) × (q ≤ length ws) × (v < max-bools)
 Okay ws at (Cmp o q) = (at < q) × (q ≤ length ws)
 Okay ws at (Not q) = (at < q) × (q ≤ length ws)
 Okay ws at (Join d k g h q) = (at ≤ q) × (q ≤ length ws) × (min k 1 ≤ q - at) × (d ≡ false → at < q)
@@ -45,7 +48,7 @@ node-in ws g at k i =
     let P = Okay ws at in
     let x = word ws (at + 1) in
     either P (eqb k 10) _ _ (omega arith, omega arith, omega arith, λ e. omega arith)
-    (either P (eqb k 11) _ _ (omega arith, omega arith, below-lt 512 x (omega arith))
+    (either P (eqb k 11) _ _ (omega arith, omega arith, below-lt max-bools x (omega arith))
     (either P (eqb k 12) _ _ (omega arith, omega arith, omega arith, λ e. omega arith)
     (either P (eqb k 13) _ _ (omega arith, omega arith, omega arith, λ e. omega arith)
     (either P (eqb k 14) _ _ (omega arith, omega arith)
@@ -62,11 +65,7 @@ node-okay ws g at h = go (ltb at (length ws)) refl
     go true e = node-in ws g at (word ws at) (ltb-true at (length ws) e)
     go false e = node-out ws g at h (ltb-false at (length ws) e)
 
-pub part-length : (w : List ℤ) → 4608 ≤ length w → length (read-part w) ≡ 4608
-unfolding read-part
-part-length w h = omega (arith, length-take 4608 w)
-
-pub okay-at : (w : List ℤ) (g : Bool) (at : ℕ) (N : Node) → 4608 ≤ length w → at ≤ 4608 → N ≡ node-of (read-part w) g at (word (read-part w) at) → Okay (read-part w) at N
+pub okay-at : (w : List ℤ) (g : Bool) (at : ℕ) (N : Node) → folded-end ≤ length w → at ≤ folded-end → N ≡ node-of (read-part w) g at (word (read-part w) at) → Okay (read-part w) at N
 okay-at w g at N h i e = rw (← e) at (node-okay (read-part w) g at (omega (arith, part-length w h)))
 
 pub level : (ws : List ℤ) (l u : ℕ) (m : Splitting) (g : Bool) (at n : ℕ) (N : Node) → (l ≡ 0 → ⊥) → u ≡ l - 1 → N ≡ node-of ws g at (word ws at) → decode ws l m g at n ≡ step (decode ws u) (decode-int ws u) m g n N

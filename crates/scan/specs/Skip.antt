@@ -9,15 +9,18 @@ use lib.IntN.{ℤ}
 use lib.ListN.{length}
 use lib.Dec.{eqb}
 use borrow.Author.Tests.{ne-eqb}
-use Rattle.walk.specs.Item.{limit, bump}
+use Rattle.memory.specs.Places.{folded-end, limit}
+use Rattle.syntax.specs.Words.{max-bools}
+use Rattle.walk.specs.Item.{bump}
 use Rattle.walk.specs.Decode.{word, past, below as lowered, read-part}
 use Rattle.walk.specs.declared.Node.{Node}
 use Rattle.walk.specs.declared.Node.the-variants.{Var, Cmp, Not, Join, Cross}
+use Rattle.walk.specs.NumberingSteps.{part-length}
 use Rattle.walks.specs.Tree.{Splitting, never, below, here, inner}
 use Rattle.walks.specs.Form.{IntForm}
 use Rattle.walks.specs.Decode.{node-of, Read, IntRead, many, cross-step, step, many-terms, if-step, int-step, decode, decode-int}
 use Rattle.walks.specs.NoTies.{decode-same, many-same}
-use Rattle.scan.specs.Nodes.{part-length, okay-at, level, int-level}
+use Rattle.scan.specs.Nodes.{okay-at, level, int-level}
 
 -- ---- splittings as codes
 
@@ -65,7 +68,7 @@ pub record Skips (ws : List ℤ) (l : ℕ) (m : Splitting) (at base q b : ℕ) :
   pub end : (g : Bool) → q ≡ decode ws l m g at base .end
   pub next : (g : Bool) → b ≡ decode ws l m g at base .next
   pub start : at ≤ q
-  pub inside : q ≤ 4608
+  pub inside : q ≤ folded-end
   pub low : b ≤ limit
 
 -- of so many members
@@ -73,14 +76,14 @@ pub record SkipsAll (ws : List ℤ) (l : ℕ) (m : Splitting) (k at base q b : �
   pub end : (g h : Bool) → q ≡ many (decode ws l m) k g h at base .end
   pub next : (g h : Bool) → b ≡ many (decode ws l m) k g h at base .next
   pub start : at ≤ q
-  pub inside : q ≤ 4608
+  pub inside : q ≤ folded-end
   pub low : b ≤ limit
 
 pub record IntSkips (ws : List ℤ) (l : ℕ) (m : Splitting) (at base q b : ℕ) : Type 0 where
   pub end : q ≡ decode-int ws l m at base .end
   pub next : b ≡ decode-int ws l m at base .next
   pub start : at ≤ q
-  pub inside : q ≤ 4608
+  pub inside : q ≤ folded-end
   pub low : b ≤ limit
 
 -- of so many terms
@@ -88,7 +91,7 @@ pub record TermSkips (ws : List ℤ) (l : ℕ) (m : Splitting) (k at base q b : 
   pub end : q ≡ many-terms ws (decode-int ws l m) k at base .end
   pub next : b ≡ many-terms ws (decode-int ws l m) k at base .next
   pub start : at ≤ q
-  pub inside : q ≤ 4608
+  pub inside : q ≤ folded-end
   pub low : b ≤ limit
 
 -- ---- one expression
@@ -104,7 +107,7 @@ cross-ends ws u never h e base j c q b x y s = rw (← x, ← y) (s .end true (n
 cross-ends ws u below h e base j c q b x y s = rw (← x, ← y) (s .end true (not h), s .next true (not h))
 cross-ends ws u here h e base j c q b x y s = rw (← x, ← y) (s .end false false, s .next false false)
 
-module _ (w : List ℤ) (size : 4608 ≤ length w) (l : ℕ) (m : Splitting) (at base : ℕ) (inside : at ≤ 4608) (low : base ≤ limit) where
+module _ (w : List ℤ) (size : folded-end ≤ length w) (l : ℕ) (m : Splitting) (at base : ℕ) (inside : at ≤ folded-end) (low : base ≤ limit) where
   pub skips-none : l ≡ 0 → Skips (read-part w) l m at base at base
   unfolding decode
   skips-none e = rw e (record { end = λ g. refl; next = λ g. refl; start = omega arith; inside = inside; low = low })
@@ -115,7 +118,7 @@ module _ (w : List ℤ) (size : 4608 ≤ length w) (l : ℕ) (m : Splitting) (at
 
   module _ (u : ℕ) (z : l ≡ 0 → ⊥) (hu : u ≡ l - 1) where
     -- negated if g
-    ends : (g : Bool) (N : Node) → N ≡ node-of (read-part w) g at (word (read-part w) at) → (q b : ℕ) → (let r = step (decode (read-part w) u) (decode-int (read-part w) u) m g base N in (q ≡ r .end) × (b ≡ r .next)) → at ≤ q → q ≤ 4608 → b ≤ limit → Skips (read-part w) l m at base q b
+    ends : (g : Bool) (N : Node) → N ≡ node-of (read-part w) g at (word (read-part w) at) → (q b : ℕ) → (let r = step (decode (read-part w) u) (decode-int (read-part w) u) m g base N in (q ≡ r .end) × (b ≡ r .next)) → at ≤ q → q ≤ folded-end → b ≤ limit → Skips (read-part w) l m at base q b
     ends g N a q b x f h k =
         let e = level (read-part w) l u m g at base N z hu a in
         record {
@@ -152,34 +155,34 @@ module _ (w : List ℤ) (size : 4608 ≤ length w) (l : ℕ) (m : Splitting) (at
 
     -- ---- integer expressions; k: the code
 
-    int-ends : (k : ℕ) → k ≡ word (read-part w) at → (q b : ℕ) → (let r = int-step (read-part w) (decode (read-part w) u) (decode-int (read-part w) u) m at base k in (q ≡ r .end) × (b ≡ r .next)) → at ≤ q → q ≤ 4608 → b ≤ limit → IntSkips (read-part w) l m at base q b
+    int-ends : (k : ℕ) → k ≡ word (read-part w) at → (q b : ℕ) → (let r = int-step (read-part w) (decode (read-part w) u) (decode-int (read-part w) u) m at base k in (q ≡ r .end) × (b ≡ r .next)) → at ≤ q → q ≤ folded-end → b ≤ limit → IntSkips (read-part w) l m at base q b
     int-ends k a q b x f h y =
         let e = int-level (read-part w) l u m at base k z hu a in
         record { end = x .0 ∙ ap (λ (r : IntRead). r .end) (sym e); next = x .1 ∙ ap (λ (r : IntRead). r .next) (sym e); start = f; inside = h; low = y }
 
-    past-is : (p q : ℕ) → q ≡ min p 4608 → past (read-part w) p ≡ q
+    past-is : (p q : ℕ) → q ≡ min p folded-end → past (read-part w) p ≡ q
     past-is p q e = omega (arith, part-length w size)
 
-    pub int-leaf : (k two : ℕ) → k ≡ word (read-part w) at → (k ≡ 22 → ⊥) → (k ≡ 23 → ⊥) → two ≡ min (at + 2) 4608 → IntSkips (read-part w) l m at base two base
+    pub int-leaf : (k two : ℕ) → k ≡ word (read-part w) at → (k ≡ 22 → ⊥) → (k ≡ 23 → ⊥) → two ≡ min (at + 2) folded-end → IntSkips (read-part w) l m at base two base
     unfolding int-step
     int-leaf k two a x y e = int-ends k a two base (rw (ne-eqb k 22 x, ne-eqb k 23 y, past-is (at + 2) two e) (same-ends (eqb k 21) _ _ two base)) (omega arith) (omega arith) low
 
-    pub int-sum : (k two x q b : ℕ) → k ≡ word (read-part w) at → k ≡ 22 → two ≡ min (at + 2) 4608 → x ≡ word (read-part w) (at + 1) → TermSkips (read-part w) u m x two base q b → IntSkips (read-part w) l m at base q b
+    pub int-sum : (k two x q b : ℕ) → k ≡ word (read-part w) at → k ≡ 22 → two ≡ min (at + 2) folded-end → x ≡ word (read-part w) (at + 1) → TermSkips (read-part w) u m x two base q b → IntSkips (read-part w) l m at base q b
     unfolding int-step
     int-sum k two x q b a i e hx s = int-ends k a q b (rw (i, ← hx, past-is (at + 2) two e) (s .end, s .next)) (omega (arith, s .start)) (s .inside) (s .low)
 
-    pub int-if : (k one q b q' b' q'' b'' : ℕ) → k ≡ word (read-part w) at → k ≡ 23 → one ≡ min (at + 1) 4608 → Skips (read-part w) u m one base q b → IntSkips (read-part w) u m q b q' b' → IntSkips (read-part w) u m q' b' q'' b'' → IntSkips (read-part w) l m at base q'' b''
+    pub int-if : (k one q b q' b' q'' b'' : ℕ) → k ≡ word (read-part w) at → k ≡ 23 → one ≡ min (at + 1) folded-end → Skips (read-part w) u m one base q b → IntSkips (read-part w) u m q b q' b' → IntSkips (read-part w) u m q' b' q'' b'' → IntSkips (read-part w) l m at base q'' b''
     unfolding int-step if-step
     int-if k one q b q' b' q'' b'' a i e c t f =
         int-ends k a q'' b'' (rw (i, past-is (at + 1) one e, ← c .end false, ← c .next false, ← t .end, ← t .next) (f .end, f .next)) (omega (arith, c .start, t .start, f .start)) (f .inside) (f .low)
 
 -- ---- members
 
-var-node : (w : List ℤ) (g : Bool) (q p : ℕ) → 4608 ≤ length w → p ≤ 4608 → p ≡ q + 2 → word (read-part w) q ≡ 11 → Var (lowered 512 (word (read-part w) (q + 1))) p ≡ node-of (read-part w) g q (word (read-part w) q)
+var-node : (w : List ℤ) (g : Bool) (q p : ℕ) → folded-end ≤ length w → p ≤ folded-end → p ≡ q + 2 → word (read-part w) q ≡ 11 → Var (lowered max-bools (word (read-part w) (q + 1))) p ≡ node-of (read-part w) g q (word (read-part w) q)
 unfolding node-of
 var-node w g q p size h x e = let i : past (read-part w) (q + 2) ≡ p = omega (arith, part-length w size) in rw (e, i)
 
-not-node : (w : List ℤ) (g : Bool) (q : ℕ) → 4608 ≤ length w → q + 1 ≤ 4608 → word (read-part w) q ≡ 14 → Not (q + 1) ≡ node-of (read-part w) g q (word (read-part w) q)
+not-node : (w : List ℤ) (g : Bool) (q : ℕ) → folded-end ≤ length w → q + 1 ≤ folded-end → word (read-part w) q ≡ 14 → Not (q + 1) ≡ node-of (read-part w) g q (word (read-part w) q)
 unfolding node-of
 not-node w g q size h e = let i : past (read-part w) (q + 1) ≡ q + 1 = omega (arith, part-length w size) in rw (e, i)
 
@@ -187,11 +190,11 @@ not-node w g q size h e = let i : past (read-part w) (q + 1) ≡ q + 1 = omega (
 abbrev pub LiteralMember : List ℤ → ℕ → ℕ → ℕ → Type 0
 LiteralMember w l q k = (m : Splitting) (base : ℕ) → base ≤ limit → Skips (read-part w) l m q base (q + k) base
 
-pub variable-words : (w : List ℤ) (l q : ℕ) → 4608 ≤ length w → (l ≡ 0 → ⊥) → q + 2 ≤ 4608 → word (read-part w) q ≡ 11 → LiteralMember w l q 2
+pub variable-words : (w : List ℤ) (l q : ℕ) → folded-end ≤ length w → (l ≡ 0 → ⊥) → q + 2 ≤ folded-end → word (read-part w) q ≡ 11 → LiteralMember w l q 2
 variable-words w l q size z h e m base low =
     skips-var w size l m q base (omega arith) low (l - 1) z refl false _ (q + 2) (var-node w false q (q + 2) size h refl e)
 
-pub negation-words : (w : List ℤ) (l q : ℕ) → 4608 ≤ length w → 2 ≤ l → q + 3 ≤ 4608 → word (read-part w) q ≡ 14 → word (read-part w) (q + 1) ≡ 11 → LiteralMember w l q 3
+pub negation-words : (w : List ℤ) (l q : ℕ) → folded-end ≤ length w → 2 ≤ l → q + 3 ≤ folded-end → word (read-part w) q ≡ 14 → word (read-part w) (q + 1) ≡ 11 → LiteralMember w l q 3
 negation-words w l q size z h e i m base low =
     let s : Skips (read-part w) (l - 1) m (q + 1) base (q + 3) base = skips-var w size (l - 1) m (q + 1) base (omega arith) low (l - 1 - 1) (λ x. omega arith) refl true _ (q + 3) (var-node w true (q + 1) (q + 3) size (omega arith) (omega arith) i) in
     skips-not w size l m q base (omega arith) low (l - 1) (λ x. omega arith) refl false (q + 1) (q + 3) base (not-node w false q size (omega arith) e) s
@@ -201,11 +204,11 @@ pub record Skipping (ws : List ℤ) (l : ℕ) (m : Splitting) (k at base rest q 
   pub end : many (decode ws l m) rest false false q b .end ≡ many (decode ws l m) k false false at base .end
   pub next : many (decode ws l m) rest false false q b .next ≡ many (decode ws l m) k false false at base .next
   pub start : at ≤ q
-  pub inside : q ≤ 4608
+  pub inside : q ≤ folded-end
   pub low : b ≤ limit
 
 module _ (ws : List ℤ) (l : ℕ) (m : Splitting) (k at base : ℕ) where
-  pub skipping-first : at ≤ 4608 → base ≤ limit → Skipping ws l m k at base k at base
+  pub skipping-first : at ≤ folded-end → base ≤ limit → Skipping ws l m k at base k at base
   skipping-first h i = record { end = refl; next = refl; start = omega arith; inside = h; low = i }
 
   pub skipping-next : (rest q b q' b' : ℕ) → Skipping ws l m k at base rest q b → (rest ≡ 0 → ⊥) → Skips ws l m q b q' b' → Skipping ws l m k at base (rest - 1) q' b'
@@ -234,20 +237,20 @@ module _ (ws : List ℤ) (l : ℕ) (m : Splitting) (k at base : ℕ) where
 
 -- a term of three words
 abbrev pub LeafTerm : List ℤ → ℕ → ℕ → Type 0
-LeafTerm w l q = (l ≡ 0 → ⊥) × (q < 4605) × (word (read-part w) (q + 1) ≡ 22 → ⊥) × (word (read-part w) (q + 1) ≡ 23 → ⊥)
+LeafTerm w l q = (l ≡ 0 → ⊥) × (q < folded-end - 3) × (word (read-part w) (q + 1) ≡ 22 → ⊥) × (word (read-part w) (q + 1) ≡ 23 → ⊥)
 
 pub record TermSkipping (ws : List ℤ) (l : ℕ) (m : Splitting) (k at base rest q b : ℕ) : Type 0 where
   pub end : many-terms ws (decode-int ws l m) rest q b .end ≡ many-terms ws (decode-int ws l m) k at base .end
   pub next : many-terms ws (decode-int ws l m) rest q b .next ≡ many-terms ws (decode-int ws l m) k at base .next
   pub start : at ≤ q
-  pub inside : q ≤ 4608
+  pub inside : q ≤ folded-end
   pub low : b ≤ limit
 
 module _ (w : List ℤ) (l : ℕ) (m : Splitting) (k at base : ℕ) where
-  pub terms-first : at ≤ 4608 → base ≤ limit → TermSkipping (read-part w) l m k at base k at base
+  pub terms-first : at ≤ folded-end → base ≤ limit → TermSkipping (read-part w) l m k at base k at base
   terms-first h i = record { end = refl; next = refl; start = omega arith; inside = h; low = i }
 
-  pub terms-next : 4608 ≤ length w → (rest q b p q' b' : ℕ) → TermSkipping (read-part w) l m k at base rest q b → (rest ≡ 0 → ⊥) → p ≡ min (q + 1) 4608 → IntSkips (read-part w) l m p b q' b' → TermSkipping (read-part w) l m k at base (rest - 1) q' b'
+  pub terms-next : folded-end ≤ length w → (rest q b p q' b' : ℕ) → TermSkipping (read-part w) l m k at base rest q b → (rest ≡ 0 → ⊥) → p ≡ min (q + 1) folded-end → IntSkips (read-part w) l m p b q' b' → TermSkipping (read-part w) l m k at base (rest - 1) q' b'
   unfolding many-terms
   terms-next size zero q b p q' b' x z e s = absurd (z refl)
   terms-next size (suc rest) q b p q' b' x z e s =
@@ -260,7 +263,7 @@ module _ (w : List ℤ) (l : ℕ) (m : Splitting) (k at base : ℕ) where
         low = s .low;
       }
 
-  pub terms-leaf : 4608 ≤ length w → (rest q b : ℕ) → TermSkipping (read-part w) l m k at base rest q b → (rest ≡ 0 → ⊥) → LeafTerm w l q → TermSkipping (read-part w) l m k at base (rest - 1) (q + 3) b
+  pub terms-leaf : folded-end ≤ length w → (rest q b : ℕ) → TermSkipping (read-part w) l m k at base rest q b → (rest ≡ 0 → ⊥) → LeafTerm w l q → TermSkipping (read-part w) l m k at base (rest - 1) (q + 3) b
   terms-leaf size rest q b x z h =
       terms-next size rest q b (q + 1) (q + 3) b x z (omega (arith, h .1)) (int-leaf w size l m (q + 1) b (omega (arith, h .1)) (x .low) (l - 1) (h .0) refl (word (read-part w) (q + 1)) (q + 3) refl (h .2) (h .3) (omega (arith, h .1)))
 

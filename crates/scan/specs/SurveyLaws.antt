@@ -9,8 +9,10 @@ use native.Mathlib.Numerals.{sub-one}
 use lib.IntN.{ℤ, pos}
 use lib.ListN.{length, getD}
 use borrow.Author.Tests.{ne-eqb}
+use Rattle.memory.specs.Places.{folded-end, limit}
 use Rattle.syntax.specs.Syntax.{Domain}
-use Rattle.walk.specs.Item.{limit, bump, is-none, Tally, tally, long, plus, mode-in, fresh, fresh-in, lines-in, disj-lines, closed, lines-of}
+use Rattle.syntax.specs.Words.{max-bools}
+use Rattle.walk.specs.Item.{bump, is-none, Tally, tally, long, plus, mode-in, fresh, fresh-in, lines-in, disj-lines, closed, lines-of}
 use Rattle.walk.specs.Decode.{word, past, below as index, read-part, surveyed, fresh-of, lines-in-of, closed-disj, closed-cross, added}
 use Rattle.walk.specs.Implements.{tally-eq}
 use Rattle.walk.specs.declared.Mode.{Mode}
@@ -19,6 +21,7 @@ use Rattle.walk.specs.declared.Counters.{Counters}
 use Rattle.walk.specs.declared.Node.{Node}
 use Rattle.walk.specs.declared.Node.the-variants.{Var, Cmp, Not, Join, Cross}
 use Rattle.walk.specs.declared.Surveyed.{Surveyed}
+use Rattle.walk.specs.NumberingSteps.{part-length}
 use Rattle.walks.specs.Tree.{Place, Splitting, never, below, here, inner}
 use Rattle.walks.specs.Form.{Form, cross, Forms, IntForm, const}
 use Rattle.walks.specs.Item.{counters, has-ifs, more-bools, more-ints, meets-bool, meets-int, Seen, unseen, both-constant, numbered, constant-in, seen, Item, IntItem, tallies, all-lines, counts, var-item, num-item, cmp-item, equal-item, conj-item, disj-item, cross-item, const-item, ivar-item, no-terms-item, term-item, sum-item, open-item, condition-item, constant-making, open-making, if-making, passed, if-behind, choice-item, form-item, form-items, form-int-item, form-terms-item}
@@ -26,7 +29,7 @@ use Rattle.walks.specs.Decode.{node-of, Read, Reader, IntRead, many, cross-step
 use Rattle.walks.specs.Off.{int-form-off}
 use Rattle.scan.specs.declared.Scanned.{Scanned}
 use Rattle.scan.specs.declared.Behind.{Behind}
-use Rattle.scan.specs.Nodes.{level, int-level, part-length, okay-at}
+use Rattle.scan.specs.Nodes.{level, int-level, okay-at}
 use Rattle.scan.specs.Skip.{split-by, Skips, SkipsAll, IntSkips, TermSkips, Skipping, skipping-first, skipping-next, skipping-last, TermSkipping, terms-first, terms-next, terms-last}
 use Rattle.scan.specs.IfLaws.{seen-code, seen-at, passed-at, Low, more-bools-low, more-ints-low, meets-bool-low, meets-int-low}
 
@@ -151,7 +154,7 @@ two-behind : (w : List ℤ) (l : ℕ) (m : Splitting) (at base : ℕ) (n : Count
     → (let a = decode-int (read-part w) l m at base in y .n ≡ form-int-item ds (decode-int (read-part w) l m (a .end) (a .next) .tree) .behind w (form-int-item ds (a .tree) .behind w n))
 two-behind w l m at base n x y f h ds = rw (← f .skips .end, ← f .skips .next, ← f .behind ds) (h .behind ds)
 
-module _ (w : List ℤ) (size : 4608 ≤ length w) (l : ℕ) (m : Splitting) (g : Bool) (at base : ℕ) (n : Counters) (inside : at ≤ 4608) (low : Low n) where
+module _ (w : List ℤ) (size : folded-end ≤ length w) (l : ℕ) (m : Splitting) (g : Bool) (at base : ℕ) (n : Counters) (inside : at ≤ folded-end) (low : Low n) where
   pub survey-none : (r : Scanned) → l ≡ 0 → Skips (read-part w) l m at base at base → r ≡ single-of at base n 0 0 → Surveys w l m g at base n r
   unfolding single-of decode form-item disj-item closed tallies counts lines-of
   survey-none r e s f = rw f (record {
@@ -350,7 +353,7 @@ bump-more : (a b c d v : ℕ) → d ≡ b → bump a (bump b c) ≡ v → bump (
 bump-more a b c d v e i = omega arith
 
 module _ (w : List ℤ) (l : ℕ) (m : Splitting) (h : Bool) (k : ℕ) (g : Bool) (at base : ℕ) (n : Counters) where
-  pub sofar-none : at ≤ 4608 → base ≤ limit → Low n → Sofar w l m h k g at base n (scanned (surveyed at base (n .bools) 0 0 0 0 0) (n .ints)) k g
+  pub sofar-none : at ≤ folded-end → base ≤ limit → Low n → Sofar w l m h k g at base n (scanned (surveyed at base (n .bools) 0 0 0 0 0) (n .ints)) k g
   sofar-none i b a =
       let ts : List Domain → List Item = λ ds. form-items ds (many (decode (read-part w) l m) k g h at base .trees) in
       record {
@@ -429,7 +432,7 @@ module _ (w : List ℤ) (l : ℕ) (m : Splitting) (p c base : ℕ) (n : Counters
     low = more-bools-low 1 (counters-of b) (h .found .low);
   })
 
-  pub make-variable : (k x v : ℕ) (i r : Counters) → k ≡ seen-code (seen-at w p) → k ≡ 1 → x ≡ word (read-part w) c → x ≡ 11 → v ≡ index 512 (word (read-part w) (c + 1)) → i ≡ meets-bool w v n → r ≡ more-ints w 1 i → Low n → Makes w l m p c base n r
+  pub make-variable : (k x v : ℕ) (i r : Counters) → k ≡ seen-code (seen-at w p) → k ≡ 1 → x ≡ word (read-part w) c → x ≡ 11 → v ≡ index max-bools (word (read-part w) (c + 1)) → i ≡ meets-bool w v n → r ≡ more-ints w 1 i → Low n → Makes w l m p c base n r
   make-variable k x v i r e o hx q hv hi j low = rw (j, hi) (record {
     end = λ ds t f a b u. rw (is-constant (seen-at w p) (sym e ∙ o), ← hx, q, hv) refl;
     low = more-ints-low w 1 (meets-bool w v n) (meets-bool-low w v n low);
@@ -458,7 +461,7 @@ if-found : (w : List ℤ) (o : Option ℕ) (p : Place) (c d : Item) (t f : IntIt
 unfolding if-behind
 if-found w o p c d t f n h = rw h refl
 
-module _ (w : List ℤ) (size : 4608 ≤ length w) (l : ℕ) (m : Splitting) (at base : ℕ) (n : Counters) (low : Low n) where
+module _ (w : List ℤ) (size : folded-end ≤ length w) (l : ℕ) (m : Splitting) (at base : ℕ) (n : Counters) (low : Low n) where
   pub ints-none : (r : Behind) → l ≡ 0 → IntSkips (read-part w) l m at base at base → r ≡ behind-at at base n → IntSurveys w l m at base n r
   unfolding decode form-item const-item
   ints-none r e s i = rw i (record { skips = s; behind = λ ds. rw e refl; low = low })
@@ -489,7 +492,7 @@ module _ (w : List ℤ) (size : 4608 ≤ length w) (l : ℕ) (m : Splitting) (at
     unfolding form-item const-item
     ints-const r two a b c s j = int-carry r (behind-at two base n) j s (λ ds. ap (λ (d : IntRead). form-int-item ds (d .tree) .behind w n) (sym (const-read a b c))) low
 
-    pub ints-sum : (r : Behind) (x two : ℕ) → k ≡ 22 → x ≡ word (read-part w) (at + 1) → two ≡ min (at + 2) 4608 → TermSurveys w u m x two base n r → IntSkips (read-part w) l m at base (r .at) (r .base) → IntSurveys w l m at base n r
+    pub ints-sum : (r : Behind) (x two : ℕ) → k ≡ 22 → x ≡ word (read-part w) (at + 1) → two ≡ min (at + 2) folded-end → TermSurveys w u m x two base n r → IntSkips (read-part w) l m at base (r .at) (r .base) → IntSurveys w l m at base n r
     unfolding int-step form-item sum-item
     ints-sum r x two e hx h2 f s =
         let i : two ≡ past (read-part w) (at + 2) = omega (arith, part-length w size) in
@@ -499,7 +502,7 @@ module _ (w : List ℤ) (size : 4608 ≤ length w) (l : ℕ) (m : Splitting) (at
     unfolding int-step if-step form-item choice-item passed seen
     ints-passed r q b e h s j = int-carry r (behind-at q b n) j s (λ ds. rw e (if-found w _ _ _ _ _ _ n (sym h))) low
 
-    pub ints-made : (r x y : Behind) (one q b : ℕ) (j : Counters) → k ≡ 23 → false ≡ passed-at w at (n .ints) → one ≡ min (at + 1) 4608 → Skips (read-part w) u m one base q b → IntSurveys w u m q b n x → IntSurveys w u m (x .at) (x .base) (x .n) y
+    pub ints-made : (r x y : Behind) (one q b : ℕ) (j : Counters) → k ≡ 23 → false ≡ passed-at w at (n .ints) → one ≡ min (at + 1) folded-end → Skips (read-part w) u m one base q b → IntSurveys w u m q b n x → IntSurveys w u m (x .at) (x .base) (x .n) y
         → Makes w u m at one base (y .n) j → IntSkips (read-part w) l m at base (y .at) (y .base) → r ≡ behind-at (y .at) (y .base) j → IntSurveys w l m at base n r
     unfolding int-step if-step form-item choice-item passed seen
     ints-made r x y one q b j e h h1 c f g v s i =
@@ -518,10 +521,10 @@ pub record TermsSofar (w : List ℤ) (l : ℕ) (m : Splitting) (k at base : ℕ)
   pub low : Low (r .n)
 
 module _ (w : List ℤ) (l : ℕ) (m : Splitting) (k at base : ℕ) (n : Counters) where
-  pub terms-none : at ≤ 4608 → base ≤ limit → Low n → TermsSofar w l m k at base n k (behind-at at base n)
+  pub terms-none : at ≤ folded-end → base ≤ limit → Low n → TermsSofar w l m k at base n k (behind-at at base n)
   terms-none i b a = record { skips = terms-first w l m k at base i b; behind = λ ds. refl; low = a }
 
-  pub terms-more : 4608 ≤ length w → (rest p : ℕ) (r s : Behind) → TermsSofar w l m k at base n rest r → (rest ≡ 0 → ⊥) → p ≡ min (r .at + 1) 4608 → IntSurveys w l m p (r .base) (r .n) s → TermsSofar w l m k at base n (rest - 1) s
+  pub terms-more : folded-end ≤ length w → (rest p : ℕ) (r s : Behind) → TermsSofar w l m k at base n rest r → (rest ≡ 0 → ⊥) → p ≡ min (r .at + 1) folded-end → IntSurveys w l m p (r .base) (r .n) s → TermsSofar w l m k at base n (rest - 1) s
   unfolding many-terms form-item term-item
   terms-more size zero p r s x z e f = absurd (z refl)
   terms-more size (suc rest) p r s x z e f =

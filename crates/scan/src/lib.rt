@@ -2,7 +2,8 @@
 ghost use mathlib.Core.Path.{_≡_};
 ghost use mathlib.Core.Bool.{true};
 ghost use Prim.Native.Nat.{_+_, _≤_, _<_};
-ghost use Rattle.walk.specs.Item.{limit};
+ghost use Rattle.memory.specs.Places.{folded-end, limit};
+ghost use Rattle.syntax.specs.Words.{max-bools};
 ghost use Rattle.walk.specs.Decode.{word as word-in, constant-node, read-part};
 ghost use Rattle.walks.specs.Tree.{inner as inner-of};
 ghost use Rattle.walks.specs.Item.{has-ifs as has-ifs-in, more-ints as more-ints-of, more-bools as more-bools-of, meets-bool, meets-int, cell as cell-of, seen-in};
@@ -17,7 +18,6 @@ use survey::below;
 use survey::bump;
 use survey::close_cross;
 use survey::close_disj;
-use survey::entry;
 use survey::fresh;
 use survey::longer;
 use survey::single;
@@ -40,7 +40,7 @@ fn constant_at(x: usize, g: bool, q: usize) -> Node
 
 // What the code word at a place asks; of a comparison, its operator's code and where its first side stands.
 pub fn node_at(work: &[i32], g: bool, at: usize) -> Node
-    requires { do ⌜ (4608 ≤ (← ⟦work.len()⟧)) × (at ≤ 4608) ⌝ }
+    requires { do ⌜ (folded-end ≤ (← ⟦work.len()⟧)) × (at ≤ folded-end) ⌝ }
     ensures { λ r. ⌜ r ≡ node-of (read-part (now (work .entry))) g at (word-in (read-part (now (work .entry))) at) ⌝ }
 {
     let x = word(work, at + 1);
@@ -82,16 +82,21 @@ fn inside_base(m: usize, base: usize) -> usize
     bump(base, 2)
 }
 
+// Below this place three words are folded ones, or four.
+const THREE_WORDS: usize = memory::FOLDED_END - 2;
+
+const FOUR_WORDS: usize = memory::FOLDED_END - 3;
+
 // The words of the member at a place, with levels left, if it is a variable or the negation of one; otherwise 0.
 fn literal_words(work: &[i32], q: usize, left: usize) -> usize
-    requires { do ⌜ 4608 ≤ (← ⟦work.len()⟧) ⌝ }
+    requires { do ⌜ folded-end ≤ (← ⟦work.len()⟧) ⌝ }
     ensures { λ r. ⌜ ((r ≡ 0 → ⊥) → LiteralMember (now (work .entry)) left q r) ⌝ }
 {
     let other = 0;
     if left < 2 {
         return other;
     }
-    if q < 4606 {
+    if q < THREE_WORDS {
         let k = work[q];
         if k == 11 {
             return 2;
@@ -108,7 +113,7 @@ fn literal_words(work: &[i32], q: usize, left: usize) -> usize
 
 // So many members.
 pub fn skips(work: &[i32], at: usize, left: usize, m: usize, count: usize, base: usize) -> Skipped
-    requires { do ⌜ (4608 ≤ (← ⟦work.len()⟧)) × ((at ≤ 4608) × (base ≤ limit)) ⌝ }
+    requires { do ⌜ (folded-end ≤ (← ⟦work.len()⟧)) × ((at ≤ folded-end) × (base ≤ limit)) ⌝ }
     ensures { λ r. ⌜ SkipsAll (read-part (now (work .entry))) left (split-by m) count at base (r .at) (r .base) ⌝ }
 {
     let mut q = at;
@@ -130,7 +135,7 @@ pub fn skips(work: &[i32], at: usize, left: usize, m: usize, count: usize, base:
 
 // The expression at a place, whatever its polarity.
 pub fn skip(work: &[i32], at: usize, left: usize, m: usize, base: usize) -> Skipped
-    requires { do ⌜ (4608 ≤ (← ⟦work.len()⟧)) × ((at ≤ 4608) × (base ≤ limit)) ⌝ }
+    requires { do ⌜ (folded-end ≤ (← ⟦work.len()⟧)) × ((at ≤ folded-end) × (base ≤ limit)) ⌝ }
     ensures { λ r. ⌜ Skips (read-part (now (work .entry))) left (split-by m) at base (r .at) (r .base) ⌝ }
 {
     if left == 0 {
@@ -152,13 +157,13 @@ pub fn skip(work: &[i32], at: usize, left: usize, m: usize, base: usize) -> Skip
 
 // Whether the term at a place, with levels left, is a constant or a variable: its three words are passed at once.
 pub fn is_leaf(work: &[i32], q: usize, left: usize) -> bool
-    requires { do ⌜ 4608 ≤ (← ⟦work.len()⟧) ⌝ }
+    requires { do ⌜ folded-end ≤ (← ⟦work.len()⟧) ⌝ }
     ensures { λ r. ⌜ (r ≡ true → LeafTerm (now (work .entry)) left q) ⌝ }
 {
     if left == 0 {
         return false;
     }
-    if q < 4605 {
+    if q < FOUR_WORDS {
         let k = work[q + 1];
         if k == 22 {
             return false;
@@ -173,7 +178,7 @@ pub fn is_leaf(work: &[i32], q: usize, left: usize) -> bool
 
 // So many terms.
 fn skip_terms(work: &[i32], at: usize, left: usize, m: usize, count: usize, base: usize) -> Skipped
-    requires { do ⌜ (4608 ≤ (← ⟦work.len()⟧)) × ((at ≤ 4608) × (base ≤ limit)) ⌝ }
+    requires { do ⌜ (folded-end ≤ (← ⟦work.len()⟧)) × ((at ≤ folded-end) × (base ≤ limit)) ⌝ }
     ensures { λ r. ⌜ TermSkips (read-part (now (work .entry))) left (split-by m) count at base (r .at) (r .base) ⌝ }
 {
     let mut q = at;
@@ -195,7 +200,7 @@ fn skip_terms(work: &[i32], at: usize, left: usize, m: usize, count: usize, base
 
 // The integer expression at a place.
 pub fn skip_int(work: &[i32], at: usize, left: usize, m: usize, base: usize) -> Skipped
-    requires { do ⌜ (4608 ≤ (← ⟦work.len()⟧)) × ((at ≤ 4608) × (base ≤ limit)) ⌝ }
+    requires { do ⌜ (folded-end ≤ (← ⟦work.len()⟧)) × ((at ≤ folded-end) × (base ≤ limit)) ⌝ }
     ensures { λ r. ⌜ IntSkips (read-part (now (work .entry))) left (split-by m) at base (r .at) (r .base) ⌝ }
 {
     if left == 0 {
@@ -223,11 +228,11 @@ pub fn skip_int(work: &[i32], at: usize, left: usize, m: usize, base: usize) -> 
 
 // Behind a declared Boolean: one more where it has the counter's own number.
 pub fn met(work: &[i32], v: usize, n: Counters) -> Counters
-    requires { ⌜ (v < 512) × (n .bools ≤ limit) ⌝ }
+    requires { ⌜ (v < max-bools) × (n .bools ≤ limit) ⌝ }
     ensures { λ r. ⌜ r ≡ meets-bool (now (work .entry)) v n ⌝ }
 {
     let b = n.bools;
-    if entry(work, 4608 + v) == b + 1 {
+    if memory::entry(work, memory::BOOL_MAP + v) == b + 1 {
         let k = bump(b, 1);
         return Counters {
             bools: k,
@@ -241,8 +246,8 @@ pub fn met(work: &[i32], v: usize, n: Counters) -> Counters
 pub fn has_ifs(work: &[i32]) -> bool
     ensures { λ r. ⌜ r ≡ has-ifs-in (now (work .entry)) ⌝ }
 {
-    if 9476 < work.len() {
-        let z = work[9476];
+    if memory::IFS_WORD < work.len() {
+        let z = work[memory::IFS_WORD];
         if z == 0 {
             return false;
         }
@@ -281,7 +286,7 @@ fn met_int(work: &[i32], v: usize, n: Counters) -> Counters
     requires { ⌜ (v < 256) × (n .ints ≤ limit) ⌝ }
     ensures { λ r. ⌜ r ≡ meets-int (now (work .entry)) v n ⌝ }
 {
-    if entry(work, 5120 + v) == n.ints + 1 {
+    if memory::entry(work, memory::INT_MAP + v) == n.ints + 1 {
         return more_ints(work, n);
     }
     n
@@ -289,14 +294,10 @@ fn met_int(work: &[i32], v: usize, n: Counters) -> Counters
 
 // The cell of a place.
 pub fn cell(work: &[i32], p: usize) -> i32
-    requires { ⌜ p ≤ 4611 ⌝ }
+    requires { ⌜ p ≤ folded-end + 3 ⌝ }
     ensures { λ r. ⌜ r ≡ cell-of (now (work .entry)) p ⌝ }
 {
-    let i = 4864 + p;
-    if i < work.len() {
-        return work[i];
-    }
-    0
+    memory::plain(work, memory::CELLS + p)
 }
 
 // What a cell says of an If: 0 for nothing, 1 for constant branches, else its number plus 2.
@@ -315,7 +316,7 @@ fn code_of(z: i32) -> usize
 
 // The same of the If at a place.
 pub fn seen(work: &[i32], at: usize) -> usize
-    requires { ⌜ at ≤ 4608 ⌝ }
+    requires { ⌜ at ≤ folded-end ⌝ }
     ensures { λ r. ⌜ r ≡ seen-code (seen-at (now (work .entry)) at) ⌝ }
 {
     code_of(cell(work, at + 1))
@@ -323,7 +324,7 @@ pub fn seen(work: &[i32], at: usize) -> usize
 
 // Whether a visit that starts with so many integers passes over the If at a place.
 pub fn is_passed(work: &[i32], at: usize, ints: usize) -> bool
-    requires { ⌜ at ≤ 4608 ⌝ }
+    requires { ⌜ at ≤ folded-end ⌝ }
     ensures { λ r. ⌜ r ≡ passed-at (now (work .entry)) at ints ⌝ }
 {
     if has_ifs(work) {
@@ -378,7 +379,7 @@ fn leaves_all(
     g: bool,
     h: bool,
 ) -> LeafCount
-    requires { do ⌜ (4608 ≤ (← ⟦work.len()⟧)) × ((at ≤ 4608) × (base ≤ limit)) ⌝ }
+    requires { do ⌜ (folded-end ≤ (← ⟦work.len()⟧)) × ((at ≤ folded-end) × (base ≤ limit)) ⌝ }
     ensures { λ r. ⌜ LeavesAll (read-part (now (work .entry))) left (split-by m) count g h at base (r .at) (r .base) (r .plain) (r .negated) ⌝ }
 {
     let mut q = at;
@@ -406,7 +407,7 @@ fn leaves_all(
 
 // Of the expression at a place.
 pub fn leaves(work: &[i32], at: usize, left: usize, m: usize, base: usize) -> LeafCount
-    requires { do ⌜ (4608 ≤ (← ⟦work.len()⟧)) × ((at ≤ 4608) × (base ≤ limit)) ⌝ }
+    requires { do ⌜ (folded-end ≤ (← ⟦work.len()⟧)) × ((at ≤ folded-end) × (base ≤ limit)) ⌝ }
     ensures { λ r. ⌜ LeavesAt (read-part (now (work .entry))) left (split-by m) at base (r .at) (r .base) (r .plain) (r .negated) ⌝ }
 {
     if left == 0 {
@@ -489,7 +490,7 @@ fn join(d: bool, s: Scanned) -> Scanned
 
 // The counters behind what a new Boolean stands for: the negated condition and the plain one, each in a list with its literal.
 fn name_condition(s: Scanned, u: Scanned) -> Counters
-    requires { ⌜ (s .part .lits ≤ 4608) × (u .part .lits ≤ 4608) ⌝ }
+    requires { ⌜ (s .part .lits ≤ folded-end) × (u .part .lits ≤ folded-end) ⌝ }
     ensures { λ r. ⌜ r ≡ named s u ⌝ }
 {
     let a = s.part;
@@ -514,7 +515,7 @@ pub fn surveys(
     h: bool,
     n: Counters,
 ) -> Scanned
-    requires { do ⌜ (4608 ≤ (← ⟦work.len()⟧)) × ((at ≤ 4608) × ((base ≤ limit) × Low n)) ⌝ }
+    requires { do ⌜ (folded-end ≤ (← ⟦work.len()⟧)) × ((at ≤ folded-end) × ((base ≤ limit) × Low n)) ⌝ }
     ensures { λ r. ⌜ SurveysAll (now (work .entry)) left (split-by m) count g h at base n r ⌝ }
 {
     let mut r = Surveyed {
@@ -558,7 +559,7 @@ pub fn survey(
     g: bool,
     n: Counters,
 ) -> Scanned
-    requires { do ⌜ (4608 ≤ (← ⟦work.len()⟧)) × ((at ≤ 4608) × ((base ≤ limit) × Low n)) ⌝ }
+    requires { do ⌜ (folded-end ≤ (← ⟦work.len()⟧)) × ((at ≤ folded-end) × ((base ≤ limit) × Low n)) ⌝ }
     ensures { λ r. ⌜ Surveys (now (work .entry)) left (split-by m) g at base n r ⌝ }
 {
     if left == 0 {
@@ -607,7 +608,7 @@ fn survey_terms(
     base: usize,
     n: Counters,
 ) -> Behind
-    requires { do ⌜ (4608 ≤ (← ⟦work.len()⟧)) × ((at ≤ 4608) × ((base ≤ limit) × Low n)) ⌝ }
+    requires { do ⌜ (folded-end ≤ (← ⟦work.len()⟧)) × ((at ≤ folded-end) × ((base ≤ limit) × Low n)) ⌝ }
     ensures { λ r. ⌜ TermSurveys (now (work .entry)) left (split-by m) count at base n r ⌝ }
 {
     let mut r = Behind {
@@ -634,7 +635,7 @@ fn make_if(
     base: usize,
     n: Counters,
 ) -> Counters
-    requires { do ⌜ (4608 ≤ (← ⟦work.len()⟧)) × ((p ≤ 4608) × ((c ≤ 4608) × ((base ≤ limit) × Low n))) ⌝ }
+    requires { do ⌜ (folded-end ≤ (← ⟦work.len()⟧)) × ((p ≤ folded-end) × ((c ≤ folded-end) × ((base ≤ limit) × Low n))) ⌝ }
     ensures { λ r. ⌜ Makes (now (work .entry)) left (split-by m) p c base n r ⌝ }
 {
     if seen(work, p) != 1 {
@@ -675,7 +676,7 @@ pub fn survey_int(
     base: usize,
     n: Counters,
 ) -> Behind
-    requires { do ⌜ (4608 ≤ (← ⟦work.len()⟧)) × ((at ≤ 4608) × ((base ≤ limit) × Low n)) ⌝ }
+    requires { do ⌜ (folded-end ≤ (← ⟦work.len()⟧)) × ((at ≤ folded-end) × ((base ≤ limit) × Low n)) ⌝ }
     ensures { λ r. ⌜ IntSurveys (now (work .entry)) left (split-by m) at base n r ⌝ }
 {
     if left == 0 {

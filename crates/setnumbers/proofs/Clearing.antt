@@ -10,15 +10,16 @@ use lib.ListN.{length, drop, set, length-set}
 use lib.Seq.{set-comm, take-set-le, drop-set-lt}
 use lib.Dec.{eqb}
 use borrow.Author.Tests.{eqb-true, eqb-false, ne-eqb}
-use Rattle.walk.specs.Item.{limit, bump}
+use Rattle.memory.specs.Places.{folded-end, cells, ifs-word, limit}
+use Rattle.walk.specs.Item.{bump}
 use Rattle.walk.specs.Decode.{word, past, read-part}
 use Rattle.walk.specs.declared.Node.{Node}
 use Rattle.walk.specs.declared.Node.the-variants.{Var, Cmp, Not, Join, Cross}
+use Rattle.walk.specs.NumberingSteps.{part-length}
 use Rattle.walks.specs.Tree.{Place, here}
-use Rattle.walks.specs.Item.{ifs-word, has-ifs, cells}
+use Rattle.walks.specs.Item.{has-ifs}
 use Rattle.walks.specs.Decode.{node-of, decode, decode-int}
 use Rattle.walks.specs.Clear.{clear-place, clear-places}
-use Rattle.scan.specs.Nodes.{part-length}
 use Rattle.scan.specs.Skip.{split-by, Skips, IntSkips, skips-none, skips-var, skips-cmp, skips-not, skips-join, skips-cross, int-none, int-leaf, int-sum, int-if, Skipping, skipping-first, skipping-next, skipping-last, TermSkipping, terms-first, terms-next, terms-last}
 use Rattle.setnumbers.specs.Ifs.{many-ifs, node-ifs, terms-ifs, if-ifs, int-node-ifs, ifs-at, ifs-int-at, ifs-level, int-ifs-level, place-at}
 use Rattle.setnumbers.specs.Cleared.{Cleared, Clears, ClearsAll, IntClears, TermClears, pair-ifs}
@@ -77,18 +78,18 @@ cleared-then {xs} {ys} {w} x y = record {
 
 place-part : (p : Place) (w : List ℤ) → read-part (clear-place p w) ≡ read-part w
 unfolding clear-place read-part
-place-part p w = either (λ (y : List ℤ). read-part y ≡ read-part w) (p .whole) w _ refl (take-set-le 4608 w (cells + (p .at + 1)) (pos 0) (omega arith))
+place-part p w = either (λ (y : List ℤ). read-part y ≡ read-part w) (p .whole) w _ refl (take-set-le folded-end w (cells + (p .at + 1)) (pos 0) (omega arith))
 
 place-size : (p : Place) (w : List ℤ) → length (clear-place p w) ≡ length w
 unfolding clear-place
 place-size p w = either (λ (y : List ℤ). length y ≡ length w) (p .whole) w _ refl (length-set w (cells + (p .at + 1)) (pos 0))
 
-place-behind : (p : Place) (w : List ℤ) → p .at ≤ 4608 → drop ifs-word (clear-place p w) ≡ drop ifs-word w
+place-behind : (p : Place) (w : List ℤ) → p .at ≤ folded-end → drop ifs-word (clear-place p w) ≡ drop ifs-word w
 unfolding clear-place
 place-behind p w h = either (λ (y : List ℤ). drop ifs-word y ≡ drop ifs-word w) (p .whole) w _ refl (drop-set-lt ifs-word w (cells + (p .at + 1)) (pos 0) (omega arith))
 
 -- the If itself last
-cleared-place : (p : Place) {xs : List Place} {w w' : List ℤ} → p .at ≤ 4608 → Cleared xs w w' → Cleared (p ∷ xs) w (clear-place p w')
+cleared-place : (p : Place) {xs : List Place} {w w' : List ℤ} → p .at ≤ folded-end → Cleared xs w w' → Cleared (p ∷ xs) w (clear-place p w')
 unfolding clear-places
 cleared-place p {xs} {w} {w'} h x = record {
   cells = ap (clear-place p) (x .cells) ∙ places-swap p xs w;
@@ -110,7 +111,7 @@ int-in l at base q b v w w' e = subst (λ (ws : List ℤ). IntClears ws l at bas
 
 -- ---- one expression
 
-module _ (w : List ℤ) (size : 4608 ≤ length w) (l at base : ℕ) (inside : at ≤ 4608) (low : base ≤ limit) where
+module _ (w : List ℤ) (size : folded-end ≤ length w) (l at base : ℕ) (inside : at ≤ folded-end) (low : base ≤ limit) where
   pub clears-none : l ≡ 0 → Clears (read-part w) l at base at base w w
   unfolding ifs-at
   clears-none e = record { skips = skips-none w size l here at base inside low e; cleared = rw e (cleared-none w) }
@@ -163,21 +164,21 @@ module _ (w : List ℤ) (size : 4608 ≤ length w) (l at base : ℕ) (inside : a
     int-are : (k : ℕ) → k ≡ word (read-part w) at → int-node-ifs (read-part w) (decode (read-part w) u here) (decode-int (read-part w) u here) (ifs-at (read-part w) u) (ifs-int-at (read-part w) u) at base k ≡ ifs-int-at (read-part w) l at base
     int-are k e = rw (e, hu) (sym (int-ifs-level (read-part w) l at base (some-level l z)))
 
-    past-is : (p q : ℕ) → q ≡ min p 4608 → past (read-part w) p ≡ q
+    past-is : (p q : ℕ) → q ≡ min p folded-end → past (read-part w) p ≡ q
     past-is p q e = omega (arith, part-length w size)
 
-    pub int-clears-leaf : (k two : ℕ) → k ≡ word (read-part w) at → (k ≡ 22 → ⊥) → (k ≡ 23 → ⊥) → two ≡ min (at + 2) 4608 → IntClears (read-part w) l at base two base w w
+    pub int-clears-leaf : (k two : ℕ) → k ≡ word (read-part w) at → (k ≡ 22 → ⊥) → (k ≡ 23 → ⊥) → two ≡ min (at + 2) folded-end → IntClears (read-part w) l at base two base w w
     unfolding int-node-ifs
     int-clears-leaf k two a x y e = record { skips = int-leaf w size l here at base inside low u z hu k two a x y e; cleared = cleared-to (int-are k a) (rw (ne-eqb k 22 x, ne-eqb k 23 y) (cleared-none w)) }
 
-    pub int-clears-sum : (k two x q b : ℕ) (w' : List ℤ) → k ≡ word (read-part w) at → k ≡ 22 → two ≡ min (at + 2) 4608 → x ≡ word (read-part w) (at + 1) → TermClears (read-part w) u x two base q b w w' → IntClears (read-part w) l at base q b w w'
+    pub int-clears-sum : (k two x q b : ℕ) (w' : List ℤ) → k ≡ word (read-part w) at → k ≡ 22 → two ≡ min (at + 2) folded-end → x ≡ word (read-part w) (at + 1) → TermClears (read-part w) u x two base q b w w' → IntClears (read-part w) l at base q b w w'
     unfolding int-node-ifs
     int-clears-sum k two x q b w' a i e hx s = record {
       skips = int-sum w size l here at base inside low u z hu k two x q b a i e hx (s .skips);
       cleared = cleared-to (int-are k a) (rw (i, ← hx, past-is (at + 2) two e) (s .cleared));
     }
 
-    pub int-clears-if : (k one q b q' b' q'' b'' : ℕ) (x y v v' : List ℤ) → k ≡ word (read-part w) at → k ≡ 23 → one ≡ min (at + 1) 4608
+    pub int-clears-if : (k one q b q' b' q'' b'' : ℕ) (x y v v' : List ℤ) → k ≡ word (read-part w) at → k ≡ 23 → one ≡ min (at + 1) folded-end
         → Clears (read-part w) u one base q b w x → IntClears (read-part x) u q b q' b' x y → IntClears (read-part y) u q' b' q'' b'' y v
         → v' ≡ clear-place (place-at at q'' base b'') v → IntClears (read-part w) l at base q'' b'' w v'
     unfolding int-node-ifs if-ifs
@@ -200,7 +201,7 @@ pub record Clearing (v : List ℤ) (l k at base rest q b : ℕ) (w : List ℤ) :
   pub size : length w ≡ length v
 
 module _ (v : List ℤ) (l k at base : ℕ) where
-  pub clearing-first : at ≤ 4608 → base ≤ limit → Clearing v l k at base k at base v
+  pub clearing-first : at ≤ folded-end → base ≤ limit → Clearing v l k at base k at base v
   clearing-first h i = record { skipping = skipping-first (read-part v) l here k at base h i; ifs = λ w' x. x; part = refl; size = refl }
 
   more-ifs : (rest q b q' b' : ℕ) → (rest ≡ 0 → ⊥) → Skips (read-part v) l here q b q' b'
@@ -233,10 +234,10 @@ pub record TermClearing (v : List ℤ) (l k at base rest q b : ℕ) (w : List �
   pub size : length w ≡ length v
 
 module _ (v : List ℤ) (l k at base : ℕ) where
-  pub term-clearing-first : at ≤ 4608 → base ≤ limit → TermClearing v l k at base k at base v
+  pub term-clearing-first : at ≤ folded-end → base ≤ limit → TermClearing v l k at base k at base v
   term-clearing-first h i = record { skipping = terms-first v l here k at base h i; ifs = λ w' x. x; part = refl; size = refl }
 
-  more-terms : 4608 ≤ length v → (rest q b p q' b' : ℕ) → (rest ≡ 0 → ⊥) → p ≡ min (q + 1) 4608 → IntSkips (read-part v) l here p b q' b'
+  more-terms : folded-end ≤ length v → (rest q b p q' b' : ℕ) → (rest ≡ 0 → ⊥) → p ≡ min (q + 1) folded-end → IntSkips (read-part v) l here p b q' b'
       → ifs-int-at (read-part v) l p b ++ terms-ifs (read-part v) (decode-int (read-part v) l here) (ifs-int-at (read-part v) l) (rest - 1) q' b' ≡ terms-ifs (read-part v) (decode-int (read-part v) l here) (ifs-int-at (read-part v) l) rest q b
   unfolding terms-ifs
   more-terms size zero q b p q' b' z e s = absurd (z refl)
@@ -244,7 +245,7 @@ module _ (v : List ℤ) (l k at base : ℕ) where
       let i : past (read-part v) (q + 1) ≡ p = omega (arith, part-length v size) in
       rw (sub-one, i, ← s .end, ← s .next) refl
 
-  pub term-clearing-next : 4608 ≤ length v → (rest q b p q' b' : ℕ) (w w' : List ℤ) → TermClearing v l k at base rest q b w → (rest ≡ 0 → ⊥) → p ≡ min (q + 1) 4608 → IntClears (read-part w) l p b q' b' w w' → TermClearing v l k at base (rest - 1) q' b' w'
+  pub term-clearing-next : folded-end ≤ length v → (rest q b p q' b' : ℕ) (w w' : List ℤ) → TermClearing v l k at base rest q b w → (rest ≡ 0 → ⊥) → p ≡ min (q + 1) folded-end → IntClears (read-part w) l p b q' b' w w' → TermClearing v l k at base (rest - 1) q' b' w'
   term-clearing-next size rest q b p q' b' w w' x z e y' =
       let y = int-in l p b q' b' v w w' (x .part) y' in
       record {

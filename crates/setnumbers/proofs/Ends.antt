@@ -1,5 +1,5 @@
 -- Which statement stands at a place by its first word, and where it ends.
-use mathlib.Core.Path.{_≡_, refl, ap, _∙_}
+use mathlib.Core.Path.{_≡_, refl, ap, _∙_, sym}
 use mathlib.Core.Bool.{false}
 use mathlib.Core.List.{List}
 use Prim.Native.Nat.{ℕ, suc, _+_, _*_, _≤_, _<_, min}
@@ -7,21 +7,22 @@ use native.Mathlib.Omega.{arith}
 use lib.IntN.{ℤ, pos}
 use lib.ListN.{length}
 use Rattle.laws.specs.Slices.{Has, has-fits, has-rest}
+use Rattle.memory.specs.Places.{folded-end, limit}
+use Rattle.memory.specs.Number.{nat}
 use Rattle.syntax.specs.Syntax.{BoolExpr, encode-bool, Stmt, Rule, Table, AllDifferent, encode-stmt}
 use Rattle.syntax.specs.Codes.{stmt-code, stmt-code-word}
-use Rattle.walk.specs.Item.{limit, nat}
 use Rattle.walk.specs.Decode.{word, read-part}
+use Rattle.walk.specs.NumberingSteps.{part-length, part-short}
 use Rattle.walks.specs.Tree.{below, splits}
 use Rattle.walks.specs.Decode.{decode}
 use Rattle.walks.specs.DecodeExact.{rule-stands}
+use Rattle.walks.specs.Ends.{decode-end}
 use Rattle.stages.specs.Columns.{columns-end}
 use Rattle.stages.specs.Room.{splits-low}
-use Rattle.scan.specs.Nodes.{part-length}
 use Rattle.scan.specs.Skip.{split-by, Skips}
 use Rattle.setnumbers.specs.Stands.{Stands, SomeStmt, SomeTable, SomeDifferent, StmtEnds, TableEnds}
 use Rattle.setnumbers.specs.KnownTie.{KnownTie, known-end}
-use Rattle.setnumbers.proofs.Steady.{same-end}
-use Rattle.setnumbers.proofs.Words.{part-short, columns-stop, table-words, table-stop, different-words}
+use Rattle.setnumbers.proofs.Words.{columns-stop, table-words, table-stop, different-words}
 
 pub some-word : (t : Stmt) → 0 < length (encode-stmt t)
 unfolding encode-stmt
@@ -38,10 +39,10 @@ module _ (w : List ℤ) (at : ℕ) where
   unfolding encode-stmt
   rule-words e h = has-rest (read-part w) at (pos 1) (encode-bool e) (h .words)
 
-  pub stmt-inside : (t : Stmt) → Stands w at t → at + length (encode-stmt t) ≤ 4608
+  pub stmt-inside : (t : Stmt) → Stands w at t → at + length (encode-stmt t) ≤ folded-end
   stmt-inside t h = omega (arith, has-fits (read-part w) at (encode-stmt t) (h .words) (some-word t), part-short w)
 
-  pub some-inside : SomeStmt w at → at + 1 ≤ 4608
+  pub some-inside : SomeStmt w at → at + 1 ≤ folded-end
   some-inside s = omega (arith, some-word (s .stmt), stmt-inside (s .stmt) (s .stands))
 
   pub ends-later : (q : ℕ) → StmtEnds w at q → SomeStmt w at → at < q
@@ -79,10 +80,10 @@ module _ (w : List ℤ) (at : ℕ) where
         go (AllDifferent es) h = record { exprs = es; stands = h }
 
     -- a statement that is no rule has a second word
-    pub second-inside : SomeStmt w at → (k ≡ 1 → ⊥) → at + 2 ≤ 4608
+    pub second-inside : SomeStmt w at → (k ≡ 1 → ⊥) → at + 2 ≤ folded-end
     second-inside s y = go (s .stmt) (s .stands)
       where
-        go : (t : Stmt) → Stands w at t → at + 2 ≤ 4608
+        go : (t : Stmt) → Stands w at t → at + 2 ≤ folded-end
         go (Rule e) h = not-here (Rule e) y h
         go (Table es rows) h = omega (arith, table-words w at es rows h .inside, table-words w at es rows h .size)
         go (AllDifferent es) h = omega (arith, different-words w at es h .inside, different-words w at es h .size)
@@ -91,12 +92,12 @@ module _ (w : List ℤ) (at : ℕ) where
 
     pub rule-ends : (n q b : ℕ) → k ≡ 1 → Skips (read-part w) 64 (split-by 1) (at + 1) n q b → StmtEnds w at q
     unfolding split-by
-    rule-ends n q b z s (Rule e) h = s .end false ∙ same-end (read-part w) 64 below false (at + 1) n 0 ∙ rule-stop e h
+    rule-ends n q b z s (Rule e) h = s .end false ∙ decode-end (read-part w) 64 below false (at + 1) n ∙ sym (decode-end (read-part w) 64 below false (at + 1) 0) ∙ rule-stop e h
     rule-ends n q b z s (Table es rows) h = not-here (Table es rows) (λ x. omega (arith, z, x)) h
     rule-ends n q b z s (AllDifferent es) h = not-here (AllDifferent es) (λ x. omega (arith, z, x)) h
 
     -- a tie of two variables that have literals
-    pub known-ends : (q : ℕ) → 4608 ≤ length w → k ≡ 1 → KnownTie w (at + 1) → q ≡ min (at + 6) 4608 → StmtEnds w at q
+    pub known-ends : (q : ℕ) → folded-end ≤ length w → k ≡ 1 → KnownTie w (at + 1) → q ≡ min (at + 6) folded-end → StmtEnds w at q
     known-ends q size z t i (Rule e) h = let x = part-length w size in omega (arith, x, known-end w (at + 1) 0 t, rule-stop e h)
     known-ends q size z t i (Table es rows) h = not-here (Table es rows) (λ x. omega (arith, z, x)) h
     known-ends q size z t i (AllDifferent es) h = not-here (AllDifferent es) (λ x. omega (arith, z, x)) h

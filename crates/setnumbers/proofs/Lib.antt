@@ -1,6 +1,5 @@
 pub mod Clearing
 pub mod Words
-pub mod Steady
 pub mod Ends
 pub mod Numbering
 pub mod Tables

@@ -8,6 +8,7 @@ use native.Mathlib.Numerals.{sub-one}
 use lib.IntN.{ℤ}
 use lib.Dec.{ltb}
 use borrow.Author.Tests.{lt-ltb, le-ltb}
+use Rattle.memory.specs.Places.{folded-end}
 use Rattle.syntax.specs.Syntax.{Domain}
 use Rattle.walk.specs.Decode.{read-part}
 use Rattle.walks.specs.Tree.{here}
@@ -44,16 +45,16 @@ pub asks-next : (a : List ℤ → Task) (t r : Task) (st st' : State) (rec : ℕ
 asks-next a t r st st' rec k x = record { long = omega (arith, k .long, x .kept .size); records = k .records; low = x .low; ready = ready-next a r (k .ready) x }
 
 -- what numbering's functions ask
-pub starts-of : {t : Task} {st : State} {rec at : ℕ} → at ≤ 4608 → Asks t st rec → Starts t st rec at 0
+pub starts-of : {t : Task} {st : State} {rec at : ℕ} → at ≤ folded-end → Asks t st rec → Starts t st rec at 0
 starts-of i a = record { size = omega (arith, a .long); inside = i; low-base = zero-le; records = a .records; low = a .low; ready = a .ready }
 
 -- ---- columns
 
 module _ (rec cap : ℕ) (n at : ℕ) (st : State) where
   abbrev pub Columns : ℕ → ℕ → State → Type 0
-  Columns rest q st' = (q ≤ 4608) × Left (columns-task rec cap (read-part (st .work)) n at) st (columns-task rec cap (read-part (st .work)) rest q) st' × (columns-end (read-part (st .work)) rest q ≡ columns-end (read-part (st .work)) n at)
+  Columns rest q st' = (q ≤ folded-end) × Left (columns-task rec cap (read-part (st .work)) n at) st (columns-task rec cap (read-part (st .work)) rest q) st' × (columns-end (read-part (st .work)) rest q ≡ columns-end (read-part (st .work)) n at)
 
-  pub columns-first : at ≤ 4608 → Low st → Columns n at st
+  pub columns-first : at ≤ folded-end → Low st → Columns n at st
   columns-first h l = (h, left-all (columns-task rec cap (read-part (st .work)) n at) st l, refl)
 
   module _ (rest q : ℕ) (st' : State) (z : rest ≡ 0 → ⊥) (x : Columns rest q st') where
@@ -105,9 +106,9 @@ module _ (rec cap p n at : ℕ) (st : State) where
   row-of k q = row-task rec cap (read-part (st .work)) p k q skip
 
   abbrev pub Row : ℕ → ℕ → State → Type 0
-  Row rest q st' = (q ≤ 4608) × Left (row-of n at) st (row-of rest q) st'
+  Row rest q st' = (q ≤ folded-end) × Left (row-of n at) st (row-of rest q) st'
 
-  pub row-first : at ≤ 4608 → Low st → Row n at st
+  pub row-first : at ≤ folded-end → Low st → Row n at st
   row-first h l = (h, left-all (row-of n at) st l)
 
   pub row-full : (rest q : ℕ) (st' : State) → cap < st' .used → Row rest q st' → Done (row-of n at) st st'
@@ -154,9 +155,9 @@ module _ (rec cap n at : ℕ) (st : State) where
   pairs-of k p = pairs-task rec cap (read-part (st .work)) k p skip
 
   abbrev pub Pairs : ℕ → ℕ → State → Type 0
-  Pairs rest p st' = (p ≤ 4608) × Left (pairs-of n at) st (pairs-of rest p) st'
+  Pairs rest p st' = (p ≤ folded-end) × Left (pairs-of n at) st (pairs-of rest p) st'
 
-  pub pairs-first : at ≤ 4608 → Low st → Pairs n at st
+  pub pairs-first : at ≤ folded-end → Low st → Pairs n at st
   pairs-first h l = (h, left-all (pairs-of n at) st l)
 
   module _ (rest p : ℕ) (st' : State) (z : rest ≡ 0 → ⊥) (x : Pairs rest p st') (q b : ℕ) (s : IntSkips (read-part (st' .work)) 64 (split-by 0) p 0 q b) where
@@ -192,9 +193,9 @@ module _ (rec cap n at : ℕ) (st : State) where
   each-of k q = each-task rec cap (read-part (st .work)) k q
 
   abbrev pub Expressions : ℕ → ℕ → State → Type 0
-  Expressions rest q st' = (q ≤ 4608) × Left (each-of n at) st (each-of rest q) st'
+  Expressions rest q st' = (q ≤ folded-end) × Left (each-of n at) st (each-of rest q) st'
 
-  pub each-first : at ≤ 4608 → Low st → Expressions n at st
+  pub each-first : at ≤ folded-end → Low st → Expressions n at st
   each-first h l = (h, left-all (each-of n at) st l)
 
   module _ (rest q : ℕ) (st' : State) (z : rest ≡ 0 → ⊥) (x : Expressions rest q st') where

@@ -6,15 +6,17 @@ use native.Mathlib.Nat.{mul-comm}
 use native.Mathlib.Omega.{arith}
 use native.Mathlib.Numerals.{sub-one}
 use lib.IntN.{ℤ}
-use lib.ListN.{length, length-append, length-take}
+use lib.ListN.{length, length-append}
 use Rattle.laws.specs.Lists.{flat}
 use Rattle.laws.specs.Slices.{Has, has-front, has-back}
+use Rattle.memory.specs.Places.{folded-end}
+use Rattle.memory.specs.Number.{nat}
 use Rattle.syntax.specs.Syntax.{IntExpr, encode-int, Cell, Table, AllDifferent, encode-stmt}
 use Rattle.syntax.specs.Lengths.{table-words as table-parts, different-words as different-parts}
 use Rattle.words.specs.Exact.{Each}
 use Rattle.read.specs.Vars.{rows-wide}
-use Rattle.walk.specs.Item.{nat}
 use Rattle.walk.specs.Decode.{word, read-part}
+use Rattle.walk.specs.NumberingSteps.{part-short}
 use Rattle.walks.specs.Legal.{LegalInt}
 use Rattle.walks.specs.DecodeExact.{column-stands}
 use Rattle.rows.specs.Stands.{cells-words}
@@ -23,9 +25,6 @@ use Rattle.scan.specs.Skip.{split-by, IntSkips}
 use Rattle.setnumbers.specs.Stands.{Stands, SomeTable, SomeDifferent}
 
 -- at most
-pub part-short : (w : List ℤ) → length (read-part w) ≤ 4608
-unfolding read-part
-part-short w = omega (arith, length-take 4608 w)
 
 -- ---- the end of columns
 
@@ -55,7 +54,7 @@ pub record TableWords (ws : List ℤ) (at : ℕ) (es : List IntExpr) (rows : Lis
   pub stands : Has ws (at + 3) (flat (map encode-int es))
   pub cells : Has ws (at + 3 + length (flat (map encode-int es))) (cells-words rows)
   pub size : length (encode-stmt (Table es rows)) ≡ 3 + length (flat (map encode-int es)) + length rows * length es
-  pub inside : at + length (encode-stmt (Table es rows)) ≤ 4608
+  pub inside : at + length (encode-stmt (Table es rows)) ≤ folded-end
 
 module _ (w : List ℤ) (at : ℕ) (es : List IntExpr) (rows : List (List Cell)) (h : Stands w at (Table es rows)) where
   pub table-words : TableWords (read-part w) at es rows
@@ -81,10 +80,10 @@ module _ (w : List ℤ) (at : ℕ) (es : List IntExpr) (rows : List (List Cell))
         let e : k * n ≡ length rows * length es = ap (λ (m : ℕ). m * n) (hk ∙ table-words .row-count) ∙ ap (λ (m : ℕ). length rows * m) (hn ∙ table-words .columns) in
         omega (arith, e, rows-place, table-words .size)
 
-    pub table-room : p + k * n ≤ 4608
+    pub table-room : p + k * n ≤ folded-end
     table-room = omega (arith, table-stop, table-words .inside)
 
-pub table-inside : (w : List ℤ) (at : ℕ) → SomeTable w at → at + 3 ≤ 4608
+pub table-inside : (w : List ℤ) (at : ℕ) → SomeTable w at → at + 3 ≤ folded-end
 table-inside w at t = let x = table-words w at (t .columns) (t .cells) (t .stands) in omega (arith, x .size, x .inside)
 
 -- ---- an AllDifferent
@@ -93,7 +92,7 @@ pub record DifferentWords (ws : List ℤ) (at : ℕ) (es : List IntExpr) : Type 
   pub count : word ws (at + 1) ≡ length es
   pub stands : Has ws (at + 2) (flat (map encode-int es))
   pub size : length (encode-stmt (AllDifferent es)) ≡ 2 + length (flat (map encode-int es))
-  pub inside : at + length (encode-stmt (AllDifferent es)) ≤ 4608
+  pub inside : at + length (encode-stmt (AllDifferent es)) ≤ folded-end
 
 pub different-words : (w : List ℤ) (at : ℕ) (es : List IntExpr) → Stands w at (AllDifferent es) → DifferentWords (read-part w) at es
 unfolding encode-stmt word nat
@@ -101,5 +100,5 @@ different-words w at es h =
     let d = different-parts (read-part w) at es (h .words) in
     record { count = ap nat (d .count-word); stands = d .columns; size = omega arith; inside = omega (arith, d .inside, part-short w) }
 
-pub different-inside : (w : List ℤ) (at : ℕ) → SomeDifferent w at → at + 2 ≤ 4608
+pub different-inside : (w : List ℤ) (at : ℕ) → SomeDifferent w at → at + 2 ≤ folded-end
 different-inside w at s = let x = different-words w at (s .exprs) (s .stands) in omega (arith, x .inside, x .size)

@@ -5,9 +5,10 @@ use mathlib.Core.List.{List, [], _++_}
 use Prim.Native.Nat.{ℕ}
 use lib.IntN.{ℤ}
 use lib.ListN.{length, drop}
+use Rattle.memory.specs.Places.{ifs-word}
 use Rattle.walk.specs.Decode.{read-part}
 use Rattle.walks.specs.Tree.{Place, here}
-use Rattle.walks.specs.Item.{ifs-word, has-ifs}
+use Rattle.walks.specs.Item.{has-ifs}
 use Rattle.walks.specs.Decode.{decode, decode-int}
 use Rattle.walks.specs.Clear.{clear-places}
 use Rattle.scan.specs.Skip.{Skips, SkipsAll, IntSkips, TermSkips}

@@ -8,9 +8,9 @@ use native.Mathlib.Omega.{arith}
 use lib.IntN.{ℤ}
 use lib.Dec.{ltb}
 use borrow.Author.Tests.{ltb-true, lt-ltb}
+use Rattle.memory.specs.Places.{limit}
 use Rattle.syntax.specs.Syntax.{Domain}
 use Rattle.clauses.specs.Log.{Log}
-use Rattle.walk.specs.Item.{limit}
 use Rattle.walks.specs.Meet.{State}
 use Rattle.walks.specs.Leaves.{words-of}
 use Rattle.stages.specs.StatementsParts.{meet-parts, Stage, parts, rooms, Chained, AllKnown, Standing, Passed, full as passed-full, good as passed-good, Again, AllWalk, parts-spend, standing-less}

@@ -8,11 +8,11 @@ use native.Mathlib.Omega.{arith}
 use lib.IntN.{ℤ, pos}
 use lib.ListN.{length, length-append}
 use Rattle.laws.specs.Slices.{Has, has-front, has-back, has-rest}
+use Rattle.memory.specs.Places.{folded, folded-end, limit}
 use Rattle.syntax.specs.Syntax.{Domain, IntExpr, BoolExpr, encode-int, encode-bool, Cell, Stmt, Rule, Table, AllDifferent, encode-stmt}
 use Rattle.words.specs.Exact.{Each}
 use Rattle.clauses.specs.Log.{Log}
 use Rattle.different.specs.Different.{values-used-up}
-use Rattle.walk.specs.Item.{limit}
 use Rattle.walk.specs.Decode.{read-part}
 use Rattle.walks.specs.Tree.{Place, below, here, splits, splits-int}
 use Rattle.walks.specs.Form.{Forms, forms}
@@ -106,7 +106,7 @@ module _ (ds : List Domain) (F : List ℤ) (parted : ℕ → Bool) (rec cap : �
 
   -- ---- all pairs, in front of what follows
 
-  module _ (stop : ℕ) (end : stop ≤ 4608) where
+  module _ (stop : ℕ) (end : stop ≤ folded-end) where
     abbrev SidesHere : List IntExpr → ℕ → Type 0
     SidesHere = SidesStand F parted with-ifs stop
 
@@ -152,8 +152,8 @@ module _ (ds : List Domain) (F : List ℤ) (parted : ℕ → Bool) (rec cap : �
 
   -- ---- statements
 
-  module _ (b : ℕ) (inside : b ≤ 4608) (marked : Marked F b with-ifs) where
-    stmt-follow : (at : ℕ) (t : Stmt) (ts : List Stmt) → Each LegalStmt (t ∷ ts) → StmtWithin ds t → PartedFrom parted at (t ∷ ts) → Has F at (encode-stmt t) → 512 ≤ at → at + length (encode-stmt t) ≤ b → (xs : List Stage) (u : Task) → FollowHere xs u → FollowHere (stmt-stages ds rec cap F at t xs) (stmt-task rec cap F at t u)
+  module _ (b : ℕ) (inside : b ≤ folded-end) (marked : Marked F b with-ifs) where
+    stmt-follow : (at : ℕ) (t : Stmt) (ts : List Stmt) → Each LegalStmt (t ∷ ts) → StmtWithin ds t → PartedFrom parted at (t ∷ ts) → Has F at (encode-stmt t) → folded ≤ at → at + length (encode-stmt t) ≤ b → (xs : List Stage) (u : Task) → FollowHere xs u → FollowHere (stmt-stages ds rec cap F at t xs) (stmt-task rec cap F at t u)
     unfolding stmt-stages stmt-task different-stages
     stmt-follow at (Rule e) ts h i k d l m xs u f =
         let n : length (encode-stmt (Rule e)) ≡ 1 + length (encode-bool e) = unfold encode-stmt in omega arith in
@@ -175,7 +175,7 @@ module _ (ds : List Domain) (F : List ℤ) (parted : ℕ → Bool) (rec cap : �
         let g : SidesStand F parted with-ifs stop es (at + 2) = record { legal = h .0; words = c; from = omega arith; to = omega (arith, n); agree = sides-agree F b with-ifs marked parted at ts es h k c l (omega (arith, n)) } in
         pairs-follow stop (omega arith) es (at + 2) (values-stages ds es stop xs (values-used-up ds es)) u g i (values-follow stop (omega arith) es (values-used-up ds es) xs u f)
 
-    stmts-follow : (at : ℕ) (ts : List Stmt) → Each LegalStmt ts → Each (StmtWithin ds) ts → PartedFrom parted at ts → Has F at (stmts-words ts) → 512 ≤ at → at + length (stmts-words ts) ≤ b → FollowHere (stmts-stages ds rec cap F at ts) (stmts-task rec cap F at ts)
+    stmts-follow : (at : ℕ) (ts : List Stmt) → Each LegalStmt ts → Each (StmtWithin ds) ts → PartedFrom parted at ts → Has F at (stmts-words ts) → folded ≤ at → at + length (stmts-words ts) ≤ b → FollowHere (stmts-stages ds rec cap F at ts) (stmts-task rec cap F at ts)
     unfolding stmts-stages stmts-task
     stmts-follow at [] h i k d l m = none
     stmts-follow at (t ∷ ts) h i k d l m =
@@ -185,13 +185,13 @@ module _ (ds : List Domain) (F : List ℤ) (parted : ℕ → Bool) (rec cap : �
         (stmts-follow rest ts (h .1) (i .1) (parted-rest parted at t ts h k) (has-back F at (encode-stmt t) (stmts-words ts) d) (omega arith) (omega (arith, n)))
 
     -- from the state st of the log s
-    pub stmts-followed : (at : ℕ) (ts : List Stmt) → Each LegalStmt ts → Each (StmtWithin ds) ts → PartedFrom parted at ts → Has F at (stmts-words ts) → 512 ≤ at → at + length (stmts-words ts) ≤ b → (n : ℕ) (st : State) (s : Log)
+    pub stmts-followed : (at : ℕ) (ts : List Stmt) → Each LegalStmt ts → Each (StmtWithin ds) ts → PartedFrom parted at ts → Has F at (stmts-words ts) → folded ≤ at → at + length (stmts-words ts) ≤ b → (n : ℕ) (st : State) (s : Log)
         → Standing ds F parted rec cap with-ifs before low at (rooms (stmts-stages ds rec cap F at ts) + n) st s → st .used ≤ words-of s → Followed ds F parted rec cap with-ifs before low (stmts-task rec cap F at ts) (stmts-stages ds rec cap F at ts) st
     stmts-followed at ts h i k d l m n st s g v =
         follow ds F parted rec cap with-ifs before low (stmts-follow at ts h i k d l m) (stmts-walk ds F parted rec cap with-ifs before low b inside marked at ts h k d l m) at at (stmts-chains ds rec cap F at ts at at (omega arith) (omega arith)) n st s (stmts-known ds rec cap F at ts s) g v
 
     -- one statement
-    pub stmt-followed : (at : ℕ) (t : Stmt) (ts : List Stmt) → Each LegalStmt (t ∷ ts) → StmtWithin ds t → PartedFrom parted at (t ∷ ts) → Has F at (encode-stmt t) → 512 ≤ at → at + length (encode-stmt t) ≤ b → (n : ℕ) (st : State) (s : Log)
+    pub stmt-followed : (at : ℕ) (t : Stmt) (ts : List Stmt) → Each LegalStmt (t ∷ ts) → StmtWithin ds t → PartedFrom parted at (t ∷ ts) → Has F at (encode-stmt t) → folded ≤ at → at + length (encode-stmt t) ≤ b → (n : ℕ) (st : State) (s : Log)
         → Standing ds F parted rec cap with-ifs before low at (rooms (stmt-stages ds rec cap F at t []) + n) st s → st .used ≤ words-of s → Followed ds F parted rec cap with-ifs before low (stmt-task rec cap F at t skip) (stmt-stages ds rec cap F at t []) st
     stmt-followed at t ts h i k d l m n st s g v =
         follow ds F parted rec cap with-ifs before low (stmt-follow at t ts h i k d l m [] skip none) (stmt-walk ds F parted rec cap with-ifs before low b inside marked at t ts h k d l m [] tt) at at (stmt-chains ds rec cap F at t [] (λ i j x y. tt) at at (omega arith) (omega arith)) n st s (stmt-known ds rec cap F at t [] s (unfold AllKnown in tt)) g v

@@ -10,8 +10,10 @@ use lib.IntN.{ℤ, pos}
 use lib.ListN.{length, getD}
 use lib.Dec.{eqb}
 use Rattle.laws.specs.Slices.{Has, has-fits, has-front, has-back, has-word, has-rest}
+use Rattle.memory.specs.Places.{limit}
+use Rattle.memory.specs.Number.{nat}
 use Rattle.syntax.specs.Syntax.{IntExpr, IConst, IVar, Linear, If, Terms, tnil, tmore, count-terms, encode-int, encode-terms, BoolExpr, Const, Var, NVar, And, Or, Not, Xor, Iff, Imp, Cmp, Members, mnil, more, count-members, encode-op, encode-bool, encode-members}
-use Rattle.walk.specs.Item.{limit, bump, is-none, nat}
+use Rattle.walk.specs.Item.{bump, is-none}
 use Rattle.walk.specs.Decode.{word, past}
 use Rattle.walk.specs.declared.Node.{Node}
 use Rattle.walk.specs.declared.Node.the-variants.{Var as VarAt, Cmp as CmpAt, Not as NotAt, Join, Cross}

@@ -7,8 +7,10 @@ use Prim.Native.Nat.{ℕ, suc, _+_, _-_, _≤_}
 use native.Mathlib.Omega.{arith}
 use lib.IntN.{ℤ}
 use Rattle.laws.specs.Ints.{is-zero}
+use Rattle.memory.specs.Places.{limit}
 use Rattle.syntax.specs.Syntax.{Domain}
-use Rattle.walk.specs.Item.{limit, bump, bool-at}
+use Rattle.syntax.specs.Words.{max-bools}
+use Rattle.walk.specs.Item.{bump, bool-at}
 use Rattle.walk.specs.Decode.{word, past, below as index, read-part}
 use Rattle.walk.specs.declared.Node.the-variants.{Cross}
 use Rattle.walks.specs.Tree.{Splitting, below, here}
@@ -23,8 +25,8 @@ use Rattle.numbering.specs.Rules.{rule-task}
 pub record KnownSides (w : List ℤ) (p : ℕ) : Type 0 where
   pub first : word (read-part w) p ≡ 11
   pub second : word (read-part w) (past (read-part w) (p + 2)) ≡ 11
-  pub left : is-zero (bool-at w (index 512 (word (read-part w) (p + 1)))) ≡ false
-  pub right : is-zero (bool-at w (index 512 (word (read-part w) (past (read-part w) (p + 2) + 1)))) ≡ false
+  pub left : is-zero (bool-at w (index max-bools (word (read-part w) (p + 1)))) ≡ false
+  pub right : is-zero (bool-at w (index max-bools (word (read-part w) (past (read-part w) (p + 2) + 1)))) ≡ false
 
 -- the rule at a place is an Xor or Iff of such sides
 pub record KnownTie (w : List ℤ) (at : ℕ) : Type 0 where
@@ -35,7 +37,7 @@ pub record KnownTie (w : List ℤ) (at : ℕ) : Type 0 where
 
 module _ (ws : List ℤ) where
   -- a variable at a place
-  var-read : (l : ℕ) (m : Splitting) (g : Bool) (p n : ℕ) → word ws p ≡ 11 → decode ws (suc l) m g p n ≡ record { tree = var (index 512 (word ws (p + 1))) g; end = past ws (p + 2); next = n }
+  var-read : (l : ℕ) (m : Splitting) (g : Bool) (p n : ℕ) → word ws p ≡ 11 → decode ws (suc l) m g p n ≡ record { tree = var (index max-bools (word ws (p + 1))) g; end = past ws (p + 2); next = n }
   unfolding decode step node-of
   var-read l m g p n e = rw e refl
 
@@ -45,7 +47,7 @@ module _ (ws : List ℤ) where
 
   module _ (l p q n : ℕ) (hq : past ws (p + 2) ≡ q) (first : word ws p ≡ 11) (second : word ws q ≡ 11) where
     abbrev two-vars : Bool → Bool → Forms
-    two-vars g h = cons (var (index 512 (word ws (p + 1))) g) (cons (var (index 512 (word ws (q + 1))) h) nil)
+    two-vars g h = cons (var (index max-bools (word ws (p + 1))) g) (cons (var (index max-bools (word ws (q + 1))) h) nil)
 
     sides-read : (g h : Bool) → many (decode ws (suc l) here) 2 g h p n ≡ record { trees = two-vars g h; end = past ws (q + 2); next = n }
     unfolding many
@@ -106,8 +108,8 @@ known-stays ds rec cap at st low k = go (k .code)
         let a = tie-read ws 62 p q n refl (k .sides .first) (k .sides .second) at h e in
         let b = tie-ties ws 62 p q n refl (k .sides .first) (k .sides .second) at h e in
         let z : n - n ≡ 0 = omega arith in
-        rw (a, b, z, no-more ds rec cap (index 512 (word ws (p + 1))) (index 512 (word ws (q + 1))) st (k .sides .left) (k .sides .right) low)
-        (unfold form-meet in tie-stays ds rec cap (index 512 (word ws (p + 1))) (index 512 (word ws (q + 1))) st (k .sides .left) (k .sides .right) low false h true (not h))
+        rw (a, b, z, no-more ds rec cap (index max-bools (word ws (p + 1))) (index max-bools (word ws (q + 1))) st (k .sides .left) (k .sides .right) low)
+        (unfold form-meet in tie-stays ds rec cap (index max-bools (word ws (p + 1))) (index max-bools (word ws (q + 1))) st (k .sides .left) (k .sides .right) low false h true (not h))
 
     go : word ws at ≡ 15 ⊎ word ws at ≡ 16 → form-meets ds rec cap (rule-at ws 64 at n) (more-bools (decode ws 64 below false at n .next - n) st) ≡ st
     go (inl e) = stays false (unfold node-of in rw e refl)

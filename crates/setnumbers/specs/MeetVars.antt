@@ -8,9 +8,12 @@ use lib.IntN.{ℤ, pos}
 use lib.ListN.{length, set, length-set}
 use lib.Seq.{getD-set-same, getD-set-other}
 use Rattle.laws.specs.Bools.{never}
+use Rattle.memory.specs.Places.{int-map, limit}
+use Rattle.memory.specs.Number.{nat}
 use Rattle.syntax.specs.Syntax.{Domain, domain-of}
+use Rattle.syntax.specs.Words.{min-work-words}
 use Rattle.words.specs.Exact.{Each}
-use Rattle.walk.specs.Item.{limit, is-none, int-map, nat, int-entry}
+use Rattle.walk.specs.Item.{is-none, int-entry}
 use Rattle.walks.specs.Item.{has-ifs}
 use Rattle.walks.specs.Meet.{State, with-work, range-record, new-int, meet-int-var}
 use Rattle.walks.specs.Cells.{word-kept}
@@ -34,7 +37,7 @@ entry-set w v n h = rw (getD-set-same w (int-map + v) (pos (n + 1)) (pos 0) h) (
 
 -- the walk is not full, and the word for Ifs is 0
 pub record Unmarked (cap : ℕ) (st : State) : Type 0 where
-  pub size : 16384 ≤ length (st .work)
+  pub size : min-work-words ≤ length (st .work)
   pub bools : st .bools ≤ limit
   pub used : st .used ≤ cap
   pub word : has-ifs (st .work) ≡ false

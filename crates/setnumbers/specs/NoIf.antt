@@ -6,6 +6,7 @@ use native.Mathlib.Omega.{arith}
 use lib.IntN.{ℤ, pos}
 use lib.ListN.{length, length-append}
 use Rattle.laws.specs.Slices.{Has, has-front, has-back, has-rest}
+use Rattle.memory.specs.Places.{folded}
 use Rattle.syntax.specs.Lengths.{int-long}
 use Rattle.syntax.specs.Syntax.{IntExpr, IConst, IVar, Linear, If, Terms, tnil, tmore, count-terms, encode-int, encode-terms}
 use Rattle.walks.specs.Tree.{Splitting, nil, splits-int, splits-terms, ties-int, ties-terms}
@@ -29,7 +30,7 @@ module _ (F : List ℤ) (b : ℕ) (none : NoIfs F b) where
   mutual
     unfolding NoIf LegalInt encode-int encode-terms
 
-    pub none-int : (e : IntExpr) (k p : ℕ) → k ≤ 64 → LegalInt e k → Has F p (encode-int e) → 512 ≤ p → p + length (encode-int e) ≤ b → NoIf e
+    pub none-int : (e : IntExpr) (k p : ℕ) → k ≤ 64 → LegalInt e k → Has F p (encode-int e) → folded ≤ p → p + length (encode-int e) ≤ b → NoIf e
     none-int (IConst c) k p i g h l m = tt
     none-int (IVar v) k p i g h l m = tt
     none-int (Linear ts) k p i g h l m =
@@ -37,7 +38,7 @@ module _ (F : List ℤ) (b : ℕ) (none : NoIfs F b) where
         none-terms ts (k - 1) (p + 1 + 1) (omega arith) (g .1) d (omega arith) (omega arith)
     none-int (If r c t f) k p i g h l m = none p (If r c t f) (tt, legal-int-more (If r c t f) k 64 i g) h l (omega (arith, int-long (If r c t f)))
 
-    none-terms : (ts : Terms) (k p : ℕ) → k ≤ 64 → LegalTerms ts k → Has F p (encode-terms ts) → 512 ≤ p → p + length (encode-terms ts) ≤ b → NoIfTerms ts
+    none-terms : (ts : Terms) (k p : ℕ) → k ≤ 64 → LegalTerms ts k → Has F p (encode-terms ts) → folded ≤ p → p + length (encode-terms ts) ≤ b → NoIfTerms ts
     none-terms tnil k p i g h l m = tt
     none-terms (tmore c e ts) k p i g h l m =
         let d = has-rest F p c (encode-int e ++ encode-terms ts) h in

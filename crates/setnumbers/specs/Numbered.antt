@@ -9,10 +9,11 @@ use lib.IntN.{ℤ}
 use lib.ListN.{length}
 use Rattle.laws.specs.Bools.{never}
 use Rattle.laws.specs.Slices.{Has}
+use Rattle.memory.specs.Places.{folded, folded-end, limit}
 use Rattle.syntax.specs.Syntax.{Domain, IntExpr, Cell, Stmt, Table}
+use Rattle.syntax.specs.Words.{min-work-words}
 use Rattle.words.specs.Exact.{Each}
 use Rattle.clauses.specs.Log.{Log}
-use Rattle.walk.specs.Item.{limit}
 use Rattle.walk.specs.Decode.{read-part}
 use Rattle.walks.specs.Item.{has-ifs}
 use Rattle.walks.specs.Meet.{State}
@@ -21,7 +22,7 @@ use Rattle.stages.specs.StatementsParts.{meet-parts, parts, rooms, NoIfs, Stand
 use Rattle.stages.specs.StatementsPlaces.{stmts-words, LegalStmt, PartedFrom, Marked}
 use Rattle.stages.specs.Statements.{stmts-stages}
 use Rattle.stages.specs.StartFits.{StmtWithin}
-use Rattle.memory.specs.DomainTable.{Declares}
+use Rattle.declared.specs.DomainTable.{Declares}
 use Rattle.numbering.specs.Task.{Task, skip, Low, Ready, Done}
 use Rattle.setnumbers.specs.Stands.{WellRows, Stands, SomeTable}
 use Rattle.setnumbers.specs.PlainStmt.{PlainStmt, plain-stmts}
@@ -30,7 +31,7 @@ use Rattle.setnumbers.specs.Follow.{Agree, Followed}
 use Rattle.setnumbers.specs.FollowStatements.{stmts-followed}
 
 pub record Asks (t : Task) (st : State) (rec : ℕ) : Type 0 where
-  pub long : 16384 ≤ length (st .work)
+  pub long : min-work-words ≤ length (st .work)
   pub records : rec ≤ limit
   pub low : Low st
   pub ready : Ready t st
@@ -79,11 +80,11 @@ module _ {ds : List Domain} {F : List ℤ} {parted : ℕ → Bool} {rec cap : �
   standing-plain marked h e q x i k l m = never (sym e ∙ h .state .word ∙ marked q x i k l m)
 
 -- from a state of the log s, what is done leaves the state that stages' parts leave, or both walks are full; as in stages, parted and with-ifs
-module _ (ds : List Domain) (parted : ℕ → Bool) (rec cap : ℕ) (with-ifs : Bool) (before : List ℤ) (low : cap < limit) (at end : ℕ) (inside : end ≤ 4608) (st : State) where
+module _ (ds : List Domain) (parted : ℕ → Bool) (rec cap : ℕ) (with-ifs : Bool) (before : List ℤ) (low : cap < limit) (at end : ℕ) (inside : end ≤ folded-end) (st : State) where
   abbrev F : List ℤ
   F = read-part (st .work)
 
-  module _ (ts : List Stmt) (stand : StandAll (st .work) at end ts) (within : Each (StmtWithin ds) ts) (from : 512 ≤ at) (split : PartedFrom parted at ts) (marked : Marked (read-part (st .work)) end with-ifs)
+  module _ (ts : List Stmt) (stand : StandAll (st .work) at end ts) (within : Each (StmtWithin ds) ts) (from : folded ≤ at) (split : PartedFrom parted at ts) (marked : Marked (read-part (st .work)) end with-ifs)
       (n : ℕ) (s : Log) (standing : Standing ds (read-part (st .work)) parted rec cap with-ifs before low at (rooms (stmts-stages ds rec cap (read-part (st .work)) at ts) + n) st s) (used : st .used ≤ words-of s) where
     followed : Followed ds F parted rec cap with-ifs before low (stmts-task rec cap F at ts) (stmts-stages ds rec cap F at ts) st
     followed = stmts-followed ds F parted rec cap with-ifs before low end inside marked at ts (stand .legal) within split (stand .words) from (omega (arith, stand .stop)) n st s standing used

@@ -10,9 +10,10 @@ use lib.ListN.{length}
 use lib.Dec.{ltb}
 use borrow.Author.Tests.{le-ltb}
 use Rattle.laws.specs.Slices.{Has, has-front, has-back}
+use Rattle.memory.specs.Places.{limit}
 use Rattle.syntax.specs.Syntax.{Domain, Ne, IntExpr, IConst, IVar, Linear, If, Terms, tnil, tmore, encode-int}
 use Rattle.words.specs.Exact.{Each}
-use Rattle.walk.specs.Item.{limit, bump}
+use Rattle.walk.specs.Item.{bump}
 use Rattle.walks.specs.Tree.{here, splits-int, resolve-int, resolve-terms}
 use Rattle.walks.specs.Form.{Forms, nil, cons, cmp, form, forms, int-form, term-forms}
 use Rattle.walks.specs.Decode.{decode-int}

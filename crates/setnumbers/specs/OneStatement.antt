@@ -8,11 +8,11 @@ use native.Mathlib.Omega.{arith}
 use lib.IntN.{ℤ}
 use lib.ListN.{length}
 use Rattle.laws.specs.Slices.{Has}
+use Rattle.memory.specs.Places.{folded, folded-end, limit}
 use Rattle.syntax.specs.Syntax.{Domain, Stmt, encode-stmt}
 use Rattle.words.specs.Exact.{Each}
 use Rattle.clauses.specs.Log.{Log}
 use Rattle.answer.specs.Answer.{normalize-stmt}
-use Rattle.walk.specs.Item.{limit}
 use Rattle.walk.specs.Decode.{read-part}
 use Rattle.walks.specs.Meet.{State}
 use Rattle.walks.specs.Leaves.{words-of}
@@ -21,7 +21,7 @@ use Rattle.stages.specs.StatementsPlaces.{LegalStmt, PartedFrom, Marked}
 use Rattle.stages.specs.Statements.{stmt-stages, stmt-rooms}
 use Rattle.stages.specs.StatementsEach.{StmtAgain, stmt-pass}
 use Rattle.stages.specs.StartFits.{StmtWithin}
-use Rattle.memory.specs.DomainTable.{Declares}
+use Rattle.declared.specs.DomainTable.{Declares}
 use Rattle.numbering.specs.Task.{skip}
 use Rattle.setnumbers.specs.Stands.{WellRows}
 use Rattle.setnumbers.specs.PlainStmt.{plain-stmt}
@@ -31,8 +31,8 @@ use Rattle.setnumbers.specs.FollowStatements.{stmt-followed}
 use Rattle.setnumbers.specs.Numbered.{standing-low, standing-plain, AsksStmt, DoneStmt}
 
 -- the statement t at q, ts behind it; end: where the statements end; st: the state before it, of the log s
-module _ (ds : List Domain) (parted : ℕ → Bool) (rec cap : ℕ) (with-ifs : Bool) (before : List ℤ) (low : cap < limit) (end : ℕ) (inside : end ≤ 4608)
-    (q : ℕ) (t : Stmt) (ts : List Stmt) (legal : Each LegalStmt (t ∷ ts)) (within : StmtWithin ds t) (from : PartedFrom parted q (t ∷ ts)) (start : 512 ≤ q) (to : q + length (encode-stmt t) ≤ end)
+module _ (ds : List Domain) (parted : ℕ → Bool) (rec cap : ℕ) (with-ifs : Bool) (before : List ℤ) (low : cap < limit) (end : ℕ) (inside : end ≤ folded-end)
+    (q : ℕ) (t : Stmt) (ts : List Stmt) (legal : Each LegalStmt (t ∷ ts)) (within : StmtWithin ds t) (from : PartedFrom parted q (t ∷ ts)) (start : folded ≤ q) (to : q + length (encode-stmt t) ≤ end)
     (st : State) (marked : Marked (read-part (st .work)) end with-ifs) (words : Has (read-part (st .work)) q (encode-stmt t)) (n : ℕ) (s : Log)
     (standing-before : Standing ds (read-part (st .work)) parted rec cap with-ifs before low q (49152 * length (encode-stmt t) + n) st s) (used-before : st .used ≤ words-of s) where
   abbrev F : List ℤ

@@ -8,9 +8,9 @@ use lib.IntN.{ℤ}
 use lib.ListN.{length-take}
 use Rattle.laws.specs.Bools.{never}
 use Rattle.laws.specs.Slices.{Has, has-fits}
+use Rattle.memory.specs.Places.{folded-end, limit}
 use Rattle.syntax.specs.Syntax.{IntExpr, encode-int}
 use Rattle.syntax.specs.Lengths.{int-long}
-use Rattle.walk.specs.Item.{limit}
 use Rattle.walk.specs.Decode.{read-part}
 use Rattle.walks.specs.Tree.{Place, here, splits-int}
 use Rattle.walks.specs.Item.{has-ifs}
@@ -33,7 +33,7 @@ side-ifs : (w : List ℤ) (e : IntExpr) (p n : ℕ) → LegalInt e 64 → Has (r
 unfolding read-part
 side-ifs w e p n h d =
     let f = has-fits (read-part w) p (encode-int e) d (omega (arith, int-long e)) in
-    let i : 0 + splits-int e here ≤ limit = omega (arith, splits-int-low e here, f, length-take 4608 w) in
+    let i : 0 + splits-int e here ≤ limit = omega (arith, splits-int-low e here, f, length-take folded-end w) in
     ifs-int-are e 64 (read-part w) p 0 h d i ∙ same-are (same-places-int e here p 0 n)
 
 none-marked : {xs : List Key} → Every (λ x. _≡_ {A = Bool} false true) xs → [] ≡ places xs

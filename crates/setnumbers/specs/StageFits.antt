@@ -11,11 +11,11 @@ use lib.ListN.{length}
 use lib.Dec.{ltb}
 use borrow.Author.Tests.{lt-ltb}
 use Rattle.laws.specs.Slices.{Has}
+use Rattle.memory.specs.Places.{folded, folded-end, limit}
 use Rattle.syntax.specs.Syntax.{Domain, IntExpr, BoolExpr, encode-int, encode-bool, Cell, Table, encode-stmt}
 use Rattle.words.specs.Exact.{Each}
 use Rattle.clauses.specs.Log.{Log, next-bool}
 use Rattle.tables.specs.Tables.{equivalent-int-var}
-use Rattle.walk.specs.Item.{limit}
 use Rattle.walk.specs.Decode.{read-part}
 use Rattle.walks.specs.Tree.{Place, never, below, here, splits, splits-int, resolve, ties, resolve-int}
 use Rattle.walks.specs.Form.{IntForm, int-form}
@@ -67,7 +67,7 @@ module _ (ds : List Domain) (F : List ℤ) (parted : ℕ → Bool) (rec cap : �
 
   -- ---- a rule
 
-  pub rule-fitting : (e : BoolExpr) (p : ℕ) → LegalRule e 64 → Within ds e → Has F p (encode-bool e) → 512 ≤ p → p + length (encode-bool e) ≤ 4608 → ((n : ℕ) → Every (AgreesWith parted with-ifs) (keys e below p n)) → FittingHere (rule-stage ds rec cap e p) (rule-task rec cap F p)
+  pub rule-fitting : (e : BoolExpr) (p : ℕ) → LegalRule e 64 → Within ds e → Has F p (encode-bool e) → folded ≤ p → p + length (encode-bool e) ≤ folded-end → ((n : ℕ) → Every (AgreesWith parted with-ifs) (keys e below p n)) → FittingHere (rule-stage ds rec cap e p) (rule-task rec cap F p)
   rule-fitting e p legal within words from to agree n st s h u =
       let m = next-bool s in
       let x = rule-takes ds e p m legal (omega (arith, h .state .room, h .state .bools, splits-low e below)) in
@@ -77,7 +77,7 @@ module _ (ds : List Domain) (F : List ℤ) (parted : ℕ → Bool) (rec cap : �
   -- ---- a pair
 
   module _ (a b : IntExpr) (p q stop : ℕ) (first : LegalInt a 64) (second : LegalInt b 64) (within : WithinSides ds a b) (words : Has F p (encode-int a)) (others : Has F q (encode-int b))
-      (from : 512 ≤ p) (then : p + length (encode-int a) ≤ q) (to : q + length (encode-int b) ≤ stop) (end : stop ≤ 4608) (agree : (n : ℕ) → Every (AgreesWith parted with-ifs) (pair-keys a b p q n)) where
+      (from : folded ≤ p) (then : p + length (encode-int a) ≤ q) (to : q + length (encode-int b) ≤ stop) (end : stop ≤ folded-end) (agree : (n : ℕ) → Every (AgreesWith parted with-ifs) (pair-keys a b p q n)) where
     pub pair-fitting : FittingHere (pair-stage ds rec cap a b p q stop) (cleared-task rec cap F p q)
     unfolding clear-task splits
     pair-fitting n st s h u =
@@ -159,7 +159,7 @@ module _ (ds : List Domain) (F : List ℤ) (parted : ℕ → Bool) (rec cap : �
         go (full y z) f = columns-full es q h' st' (lt-ltb cap (st' .used) y)
         go (good y z r c) f = f y z
 
-  pub table-fitting : (es : List IntExpr) (rows : List (List Cell)) (at : ℕ) → Has F at (encode-stmt (Table es rows)) → 512 ≤ at → at + length (encode-stmt (Table es rows)) ≤ 4608 → Each (λ e. LegalInt e 64) es → WithinColumns ds es → Every (AgreesWith parted with-ifs) (columns-keys es (at + 3))
+  pub table-fitting : (es : List IntExpr) (rows : List (List Cell)) (at : ℕ) → Has F at (encode-stmt (Table es rows)) → folded ≤ at → at + length (encode-stmt (Table es rows)) ≤ folded-end → Each (λ e. LegalInt e 64) es → WithinColumns ds es → Every (AgreesWith parted with-ifs) (columns-keys es (at + 3))
       → FittingHere (table-stage ds rec cap F es rows at) (table-task rec cap F at es rows)
   table-fitting es rows at words from to legal within agree n st s h u =
       let j = table-fresh (length es) rows in

@@ -3,7 +3,8 @@ ghost use mathlib.Core.Path.{_≡_};
 ghost use mathlib.Core.Bool.{true, false};
 ghost use Prim.Native.Nat.{ℕ, _+_, _*_, _≤_};
 ghost use lib.ListN.{length};
-ghost use Rattle.walk.specs.Item.{limit};
+ghost use Rattle.memory.specs.Places.{folded, folded-end, limit};
+ghost use Rattle.syntax.specs.Words.{min-work-words};
 ghost use Rattle.walk.specs.Decode.{word as word-in, read-part};
 ghost use Rattle.walks.specs.Item.{has-ifs as has-ifs-in};
 ghost use Rattle.walks.specs.Clear.{clear-place};
@@ -38,8 +39,8 @@ use walk::Node;
 
 // Where so many columns from a place on end.
 fn columns_end(work: &[i32], at: usize, count: usize) -> usize
-    requires { do ⌜ (4608 ≤ (← ⟦work.len()⟧)) × (at ≤ 4608) ⌝ }
-    ensures { λ r. ⌜ (r ≡ columns-end-in (read-part (now (work .entry))) count at) × (r ≤ 4608) ⌝ }
+    requires { do ⌜ (folded-end ≤ (← ⟦work.len()⟧)) × (at ≤ folded-end) ⌝ }
+    ensures { λ r. ⌜ (r ≡ columns-end-in (read-part (now (work .entry))) count at) × (r ≤ folded-end) ⌝ }
 {
     let mut q = at;
     let mut rest = count;
@@ -54,7 +55,7 @@ fn columns_end(work: &[i32], at: usize, count: usize) -> usize
 
 // Where the statement at a place ends.
 pub fn statement_end(work: &[i32], at: usize) -> usize
-    requires { ⌜ SomeStmt (now work) at × (4608 ≤ length (now work)) ⌝ }
+    requires { ⌜ SomeStmt (now work) at × (folded-end ≤ length (now work)) ⌝ }
     ensures { λ r. ⌜ StmtEnds (now (work .entry)) at r ⌝ }
 {
     let kind = word(work, at);
@@ -93,7 +94,7 @@ pub fn table_fresh(work: &[i32], at: usize, n: usize, k: usize) -> usize
 
 // The cell of the If at a place, if the splitting's next number differs before and behind it.
 fn clear_cell(work: &mut [i32], at: usize, base: usize, next: usize)
-    requires { ⌜ (16384 ≤ length (now work)) × (at ≤ 4608) ⌝ }
+    requires { ⌜ (min-work-words ≤ length (now work)) × (at ≤ folded-end) ⌝ }
     ensures { λ _. ⌜ ((end : ℕ) → now (work .exit) ≡ clear-place (place-at at end base next) (now (work .entry))) × (length (now (work .exit)) ≡ length (now (work .entry))) ⌝ }
 {
     if base < next {
@@ -104,7 +105,7 @@ fn clear_cell(work: &mut [i32], at: usize, base: usize, next: usize)
 
 // So many members.
 fn clear_members(work: &mut [i32], at: usize, left: usize, count: usize, base: usize) -> Skipped
-    requires { ⌜ (16384 ≤ length (now work)) × ((at ≤ 4608) × (base ≤ limit)) ⌝ }
+    requires { ⌜ (min-work-words ≤ length (now work)) × ((at ≤ folded-end) × (base ≤ limit)) ⌝ }
     ensures { λ r. ⌜ ClearsAll (read-part (now (work .entry))) left count at base (r .at) (r .base) (now (work .entry)) (now (work .exit)) ⌝ }
 {
     let mut q = at;
@@ -121,7 +122,7 @@ fn clear_members(work: &mut [i32], at: usize, left: usize, count: usize, base: u
 
 // The Boolean expression at a place, whatever its polarity.
 fn clear_bool(work: &mut [i32], at: usize, left: usize, base: usize) -> Skipped
-    requires { ⌜ (16384 ≤ length (now work)) × ((at ≤ 4608) × (base ≤ limit)) ⌝ }
+    requires { ⌜ (min-work-words ≤ length (now work)) × ((at ≤ folded-end) × (base ≤ limit)) ⌝ }
     ensures { λ r. ⌜ Clears (read-part (now (work .entry))) left at base (r .at) (r .base) (now (work .entry)) (now (work .exit)) ⌝ }
 {
     if left == 0 {
@@ -142,7 +143,7 @@ fn clear_bool(work: &mut [i32], at: usize, left: usize, base: usize) -> Skipped
 
 // So many terms.
 fn clear_terms(work: &mut [i32], at: usize, left: usize, count: usize, base: usize) -> Skipped
-    requires { ⌜ (16384 ≤ length (now work)) × ((at ≤ 4608) × (base ≤ limit)) ⌝ }
+    requires { ⌜ (min-work-words ≤ length (now work)) × ((at ≤ folded-end) × (base ≤ limit)) ⌝ }
     ensures { λ r. ⌜ TermClears (read-part (now (work .entry))) left count at base (r .at) (r .base) (now (work .entry)) (now (work .exit)) ⌝ }
 {
     let mut q = at;
@@ -160,7 +161,7 @@ fn clear_terms(work: &mut [i32], at: usize, left: usize, count: usize, base: usi
 
 // The integer expression at a place.
 fn clear_int(work: &mut [i32], at: usize, left: usize, base: usize) -> Skipped
-    requires { ⌜ (16384 ≤ length (now work)) × ((at ≤ 4608) × (base ≤ limit)) ⌝ }
+    requires { ⌜ (min-work-words ≤ length (now work)) × ((at ≤ folded-end) × (base ≤ limit)) ⌝ }
     ensures { λ r. ⌜ IntClears (read-part (now (work .entry))) left at base (r .at) (r .base) (now (work .entry)) (now (work .exit)) ⌝ }
 {
     if left == 0 {
@@ -188,7 +189,7 @@ fn clear_int(work: &mut [i32], at: usize, left: usize, base: usize) -> Skipped
 
 // The pair whose sides stand at p and q. Where there are no Ifs nothing is read.
 pub fn clear_pair(work: &mut [i32], p: usize, q: usize)
-    requires { ⌜ (16384 ≤ length (now work)) × ((p ≤ 4608) × (q ≤ 4608)) ⌝ }
+    requires { ⌜ (min-work-words ≤ length (now work)) × ((p ≤ folded-end) × (q ≤ folded-end)) ⌝ }
     ensures { λ _. ⌜ Cleared (pair-ifs (now (work .entry)) p q) (now (work .entry)) (now (work .exit)) ⌝ }
 {
     if scan::has_ifs(work) {
@@ -214,7 +215,7 @@ fn number_columns(
     room: Room,
     c: Progress,
 ) -> NumberedStmt
-    requires { ⌜ (at ≤ 4608) × Asks (columns-task (room .records) (room .cap) (read-part (now work)) count at) (state-of (now work) (now out) c) (room .records) ⌝ }
+    requires { ⌜ (at ≤ folded-end) × Asks (columns-task (room .records) (room .cap) (read-part (now work)) count at) (state-of (now work) (now out) c) (room .records) ⌝ }
     ensures { λ r. ⌜ Done (columns-task (room .records) (room .cap) (read-part (now (work .entry))) count at) (state-of (now (work .entry)) (now (out .entry)) c) (state-of (now (work .exit)) (now (out .exit)) (r .progress)) × (r .next ≡ columns-end-in (read-part (now (work .entry))) count at) ⌝ }
 {
     let mut d = c;
@@ -242,7 +243,7 @@ fn number_row(
     room: Room,
     c: Progress,
 ) -> Progress
-    requires { ⌜ (p ≤ 4608) × ((at ≤ 4608) × Asks (row-task (room .records) (room .cap) (read-part (now work)) p count at nothing) (state-of (now work) (now out) c) (room .records)) ⌝ }
+    requires { ⌜ (p ≤ folded-end) × ((at ≤ folded-end) × Asks (row-task (room .records) (room .cap) (read-part (now work)) p count at nothing) (state-of (now work) (now out) c) (room .records)) ⌝ }
     ensures { λ r. ⌜ Done (row-task (room .records) (room .cap) (read-part (now (work .entry))) p count at nothing) (state-of (now (work .entry)) (now (out .entry)) c) (state-of (now (work .exit)) (now (out .exit)) r) ⌝ }
 {
     let mut d = c;
@@ -271,7 +272,7 @@ fn number_different(
     room: Room,
     c: Progress,
 ) -> Progress
-    requires { ⌜ (at ≤ 4608) × Asks (pairs-task (room .records) (room .cap) (read-part (now work)) count at nothing) (state-of (now work) (now out) c) (room .records) ⌝ }
+    requires { ⌜ (at ≤ folded-end) × Asks (pairs-task (room .records) (room .cap) (read-part (now work)) count at nothing) (state-of (now work) (now out) c) (room .records) ⌝ }
     ensures { λ r. ⌜ Done (pairs-task (room .records) (room .cap) (read-part (now (work .entry))) count at nothing) (state-of (now (work .entry)) (now (out .entry)) c) (state-of (now (work .exit)) (now (out .exit)) r) ⌝ }
 {
     let mut d = c;
@@ -296,7 +297,7 @@ fn number_each(
     room: Room,
     c: Progress,
 ) -> Progress
-    requires { ⌜ (at ≤ 4608) × Asks (each-task (room .records) (room .cap) (read-part (now work)) count at) (state-of (now work) (now out) c) (room .records) ⌝ }
+    requires { ⌜ (at ≤ folded-end) × Asks (each-task (room .records) (room .cap) (read-part (now work)) count at) (state-of (now work) (now out) c) (room .records) ⌝ }
     ensures { λ r. ⌜ Done (each-task (room .records) (room .cap) (read-part (now (work .entry))) count at) (state-of (now (work .entry)) (now (out .entry)) c) (state-of (now (work .exit)) (now (out .exit)) r) ⌝ }
 {
     let mut d = c;
@@ -320,7 +321,7 @@ fn number_all_different(
     room: Room,
     c: Progress,
 ) -> Progress
-    requires { ⌜ (c .used ≤ room .cap) × ((at ≤ 4608) × (Asks (pairs-task (room .records) (room .cap) (read-part (now work)) n at nothing) (state-of (now work) (now out) c) (room .records) × (has-ifs-in (now work) ≡ false → PlainSides (read-part (now work)) n at))) ⌝ }
+    requires { ⌜ (c .used ≤ room .cap) × ((at ≤ folded-end) × (Asks (pairs-task (room .records) (room .cap) (read-part (now work)) n at nothing) (state-of (now work) (now out) c) (room .records) × (has-ifs-in (now work) ≡ false → PlainSides (read-part (now work)) n at))) ⌝ }
     ensures { λ r. ⌜ Done (pairs-task (room .records) (room .cap) (read-part (now (work .entry))) n at nothing) (state-of (now (work .entry)) (now (out .entry)) c) (state-of (now (work .exit)) (now (out .exit)) r) ⌝ }
 {
     if scan::has_ifs(work) {
@@ -364,7 +365,7 @@ fn number_table(
 
 // Whether the two sides from a place on are variables that have literals.
 fn known_sides(work: &[i32], p: usize) -> bool
-    requires { ⌜ (4608 ≤ length (now work)) × (p ≤ 4608) ⌝ }
+    requires { ⌜ (folded-end ≤ length (now work)) × (p ≤ folded-end) ⌝ }
     ensures { λ r. ⌜ (r ≡ true → KnownSides (now (work .entry)) p) ⌝ }
 {
     if word(work, p) != 11 {
@@ -387,7 +388,7 @@ fn known_sides(work: &[i32], p: usize) -> bool
 
 // Whether the rule at a place ties two variables that have literals: then it takes no number.
 fn known_tie(work: &[i32], at: usize) -> bool
-    requires { ⌜ (4608 ≤ length (now work)) × (at ≤ 4608) ⌝ }
+    requires { ⌜ (folded-end ≤ length (now work)) × (at ≤ folded-end) ⌝ }
     ensures { λ r. ⌜ (r ≡ true → KnownTie (now (work .entry)) at) ⌝ }
 {
     let code = word(work, at);
@@ -460,10 +461,10 @@ pub fn number_statements(
     room: Room,
     n: usize,
 ) -> Progress
-    requires { ⌜ AsksAll (room .records) (room .cap) 512 end (start (now work) (now out) n) ⌝ }
-    ensures { λ r. ⌜ DoneAll (room .records) (room .cap) 512 end (start (now (work .entry)) (now (out .entry)) n) (state-of (now (work .exit)) (now (out .exit)) r) ⌝ }
+    requires { ⌜ AsksAll (room .records) (room .cap) folded end (start (now work) (now out) n) ⌝ }
+    ensures { λ r. ⌜ DoneAll (room .records) (room .cap) folded end (start (now (work .entry)) (now (out .entry)) n) (state-of (now (work .exit)) (now (out .exit)) r) ⌝ }
 {
-    let mut q = 512;
+    let mut q = memory::FOLDED;
     let mut c = Progress {
         bools: n,
         ints: 0,

@@ -10,13 +10,14 @@ use lib.ListN.{length, take, drop, getD, take-append-drop, length-append, length
 use lib.Seq.{length-sets, getD-drop, drop-drop, drop-at, length-take-le, take-append-le, drop-append-le}
 use borrow.Author.Tests.{ltb-false}
 use Rattle.laws.specs.Slices.{Has, zeros}
-use Rattle.syntax.specs.Words.{max-set-words, min-work-words}
+use Rattle.memory.specs.Places.{folded, folded-end, bool-map, int-map, maps-end, bounds}
+use Rattle.memory.specs.Number.{nat}
+use Rattle.syntax.specs.Words.{max-set-words, min-work-words, max-bools}
 use Rattle.syntax.specs.Syntax.{Stmt, Problem}
 use Rattle.words.specs.Parse.{ok}
 use Rattle.reader.specs.declared.Declared.{Declared}
 use Rattle.reader.specs.declared.Set.the-variants as taken
 use Rattle.domains.specs.Declared.{bounds-words}
-use Rattle.accept.specs.Walk.{bounds-place}
 use Rattle.accept.specs.Accepted.{accepted, table-after}
 use Rattle.accept.specs.Taken.{Taken, accepted-ok, accepted-refused, taken-set, taken-table, declared-is}
 use Rattle.fold.specs.Fold.{Fixed}
@@ -24,7 +25,7 @@ use Rattle.fold.specs.Table.{state-num}
 use Rattle.fold.specs.Optimize.{Outcome, inconsistent, settled, optimize}
 use Rattle.propagate.specs.Optimized.{Settles, outcome}
 use Rattle.answer.specs.Answer.{fixed-word}
-use Rattle.walk.specs.Item.{nat, bool-at, int-entry}
+use Rattle.walk.specs.Item.{bool-at, int-entry}
 use Rattle.walk.specs.Decode.{read-part}
 use Rattle.statements.specs.Whole.{Empty}
 use Rattle.statements.specs.Stages.{stmts-words, Folded}
@@ -50,43 +51,43 @@ module _ (n : ℕ) (ws : List ℤ) where
 
 -- ---- the maps emptied
 
-pub cleared-is : (w ys : List ℤ) → 5376 ≤ length w → ys ≡ zeros (length (take 768 (drop 4608 w))) → take 4608 w ++ (ys ++ drop 768 (drop 4608 w)) ≡ maps-empty w
+pub cleared-is : (w ys : List ℤ) → maps-end ≤ length w → ys ≡ zeros (length (take 768 (drop bool-map w))) → take bool-map w ++ (ys ++ drop 768 (drop bool-map w)) ≡ maps-empty w
 unfolding maps-empty
 cleared-is w ys h e =
-    let n : length (take 768 (drop 4608 w)) ≡ 768 = length-take-le 768 (drop 4608 w) (omega (arith, length-drop 4608 w)) in
-    ap (λ (z : List ℤ). take 4608 w ++ (z ++ drop 768 (drop 4608 w))) (e ∙ ap zeros n)
-    ∙ ap (λ (z : List ℤ). take 4608 w ++ (zeros 768 ++ z)) (drop-drop 768 4608 w)
+    let n : length (take 768 (drop bool-map w)) ≡ 768 = length-take-le 768 (drop bool-map w) (omega (arith, length-drop bool-map w)) in
+    ap (λ (z : List ℤ). take bool-map w ++ (z ++ drop 768 (drop bool-map w))) (e ∙ ap zeros n)
+    ∙ ap (λ (z : List ℤ). take bool-map w ++ (zeros 768 ++ z)) (drop-drop 768 bool-map w)
 
-module _ (w : List ℤ) (h : 16384 ≤ length w) where
-  empty-above : drop 4608 (maps-empty w) ≡ zeros 768 ++ drop 5376 w
+module _ (w : List ℤ) (h : min-work-words ≤ length w) where
+  empty-above : drop bool-map (maps-empty w) ≡ zeros 768 ++ drop maps-end w
   unfolding maps-empty
-  empty-above = drop-at (take 4608 w) (zeros 768 ++ drop 5376 w) 4608 (length-take-le 4608 w (omega arith))
+  empty-above = drop-at (take bool-map w) (zeros 768 ++ drop maps-end w) bool-map (length-take-le bool-map w (omega arith))
 
   empty-length : length (maps-empty w) ≡ length w
   unfolding maps-empty
   empty-length =
       omega (
         arith,
-        length-append (take 4608 w) (zeros 768 ++ drop 5376 w),
-        length-take-le 4608 w (omega arith),
-        length-append (zeros 768) (drop 5376 w),
+        length-append (take bool-map w) (zeros 768 ++ drop maps-end w),
+        length-take-le bool-map w (omega arith),
+        length-append (zeros 768) (drop maps-end w),
         length-replicate 768 (pos 0),
-        length-drop 5376 w,
+        length-drop maps-end w,
         h,
       )
 
-  zero-at : (v : ℕ) → v < 768 → getD (maps-empty w) (4608 + v) (pos 0) ≡ pos 0
+  zero-at : (v : ℕ) → v < 768 → getD (maps-empty w) (bool-map + v) (pos 0) ≡ pos 0
   zero-at v k =
-      sym (getD-drop 4608 (maps-empty w) v (pos 0))
+      sym (getD-drop bool-map (maps-empty w) v (pos 0))
       ∙ ap (λ (l : List ℤ). getD l v (pos 0)) empty-above
-      ∙ List·getD-append (zeros 768) (drop 5376 w) (pos 0) v (omega (arith, k, length-replicate 768 (pos 0)))
+      ∙ List·getD-append (zeros 768) (drop maps-end w) (pos 0) v (omega (arith, k, length-replicate 768 (pos 0)))
       ∙ getD-replicate 768 v (pos 0) (pos 0) k
 
   emptied : Empty (maps-empty w)
   unfolding bool-at int-entry nat
   emptied = record {
     bools = λ v k. zero-at v (omega arith);
-    ints = λ v k. let e : 5120 + v ≡ 4608 + (512 + v) = omega arith in ap nat (ap (λ (i : ℕ). getD (maps-empty w) i (pos 0)) e ∙ zero-at (512 + v) (omega arith));
+    ints = λ v k. let e : int-map + v ≡ bool-map + (max-bools + v) = omega arith in ap nat (ap (λ (i : ℕ). getD (maps-empty w) i (pos 0)) e ∙ zero-at (max-bools + v) (omega arith));
     size = omega (arith, empty-length, h);
   }
 
@@ -94,9 +95,9 @@ module _ (w : List ℤ) (h : 16384 ≤ length w) where
 
 module _ (ws work : List ℤ) (d : Declared) (t : Taken (length work) ws d) where
   table-length : length (table-after ws work) ≡ length work
-  table-length = ap length (taken-table (length work) ws d t work refl) ∙ length-sets work bounds-place (bounds-words (t .it .domains))
+  table-length = ap length (taken-table (length work) ws d t work refl) ∙ length-sets work bounds (bounds-words (t .it .domains))
 
-  table-long : 16384 ≤ length (table-after ws work)
+  table-long : min-work-words ≤ length (table-after ws work)
   table-long = omega (arith, table-length, ltb-false (length work) min-work-words (t .enough))
 
   taken-in : (w : List ℤ) → w ≡ maps-empty (table-after ws work) → Taken-in (t .it) ws w (d .bools) (d .ints)
@@ -134,7 +135,7 @@ module _ (ws work : List ℤ) where
     t : Taken (length work) ws d
     t = accepted-ok (length work) ws d e
 
-    pub settle-room : 5376 ≤ length after
+    pub settle-room : maps-end ≤ length after
     settle-room = omega (arith, ap length after-is, table-long ws work d t)
 
     module _ (w : List ℤ) (w-is : w ≡ maps-empty after) where
@@ -157,13 +158,13 @@ word-of (some false) = refl
 word-of (some true) = refl
 
 -- what stands below 4608 stands in the part that is read
-part-has : (w : List ℤ) (at : ℕ) (us : List ℤ) → 4608 ≤ length w → at + length us ≤ 4608 → Has w at us → Has (read-part w) at us
+part-has : (w : List ℤ) (at : ℕ) (us : List ℤ) → folded-end ≤ length w → at + length us ≤ folded-end → Has w at us → Has (read-part w) at us
 unfolding read-part
 part-has w at us k l h =
-    let a : List ℤ = take 4608 w in
-    let n : length a ≡ 4608 = length-take-le 4608 w k in
-    let e : drop at w ≡ drop at a ++ drop 4608 w = ap (drop at) (sym (take-append-drop 4608 w)) ∙ drop-append-le at a (drop 4608 w) (omega arith) in
-    sym (ap (take (length us)) e ∙ take-append-le (length us) (drop at a) (drop 4608 w) (omega (arith, length-drop at a))) ∙ h
+    let a : List ℤ = take folded-end w in
+    let n : length a ≡ folded-end = length-take-le folded-end w k in
+    let e : drop at w ≡ drop at a ++ drop folded-end w = ap (drop at) (sym (take-append-drop folded-end w)) ∙ drop-append-le at a (drop folded-end w) (omega arith) in
+    sym (ap (take (length us)) e ∙ take-append-le (length us) (drop at a) (drop folded-end w) (omega (arith, length-drop at a))) ∙ h
 
 settled-is : (x : Outcome) (status : ℕ) (f : Fixed) (ss : List Stmt) → status ≡ 0 → x ≡ outcome status f ss → x ≡ settled f ss
 settled-is x status f ss z e = rw z at e
@@ -173,18 +174,18 @@ inconsistent-is x zero f ss z e = absurd (z refl)
 inconsistent-is x (suc k) f ss z e = e
 
 module _ (p : Problem) (ws w w' : List ℤ) (b i : ℕ) (h : Taken-in p ws w b i) (status end : ℕ) (s : Settles (optimize p) max-set-words w w' status end) where
-  kept-at : (v : ℕ) → getD w' (4608 + v) (pos 0) ≡ getD w (4608 + v) (pos 0)
-  kept-at v = sym (getD-drop 4608 w' v (pos 0)) ∙ ap (λ (l : List ℤ). getD l v (pos 0)) (s .above) ∙ getD-drop 4608 w v (pos 0)
+  kept-at : (v : ℕ) → getD w' (bool-map + v) (pos 0) ≡ getD w (bool-map + v) (pos 0)
+  kept-at v = sym (getD-drop bool-map w' v (pos 0)) ∙ ap (λ (l : List ℤ). getD l v (pos 0)) (s .above) ∙ getD-drop bool-map w v (pos 0)
 
   folded-is : (f : Fixed) (ss : List Stmt) → optimize p ≡ settled f ss → f ≡ s .fixed → ss ≡ s .folded → length w' ≡ length w → Folded p f ss w'
   unfolding bool-at int-entry
   folded-is f ss o ef es l = record {
     set = record { well = h .well; unrefused = h .unrefused; short = omega (arith, ap length (h .words), h .short); ends = o };
     values = λ v k. s .values .cells v k ∙ word-of (s .fixed v) ∙ ap (λ (g : Fixed). fixed-word (g v)) (sym ef);
-    stands = rw es (part-has w' 512 (stmts-words (s .folded)) (omega (arith, h .empty .size)) (omega (arith, s .ends, s .fits)) (s .words));
+    stands = rw es (part-has w' folded (stmts-words (s .folded)) (omega (arith, h .empty .size)) (omega (arith, s .ends, s .fits)) (s .words));
     empty = record {
       bools = λ v k. kept-at v ∙ h .empty .bools v k;
-      ints = λ v k. let e : 5120 + v ≡ 4608 + (512 + v) = omega arith in ap nat (rw e (kept-at (512 + v))) ∙ h .empty .ints v k;
+      ints = λ v k. let e : int-map + v ≡ bool-map + (max-bools + v) = omega arith in ap nat (rw e (kept-at (max-bools + v))) ∙ h .empty .ints v k;
       size = omega (arith, h .empty .size);
     };
   }

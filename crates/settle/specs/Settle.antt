@@ -7,6 +7,7 @@ use lib.IntN.{ℤ}
 use lib.Dec.{ltb}
 use lib.ListN.{length, take, drop}
 use Rattle.laws.specs.Slices.{zeros}
+use Rattle.memory.specs.Places.{folded, bool-map, maps-end}
 use Rattle.syntax.specs.Words.{max-set-words, min-work-words}
 use Rattle.syntax.specs.Syntax.{Stmt, Problem, encode}
 use Rattle.words.specs.Parse.{Parsed, ok, refuse}
@@ -26,7 +27,7 @@ use Rattle.settle.specs.declared.Settling.the-variants.{Refused, Contrad
 -- the folded statements stand from 512 on
 unfoldable pub settling-of : Problem → Outcome → Settling
 settling-of p inconsistent = Contradiction
-settling-of p (settled f ss) = Folded (record { end = 512 + length (ready.stmts-words ss); bools = p .bools; ints = length (p .domains) })
+settling-of p (settled f ss) = Folded (record { end = folded + length (ready.stmts-words ss); bools = p .bools; ints = length (p .domains) })
 
 unfoldable pub settling-checked : Problem → ℕ → Settling
 settling-checked p zero = settling-of p (optimize p)
@@ -46,13 +47,13 @@ settling work-length set =
 
 -- the maps of variables (the words from 4608 to 5376) emptied
 unfoldable pub maps-empty : List ℤ → List ℤ
-maps-empty work = take 4608 work ++ (zeros 768 ++ drop 5376 work)
+maps-empty work = take bool-map work ++ (zeros 768 ++ drop maps-end work)
 
 -- the fixed values, the folded statements and empty maps. From 5376 on it is as refusals 9 to 11 left it;
 -- what lies between the statements' end and 4608 is left over from earlier passes or was lent so
 pub record Holds (set work work' : List ℤ) : Type 0 where
   pub folded : (p : Problem) (f : Fixed) (ss : List Stmt) → read-set set ≡ ok p [] → optimize p ≡ settled f ss → ready.Folded p f ss work'
-  pub above : drop 4608 work' ≡ zeros 768 ++ drop 5376 (table-after set work)
+  pub above : drop bool-map work' ≡ zeros 768 ++ drop maps-end (table-after set work)
 
 abbrev pub Left : Settling → List ℤ → List ℤ → List ℤ → Type 0
 Left (Refused k) set work work' = work' ≡ zeros (length work)
@@ -81,7 +82,7 @@ pub record Some-taken (set work : List ℤ) (b i : ℕ) : Type 0 where
 abbrev pub Left-of : Problem → Settling → List ℤ → List ℤ → Type 0
 Left-of p (Refused k) work work' = work' ≡ zeros (length work)
 Left-of p Contradiction work work' = work' ≡ zeros (length work)
-Left-of p (Folded q) work work' = ((f : Fixed) (ss : List Stmt) → optimize p ≡ settled f ss → ready.Folded p f ss work') × (drop 4608 work' ≡ drop 4608 work)
+Left-of p (Folded q) work work' = ((f : Fixed) (ss : List Stmt) → optimize p ≡ settled f ss → ready.Folded p f ss work') × (drop bool-map work' ≡ drop bool-map work)
 
 pub record Folds (p : Problem) (work work' : List ℤ) (r : Settling) : Type 0 where
   pub answer : r ≡ settling-of p (optimize p)

@@ -3,6 +3,7 @@ use reader::Set;
 ghost use mathlib.Core.Path.{_≡_};
 ghost use Prim.Native.Nat.{_≤_};
 ghost use lib.ListN.{length};
+ghost use Rattle.memory.specs.Places.{maps-end};
 ghost use Rattle.settle.specs.Settle.{Some-taken, Fold-post, maps-empty, Settle-post};
 
 // Where the folded statements end, and how many variables the set declares.
@@ -26,7 +27,7 @@ fn fold_taken(set: &[i32], work: &mut [i32], bools: usize, ints: usize) -> Settl
     let o = propagate::optimize(set, work);
     let status = o.status;
     if status != 0 {
-        refuse::clear(work);
+        memory::clear(work);
         return Settling::Contradiction;
     }
     Settling::Folded(Places {
@@ -38,10 +39,10 @@ fn fold_taken(set: &[i32], work: &mut [i32], bools: usize, ints: usize) -> Settl
 
 // The maps of variables are emptied; every other word stays.
 fn clear_maps(work: &mut [i32])
-    requires { ⌜ 5376 ≤ length (now work) ⌝ }
+    requires { ⌜ maps-end ≤ length (now work) ⌝ }
     ensures { λ _. ⌜ now (work .exit) ≡ maps-empty (now (work .entry)) ⌝ }
 {
-    refuse::clear(&mut work[4608..5376]);
+    memory::clear(&mut work[memory::BOOL_MAP..memory::MAPS_END]);
 }
 
 // Of any words, whatever the work slice holds. A refusal or a contradiction leaves zeros.
@@ -50,7 +51,7 @@ pub fn settle(set: &[i32], work: &mut [i32]) -> Settling
 {
     match accept::accept(set, work) {
         Set::Refused(k) => {
-            refuse::clear(work);
+            memory::clear(work);
             Settling::Refused(k)
         }
         Set::Ok(d) => {

@@ -7,15 +7,15 @@ use native.Mathlib.Omega.{arith}
 use lib.IntN.{ℤ}
 use lib.ListN.{length, length-append}
 use Rattle.laws.specs.Writes.{wrote-length, wrote-low}
+use Rattle.memory.specs.Places.{folded, limit}
 use Rattle.syntax.specs.Syntax.{Domain, Stmt, encode-stmt, Problem}
 use Rattle.fold.specs.Fold.{Fixed}
 use Rattle.clauses.specs.Log.{Log, clauses-of}
 use Rattle.answer.specs.Answer.{start-log}
 use Rattle.answer.specs.Start.{start-well}
-use Rattle.walk.specs.Item.{limit}
 use Rattle.walk.specs.Decode.{read-part}
 use Rattle.walks.specs.Leaves.{words-of, grows-words}
-use Rattle.memory.specs.DomainTable.{Declares}
+use Rattle.declared.specs.DomainTable.{Declares}
 use Rattle.statements.specs.Bounds.{start-low}
 use Rattle.statements.specs.Whole.{start-none}
 use Rattle.statements.specs.Stages.{log-of, settled-short}
@@ -35,7 +35,7 @@ pub record Sofar (merge : Bool) (p : Problem) (f : Fixed) (ss : List Stmt) (w₀
   pub rest : List Stmt
   pub log : Log
   pub left : Left merge p f ss (read-part w₀) end q rest log
-  pub standing : Standing (p .domains) (read-part w₀) (parted-of 512 ss) (room .records) (room .cap) true [] low q (49152 * length (stmts-words rest)) (state-of w [] c) log
+  pub standing : Standing (p .domains) (read-part w₀) (parted-of folded ss) (room .records) (room .cap) true [] low q (49152 * length (stmts-words rest)) (state-of w [] c) log
   pub used : c .used ≤ words-of log
   pub wrote : Clauses out₀ o₀ 0 (clauses-of log) out o k
   pub domains : Declares (p .domains) w
@@ -49,7 +49,7 @@ module _ {merge : Bool} {p : Problem} {f : Fixed} {ss : List Stmt} {set w₀ : L
   F = read-part w₀
 
   abbrev parted : ℕ → Bool
-  parted = parted-of 512 ss
+  parted = parted-of folded ss
 
   pub low : room .cap < limit
   low = omega (arith, h .small)
@@ -57,7 +57,7 @@ module _ {merge : Bool} {p : Problem} {f : Fixed} {ss : List Stmt} {set w₀ : L
   abbrev StandingHere : ℕ → ℕ → List ℤ → Progress → Log → Type 0
   StandingHere q n w c s = Standing ds F parted (room .records) (room .cap) true [] low q n (state-of w [] c) s
 
-  pub sofar-start : Sofar merge p f ss w₀ end room low out₀ o₀ w₀ out₀ 512 (record { bools = from; ints = 0; used = 0 }) o₀ 0
+  pub sofar-start : Sofar merge p f ss w₀ end room low out₀ o₀ w₀ out₀ folded (record { bools = from; ints = 0; used = 0 }) o₀ 0
   sofar-start = record {
     rest = ss;
     log = start-log merge ss;

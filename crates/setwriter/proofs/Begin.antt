@@ -9,13 +9,16 @@ use lib.ListN.{length, getD, take, drop, set, length-replicate, getD-replicate}
 use lib.Seq.{sets, sets-eq, length-sets, length-take-le, getD-take, getD-set-other, take-append-seam}
 use Rattle.laws.specs.Ints.{is-zero}
 use Rattle.laws.specs.Slices.{zeros, has-sets, has-nth}
+use Rattle.memory.specs.Places.{folded as folded-place, folded-end, bool-map, int-map, cells, ifs-word}
+use Rattle.memory.specs.Number.{nat}
 use Rattle.syntax.specs.Syntax.{Stmt, Problem}
+use Rattle.syntax.specs.Words.{max-bools, min-work-words}
 use Rattle.fold.specs.Fold.{Fixed}
 use Rattle.answer.specs.Answer.{start-log}
 use Rattle.answer.specs.Start.{start-well}
-use Rattle.walk.specs.Item.{nat, bool-map, int-map, bool-at, int-entry}
+use Rattle.walk.specs.Item.{bool-at, int-entry}
 use Rattle.walk.specs.Decode.{read-part}
-use Rattle.walks.specs.Item.{has-ifs, ifs-word, cell, cells}
+use Rattle.walks.specs.Item.{has-ifs, cell}
 use Rattle.statements.specs.Stages.{Folded, SomeFolded}
 use Rattle.stages.specs.Start.{Begun}
 use Rattle.stages.specs.StartTies.{tied-begun}
@@ -26,7 +29,7 @@ sets-behind : (out : List ℤ) (o : ℕ) (us : List ℤ) (j : ℕ) → o + lengt
 sets-behind out o [] j h = refl
 sets-behind out o (u ∷ us) j h = sets-behind (set out o u) (suc o) us j (omega arith) ∙ getD-set-other out o j u (pos 0) (λ e. omega arith)
 
-module _ (w : List ℤ) (long : 16384 ≤ length w) where
+module _ (w : List ℤ) (long : min-work-words ≤ length w) where
   abbrev blank : List ℤ
   blank = sets w bool-map (zeros (ifs-word - bool-map))
 
@@ -39,15 +42,15 @@ module _ (w : List ℤ) (long : 16384 ≤ length w) where
   part : read-part blank ≡ read-part w
   unfolding read-part
   part =
-      let n : length (take 4608 w) ≡ 4608 = length-take-le 4608 w (omega (arith, long)) in
+      let n : length (take folded-end w) ≡ folded-end = length-take-le folded-end w (omega (arith, long)) in
       let none : List ℤ = zeros (ifs-word - bool-map) in
       let last : List ℤ = drop (bool-map + length none) w in
       let rest : List ℤ = none ++ last in
-      ap (take 4608) (sets-eq none w bool-map (omega (arith, many, long)) ∙ append-assoc (take 4608 w) none last) ∙ ap (λ (k : ℕ). take k (take 4608 w ++ rest)) (sym n) ∙ take-append-seam (take 4608 w) rest
+      ap (take folded-end) (sets-eq none w bool-map (omega (arith, many, long)) ∙ append-assoc (take folded-end w) none last) ∙ ap (λ (k : ℕ). take k (take folded-end w ++ rest)) (sym n) ∙ take-append-seam (take folded-end w) rest
 
-  word-low : (k : ℕ) → k < 4608 → getD blank k (pos 0) ≡ getD w k (pos 0)
+  word-low : (k : ℕ) → k < folded-end → getD blank k (pos 0) ≡ getD w k (pos 0)
   unfolding read-part
-  word-low k h = sym (getD-take 4608 blank k (pos 0) h) ∙ ap (λ (x : List ℤ). getD x k (pos 0)) part ∙ getD-take 4608 w k (pos 0) h
+  word-low k h = sym (getD-take folded-end blank k (pos 0) h) ∙ ap (λ (x : List ℤ). getD x k (pos 0)) part ∙ getD-take folded-end w k (pos 0) h
 
   word-none : (i : ℕ) → i < 4868 → getD blank (bool-map + i) (pos 0) ≡ pos 0
   word-none i h =
@@ -67,8 +70,8 @@ module _ (w : List ℤ) (long : 16384 ≤ length w) where
       empty = record {
         bools = λ v l. word-none v (omega arith);
         ints = λ v l.
-            let e : int-map + v ≡ bool-map + (512 + v) = omega arith in
-            ap nat (ap (λ (k : ℕ). getD blank k (pos 0)) e ∙ word-none (512 + v) (omega arith));
+            let e : int-map + v ≡ bool-map + (max-bools + v) = omega arith in
+            ap nat (ap (λ (k : ℕ). getD blank k (pos 0)) e ∙ word-none (max-bools + v) (omega arith));
         size = omega (arith, blank-size, long);
       };
     }
@@ -77,7 +80,7 @@ module _ (w : List ℤ) (long : 16384 ≤ length w) where
     some-folded = record { it = p; fixed = f; stmts = ss; folded = folded; ends = h .ends }
 
     module _ (merge : Bool) (w' : List ℤ) (n : ℕ) (m : MergedAll merge blank end w' n) where
-      no-cell : (k : ℕ) → 512 < k → k ≤ 4608 → cell w' k ≡ pos 0
+      no-cell : (k : ℕ) → folded-place < k → k ≤ folded-end → cell w' k ≡ pos 0
       unfolding cell
       no-cell k a b =
           let e : cells + k ≡ bool-map + (256 + k) = omega arith in

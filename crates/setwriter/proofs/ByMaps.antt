@@ -7,6 +7,7 @@ use native.Mathlib.Omega.{arith}
 use lib.IntN.{ℤ}
 use lib.ListN.{length}
 use Rattle.laws.specs.Writes.{wrote-length, wrote-low}
+use Rattle.memory.specs.Places.{folded}
 use Rattle.syntax.specs.Syntax.{Domain, Stmt, encode-stmt, Problem}
 use Rattle.fold.specs.Fold.{Fixed}
 use Rattle.clauses.specs.Log.{Log, clauses-of}
@@ -51,7 +52,7 @@ module _ {merge : Bool} {p : Problem} {f : Fixed} {ss : List Stmt} {set w₀ : L
   abbrev SofarHere : List ℤ → List ℤ → ℕ → Counters → ℕ → ℕ → Type 0
   SofarHere = Sofar w₀ out₀ o₀ (h .rec) (h .cap) merge p f ss end
 
-  pub sofar-start : Sofar w₀ out₀ o₀ (h .rec) (h .cap) merge p f ss end w₀ out₀ 512 (counters from 0) o₀ 0
+  pub sofar-start : Sofar w₀ out₀ o₀ (h .rec) (h .cap) merge p f ss end w₀ out₀ folded (counters from 0) o₀ 0
   sofar-start = record {
     rest = ss;
     log = start-log merge ss;
@@ -90,14 +91,14 @@ module _ {merge : Bool} {p : Problem} {f : Fixed} {ss : List Stmt} {set w₀ : L
       owns : AllOwn w₀ (stmt-stages ds (h .rec) (h .cap) F q t []) (v .log) × AllOwn w₀ (stmts-stages ds (h .rec) (h .cap) F next ts) (after place)
       unfolding stmts-stages
       owns =
-          owned-parts ds F (parted-of 512 ss) (h .rec) (h .cap) false [] (h .low) end (end-inside merge p f ss set F end false (h .lent)) (h .lent .marked) q t ts (l .legal) (l .parted)
+          owned-parts ds F (parted-of folded ss) (h .rec) (h .cap) false [] (h .low) end (end-inside merge p f ss set F end false (h .lent)) (h .lent .marked) q t ts (l .legal) (l .parted)
           (first-words merge p f ss set F end false (h .lent) q (v .log) t ts l) (l .from) to w₀ (stmts-stages ds (h .rec) (h .cap) F next ts) (v .log) own
 
       here : AllOwn w (stmt-stages ds (h .rec) (h .cap) F q t []) (v .log)
       here =
           let inside = end-inside merge p f ss set F end false (h .lent) in
-          let walks = stmt-walk ds F (parted-of 512 ss) (h .rec) (h .cap) false [] (h .low) end inside (h .lent .marked) q t ts (l .legal) (l .parted) (first-words merge p f ss set F end false (h .lent) q (v .log) t ts l) (l .from) to [] tt in
-          owned-same ds F (parted-of 512 ss) (h .rec) (h .cap) false [] (h .low) (v .same) q t (omega (arith, to, inside)) walks (v .log) (owns .0)
+          let walks = stmt-walk ds F (parted-of folded ss) (h .rec) (h .cap) false [] (h .low) end inside (h .lent .marked) q t ts (l .legal) (l .parted) (first-words merge p f ss set F end false (h .lent) q (v .log) t ts l) (l .from) to [] tt in
+          owned-same ds F (parted-of folded ss) (h .rec) (h .cap) false [] (h .low) (v .same) q t (omega (arith, to, inside)) walks (v .log) (owns .0)
 
       declared : Declared (after place)
       declared = record { bools = λ x y e. h .declared .bools x y (grows .keep x y e); ints = λ x y e. h .declared .ints x y (grows .keep-int x y e) }

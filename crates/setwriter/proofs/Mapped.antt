@@ -8,6 +8,7 @@ use lib.IntN.{ℤ}
 use lib.ListN.{length}
 use Rattle.laws.specs.Bools.{never}
 use Rattle.laws.specs.Writes.{wrote-to}
+use Rattle.memory.specs.Places.{folded, folded-end}
 use Rattle.syntax.specs.Syntax.{Domain, IntExpr, BoolExpr, Stmt, Rule, Table, AllDifferent, encode-stmt}
 use Rattle.clauses.specs.Log.{Log, next-bool}
 use Rattle.clauses.specs.Since.{clauses-since, since-is}
@@ -81,7 +82,7 @@ module _ {x : Place} {set w : List ℤ} {q : ℕ} {n : Counters} (h : Mapped x s
   written =
       let l = h .stands .left in
       let m = h .stands .lent .marked in
-      let y = stmt-written ds F (parted-of 512 (x .stmts)) (h .rec) (h .cap) false [] (h .low) (x .end) (inside x set w q false (h .stands)) m q (x .stmt) (x .later) (l .legal) (l .parted) (words x set w q false (h .stands)) (l .from) (stops x set w q false (h .stands)) no-ifs w s (h .ready) (h .owned) in
+      let y = stmt-written ds F (parted-of folded (x .stmts)) (h .rec) (h .cap) false [] (h .low) (x .end) (inside x set w q false (h .stands)) m q (x .stmt) (x .later) (l .legal) (l .parted) (words x set w q false (h .stands)) (l .from) (stops x set w q false (h .stands)) no-ifs w s (h .ready) (h .owned) in
       (y .adds, y .behind)
 
   -- ---- a rule or a table
@@ -182,7 +183,7 @@ module _ {x : Place} {set w : List ℤ} {q : ℕ} {n : Counters} (h : Mapped x s
   -- ---- an AllDifferent by its first word; c: how many expressions, as read
 
   module _ (z : word (read-part w) q ≡ 3) where
-    pub mapped-inside : q + 2 ≤ 4608
+    pub mapped-inside : q + 2 ≤ folded-end
     mapped-inside = is-different x set w q false (h .stands) z (λ es i. omega (arith, places es i .inside, places es i .size))
 
     pub mapped-some : {c : ℕ} → c ≡ word (read-part w) (q + 1) → SomeDifferent set w n (q + 2) c

@@ -7,12 +7,14 @@ use lib.IntN.{ℤ, pos}
 use lib.ListN.{length}
 use Rattle.laws.specs.Slices.{Has, has-rest}
 use Rattle.laws.specs.Writes.{wrote-to}
+use Rattle.memory.specs.Places.{folded-end}
+use Rattle.memory.specs.Number.{nat}
 use Rattle.syntax.specs.Syntax.{Domain, IntExpr, BoolExpr, encode-bool, Cell, Stmt, Rule, Table, AllDifferent, encode-stmt}
 use Rattle.syntax.specs.Codes.{stmt-code, stmt-code-word}
 use Rattle.clauses.specs.Log.{Log}
 use Rattle.clauses.specs.Since.{since-is}
 use Rattle.answer.specs.Answer.{normalize-stmt}
-use Rattle.walk.specs.Item.{bump, nat}
+use Rattle.walk.specs.Item.{bump}
 use Rattle.walk.specs.Decode.{word, read-part}
 use Rattle.walk.specs.declared.Counters.{Counters}
 use Rattle.walks.specs.Tree.{below}
@@ -37,7 +39,7 @@ module _ {ds : List Domain} {e : BoolExpr} {s : Log} {w : List ℤ} {q : ℕ} {n
   words : Has (read-part w) (q + 1) (encode-bool e)
   words = unfold encode-stmt in has-rest (read-part w) q (pos 1) (encode-bool e) (h .stands .words)
 
-  pub rule-inside : q + 1 ≤ 4608
+  pub rule-inside : q + 1 ≤ folded-end
   rule-inside = some-inside w q (record { stmt = Rule e; stands = h .stands })
 
   pub rule-placed : Placed w (q + 1) (n .bools) n

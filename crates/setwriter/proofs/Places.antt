@@ -7,6 +7,7 @@ use native.Mathlib.Omega.{arith}
 use lib.IntN.{ℤ}
 use lib.ListN.{length}
 use Rattle.laws.specs.Slices.{Has}
+use Rattle.memory.specs.Places.{folded-end}
 use Rattle.syntax.specs.Syntax.{IntExpr, Stmt, Rule, Table, AllDifferent, encode-stmt}
 use Rattle.syntax.specs.Written.{Any, EveryStmt, EveryStmts, columns-of}
 use Rattle.accept.specs.Accepted.{domains-stand}
@@ -14,14 +15,14 @@ use Rattle.walk.specs.Decode.{word, read-part}
 use Rattle.setnumbers.specs.Stands.{WellRows, Stands as StmtStands}
 use Rattle.setnumbers.proofs.Words.{DifferentWords, different-words}
 use Rattle.setnumbers.proofs.Ends.{not-here}
-use Rattle.differing.specs.Standing.{Declared}
 use Rattle.differing.specs.Values.{Over}
+use Rattle.declared.specs.InSet.{Declared}
 use Rattle.setwriter.specs.Statements.{Folds, DeclaredBool, DeclaredInt, end-inside, first-to, first-words}
 use Rattle.setwriter.specs.Read.{folds-rows, folds-few}
 use Rattle.setwriter.specs.Step.{Place, Stands}
 
 module _ (x : Place) (set w : List ℤ) (q : ℕ) (b : Bool) (h : Stands x set w q b) where
-  pub inside : x .end ≤ 4608
+  pub inside : x .end ≤ folded-end
   inside = end-inside (x .merge) (x .problem) (x .fixed) (x .stmts) set (read-part w) (x .end) b (h .lent)
 
   pub stops : q + length (encode-stmt (x .stmt)) ≤ x .end

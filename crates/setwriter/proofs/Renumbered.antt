@@ -9,6 +9,7 @@ use lib.IntN.{ℤ}
 use lib.ListN.{length}
 use Rattle.laws.specs.Slices.{Has}
 use Rattle.laws.specs.Writes.{wrote-length}
+use Rattle.memory.specs.Places.{folded}
 use Rattle.syntax.specs.Syntax.{Domain, IntExpr, BoolExpr, encode-bool, Stmt, Rule, Table, AllDifferent, encode-stmt}
 use Rattle.words.specs.Exact.{Each}
 use Rattle.clauses.specs.Log.{Log}
@@ -22,7 +23,7 @@ use Rattle.walks.specs.Meet.{State, counters-of}
 use Rattle.walks.specs.Tree.{below}
 use Rattle.walks.specs.Implements.{Registers}
 use Rattle.walks.specs.Leaves.{words-of}
-use Rattle.memory.specs.DomainTable.{Declares}
+use Rattle.declared.specs.DomainTable.{Declares}
 use Rattle.stages.specs.Room.{splits-low}
 use Rattle.stages.specs.StatementsParts.{meet-parts, again-text, again-lines, Stage, parts, Standing}
 use Rattle.stages.specs.StatementsPlaces.{parted-of, LegalStmt, PartedFrom}
@@ -64,7 +65,7 @@ module _ {x : Place} {set w : List ℤ} {q : ℕ} {room : Room} {c : Progress} {
   st = state-of w [] c
 
   abbrev parted : ℕ → Bool
-  parted = parted-of 512 (x .stmts)
+  parted = parted-of folded (x .stmts)
 
   pub walked-stands : StmtStands w q (x .stmt)
   walked-stands = stands x set w q true (h .stands)

@@ -5,15 +5,16 @@ use mathlib.Core.List.{List, []}
 use Prim.Native.Nat.{ℕ, _+_, _*_, _≤_, _<_}
 use lib.IntN.{ℤ}
 use lib.ListN.{length}
+use Rattle.memory.specs.Places.{folded, limit}
 use Rattle.syntax.specs.Syntax.{Domain, Stmt, encode-stmt, Problem}
+use Rattle.syntax.specs.Words.{max-answer-words}
 use Rattle.fold.specs.Fold.{Fixed}
 use Rattle.clauses.specs.Log.{clauses-of}
 use Rattle.clauses.specs.Since.{clauses-since}
 use Rattle.answer.specs.Answer.{start-log}
-use Rattle.walk.specs.Item.{limit}
 use Rattle.walk.specs.Decode.{read-part}
 use Rattle.walks.specs.Leaves.{words-of}
-use Rattle.memory.specs.DomainTable.{Declares}
+use Rattle.declared.specs.DomainTable.{Declares}
 use Rattle.statements.specs.Stages.{log-of}
 use Rattle.stages.specs.StatementsParts.{Standing}
 use Rattle.stages.specs.StatementsPlaces.{parted-of}
@@ -32,7 +33,7 @@ pub record Walked (x : Place) (set w : List ℤ) (q : ℕ) (room : Room) (c : Pr
   pub stands : Stands x set w q true
   pub records : room .records ≤ limit
   pub low : room .cap < limit
-  pub standing : Standing (x .problem .domains) (read-part w) (parted-of 512 (x .stmts)) (room .records) (room .cap) true [] low q (49152 * length (encode-stmt (x .stmt)) + n) (state-of w [] c) (x .before)
+  pub standing : Standing (x .problem .domains) (read-part w) (parted-of folded (x .stmts)) (room .records) (room .cap) true [] low q (49152 * length (encode-stmt (x .stmt)) + n) (state-of w [] c) (x .before)
   pub used : c .used ≤ words-of (x .before)
 
 pub record SomeWalked (set w : List ℤ) (q : ℕ) (room : Room) (c : Progress) : Type 0 where
@@ -43,7 +44,7 @@ pub record SomeWalked (set w : List ℤ) (q : ℕ) (room : Room) (c : Progress) 
 -- behind a walk that is not full: the next place, the state, and its clauses behind k others
 pub record Rewrote (x : Place) (w : List ℤ) (q : ℕ) (room : Room) (low : room .cap < limit) (n : ℕ) (out : List ℤ) (o k : ℕ) (w' out' : List ℤ) (next : ℕ) (c : Progress) (o' k' : ℕ) : Type 0 where
   pub next-is : next ≡ q + length (encode-stmt (x .stmt))
-  pub standing : Standing (x .problem .domains) (read-part w) (parted-of 512 (x .stmts)) (room .records) (room .cap) true [] low (q + length (encode-stmt (x .stmt))) n (state-of w' [] c) (after x)
+  pub standing : Standing (x .problem .domains) (read-part w) (parted-of folded (x .stmts)) (room .records) (room .cap) true [] low (q + length (encode-stmt (x .stmt))) n (state-of w' [] c) (after x)
   pub clauses : Clauses out o k (clauses-since (x .before) (after x)) out' o' k'
 
 pub record DidAgain (x : Place) (w : List ℤ) (q : ℕ) (room : Room) (low : room .cap < limit) (n : ℕ) (out : List ℤ) (o k : ℕ) (w' out' : List ℤ) (next : ℕ) (c : Progress) (o' k' : ℕ) : Type 0 where
@@ -64,7 +65,7 @@ pub record Starts (merge : Bool) (p : Problem) (f : Fixed) (ss : List Stmt) (set
   pub lent : Lent p f ss set (read-part w) end true
   pub domains : Declares (p .domains) w
   pub records : room .records ≤ limit
-  pub small : room .cap ≤ 16777216
+  pub small : room .cap ≤ max-answer-words
   pub begun : Begun (read-part w) true w from (start-log merge ss)
   pub room-behind : Behind out o 0
 

@@ -6,11 +6,13 @@ use Prim.Native.Nat.{ℕ, _+_, _≤_, _<_}
 use lib.IntN.{ℤ, pos}
 use lib.ListN.{length, getD}
 use Rattle.laws.specs.Slices.{Has}
+use Rattle.memory.specs.Places.{folded, ifs-word}
 use Rattle.syntax.specs.Syntax.{Stmt, Problem}
+use Rattle.syntax.specs.Words.{max-bools, min-work-words}
 use Rattle.fold.specs.Fold.{Fixed}
 use Rattle.answer.specs.Answer.{fixed-word, start-log}
 use Rattle.walk.specs.Decode.{read-part}
-use Rattle.walks.specs.Item.{has-ifs, ifs-word}
+use Rattle.walks.specs.Item.{has-ifs}
 use Rattle.statements.specs.Stages.{Settled}
 use Rattle.stages.specs.StatementsPlaces.{stmts-words}
 use Rattle.stages.specs.Start.{Begun}
@@ -18,10 +20,10 @@ use Rattle.stages.specs.Start.{Begun}
 -- the fixed values and the folded statements up to `end`, whatever stands behind them
 pub record Settles (p : Problem) (f : Fixed) (ss : List Stmt) (w : List ℤ) (end : ℕ) : Type 0 where
   pub set : Settled p f ss
-  pub values : (v : ℕ) → v < 512 → getD w v (pos 0) ≡ fixed-word (f v)
-  pub stands : Has (read-part w) 512 (stmts-words ss)
-  pub ends : end ≡ 512 + length (stmts-words ss)
-  pub size : 16384 ≤ length w
+  pub values : (v : ℕ) → v < max-bools → getD w v (pos 0) ≡ fixed-word (f v)
+  pub stands : Has (read-part w) folded (stmts-words ss)
+  pub ends : end ≡ folded + length (stmts-words ss)
+  pub size : min-work-words ≤ length w
 
 pub record SomeSettles (w : List ℤ) (end : ℕ) : Type 0 where
   pub it : Problem

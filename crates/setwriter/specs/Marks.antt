@@ -6,10 +6,11 @@ use Prim.Native.Nat.{ℕ}
 use lib.IntN.{ℤ, pos}
 use lib.ListN.{getD}
 use Rattle.laws.specs.Slices.{Has}
+use Rattle.memory.specs.Places.{ifs-word}
 use Rattle.syntax.specs.Syntax.{IntExpr, IConst, IVar, Linear, If, encode-int, Stmt, Problem, encode}
 use Rattle.fold.specs.Fold.{Fixed}
 use Rattle.walk.specs.Decode.{read-part}
-use Rattle.walks.specs.Item.{has-ifs, ifs-word}
+use Rattle.walks.specs.Item.{has-ifs}
 use Rattle.marking.specs.Mark.{mark-of, if-marks}
 use Rattle.stages.specs.LegalKeys.{LegalIf}
 use Rattle.stages.specs.StatementsPlaces.{Marked}

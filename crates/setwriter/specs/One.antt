@@ -5,11 +5,12 @@ use mathlib.Core.List.{List, [], _++_}
 use Prim.Native.Nat.{ℕ, _+_, _≤_}
 use lib.IntN.{ℤ}
 use lib.ListN.{length}
+use Rattle.memory.specs.Places.{folded-end, limit}
 use Rattle.syntax.specs.Syntax.{Domain, BoolExpr, Stmt, Rule, Table, AllDifferent, encode-stmt}
 use Rattle.clauses.specs.Log.{Log}
 use Rattle.clauses.specs.Since.{clauses-since}
 use Rattle.answer.specs.Answer.{normalize-stmt}
-use Rattle.walk.specs.Item.{limit, bump}
+use Rattle.walk.specs.Item.{bump}
 use Rattle.walk.specs.declared.Counters.{Counters}
 use Rattle.walks.specs.Tree.{below, splits}
 use Rattle.walks.specs.Implements.{at, Registers}
@@ -33,7 +34,7 @@ pub record RuleAt (ds : List Domain) (e : BoolExpr) (s : Log) (w : List ℤ) (q 
   pub within : Within ds e
   pub room : n .bools + splits e below ≤ limit
   pub ints : n .ints ≤ limit
-  pub size : 4608 ≤ length w
+  pub size : folded-end ≤ length w
   pub adds : Registers (rule-part ds e q .text w n ++ []) (bump (rule-part ds e q .lines w n) 0) s (normalize-stmt ds (Rule e) s)
 
 pub record SomeRule (w : List ℤ) (q : ℕ) (n : Counters) : Type 0 where

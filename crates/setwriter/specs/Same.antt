@@ -10,16 +10,18 @@ use lib.IntN.{ℤ, pos}
 use lib.ListN.{length, getD, take}
 use lib.Seq.{getD-take, take-take}
 use Rattle.laws.specs.Ints.{is-zero}
+use Rattle.memory.specs.Places.{folded-end, bool-map, int-map, cells, ifs-word, declared-domains, table as table-place, limit}
+use Rattle.memory.specs.Number.{nat}
 use Rattle.syntax.specs.Syntax.{Domain, IntExpr, encode-int, Stmt, Rule, Table, AllDifferent, encode-stmt}
+use Rattle.syntax.specs.Words.{max-bools}
 use Rattle.clauses.specs.Clause.{BoolLit}
 use Rattle.clauses.specs.Log.{Log, get-bool-var, get-int-var}
 use Rattle.different.specs.Different.{values-used-up}
-use Rattle.walk.specs.Item.{limit, nat, bool-map, int-map, bool-at, int-entry}
+use Rattle.walk.specs.Item.{bool-at, int-entry}
 use Rattle.walk.specs.Decode.{read-part}
-use Rattle.walks.specs.Item.{has-ifs, ifs-word, cell, cells}
+use Rattle.walks.specs.Item.{has-ifs, cell}
 use Rattle.walks.specs.Implements.{at, Ready}
-use Rattle.memory.specs.Places.{declared-domains, table as table-place}
-use Rattle.memory.specs.DomainTable.{Declares, word-at}
+use Rattle.declared.specs.DomainTable.{Declares, word-at}
 use Rattle.stages.specs.StatementsParts.{Stage, Owned, Own, OwnedIn, AllOwn, AllWalk}
 use Rattle.stages.specs.TableStage.{table-stage}
 use Rattle.stages.specs.Pairs.{row-stages, pairs-stages}
@@ -38,7 +40,7 @@ same-then x y = record { below = y .below ∙ x .below; size = y .size ∙ x .si
 
 -- a log's maps are those of declared variables
 pub record Declared (s : Log) : Type 0 where
-  pub bools : (v : ℕ) (l : BoolLit) → get-bool-var v s ≡ some l → v < 512
+  pub bools : (v : ℕ) (l : BoolLit) → get-bool-var v s ≡ some l → v < max-bools
   pub ints : (v n : ℕ) → get-int-var v s ≡ some n → v < 256
 
 module _ {w w' : List ℤ} (same : Same w w') where
@@ -47,17 +49,17 @@ module _ {w w' : List ℤ} (same : Same w w') where
 
   pub part-same : read-part w' ≡ read-part w
   unfolding read-part
-  part-same = sym (take-take 4608 table-place w' (omega arith)) ∙ ap (take 4608) (same .below) ∙ take-take 4608 table-place w (omega arith)
+  part-same = sym (take-take folded-end table-place w' (omega arith)) ∙ ap (take folded-end) (same .below) ∙ take-take folded-end table-place w (omega arith)
 
   pub ifs-same : has-ifs w' ≡ has-ifs w
   unfolding has-ifs
   ifs-same = ap (λ (z : ℤ). not (is-zero z)) (word-same ifs-word (omega arith))
 
-  pub cell-same : (p : ℕ) → p ≤ 4611 → cell w' p ≡ cell w p
+  pub cell-same : (p : ℕ) → p ≤ folded-end + 3 → cell w' p ≡ cell w p
   unfolding cell
   cell-same p h = word-same (cells + p) (omega arith)
 
-  pub bool-same : (v : ℕ) → v < 512 → bool-at w' v ≡ bool-at w v
+  pub bool-same : (v : ℕ) → v < max-bools → bool-at w' v ≡ bool-at w v
   unfolding bool-at
   bool-same v h = word-same (bool-map + v) (omega arith)
 
@@ -85,7 +87,7 @@ module _ {w w' : List ℤ} (same : Same w w') where
   pub at-same : (s : Log) → at w' s ≡ at w s
   at-same s = rw ifs-same refl
 
-  own-same : (a : ℕ) → a ≤ 4608 → (os : List Owned) → OwnedIn a os → Own w os → Own w' os
+  own-same : (a : ℕ) → a ≤ folded-end → (os : List Owned) → OwnedIn a os → Own w os → Own w' os
   own-same a l [] i o = tt
   own-same a l (x ∷ os) i o = (cell-same (x .place) (omega (arith, i .0 .1)) ∙ o .0, own-same a l os (i .1) (o .1))
 
@@ -116,7 +118,7 @@ module _ (ds : List Domain) (rec cap : ℕ) (w : List ℤ) where
 
 -- the own cells of a statement at q
 module _ (ds : List Domain) (F : List ℤ) (parted : ℕ → Bool) (rec cap : ℕ) (with-ifs : Bool) (before : List ℤ) (low : cap < limit) {w w' : List ℤ} (same : Same w w') where
-  pub owned-same : (q : ℕ) (t : Stmt) → q + length (encode-stmt t) ≤ 4608 → AllWalk ds F parted rec cap with-ifs before low (stmt-stages ds rec cap F q t []) → (s : Log) → AllOwn w (stmt-stages ds rec cap F q t []) s → AllOwn w' (stmt-stages ds rec cap F q t []) s
+  pub owned-same : (q : ℕ) (t : Stmt) → q + length (encode-stmt t) ≤ folded-end → AllWalk ds F parted rec cap with-ifs before low (stmt-stages ds rec cap F q t []) → (s : Log) → AllOwn w (stmt-stages ds rec cap F q t []) s → AllOwn w' (stmt-stages ds rec cap F q t []) s
   unfolding stmt-stages AllOwn
   owned-same q (Rule e) l k s o = (tt, tt)
   owned-same q (Table es rows) l k s o = (own-same same (q + length (encode-stmt (Table es rows))) l (table-stage ds rec cap F es rows q .owns s) (k .0 .owned-in s) (o .0), tt)

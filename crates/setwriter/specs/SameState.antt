@@ -8,9 +8,10 @@ use Prim.Native.Nat.{ℕ, _+_, _<_}
 use native.Mathlib.Omega.{arith}
 use lib.IntN.{ℤ}
 use Rattle.laws.specs.Ints.{is-zero}
+use Rattle.memory.specs.Places.{folded-end, bool-map, int-map, limit}
 use Rattle.syntax.specs.Syntax.{Domain, IntExpr}
+use Rattle.syntax.specs.Words.{max-bools}
 use Rattle.clauses.specs.Log.{Log}
-use Rattle.walk.specs.Item.{limit, bool-map, int-map}
 use Rattle.walks.specs.Item.{cell, seen-in}
 use Rattle.walks.specs.Plain.{PlainInt}
 use Rattle.walks.specs.Cells.{Key, whole, own, Cells, Places}
@@ -24,11 +25,11 @@ use Rattle.setwriter.specs.Same.{Same, word-same, part-same, ifs-same, c
 -- ---- cells; as in walks
 
 module _ (ds : List Domain) (F : List ℤ) (parted : ℕ → Bool) (K : ℕ → Option IntExpr) (P : Places ds F PlainInt parted K (fixed ds)) {w w' : List ℤ} (same : Same w w') where
-  key-inside : (q : ℕ) (e : IntExpr) → Key ds F PlainInt parted K (fixed ds) q e → q < 4608
+  key-inside : (q : ℕ) (e : IntExpr) → Key ds F PlainInt parted K (fixed ds) q e → q < folded-end
   key-inside q e (whole s i) = s .high
   key-inside q e (own h) = P .stand q e h .high
 
-  seen-same : (q : ℕ) → q < 4608 → seen-in (cell w' (q + 1)) ≡ seen-in (cell w (q + 1))
+  seen-same : (q : ℕ) → q < folded-end → seen-in (cell w' (q + 1)) ≡ seen-in (cell w (q + 1))
   seen-same q l = ap seen-in (cell-same same (q + 1) (omega arith))
 
   cells-same : (s : Log) → Cells ds F PlainInt parted K (fixed ds) w s → Cells ds F PlainInt parted K (fixed ds) w' s
@@ -51,7 +52,7 @@ module _ (ds : List Domain) (F : List ℤ) (parted : ℕ → Bool) (rec cap : �
   pub standing-same : {w w' : List ℤ} → Same w w' → (from n : ℕ) (out : List ℤ) (c : Progress) (s : Log) → Standing ds F parted rec cap with-ifs before low from n (state-of w out c) s → Standing ds F parted rec cap with-ifs before low from n (state-of w' out c) s
   standing-same {w} {w'} same from n out c s h =
       let g = h .state in
-      let a : blanks is-zero w' bool-map 512 ≡ blanks is-zero w bool-map 512 = blanks-same is-zero w bool-map w' 512 (λ v l. word-same same (bool-map + v) (omega arith)) in
+      let a : blanks is-zero w' bool-map max-bools ≡ blanks is-zero w bool-map max-bools = blanks-same is-zero w bool-map w' max-bools (λ v l. word-same same (bool-map + v) (omega arith)) in
       let b : blanks no-int w' int-map 256 ≡ blanks no-int w int-map 256 = blanks-same no-int w int-map w' 256 (λ v l. word-same same (int-map + v) (omega arith)) in
       record {
         key = h .key;

@@ -8,6 +8,7 @@ use native.Mathlib.Omega.{arith}
 use lib.IntN.{ℤ}
 use lib.ListN.{length, length-append}
 use Rattle.laws.specs.Slices.{Has, has-front, has-back}
+use Rattle.memory.specs.Places.{folded, folded-end}
 use Rattle.syntax.specs.Syntax.{Domain, BoolExpr, Stmt, Rule, Table, AllDifferent, encode-stmt, Problem, encode}
 use Rattle.syntax.specs.Written.{EveryStmts}
 use Rattle.words.specs.Exact.{Each}
@@ -44,9 +45,9 @@ pub record Folds (p : Problem) (f : Fixed) (t : Stmt) : Type 0 where
 pub record Lent (p : Problem) (f : Fixed) (ss : List Stmt) (set F : List ℤ) (end : ℕ) (with-ifs : Bool) : Type 0 where
   pub words : set ≡ encode p
   pub settled : Settled p f ss
-  pub stands : Has F 512 (stmts-words ss)
+  pub stands : Has F folded (stmts-words ss)
   pub marked : Marked F end with-ifs
-  pub ends : end ≡ 512 + length (stmts-words ss)
+  pub ends : end ≡ folded + length (stmts-words ss)
 
 -- v is a declared Boolean, a declared integer
 abbrev pub DeclaredBool : Problem → ℕ → Type 0
@@ -62,9 +63,9 @@ pub record Left (m : Bool) (p : Problem) (f : Fixed) (ss : List Stmt) (F : List 
   pub read : Each (Folds p f) ts
   pub every : EveryStmts (DeclaredBool p) (DeclaredInt p) ts
   pub words : Has F q (stmts-words ts)
-  pub from : 512 ≤ q
+  pub from : folded ≤ q
   pub place : q + length (stmts-words ts) ≡ end
-  pub parted : PartedFrom (parted-of 512 ss) q ts
+  pub parted : PartedFrom (parted-of folded ss) q ts
   pub ends : normalize-stmts (p .domains) ts s ≡ log-of m p ss
   pub made : WellMade (p .domains) (DeclaredBool p) (DeclaredInt p) s
   pub light : LightIfs (p .domains) s
@@ -99,10 +100,10 @@ module _ (m : Bool) (p : Problem) (f : Fixed) (ss : List Stmt) (set F : List ℤ
   abbrev ds : List Domain
   ds = p .domains
 
-  pub end-inside : end ≤ 4608
+  pub end-inside : end ≤ folded-end
   end-inside = omega (arith, h .ends, settled-short p f ss (h .settled))
 
-  pub left-start : Left m p f ss F end 512 ss (start-log m ss)
+  pub left-start : Left m p f ss F end folded ss (start-log m ss)
   left-start =
       let k = h .settled in
       let origin : ss ≡ map (fold-stmt ds f) (p .stmts) = optimize-rests p (well-declared p (k .well)) f ss (k .ends) .origin in
@@ -156,7 +157,7 @@ module _ (m : Bool) (p : Problem) (f : Fixed) (ss : List Stmt) (set F : List ℤ
         words = has-back F q (encode-stmt t) (stmts-words ts) (k .words);
         from = omega (arith, k .from);
         place = omega (arith, k .place, length-append (encode-stmt t) (stmts-words ts));
-        parted = parted-rest (parted-of 512 ss) q t ts (k .legal) (k .parted);
+        parted = parted-rest (parted-of folded ss) q t ts (k .legal) (k .parted);
         ends = k .ends;
         made = stmt-well ds (DeclaredBool p) (DeclaredInt p) t (k .every .0) s (k .made);
         light = stmt-light ds t s (k .light);
@@ -164,13 +165,13 @@ module _ (m : Bool) (p : Problem) (f : Fixed) (ss : List Stmt) (set F : List ℤ
 
       -- ---- the log grows
 
-      walks : AllWalk ds F (parted-of 512 ss) 0 0 with-ifs [] (omega arith) (stmt-stages ds 0 0 F q t [])
-      walks = stmt-walk ds F (parted-of 512 ss) 0 0 with-ifs [] (omega arith) end end-inside (h .marked) q t ts (k .legal) (k .parted) first-words (k .from) first-to [] tt
+      walks : AllWalk ds F (parted-of folded ss) 0 0 with-ifs [] (omega arith) (stmt-stages ds 0 0 F q t [])
+      walks = stmt-walk ds F (parted-of folded ss) 0 0 with-ifs [] (omega arith) end end-inside (h .marked) q t ts (k .legal) (k .parted) first-words (k .from) first-to [] tt
 
       pub first-grows : Grows s (normalize-stmt ds t s)
       first-grows =
           let e : steps (stmt-stages ds 0 0 F q t []) s ≡ normalize-stmt ds t s = stmt-steps ds 0 0 F q t [] s ∙ (unfold steps in refl) in
-          subst (λ (z : Log). Grows s z) e (steps-grow ds F (parted-of 512 ss) 0 0 with-ifs [] (omega arith) (stmt-stages ds 0 0 F q t []) walks s)
+          subst (λ (z : Log). Grows s z) e (steps-grow ds F (parted-of folded ss) 0 0 with-ifs [] (omega arith) (stmt-stages ds 0 0 F q t []) walks s)
 
       -- the clauses behind it
       pub first-clauses : clauses-of (normalize-stmt (p .domains) t s) ≡ clauses-of s ++ clauses-since s (normalize-stmt (p .domains) t s)
@@ -179,6 +180,6 @@ module _ (m : Bool) (p : Problem) (f : Fixed) (ss : List Stmt) (set F : List ℤ
     -- up to the whole set's
     pub left-grows : (ts : List Stmt) → Left m p f ss F end q ts s → Grows s (log-of m p ss)
     left-grows ts k =
-        let a = stmts-walk ds F (parted-of 512 ss) 0 0 with-ifs [] (omega arith) end end-inside (h .marked) q ts (k .legal) (k .parted) (k .words) (k .from) (omega (arith, k .place)) in
+        let a = stmts-walk ds F (parted-of folded ss) 0 0 with-ifs [] (omega arith) end end-inside (h .marked) q ts (k .legal) (k .parted) (k .words) (k .from) (omega (arith, k .place)) in
         let e : steps (stmts-stages ds 0 0 F q ts) s ≡ log-of m p ss = stmts-steps ds 0 0 F q ts s ∙ k .ends in
-        subst (λ (z : Log). Grows s z) e (steps-grow ds F (parted-of 512 ss) 0 0 with-ifs [] (omega arith) (stmts-stages ds 0 0 F q ts) a s)
+        subst (λ (z : Log). Grows s z) e (steps-grow ds F (parted-of folded ss) 0 0 with-ifs [] (omega arith) (stmts-stages ds 0 0 F q ts) a s)

@@ -5,17 +5,18 @@ use mathlib.Core.List.{List, [], _∷_}
 use Prim.Native.Nat.{ℕ, _+_, _≤_, _<_}
 use lib.IntN.{ℤ}
 use lib.ListN.{length}
+use Rattle.memory.specs.Places.{folded, limit}
 use Rattle.syntax.specs.Syntax.{Stmt, encode-stmt, Problem}
+use Rattle.syntax.specs.Words.{min-work-words}
 use Rattle.fold.specs.Fold.{Fixed}
 use Rattle.clauses.specs.Log.{Log, next-bool, clauses-of}
 use Rattle.clauses.specs.Since.{clauses-since}
 use Rattle.answer.specs.Answer.{start-log, normalize-stmt}
-use Rattle.walk.specs.Item.{limit}
 use Rattle.walk.specs.Decode.{read-part}
 use Rattle.walk.specs.declared.Counters.{Counters}
 use Rattle.walks.specs.Item.{has-ifs}
 use Rattle.walks.specs.Implements.{at, Ready}
-use Rattle.memory.specs.DomainTable.{Declares}
+use Rattle.declared.specs.DomainTable.{Declares}
 use Rattle.statements.specs.Stages.{log-of}
 use Rattle.stages.specs.StatementsParts.{AllOwn}
 use Rattle.stages.specs.Statements.{stmt-stages, stmts-stages}
@@ -46,7 +47,7 @@ pub record Stands (x : Place) (set w : List ℤ) (q : ℕ) (with-ifs : Bool) : T
   pub left : Left (x .merge) (x .problem) (x .fixed) (x .stmts) (read-part w) (x .end) q (x .stmt ∷ x .later) (x .before)
   pub domains : Declares (x .problem .domains) w
   pub word : has-ifs w ≡ with-ifs
-  pub size : 16384 ≤ length w
+  pub size : min-work-words ≤ length w
 
 -- the maps and the columns' own cells are those of the log behind it; n: the counters before it. rec, cap: as in the first walk
 pub record Mapped (x : Place) (set w : List ℤ) (q : ℕ) (n : Counters) : Type 0 where
@@ -76,13 +77,13 @@ pub record AllMapped (merge : Bool) (p : Problem) (f : Fixed) (ss : List Stmt) (
   pub lent : Lent p f ss set (read-part w) end false
   pub domains : Declares (p .domains) w
   pub word : has-ifs w ≡ false
-  pub size : 16384 ≤ length w
+  pub size : min-work-words ≤ length w
   pub rec : ℕ
   pub cap : ℕ
   pub low : cap < limit
   pub ready : Ready w (log-of merge p ss)
   pub declared : Declared (log-of merge p ss)
-  pub owned : AllOwn w (stmts-stages (p .domains) rec cap (read-part w) 512 ss) (start-log merge ss)
+  pub owned : AllOwn w (stmts-stages (p .domains) rec cap (read-part w) folded ss) (start-log merge ss)
   pub first : from ≡ next-bool (start-log merge ss)
   pub room : Behind out o 0
 

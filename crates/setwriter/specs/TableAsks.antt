@@ -11,6 +11,7 @@ use lib.ListN.{length, length-map}
 use Rattle.laws.specs.Bools.{never, and-r}
 use Rattle.laws.specs.Order.{eqZ-refl}
 use Rattle.laws.specs.Slices.{Has}
+use Rattle.memory.specs.Places.{folded, folded-end}
 use Rattle.syntax.specs.Words.{max-count}
 use Rattle.syntax.specs.Syntax.{Domain, Range, Enumerative, domain-of, IntExpr, IConst, IVar, Linear, If, encode-int, Cell, Stmt, Rule, Table, AllDifferent, encode-stmt, Problem}
 use Rattle.syntax.specs.Codes.{stmt-code}
@@ -35,7 +36,7 @@ use Rattle.walks.specs.Good.{good-less}
 use Rattle.walks.specs.Visit.{Outcome, full, good, same-later, good-ready}
 use Rattle.walks.specs.Walked.{fixed, names}
 use Rattle.walks.specs.Next.{ahead-more}
-use Rattle.memory.specs.DomainTable.{Declares}
+use Rattle.declared.specs.DomainTable.{Declares}
 use Rattle.totals.specs.Ranges.{range-light}
 use Rattle.statements.specs.Statements.{table-words, table-length}
 use Rattle.statements.specs.Table.{table-fresh}
@@ -154,7 +155,7 @@ module _ (x : Place) (es : List IntExpr) (rows : List (List Cell)) (is : x .stmt
   F = read-part w
 
   abbrev parted : ℕ → Bool
-  parted = parted-of 512 (x .stmts)
+  parted = parted-of folded (x .stmts)
 
   abbrev at-table : Left (x .merge) (x .problem) (x .fixed) (x .stmts) F (x .end) q (Table es rows ∷ x .later) (x .before)
   at-table = subst (λ (t : Stmt). Left (x .merge) (x .problem) (x .fixed) (x .stmts) F (x .end) q (t ∷ x .later) (x .before)) is (h .left)
@@ -165,7 +166,7 @@ module _ (x : Place) (es : List IntExpr) (rows : List (List Cell)) (is : x .stmt
   pub to : q + length (encode-stmt (Table es rows)) ≤ x .end
   to = first-to (x .merge) (x .problem) (x .fixed) (x .stmts) set F (x .end) with-ifs (h .lent) q (x .before) (Table es rows) (x .later) at-table
 
-  inside : x .end ≤ 4608
+  inside : x .end ≤ folded-end
   inside = end-inside (x .merge) (x .problem) (x .fixed) (x .stmts) set F (x .end) with-ifs (h .lent)
 
   pub columns-stand : ColumnsStand F parted with-ifs es (q + 3)
@@ -217,7 +218,7 @@ mapped-table x es rows is set w q n h =
     let r : Ready w (normalize-table d es rows (x .before)) = subst (λ (t : Stmt). Ready w (normalize-stmt d t (x .before))) is (h .ready) in
     let o = subst (λ (t : Stmt). AllOwn w (stmt-stages d (h .rec) (h .cap) (read-part w) q t []) (x .before)) is (h .owned) in
     let stop : q + 3 + length (columns-words es) ≤ x .end = omega (arith, to x es rows is set w q false k, table-length es rows) in
-    let c = owned-placed d w (read-part w) (x .end) (λ p e i t l m. never (k .lent .marked p e i t l m)) (parted-of 512 (x .stmts)) false es (q + 3) (columns-stand x es rows is set w q false k) stop (x .before) (o .0) in
+    let c = owned-placed d w (read-part w) (x .end) (λ p e i t l m. never (k .lent .marked p e i t l m)) (parted-of folded (x .stmts)) false es (q + 3) (columns-stand x es rows is set w q false k) stop (x .before) (o .0) in
     table-asks x es rows is set w q false k r c n (h .counters)
 
 -- numbered again right before: w' and c' are the slice and the walk's state behind its numbering, which is not full
@@ -226,7 +227,7 @@ module _ (x : Place) (es : List IntExpr) (rows : List (List Cell)) (is : x .stmt
   d = x .problem .domains
 
   abbrev marks : ℕ → Bool
-  marks = parted-of 512 (x .stmts)
+  marks = parted-of folded (x .stmts)
 
   abbrev st : State
   st = state-of w [] c

@@ -9,12 +9,13 @@ use lib.IntN.{ℤ, pos}
 use lib.ListN.{length, getD, set}
 use lib.Seq.{sets, set-comm}
 use Rattle.laws.specs.Writes.{sets-append}
+use Rattle.memory.specs.Places.{folded, limit}
 use Rattle.syntax.specs.Syntax.{Domain, Stmt, Problem, encode}
+use Rattle.syntax.specs.Words.{max-bools}
 use Rattle.fold.specs.Fold.{Fixed}
 use Rattle.clauses.specs.Clause.{Clause}
 use Rattle.clauses.specs.Log.{Log, clauses-of}
 use Rattle.answer.specs.Answer.{fixed-word, start-log, layout, normalize}
-use Rattle.walk.specs.Item.{limit}
 use Rattle.walk.specs.Decode.{read-part}
 use Rattle.walk.specs.Texts.{layout as clauses-layout, layout-words}
 use Rattle.walks.specs.Item.{counters}
@@ -24,7 +25,7 @@ use Rattle.walks.specs.Constant.{Named}
 use Rattle.walks.specs.Good.{records-of}
 use Rattle.walks.specs.Visit.{good-ready}
 use Rattle.walks.specs.Walked.{fixed, names}
-use Rattle.memory.specs.DomainTable.{Declares}
+use Rattle.declared.specs.DomainTable.{Declares}
 use Rattle.statements.specs.Whole.{start-none}
 use Rattle.statements.specs.Stages.{Settled, log-of}
 use Rattle.stages.specs.StatementsParts.{AllOwn}
@@ -74,7 +75,7 @@ module _ (m : Bool) (p : Problem) (f : Fixed) (ss : List Stmt) (F : List ℤ) (w
   registers : Registers (clauses-layout [] (clauses-of L)) (min (length (clauses-of L)) limit) (start-log m ss) L
   registers = record { cs = clauses-of L; eq = ap (λ (cs : List Clause). cs ++ clauses-of L) (sym (start-none m ss)); words = refl; lines = refl }
 
-  pub answer-is : let st = behind p ss F cap (start w before n) in st .used ≤ cap → ((v : ℕ) → v < 512 → getD (st .work) v (pos 0) ≡ fixed-word (f v))
+  pub answer-is : let st = behind p ss F cap (start w before n) in st .used ≤ cap → ((v : ℕ) → v < max-bools → getD (st .work) v (pos 0) ≡ fixed-word (f v))
       → layout (normalize m p f ss) ≡ front-words (st .work) (p .bools) (length (p .domains)) (counters (st .bools) (st .ints)) ++ (records-of (p .domains) (log-of m p ss) ++ (pos (length (clauses-of (log-of m p ss))) ∷ clauses-words (clauses-of (log-of m p ss))))
   answer-is u v =
       let st = behind p ss F cap (start w before n) in
@@ -83,7 +84,7 @@ module _ (m : Bool) (p : Problem) (f : Fixed) (ss : List Stmt) (F : List ℤ) (w
       let i = front-is f (st .work) (p .bools) (length ds) (counters (st .bools) (st .ints)) (records-of ds L ++ (pos (length (clauses-of L)) ∷ clauses-layout [] (clauses-of L))) (walkable .few-bools) v in
       a .words ∙ sym i ∙ ap (λ (us : List ℤ). front-words (st .work) (p .bools) (length ds) (counters (st .bools) (st .ints)) ++ (records-of ds L ++ (pos (length (clauses-of L)) ∷ us))) e
 
-  pub by-maps : with-ifs ≡ false → behind p ss F cap (start w before n) .used ≤ cap → Settled p f ss → (set' : List ℤ) → set' ≡ encode p → (end : ℕ) → end ≡ 512 + length (stmts-words ss)
+  pub by-maps : with-ifs ≡ false → behind p ss F cap (start w before n) .used ≤ cap → Settled p f ss → (set' : List ℤ) → set' ≡ encode p → (end : ℕ) → end ≡ folded + length (stmts-words ss)
       → Declares (p .domains) (behind p ss F cap (start w before n) .work) → (out : List ℤ) (o : ℕ) → Behind out o 0 → AllMapped m p f ss set' (behind p ss F cap (start w before n) .work) end n out o
   by-maps off u settled set' words end ends domains out o room =
       let st = behind p ss F cap (start w before n) in
@@ -93,7 +94,7 @@ module _ (m : Bool) (p : Problem) (f : Fixed) (ss : List Stmt) (F : List ℤ) (w
       let i : F ≡ read-part (st .work) = sym (g .state .words) in
       let k : Marked F end false = subst (λ (b : Bool). Marked F end b) off (subst (λ (j : ℕ). Marked F j with-ifs) (sym ends) (walkable .marked)) in
       let l : Lent p f ss set' F end false = record { words = words; settled = settled; stands = walkable .stands; marked = k; ends = ends } in
-      let own : AllOwn (st .work) (stmts-stages ds (records-from p) cap F 512 ss) (start-log m ss) = unfold behind set-stages in e .again .owned in
+      let own : AllOwn (st .work) (stmts-stages ds (records-from p) cap F folded ss) (start-log m ss) = unfold behind set-stages in e .again .owned in
       record {
         lent = subst (λ (G : List ℤ). Lent p f ss set' G end false) i l;
         domains = domains;
@@ -102,9 +103,9 @@ module _ (m : Bool) (p : Problem) (f : Fixed) (ss : List Stmt) (F : List ℤ) (w
         rec = records-from p;
         cap = cap;
         low = low;
-        ready = good-ready ds F PlainInt (parted-of 512 ss) (g .key) (fixed ds) (records-from p) cap with-ifs before (Named ds) (names ds) (g .places) low 0 st L (g .state);
+        ready = good-ready ds F PlainInt (parted-of folded ss) (g .key) (fixed ds) (records-from p) cap with-ifs before (Named ds) (names ds) (g .places) low 0 st L (g .state);
         declared = record { bools = g .state .low; ints = g .state .low-int };
-        owned = subst (λ (G : List ℤ). AllOwn (st .work) (stmts-stages ds (records-from p) cap G 512 ss) (start-log m ss)) i own;
+        owned = subst (λ (G : List ℤ). AllOwn (st .work) (stmts-stages ds (records-from p) cap G folded ss) (start-log m ss)) i own;
         first = begun .bools;
         room = room;
       }

@@ -43,7 +43,7 @@ fn put_rule(work: &[i32], at: usize, n: Counters, out: &mut [i32], o: usize, k: 
         next: r.at,
         n: m,
         at: r.o,
-        clauses: tablewriter::lesser(bump(k, r.lines), r.o),
+        clauses: rows::lesser(bump(k, r.lines), r.o),
     }
 }
 
@@ -130,7 +130,7 @@ pub fn write_by_maps(
     requires { ⌜ SomeAllMapped (now set) (now work) end from (now out) o ⌝ }
     ensures { λ r. ⌜ WrittenAll (now (set .entry)) (now (work .entry)) end from (now (out .entry)) o (now (work .exit)) (now (out .exit)) (r .at) (r .clauses) ⌝ }
 {
-    let mut q = 512;
+    let mut q = memory::FOLDED;
     let mut n = Counters {
         bools: from,
         ints: 0,
@@ -261,7 +261,7 @@ pub fn write_numbered(
     requires { ⌜ SomeStarts (now set) (now work) end room from (now out) o ⌝ }
     ensures { λ r. ⌜ RewroteAll (now (set .entry)) (now (work .entry)) end room from (now (out .entry)) o (now (work .exit)) (now (out .exit)) (r .used) (r .at) (r .clauses) ⌝ }
 {
-    let mut q = 512;
+    let mut q = memory::FOLDED;
     let mut c = Progress {
         bools: from,
         ints: 0,

@@ -11,6 +11,7 @@ use lib.ListN.{length, take, drop, set, length-append, length-replicate, replica
 use lib.Seq.{sets, sets-eq, take-suc-set, take-all, drop-nil, drop-drop, take-append-seam}
 use borrow.Author.Tests.{lt-ltb, le-ltb}
 use Rattle.laws.specs.Slices.{zeros}
+use Rattle.syntax.specs.Words.{max-answer-words}
 use Rattle.call.specs.Call.{compiled, output-after}
 use Rattle.lines.specs.Lines.{count-word, times, print-domain}
 use Rattle.lines.specs.Output.{Stops}
@@ -69,7 +70,7 @@ pub compiled-words : (ws output : List ℤ) → output ≡ output-after (compile
 unfolding output-after
 compiled-words ws output e = ap (take (length ws)) e ∙ take-append-seam ws (zeros (length output - length ws))
 
-pub some-fits : {set output : List ℤ} {n : ℕ} {sheet : List ℕ} → SomeAnswered set output n sheet → (n ≡ length (take n output)) × (n ≤ length output) × (length (take n output) ≤ 16777216)
+pub some-fits : {set output : List ℤ} {n : ℕ} {sheet : List ℕ} → SomeAnswered set output n sheet → (n ≡ length (take n output)) × (n ≤ length output) × (length (take n output) ≤ max-answer-words)
 some-fits {set} {output} {n} s =
     let a = s .answered in
     let e : take n output ≡ s .it = ap (λ (k : ℕ). take k output) (a .count) ∙ compiled-words (s .it) output (a .left) in

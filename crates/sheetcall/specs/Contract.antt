@@ -11,6 +11,7 @@ use lib.ListN.{length, take}
 use Rattle.laws.specs.Lists.{counted}
 use Rattle.laws.specs.Slices.{zeros}
 use Rattle.syntax.specs.Satisfies.{Val, IVal}
+use Rattle.syntax.specs.Words.{max-answer-words}
 use Rattle.answer.specs.Answer.{clause-words}
 use Rattle.call.specs.Call.{Result, compiled, contradiction, refused, output-after}
 use Rattle.call.specs.Claim.{within, satisfied, Passed}
@@ -41,7 +42,7 @@ pub record Sheets (set out work out' work' : List ℤ) (sheet sheet' : List ℕ)
 pub record Answered (set : List ℤ) (ws output : List ℤ) (n : ℕ) (sheet : List ℕ) : Type 0 where
   pub count : n ≡ length ws
   pub left : output ≡ output-after (compiled ws) (length output)
-  pub few : length ws ≤ 16777216
+  pub few : length ws ≤ max-answer-words
   pub cleared : sheet ≡ no-bytes (length sheet)
 
 pub record SomeAnswered (set output : List ℤ) (n : ℕ) (sheet : List ℕ) : Type 0 where

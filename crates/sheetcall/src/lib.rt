@@ -61,7 +61,7 @@ fn finish(set: &[i32], output: &mut [i32], n: usize, sheet: &mut [u8]) -> Sheete
     if m <= sheet.len() {
         return Sheeted::Compiled(n, m);
     }
-    refuse::clear(output);
+    memory::clear(output);
     clear_bytes(sheet);
     Sheeted::Refused(13)
 }

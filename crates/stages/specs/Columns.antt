@@ -12,20 +12,20 @@ use lib.ListN.{length, length-append}
 use lib.Seq.{getD-set-other}
 use Rattle.laws.specs.Lists.{flat}
 use Rattle.laws.specs.Slices.{Has, has-front, has-back}
+use Rattle.memory.specs.Places.{folded, folded-end, cells, limit}
 use Rattle.syntax.specs.Syntax.{Domain, IntExpr, IConst, IVar, Linear, If, encode-int}
 use Rattle.syntax.specs.Lengths.{int-long}
 use Rattle.words.specs.Exact.{Each}
 use Rattle.clauses.specs.Log.{column, Log, next-int}
 use Rattle.clauses.specs.Normalize.{normalize-int-expr}
 use Rattle.tables.specs.Tables.{new-column, old-column, equivalent-int-var, equivalent-int-vars}
-use Rattle.walk.specs.Item.{limit}
 use Rattle.walk.specs.Grow.{Grows, same, then, grow-added}
 use Rattle.walks.specs.Tree.{IntTree, const, ivar, sum, choice, never, resolve-int}
 use Rattle.walks.specs.Form.{IntForm, const as const-form, ivar as ivar-form, sum as sum-form, choice as choice-form, int-form}
 use Rattle.walks.specs.Decode.{IntRead, decode-int}
 use Rattle.walks.specs.DecodeExact.{column-stands}
 use Rattle.walks.specs.Resolve.{column-runs, never-int}
-use Rattle.walks.specs.Item.{cells, cell}
+use Rattle.walks.specs.Item.{cell}
 use Rattle.walks.specs.Placed.{PlacedInt}
 use Rattle.walks.specs.Meet.{State, is-full, new-int, form-meet-int}
 use Rattle.walks.specs.Grow.{grow-int, int-var-grows, int-grow}
@@ -119,7 +119,7 @@ module _ (ds : List Domain) (rec cap p : ℕ) where
   column-spends (choice i q e c d t u) st f = sum-spends (int-form (choice i q e c d t u)) st ∙ int-meet-spends ds rec cap (choice i q e c d t u) st f
 
   -- a form that stands from p to b
-  module _ (b q : ℕ) (low : 512 ≤ q) (under : q < p) where
+  module _ (b q : ℕ) (low : folded ≤ q) (under : q < p) where
     number-near : (d : Domain) (st : State) → cell (number-column ds rec cap p d st .work) q ≡ cell (st .work) q
     unfolding number-column new-int cell
     number-near d st = getD-set-other (st .work) (cells + p) (cells + q) _ (pos 0) (λ e. omega arith)
@@ -155,8 +155,8 @@ module _ (F : List ℤ) (parted : ℕ → Bool) (with-ifs : Bool) where
   pub record ColumnsStand (es : List IntExpr) (p : ℕ) : Type 0 where
     pub legal : Each (λ e. LegalInt e 64) es
     pub words : Has F p (columns-words es)
-    pub from : 512 ≤ p
-    pub to : p + length (columns-words es) ≤ 4608
+    pub from : folded ≤ p
+    pub to : p + length (columns-words es) ≤ folded-end
     pub agree : Every (AgreesWith parted with-ifs) (columns-keys es p)
 
   -- the first column's words, and where they end
@@ -166,7 +166,7 @@ module _ (F : List ℤ) (parted : ℕ → Bool) (with-ifs : Bool) where
   more-words : (e : IntExpr) (es : List IntExpr) → length (columns-words (e ∷ es)) ≡ length (encode-int e) + length (columns-words es)
   more-words e es = length-append (encode-int e) (columns-words es)
 
-  pub first-to : (e : IntExpr) (es : List IntExpr) (p : ℕ) → ColumnsStand (e ∷ es) p → p + length (encode-int e) ≤ 4608
+  pub first-to : (e : IntExpr) (es : List IntExpr) (p : ℕ) → ColumnsStand (e ∷ es) p → p + length (encode-int e) ≤ folded-end
   first-to e es p h = omega (arith, h .to, more-words e es)
 
   pub stand-rest : (e : IntExpr) (es : List IntExpr) (p : ℕ) → ColumnsStand (e ∷ es) p → ColumnsStand es (p + length (encode-int e))
@@ -216,7 +216,7 @@ module _ (F : List ℤ) (parted : ℕ → Bool) (with-ifs : Bool) where
         ap (λ (y : State). y .used) (columns-more e es p st h) ∙ columns-spend es (p + length (encode-int e)) (met-first e p st) (stand-rest e es p h) (rw x f) ∙ x
 
     -- the cells before them stay
-    pub columns-near : (es : List IntExpr) (p : ℕ) (st : State) → ColumnsStand es p → (q : ℕ) → 512 ≤ q → q < p → cell (meet-columns ds rec cap F (length es) p st .work) q ≡ cell (st .work) q
+    pub columns-near : (es : List IntExpr) (p : ℕ) (st : State) → ColumnsStand es p → (q : ℕ) → folded ≤ q → q < p → cell (meet-columns ds rec cap F (length es) p st .work) q ≡ cell (st .work) q
     columns-near [] p st h q l m = unfold meet-columns in refl
     columns-near (e ∷ es) p st h q l m =
         let x = column-near ds rec cap p (p + length (encode-int e)) q l m (int-form (resolve-int e never p 0)) (first-inside e p (h .legal .0)) st in

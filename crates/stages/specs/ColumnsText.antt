@@ -7,6 +7,7 @@ use Prim.Native.Nat.{ℕ, zero, suc, _+_, _<_}
 use native.Mathlib.Omega.{arith}
 use lib.IntN.{ℤ, pos}
 use lib.ListN.{length}
+use Rattle.memory.specs.Number.{nat}
 use Rattle.syntax.specs.Syntax.{Domain, domain-of, IntExpr, IConst, IVar, Linear, If, encode-int}
 use Rattle.clauses.specs.Log.{column, int, added, Log, next-int, convert-int-var}
 use Rattle.clauses.specs.Normalize.{equals, domain-of-sum, normalize-int-var, normalize-int-expr}
@@ -14,7 +15,7 @@ use Rattle.clauses.specs.Grow.{get-int-below}
 use Rattle.clauses.specs.Emitted.{domain-at, new-domain, domain-step, int-var-domain}
 use Rattle.clauses.specs.Since.{top-domain}
 use Rattle.tables.specs.Tables.{Columns, new-column, old-column, equivalent-int-var, equivalent-int-vars}
-use Rattle.walk.specs.Item.{bump, nat, int-number}
+use Rattle.walk.specs.Item.{bump, int-number}
 use Rattle.walk.specs.declared.Counters.{Counters}
 use Rattle.walk.specs.Grow.{grow-added}
 use Rattle.walk.specs.Ints.{var-found}

@@ -10,6 +10,7 @@ use lib.IntN.{ℤ}
 use lib.ListN.{length}
 use Rattle.laws.specs.Bools.{never, and-r}
 use Rattle.laws.specs.Lists.{all}
+use Rattle.memory.specs.Places.{folded-end, limit}
 use Rattle.syntax.specs.Syntax.{Domain, enumerate, domain-of, Ne, IntExpr, IConst, IVar, Linear, If, BoolExpr, Or, Cmp, Members}
 use Rattle.words.specs.Exact.{Each}
 use Rattle.sums.specs.Linear.{linear-of}
@@ -20,7 +21,6 @@ use Rattle.clauses.specs.Normalize.{register, normalize-int-expr, normalize-int
 use Rattle.clauses.specs.Split.{Split, unsplit, split-one, split-two, tseitin-transformation-bool, tseitin-transformation-members, register-each, normalize-and-register-expr}
 use Rattle.answer.specs.Answer.{clause-words}
 use Rattle.different.specs.Different.{pair-rules, each-equals, value-rule, is-like, values-of-first, values-used-up, different-rules, normalize-rules}
-use Rattle.walk.specs.Item.{limit}
 use Rattle.walk.specs.Texts.{layout-words}
 use Rattle.walk.specs.Grow.{Grows, same, then, grow-added, Fit, back}
 use Rattle.walk.specs.Ints.{var-found}
@@ -344,7 +344,7 @@ module _ (ds : List Domain) where
     unfolding different-stages
     different-rooms = omega (arith, pairs-rooms ds rec cap stop es p values, values-rooms es stop ys (values-used-up ds es))
 
-    pub different-walk : (F : List ℤ) (parted : ℕ → Bool) (with-ifs : Bool) (before : List ℤ) (low : cap < limit) → stop ≤ 4608 → SidesStand F parted with-ifs stop es p → AllWalk ds F parted rec cap with-ifs before low ys → AllWalk ds F parted rec cap with-ifs before low different-stages
+    pub different-walk : (F : List ℤ) (parted : ℕ → Bool) (with-ifs : Bool) (before : List ℤ) (low : cap < limit) → stop ≤ folded-end → SidesStand F parted with-ifs stop es p → AllWalk ds F parted rec cap with-ifs before low ys → AllWalk ds F parted rec cap with-ifs before low different-stages
     unfolding different-stages
     different-walk F parted with-ifs before low l h w = pairs-walk F parted with-ifs stop ds rec cap before low l es p values h (go (used-up es))
       where

@@ -13,16 +13,16 @@ use lib.ListN.{length, length-append}
 use lib.Seq.{getD-set-other}
 use Rattle.laws.specs.Lists.{flat}
 use Rattle.laws.specs.Slices.{Has, has-front, has-back}
+use Rattle.memory.specs.Places.{folded, folded-end, cells, limit}
 use Rattle.syntax.specs.Syntax.{Domain, Ne, IntExpr, BoolExpr, Cmp, encode-int}
 use Rattle.words.specs.Exact.{Each}
 use Rattle.clauses.specs.Log.{Log, next-bool}
 use Rattle.clauses.specs.Split.{normalize-and-register-expr}
 use Rattle.different.specs.Different.{pair-rules, normalize-rules}
-use Rattle.walk.specs.Item.{limit}
 use Rattle.walks.specs.Tree.{Place, below, here, splits, splits-int, split-int}
 use Rattle.walks.specs.Form.{forms}
 use Rattle.walks.specs.Resolve.{pair-trees}
-use Rattle.walks.specs.Item.{cells, cell}
+use Rattle.walks.specs.Item.{cell}
 use Rattle.walks.specs.Meet.{State, with-work, more-bools, set-cell}
 use Rattle.walks.specs.Plain.{PlainInt}
 use Rattle.walks.specs.Constant.{Named}
@@ -87,11 +87,11 @@ in-wider {a} {b} {c} {d} h i j = every-map (λ x k. (omega (arith, k .0), omega 
 
 module _ (ds : List Domain) (F : List ℤ) (parted : ℕ → Bool) (rec cap : ℕ) (with-ifs : Bool) (before : List ℤ) (low : cap < limit) where
   module _ (a b : IntExpr) (p q stop : ℕ) (first : LegalInt a 64) (second : LegalInt b 64) (words : Has F p (encode-int a)) (others : Has F q (encode-int b))
-      (from : 512 ≤ p) (then : p + length (encode-int a) ≤ q) (to : q + length (encode-int b) ≤ stop) (end : stop ≤ 4608) (agree : (n : ℕ) → Every (AgreesWith parted with-ifs) (pair-keys a b p q n)) where
+      (from : folded ≤ p) (then : p + length (encode-int a) ≤ q) (to : q + length (encode-int b) ≤ stop) (end : stop ≤ folded-end) (agree : (n : ℕ) → Every (AgreesWith parted with-ifs) (pair-keys a b p q n)) where
     abbrev last : ℕ
     last = q + length (encode-int b)
 
-    inside : last ≤ 4608
+    inside : last ≤ folded-end
     inside = omega arith
 
     within : (n : ℕ) → Every (Within p last n (n + splits-int a here + splits-int b here) (length (encode-int (split-int a here n)) + length (encode-int (split-int b here (n + splits-int a here))))) (pair-keys a b p q n)
@@ -253,7 +253,7 @@ module _ (F : List ℤ) (parted : ℕ → Bool) (with-ifs : Bool) (stop : ℕ) w
   pub record SidesStand (es : List IntExpr) (p : ℕ) : Type 0 where
     pub legal : Each (λ e. LegalInt e 64) es
     pub words : Has F p (sides-words es)
-    pub from : 512 ≤ p
+    pub from : folded ≤ p
     pub to : p + length (sides-words es) ≤ stop
     pub agree : Every (AgreesWith parted with-ifs) (sides-keys es p)
 
@@ -271,7 +271,7 @@ module _ (F : List ℤ) (parted : ℕ → Bool) (with-ifs : Bool) (stop : ℕ) w
   record SideStands (e : IntExpr) (p : ℕ) : Type 0 where
     pub legal : LegalInt e 64
     pub words : Has F p (encode-int e)
-    pub from : 512 ≤ p
+    pub from : folded ≤ p
     pub to : p + length (encode-int e) ≤ stop
     pub agree : (n : ℕ) → Every (AgreesWith parted with-ifs) (keys-int e here p n)
 
@@ -285,7 +285,7 @@ module _ (F : List ℤ) (parted : ℕ → Bool) (with-ifs : Bool) (stop : ℕ) w
     agree = λ n. agrees-same parted with-ifs (same-places-int e here p 0 n) (every-left (keys-int e here p 0) (sides-keys es (p + length (encode-int e))) (h .agree));
   }
 
-  module _ (ds : List Domain) (rec cap : ℕ) (before : List ℤ) (low : cap < limit) (end : stop ≤ 4608) where
+  module _ (ds : List Domain) (rec cap : ℕ) (before : List ℤ) (low : cap < limit) (end : stop ≤ folded-end) where
     row-walk : (a : IntExpr) (p : ℕ) (bs : List IntExpr) (q : ℕ) (xs : List Stage) → SideStands a p → SidesStand bs q → p + length (encode-int a) ≤ q → AllWalk ds F parted rec cap with-ifs before low xs → AllWalk ds F parted rec cap with-ifs before low (row-stages ds rec cap stop a p bs q xs)
     unfolding row-stages
     row-walk a p [] q xs h k l w = w

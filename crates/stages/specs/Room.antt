@@ -5,9 +5,9 @@ use mathlib.Core.List.{List}
 use Prim.Native.Nat.{ℕ, suc, _+_, _-_, _*_, _≤_}
 use native.Mathlib.Omega.{arith}
 use lib.ListN.{length, length-append}
+use Rattle.memory.specs.Places.{limit}
 use Rattle.syntax.specs.Syntax.{Domain, Ne, IntExpr, IConst, IVar, Linear, If, Terms, tnil, tmore, BoolExpr, Const, Var, NVar, And, Or, Not, Xor, Iff, Imp, Cmp, Members, mnil, more, encode-bool, encode-members, encode-int, encode-terms}
 use Rattle.syntax.specs.Lengths.{int-long}
-use Rattle.walk.specs.Item.{limit}
 use Rattle.walks.specs.Tree.{cmp, Trees, nil, cons, append, joined, Splitting, never, below, here, inner, own-splits, splits, splits-members, splits-int, splits-terms, crossed, resolve, resolves, resolve-int, tie, sides-tied, ties, ties-members, ties-int, ties-terms}
 use Rattle.walks.specs.Resolve.{rule-trees, pair-trees}
 use Rattle.walks.specs.Thirds.{length-three}

@@ -8,6 +8,7 @@ use native.Mathlib.Omega.{arith}
 use lib.IntN.{ℤ}
 use lib.ListN.{length}
 use Rattle.laws.specs.Lists.{flat}
+use Rattle.memory.specs.Places.{limit}
 use Rattle.syntax.specs.Syntax.{Domain, Cell}
 use Rattle.clauses.specs.Clause.{Clause}
 use Rattle.clauses.specs.Log.{added, Log, get-bool-var, get-int-var, get-if, made-ints, clauses-of}
@@ -17,7 +18,7 @@ use Rattle.clauses.specs.Emitted.{domain-at}
 use Rattle.clauses.specs.Since.{here, over}
 use Rattle.tables.specs.Tables.{star-row, star-table, plain-table, normalize-extension-supports}
 use Rattle.answer.specs.Answer.{clause-words}
-use Rattle.walk.specs.Item.{limit, lines-of}
+use Rattle.walk.specs.Item.{lines-of}
 use Rattle.walk.specs.declared.Counters.{Counters}
 use Rattle.walk.specs.Grow.{Grows, same}
 use Rattle.walk.specs.Texts.{layout, layout-words, disjunction-auxed, auxed-untouched}

@@ -9,12 +9,14 @@ use native.Mathlib.Omega.{arith}
 use lib.IntN.{ℤ, pos}
 use lib.ListN.{length, getD}
 use Rattle.laws.specs.Ints.{is-zero}
+use Rattle.memory.specs.Places.{folded, folded-end, bool-map, int-map, limit}
 use Rattle.syntax.specs.Syntax.{Domain, IntExpr}
+use Rattle.syntax.specs.Words.{max-bools, min-work-words}
 use Rattle.clauses.specs.Clause.{BoolLit}
 use Rattle.clauses.specs.Log.{declared, aux, side, bool, merged, int, added, defined, known, Log, next-bool, get-bool-var, get-int-var, get-if, made-ints}
 use Rattle.clauses.specs.Merge.{WellMerged, merged-no-ints, merged-no-ifs}
 use Rattle.answer.specs.Answer.{bool-word}
-use Rattle.walk.specs.Item.{limit, bool-map, int-map, bool-at, int-entry}
+use Rattle.walk.specs.Item.{bool-at, int-entry}
 use Rattle.walk.specs.Decode.{read-part}
 use Rattle.walk.specs.Num.{code}
 use Rattle.walks.specs.Item.{has-ifs, cell, unseen, seen-in}
@@ -38,14 +40,14 @@ start w out n = record { work = w; out = out; bools = n; ints = 0; used = 0 }
 
 -- the slice w before the first statement: F, the folded words; s, the log that merging leaves
 pub record Begun (F : List ℤ) (with-ifs : Bool) (w : List ℤ) (n : ℕ) (s : Log) : Type 0 where
-  pub map : (v : ℕ) → v < 512 → bool-at w v ≡ bool-word (get-bool-var v s)
+  pub map : (v : ℕ) → v < max-bools → bool-at w v ≡ bool-word (get-bool-var v s)
   pub map-int : (v : ℕ) → v < 256 → int-entry w v ≡ 0
   pub bools : n ≡ next-bool s
-  pub low : (v : ℕ) (l : BoolLit) → get-bool-var v s ≡ some l → v < 512
-  pub size : 16384 ≤ length w
+  pub low : (v : ℕ) (l : BoolLit) → get-bool-var v s ≡ some l → v < max-bools
+  pub size : min-work-words ≤ length w
   pub words : read-part w ≡ F
   pub word : has-ifs w ≡ with-ifs
-  pub blank : (p : ℕ) → 512 < p → p ≤ 4608 → cell w p ≡ pos 0
+  pub blank : (p : ℕ) → folded < p → p ≤ folded-end → cell w p ≡ pos 0
 
 -- ---- the log has no integer and no If
 
@@ -100,7 +102,7 @@ module _ (ds : List Domain) (F : List ℤ) (parted : ℕ → Bool) (rec cap : �
   abbrev no-key : ℕ → Option IntExpr
   no-key = looked-up []
 
-  is-unseen : (q : ℕ) → 512 ≤ q → q < 4608 → seen-in (cell w (q + 1)) ≡ unseen
+  is-unseen : (q : ℕ) → folded ≤ q → q < folded-end → seen-in (cell w (q + 1)) ≡ unseen
   is-unseen q l m = ap seen-in (b .blank (q + 1) (omega arith) (omega arith))
 
   no-own : {X : Type 0} (q : ℕ) (e : IntExpr) → looked-up [] q ≡ some e → X
@@ -141,10 +143,10 @@ module _ (ds : List Domain) (F : List ℤ) (parted : ℕ → Bool) (rec cap : �
     opens = λ e v h. no-if e v h;
     named = merged-named ds s merged-log;
     used = omega arith;
-    room = omega (arith, r, blanks-most is-zero w bool-map 512, blanks-most no-int w int-map 256);
+    room = omega (arith, r, blanks-most is-zero w bool-map max-bools, blanks-most no-int w int-map 256);
   }
 
-  pub start-stands : (k : ℕ) → n + 768 + 4 * cap + k ≤ limit → Standing ds F parted rec cap with-ifs out low 512 k (start w out n) s
+  pub start-stands : (k : ℕ) → n + 768 + 4 * cap + k ≤ limit → Standing ds F parted rec cap with-ifs out low folded k (start w out n) s
   start-stands k r = record {
     key = no-key;
     places = column-places ds F parted (fixed ds);

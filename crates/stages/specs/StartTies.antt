@@ -10,11 +10,13 @@ use lib.Dec.{eqb}
 use lib.IntN.{ℤ, pos}
 use lib.ListN.{length}
 use Rattle.laws.specs.Slices.{Has, has-front, has-back, has-rest}
+use Rattle.memory.specs.Places.{folded, folded-end, limit}
 use Rattle.syntax.specs.Syntax.{BoolExpr, Const, Var, NVar, And, Or, Not, Xor, Iff, Imp, Cmp, encode-bool, Stmt, Rule, Table, AllDifferent, encode-stmt}
+use Rattle.syntax.specs.Words.{max-bools}
 use Rattle.words.specs.Exact.{Each}
 use Rattle.clauses.specs.Log.{Log, next-bool}
 use Rattle.clauses.specs.Merge.{WellMerged, as-var, tie, merge-rule, merge-stmt, merge-stmts}
-use Rattle.walk.specs.Item.{limit, State}
+use Rattle.walk.specs.Item.{State}
 use Rattle.walk.specs.Decode.{word, read-part}
 use Rattle.walk.specs.Num.{code, Numbered}
 use Rattle.walks.specs.Item.{has-ifs, cell}
@@ -31,7 +33,7 @@ module _ (F : List ℤ) where
   other-code at n us h e f = f (rw (word-is F at n us h) e)
 
   -- a side is a variable, or its first word is another
-  pub side : {X : Type 0} (e : BoolExpr) (l at : ℕ) → Legal e l → Has F at (encode-bool e) → ((v : ℕ) → e ≡ Var v → v < 512 → X) → (as-var e ≡ none → eqb (word F at) 11 ≡ false → X) → X
+  pub side : {X : Type 0} (e : BoolExpr) (l at : ℕ) → Legal e l → Has F at (encode-bool e) → ((v : ℕ) → e ≡ Var v → v < max-bools → X) → (as-var e ≡ none → eqb (word F at) 11 ≡ false → X) → X
   unfolding Legal encode-bool
   side (Const b) l at k h f g = absurd k
   side (Var v) l at k h f g = f v refl (k .1)
@@ -45,7 +47,7 @@ module _ (F : List ℤ) where
   side (Cmp o a b) l at k h f g = other-code at 18 _ h refl (g refl)
 
   -- both are variables, or nothing is tied
-  sides : {X : Type 0} (a b : BoolExpr) (l at : ℕ) → Legal a l → Legal b l → Has F at (encode-bool a ++ encode-bool b) → ((x y : ℕ) → a ≡ Var x → b ≡ Var y → x < 512 → y < 512 → X)
+  sides : {X : Type 0} (a b : BoolExpr) (l at : ℕ) → Legal a l → Legal b l → Has F at (encode-bool a ++ encode-bool b) → ((x y : ℕ) → a ≡ Var x → b ≡ Var y → x < max-bools → y < max-bools → X)
       → (((g : Bool) (st : State) → meet-sides F at g st ≡ st) → ((g : Bool) (s : Log) → tie (as-var a) (as-var b) g s ≡ s) → X) → X
   unfolding encode-bool tie meet-sides
   sides {X} a b l at p q k both apart =
@@ -53,7 +55,7 @@ module _ (F : List ℤ) where
       (λ x u hx. left x u hx (rw u at k))
       (λ u i. apart (λ g st. rw i refl) (λ g s. rw u refl))
     where
-      left : (x : ℕ) → a ≡ Var x → x < 512 → Has F at (pos 11 ∷ pos x ∷ encode-bool b) → X
+      left : (x : ℕ) → a ≡ Var x → x < max-bools → Has F at (pos 11 ∷ pos x ∷ encode-bool b) → X
       left x u hx j =
           let w = word-is F at 11 _ j in
           side b l (at + 2) q (has-back F at (pos 11 ∷ pos x ∷ []) _ j)
@@ -110,7 +112,7 @@ module _ (F : List ℤ) where
 pub record Blank (F : List ℤ) (with-ifs : Bool) (w : List ℤ) : Type 0 where
   pub words : read-part w ≡ F
   pub word : has-ifs w ≡ with-ifs
-  pub cells : (p : ℕ) → 512 < p → p ≤ 4608 → cell w p ≡ pos 0
+  pub cells : (p : ℕ) → folded < p → p ≤ folded-end → cell w p ≡ pos 0
 
 pub tied-begun : (F : List ℤ) (with-ifs : Bool) (w : List ℤ) (n : ℕ) (s : Log) → WellMerged s → Numbered (start w n) s → Blank F with-ifs w → Begun F with-ifs w n s
 tied-begun F with-ifs w n s m h b = record {

@@ -9,12 +9,12 @@ use native.Mathlib.Nat.{mul-le-mul-right}
 use lib.IntN.{ℤ, pos}
 use lib.ListN.{length, length-append}
 use Rattle.laws.specs.Slices.{Has, has-front, has-back, has-rest}
+use Rattle.memory.specs.Places.{folded, folded-end, limit}
 use Rattle.syntax.specs.Syntax.{Domain, IntExpr, encode-int, encode-bool, Stmt, Rule, Table, AllDifferent, encode-stmt}
 use Rattle.syntax.specs.Lengths.{int-long}
 use Rattle.words.specs.Exact.{Each}
 use Rattle.clauses.specs.Log.{Log}
 use Rattle.answer.specs.Answer.{normalize-stmt, normalize-stmts}
-use Rattle.walk.specs.Item.{limit}
 use Rattle.statements.specs.Statements.{table-words, table-length}
 use Rattle.stages.specs.StatementsParts.{Stage, steps, rooms, AllKnown, Chains, chains-less, chains-more, UpTo, AllWalk}
 use Rattle.stages.specs.StatementsPlaces.{stmts-words, LegalStmt, PartedFrom, parted-rest, Marked, rule-agrees, sides-agree, columns-agree-here}
@@ -116,11 +116,11 @@ module _ (ds : List Domain) (rec cap : ℕ) (F : List ℤ) where
 
 -- ---- both walks over each; as in walks' Rule
 
-module _ (ds : List Domain) (F : List ℤ) (parted : ℕ → Bool) (rec cap : ℕ) (with-ifs : Bool) (before : List ℤ) (low : cap < limit) (b : ℕ) (inside : b ≤ 4608) (marked : Marked F b with-ifs) where
+module _ (ds : List Domain) (F : List ℤ) (parted : ℕ → Bool) (rec cap : ℕ) (with-ifs : Bool) (before : List ℤ) (low : cap < limit) (b : ℕ) (inside : b ≤ folded-end) (marked : Marked F b with-ifs) where
   abbrev AllWalkHere : List Stage → Type 0
   AllWalkHere = AllWalk ds F parted rec cap with-ifs before low
 
-  pub stmt-walk : (at : ℕ) (t : Stmt) (ts : List Stmt) → Each LegalStmt (t ∷ ts) → PartedFrom parted at (t ∷ ts) → Has F at (encode-stmt t) → 512 ≤ at → at + length (encode-stmt t) ≤ b → (xs : List Stage) → AllWalkHere xs → AllWalkHere (stmt-stages ds rec cap F at t xs)
+  pub stmt-walk : (at : ℕ) (t : Stmt) (ts : List Stmt) → Each LegalStmt (t ∷ ts) → PartedFrom parted at (t ∷ ts) → Has F at (encode-stmt t) → folded ≤ at → at + length (encode-stmt t) ≤ b → (xs : List Stage) → AllWalkHere xs → AllWalkHere (stmt-stages ds rec cap F at t xs)
   unfolding stmt-stages
   stmt-walk at (Rule e) ts h k d l m xs w =
       let n : length (encode-stmt (Rule e)) ≡ 1 + length (encode-bool e) = unfold encode-stmt in omega arith in
@@ -136,7 +136,7 @@ module _ (ds : List Domain) (F : List ℤ) (parted : ℕ → Bool) (rec cap : �
       different-walk ds rec cap es (at + 2) stop xs F parted with-ifs before low (omega arith)
       (record { legal = h .0; words = c; from = omega arith; to = omega (arith, n); agree = sides-agree F b with-ifs marked parted at ts es h k c l (omega (arith, n)) }) w
 
-  pub stmts-walk : (at : ℕ) (ts : List Stmt) → Each LegalStmt ts → PartedFrom parted at ts → Has F at (stmts-words ts) → 512 ≤ at → at + length (stmts-words ts) ≤ b → AllWalkHere (stmts-stages ds rec cap F at ts)
+  pub stmts-walk : (at : ℕ) (ts : List Stmt) → Each LegalStmt ts → PartedFrom parted at ts → Has F at (stmts-words ts) → folded ≤ at → at + length (stmts-words ts) ≤ b → AllWalkHere (stmts-stages ds rec cap F at ts)
   unfolding stmts-stages
   stmts-walk at [] h k d l m = tt
   stmts-walk at (t ∷ ts) h k d l m =

@@ -8,12 +8,12 @@ use native.Mathlib.Omega.{arith}
 use lib.IntN.{ℤ}
 use lib.ListN.{length}
 use Rattle.laws.specs.Slices.{Has}
+use Rattle.memory.specs.Places.{folded, folded-end, limit}
 use Rattle.syntax.specs.Syntax.{Domain, IntExpr, encode-int, Stmt, Rule, Table, AllDifferent, encode-stmt}
 use Rattle.words.specs.Exact.{Each}
 use Rattle.clauses.specs.Log.{Log}
 use Rattle.different.specs.Different.{values-used-up}
 use Rattle.answer.specs.Answer.{normalize-stmt}
-use Rattle.walk.specs.Item.{limit}
 use Rattle.walk.specs.declared.Counters.{Counters}
 use Rattle.walks.specs.Meet.{State, counters-of}
 use Rattle.walks.specs.Implements.{at, Ready, ready-back, Registers}
@@ -106,7 +106,7 @@ last-up-to a b (x ∷ xs) l h = last-up-to (x .to) b xs (h .0) (h .1)
 
 -- ---- as in walks' Rule; b: where the statements end
 
-module _ (ds : List Domain) (F : List ℤ) (parted : ℕ → Bool) (rec cap : ℕ) (with-ifs : Bool) (before : List ℤ) (low : cap < limit) (b : ℕ) (inside : b ≤ 4608) (marked : Marked F b with-ifs) where
+module _ (ds : List Domain) (F : List ℤ) (parted : ℕ → Bool) (rec cap : ℕ) (with-ifs : Bool) (before : List ℤ) (low : cap < limit) (b : ℕ) (inside : b ≤ folded-end) (marked : Marked F b with-ifs) where
   counts : NoIfs F b → (xs : List Stage) → UpTo b xs → AllWalk ds F parted rec cap with-ifs before low xs → (w : List ℤ) (s : Log) → AllKnown xs s → Ready w (steps xs s) → AllOwn w xs s → parts-behind (parts xs) w (at w s) ≡ at w (steps xs s)
   unfolding parts-behind steps AllOwn AllKnown
   counts i [] l k w s j r o = refl
@@ -115,7 +115,7 @@ module _ (ds : List Domain) (F : List ℤ) (parted : ℕ → Bool) (rec cap : �
       ap (parts-behind (parts xs) w) (y .behind) ∙ counts i xs (l .1) (k .1) w (x .step s) (j .1) r (o .1)
 
   -- the statement t at a place, ts behind it
-  module _ (place : ℕ) (t : Stmt) (ts : List Stmt) (legal : Each LegalStmt (t ∷ ts)) (from : PartedFrom parted place (t ∷ ts)) (words : Has F place (encode-stmt t)) (start : 512 ≤ place) (to : place + length (encode-stmt t) ≤ b) where
+  module _ (place : ℕ) (t : Stmt) (ts : List Stmt) (legal : Each LegalStmt (t ∷ ts)) (from : PartedFrom parted place (t ∷ ts)) (words : Has F place (encode-stmt t)) (start : folded ≤ place) (to : place + length (encode-stmt t) ≤ b) where
     abbrev own : List Stage
     own = stmt-stages ds rec cap F place t []
 

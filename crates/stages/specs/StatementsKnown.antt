@@ -9,8 +9,9 @@ use native.Mathlib.Omega.{arith}
 use lib.IntN.{ℤ, pos}
 use Rattle.laws.specs.Ints.{is-zero}
 use Rattle.laws.specs.Slices.{Has, has-front, has-back, has-rest}
+use Rattle.memory.specs.Places.{limit}
 use Rattle.syntax.specs.Syntax.{Domain, BoolExpr, Const, Var, NVar, And, Or, Not, Xor, Iff, Imp, Cmp, encode-bool, Rule, encode-stmt}
-use Rattle.walk.specs.Item.{limit, bool-at}
+use Rattle.walk.specs.Item.{bool-at}
 use Rattle.walk.specs.Decode.{word}
 use Rattle.walks.specs.Tree.{splits, resolve, ties}
 use Rattle.walks.specs.Form.{forms}

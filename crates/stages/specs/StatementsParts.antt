@@ -10,10 +10,11 @@ use native.Mathlib.Omega.{arith}
 use lib.IntN.{ℤ, pos}
 use borrow.Author.Tests.{lt-ltb}
 use Rattle.laws.specs.Slices.{Has}
+use Rattle.memory.specs.Places.{folded, limit}
 use Rattle.syntax.specs.Syntax.{Domain, IntExpr, encode-int}
 use Rattle.words.specs.Exact.{Each}
 use Rattle.clauses.specs.Log.{Log, next-bool}
-use Rattle.walk.specs.Item.{limit, bump}
+use Rattle.walk.specs.Item.{bump}
 use Rattle.walk.specs.Grow.{Grows, same, then}
 use Rattle.walk.specs.declared.Counters.{Counters}
 use Rattle.walks.specs.Item.{has-ifs, cell}
@@ -133,10 +134,10 @@ AllKnown (x ∷ xs) s = Each (Found s) (x .knows) × AllKnown xs (x .step s)
 
 -- the cells up to a place
 abbrev pub Stays : ℕ → List ℤ → List ℤ → Type 0
-Stays a w w' = (q : ℕ) → 512 ≤ q → q ≤ a → cell w' q ≡ cell w q
+Stays a w w' = (q : ℕ) → folded ≤ q → q ≤ a → cell w' q ≡ cell w q
 
 abbrev pub OwnedIn : ℕ → List Owned → Type 0
-OwnedIn a os = Each (λ o. (512 ≤ o .place) × (o .place ≤ a)) os
+OwnedIn a os = Each (λ o. (folded ≤ o .place) × (o .place ≤ a)) os
 
 own-stays : (a : ℕ) (w w' : List ℤ) (os : List Owned) → Stays a w w' → OwnedIn a os → Own w os → Own w' os
 own-stays a w w' [] h i o = tt
@@ -144,7 +145,7 @@ own-stays a w w' (x ∷ os) h i o = (h (x .place) (i .0 .0) (i .0 .1) ∙ o .0, 
 
 -- no legal If stands in the folded words F before b
 abbrev pub NoIfs : List ℤ → ℕ → Type 0
-NoIfs F b = (q : ℕ) (e : IntExpr) → LegalIf e → Has F q (encode-int e) → 512 ≤ q → q < b → ⊥
+NoIfs F b = (q : ℕ) (e : IntExpr) → LegalIf e → Has F q (encode-int e) → folded ≤ q → q < b → ⊥
 
 -- ---- as in walks' Rule
 

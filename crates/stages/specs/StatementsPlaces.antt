@@ -10,6 +10,7 @@ use lib.ListN.{length, length-append}
 use borrow.Author.Tests.{ne-eqb}
 use Rattle.laws.specs.Lists.{flat}
 use Rattle.laws.specs.Slices.{Has, has-front, has-back}
+use Rattle.memory.specs.Places.{folded}
 use Rattle.syntax.specs.Syntax.{IntExpr, encode-int, BoolExpr, encode-bool, Cell, Stmt, Rule, Table, AllDifferent, encode-stmt}
 use Rattle.words.specs.Exact.{Each}
 use Rattle.walks.specs.Tree.{below, here}
@@ -169,21 +170,21 @@ module _ (parted : ℕ → Bool) (at : ℕ) (t : Stmt) (ts : List Stmt) (legal :
 
 -- a legal If that stands in the folded words F before b is marked
 abbrev pub Marked : List ℤ → ℕ → Bool → Type 0
-Marked F b with-ifs = (q : ℕ) (e : IntExpr) → LegalIf e → Has F q (encode-int e) → 512 ≤ q → q < b → with-ifs ≡ true
+Marked F b with-ifs = (q : ℕ) (e : IntExpr) → LegalIf e → Has F q (encode-int e) → folded ≤ q → q < b → with-ifs ≡ true
 
 module _ (F : List ℤ) (b : ℕ) (with-ifs : Bool) (marked : Marked F b with-ifs) where
   abbrev Marks : List Key → Type 0
   Marks xs = Every (λ x. with-ifs ≡ true) xs
 
-  keys-marked : {at stop n next size : ℕ} {xs : List Key} → Every (Within at stop n next size) xs → Every (Written F) xs → Every LegalKey xs → 512 ≤ at → stop ≤ b → Marks xs
+  keys-marked : {at stop n next size : ℕ} {xs : List Key} → Every (Within at stop n next size) xs → Every (Written F) xs → Every LegalKey xs → folded ≤ at → stop ≤ b → Marks xs
   keys-marked h k p l m = every-map (λ x y. marked (x .place .at) (x .written) (y .1 .1) (y .1 .0 .stands) (omega (arith, y .0 .from)) (omega (arith, y .0 .to))) (every-both h (every-both k p))
 
-  rule-marked : (e : BoolExpr) (p : ℕ) → LegalRule e 64 → Has F p (encode-bool e) → 512 ≤ p → p + length (encode-bool e) ≤ b → Marks (keys e below p 0)
+  rule-marked : (e : BoolExpr) (p : ℕ) → LegalRule e 64 → Has F p (encode-bool e) → folded ≤ p → p + length (encode-bool e) ≤ b → Marks (keys e below p 0)
   unfolding keys
   rule-marked e p (true-rule x) h l m = every-none
   rule-marked e p (legal-rule x) h l m = keys-marked (keys-within e below p 0 (legal-bound e 64 x)) (keys-written F e below p 0 h) (keys-legal e below p 0 x) l m
 
-  sides-marked : (es : List IntExpr) (p : ℕ) → Each (λ e. LegalInt e 64) es → Has F p (sides-words es) → 512 ≤ p → p + length (sides-words es) ≤ b → Marks (sides-keys es p)
+  sides-marked : (es : List IntExpr) (p : ℕ) → Each (λ e. LegalInt e 64) es → Has F p (sides-words es) → folded ≤ p → p + length (sides-words es) ≤ b → Marks (sides-keys es p)
   unfolding sides-keys
   sides-marked [] p h k l m = every-none
   sides-marked (e ∷ es) p h k l m =
@@ -192,14 +193,14 @@ module _ (F : List ℤ) (b : ℕ) (with-ifs : Bool) (marked : Marked F b with-if
       (sides-marked es (p + length (encode-int e)) (h .1) (has-back F p (encode-int e) (sides-words es) k) (omega arith) (omega (arith, n)))
 
   module _ (parted : ℕ → Bool) (at : ℕ) (ts : List Stmt) where
-    pub rule-agrees : (e : BoolExpr) → Each LegalStmt (Rule e ∷ ts) → PartedFrom parted at (Rule e ∷ ts) → Has F (at + 1) (encode-bool e) → 512 ≤ at → at + 1 + length (encode-bool e) ≤ b → (n : ℕ) → Every (AgreesWith parted with-ifs) (keys e below (at + 1) n)
+    pub rule-agrees : (e : BoolExpr) → Each LegalStmt (Rule e ∷ ts) → PartedFrom parted at (Rule e ∷ ts) → Has F (at + 1) (encode-bool e) → folded ≤ at → at + 1 + length (encode-bool e) ≤ b → (n : ℕ) → Every (AgreesWith parted with-ifs) (keys e below (at + 1) n)
     rule-agrees e h k d l m n = agrees-same parted with-ifs (same-places e below (at + 1) 0 n) (every-both (unfold stmt-keys in agreed parted at (Rule e) ts h k) (rule-marked e (at + 1) (h .0) d (omega arith) m))
 
-    pub sides-agree : (es : List IntExpr) → Each LegalStmt (AllDifferent es ∷ ts) → PartedFrom parted at (AllDifferent es ∷ ts) → Has F (at + 2) (sides-words es) → 512 ≤ at → at + 2 + length (sides-words es) ≤ b → Every (AgreesWith parted with-ifs) (sides-keys es (at + 2))
+    pub sides-agree : (es : List IntExpr) → Each LegalStmt (AllDifferent es ∷ ts) → PartedFrom parted at (AllDifferent es ∷ ts) → Has F (at + 2) (sides-words es) → folded ≤ at → at + 2 + length (sides-words es) ≤ b → Every (AgreesWith parted with-ifs) (sides-keys es (at + 2))
     sides-agree es h k d l m = every-both (unfold stmt-keys in agreed parted at (AllDifferent es) ts h k) (sides-marked es (at + 2) (h .0) d (omega arith) m)
 
     -- the columns of a table, which stand somewhere in its words
-    pub columns-agree-here : (es : List IntExpr) (rows : List (List Cell)) → Each LegalStmt (Table es rows ∷ ts) → PartedFrom parted at (Table es rows ∷ ts) → Has F (at + 3) (columns-words es) → 512 ≤ at → at + 3 + length (columns-words es) ≤ at + length (encode-stmt (Table es rows)) → at + length (encode-stmt (Table es rows)) ≤ b
+    pub columns-agree-here : (es : List IntExpr) (rows : List (List Cell)) → Each LegalStmt (Table es rows ∷ ts) → PartedFrom parted at (Table es rows ∷ ts) → Has F (at + 3) (columns-words es) → folded ≤ at → at + 3 + length (columns-words es) ≤ at + length (encode-stmt (Table es rows)) → at + length (encode-stmt (Table es rows)) ≤ b
         → Every (AgreesWith parted with-ifs) (columns-keys es (at + 3))
     unfolding stmt-keys parted-in
     columns-agree-here es rows h k d l m n = columns-agree F parted with-ifs b marked es (at + 3) (h .0) d (omega arith) (omega arith) (λ q i j. within parted at (Table es rows) ts h k q (omega arith) (omega arith))

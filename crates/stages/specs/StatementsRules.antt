@@ -8,11 +8,12 @@ use native.Mathlib.Omega.{arith}
 use lib.IntN.{ℤ}
 use lib.ListN.{length}
 use Rattle.laws.specs.Slices.{Has}
+use Rattle.memory.specs.Places.{folded, folded-end, limit}
 use Rattle.syntax.specs.Syntax.{Domain, BoolExpr, Const, encode-bool}
 use Rattle.clauses.specs.Log.{added, Log, next-bool, get-if, clauses-of}
 use Rattle.clauses.specs.Normalize.{register, normalize-bool-expr}
 use Rattle.clauses.specs.Split.{unsplit, register-each, tseitin-transformation-bool as cut, normalize-and-register-expr}
-use Rattle.walk.specs.Item.{limit, bump, lines-of}
+use Rattle.walk.specs.Item.{bump, lines-of}
 use Rattle.walks.specs.Tree.{Trees, below, splits, resolve, ties}
 use Rattle.walks.specs.Form.{forms}
 use Rattle.walks.specs.Resolve.{rule-trees}
@@ -49,7 +50,7 @@ rule-stage ds rec cap e p = let b = p + length (encode-bool e) in trees-stage ds
 module _ (ds : List Domain) (F : List ℤ) (parted : ℕ → Bool) (rec cap : ℕ) (with-ifs : Bool) (before : List ℤ) (low : cap < limit) where
   -- ---- legal
 
-  module _ (e : BoolExpr) (p : ℕ) (legal : Legal e 64) (words : Has F p (encode-bool e)) (from : 512 ≤ p) (to : p + length (encode-bool e) ≤ 4608) (agree : (n : ℕ) → Every (AgreesWith parted with-ifs) (keys e below p n)) where
+  module _ (e : BoolExpr) (p : ℕ) (legal : Legal e 64) (words : Has F p (encode-bool e)) (from : folded ≤ p) (to : p + length (encode-bool e) ≤ folded-end) (agree : (n : ℕ) → Every (AgreesWith parted with-ifs) (keys e below p n)) where
     abbrev stop : ℕ
     stop = p + length (encode-bool e)
 
@@ -112,6 +113,6 @@ module _ (ds : List Domain) (F : List ℤ) (parted : ℕ → Bool) (rec cap : �
       };
     }
 
-  pub rule-stage-walks : (e : BoolExpr) (p : ℕ) → LegalRule e 64 → Has F p (encode-bool e) → 512 ≤ p → p + length (encode-bool e) ≤ 4608 → ((n : ℕ) → Every (AgreesWith parted with-ifs) (keys e below p n)) → Walks ds F parted rec cap with-ifs before low (rule-stage ds rec cap e p)
+  pub rule-stage-walks : (e : BoolExpr) (p : ℕ) → LegalRule e 64 → Has F p (encode-bool e) → folded ≤ p → p + length (encode-bool e) ≤ folded-end → ((n : ℕ) → Every (AgreesWith parted with-ifs) (keys e below p n)) → Walks ds F parted rec cap with-ifs before low (rule-stage ds rec cap e p)
   rule-stage-walks e p (true-rule x) words from to agree = let b = p + length (encode-bool e) in trees-walk ds rec cap e (rule-trees e p) as-is F parted with-ifs before low (rule-room e) p b p b (true-facts p) (omega arith)
   rule-stage-walks e p (legal-rule x) words from to agree = let b = p + length (encode-bool e) in trees-walk ds rec cap e (rule-trees e p) as-is F parted with-ifs before low (rule-room e) p b p b (legal-facts e p x words from to agree) (omega arith)

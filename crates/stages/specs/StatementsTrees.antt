@@ -7,11 +7,11 @@ use Prim.Native.Nat.{ℕ, _+_, _≤_, _<_}
 use native.Mathlib.Omega.{arith}
 use lib.IntN.{ℤ}
 use lib.Dec.{ltb}
+use Rattle.memory.specs.Places.{folded, limit}
 use Rattle.syntax.specs.Syntax.{Domain, IntExpr, BoolExpr}
 use Rattle.clauses.specs.Log.{Log, next-bool}
 use Rattle.clauses.specs.Normalize.{register}
 use Rattle.clauses.specs.Split.{tseitin-transformation-bool as cut, normalize-and-register-expr}
-use Rattle.walk.specs.Item.{limit}
 use Rattle.walk.specs.declared.Counters.{Counters}
 use Rattle.walk.specs.Grow.{Grows, then}
 use Rattle.walks.specs.Tree.{Place, Tree, var, num, cmp, conj, disj, cross, tied, Trees, nil, cons, IntTree, const, ivar, sum, choice, TermTrees, none as no-terms, term, below, splits, run, run-int, runs}
@@ -76,7 +76,7 @@ module _ (w : List ℤ) (ds : List Domain) where
   placed-registers (cons t ts) h s = (placed t (h .0) s, placed-registers ts (h .1) (register (run ds t s)))
 
 -- the keys of what stands from `at` to `stop`
-pub no-keys : (F : List ℤ) (b : ℕ) → NoIfs F b → {at stop n next size : ℕ} {xs : List Key} → Every (Within at stop n next size) xs → Every (Written F) xs → Every LegalKey xs → 512 ≤ at → stop ≤ b → Every (λ x. ⊥) xs
+pub no-keys : (F : List ℤ) (b : ℕ) → NoIfs F b → {at stop n next size : ℕ} {xs : List Key} → Every (Within at stop n next size) xs → Every (Written F) xs → Every LegalKey xs → folded ≤ at → stop ≤ b → Every (λ x. ⊥) xs
 no-keys F b none h k p l m = every-map (λ x y. none (x .place .at) (x .written) (y .1 .1) (y .1 .0 .stands) (omega (arith, y .0 .from)) (omega (arith, y .0 .to))) (every-both h (every-both k p))
 
 -- ---- the log behind a rule

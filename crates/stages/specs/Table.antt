@@ -8,12 +8,13 @@ use Prim.Native.Nat.{ℕ, _+_, _≤_, _<_}
 use native.Mathlib.Omega.{arith}
 use lib.IntN.{ℤ}
 use lib.ListN.{length, length-append}
+use Rattle.memory.specs.Places.{folded, limit}
 use Rattle.syntax.specs.Syntax.{Domain, IntExpr, IConst, IVar, Linear, If, Cell}
 use Rattle.clauses.specs.Log.{Log}
 use Rattle.clauses.specs.Normalize.{register}
 use Rattle.clauses.specs.Emitted.{domain-at}
 use Rattle.tables.specs.Tables.{Columns, new-column, old-column, equivalent-int-var, equivalent-int-vars, normalize-extension-supports, normalize-table}
-use Rattle.walk.specs.Item.{limit, bump}
+use Rattle.walk.specs.Item.{bump}
 use Rattle.walk.specs.declared.Counters.{Counters}
 use Rattle.walk.specs.Grow.{Grows, then, grow-added}
 use Rattle.walks.specs.Item.{more-bools as more-counted, cell}
@@ -142,6 +143,6 @@ module _ (ds : List Domain) where
     unfolding meet-table
     table-spends rec cap st f = columns-spend F parted with-ifs ds rec cap es p st stand f
 
-    pub table-near : (rec cap : ℕ) (st : State) (q : ℕ) → 512 ≤ q → q < p → cell (meet-table ds rec cap F (length es) p rows st .work) q ≡ cell (st .work) q
+    pub table-near : (rec cap : ℕ) (st : State) (q : ℕ) → folded ≤ q → q < p → cell (meet-table ds rec cap F (length es) p rows st .work) q ≡ cell (st .work) q
     unfolding meet-table
     table-near rec cap st q l h = columns-near F parted with-ifs ds rec cap es p st stand q l h

@@ -7,12 +7,12 @@ use native.Mathlib.Omega.{arith}
 use lib.IntN.{ℤ, pos}
 use lib.ListN.{length, length-append}
 use Rattle.laws.specs.Slices.{Has}
+use Rattle.memory.specs.Places.{folded, folded-end, limit}
 use Rattle.syntax.specs.Syntax.{Domain, Eq, IntExpr, IConst, IVar, Linear, If, encode-int, Cell, Table, encode-stmt}
 use Rattle.words.specs.Exact.{Each}
 use Rattle.clauses.specs.Log.{Log, next-int}
 use Rattle.clauses.specs.Normalize.{normalize-int-expr}
 use Rattle.tables.specs.Tables.{equivalent-int-var, normalize-table}
-use Rattle.walk.specs.Item.{limit}
 use Rattle.walks.specs.Tree.{IntTree, cmp, nil, cons, never, resolve-int}
 use Rattle.walks.specs.Item.{cell}
 use Rattle.walks.specs.Placed.{Placed, PlacedInt}
@@ -113,12 +113,12 @@ module _ (ds : List Domain) (w : List ℤ) where
         let x = placed-without (resolve-int e never p 0) (column-without e es p h (omega (arith, l))) s in
         ((x, with-first (Holds w) p n os e o), owned-placed es q (stand-rest F parted with-ifs e es p h) (omega (arith, l)) t (with-rest (Holds w) p n os e o))
 
-owned-within : (ds : List Domain) (a : ℕ) (es : List IntExpr) (p : ℕ) (s : Log) → 512 ≤ p → p + length (columns-words es) ≤ a → OwnedIn a (columns-owned ds es p s)
+owned-within : (ds : List Domain) (a : ℕ) (es : List IntExpr) (p : ℕ) (s : Log) → folded ≤ p → p + length (columns-words es) ≤ a → OwnedIn a (columns-owned ds es p s)
 unfolding columns-owned
 owned-within ds a [] p s l h = tt
 owned-within ds a (e ∷ es) p s l h =
     let n = length-append (encode-int e) (columns-words es) in
-    each-with (λ o. (512 ≤ o .place) × (o .place ≤ a)) p _ _ e (λ i. (l, under p (length (columns-words (e ∷ es))) a h)) (owned-within ds a es (p + length (encode-int e)) (equivalent-int-var ds e s .log) (omega arith) (omega (arith, n)))
+    each-with (λ o. (folded ≤ o .place) × (o .place ≤ a)) p _ _ e (λ i. (l, under p (length (columns-words (e ∷ es))) a h)) (owned-within ds a es (p + length (encode-int e)) (equivalent-int-var ds e s .log) (omega arith) (omega (arith, n)))
   where
     under : (p k a : ℕ) → p + k ≤ a → p ≤ a
     under p k a h = omega arith
@@ -143,7 +143,7 @@ table-stage ds rec cap F es rows at =
     }
 
 module _ (ds : List Domain) (F : List ℤ) (parted : ℕ → Bool) (rec cap : ℕ) (with-ifs : Bool) (before : List ℤ) (low : cap < limit) (es : List IntExpr) (rows : List (List Cell)) (at : ℕ) (words : Has F at (encode-stmt (Table es rows)))
-    (from : 512 ≤ at) (to : at + length (encode-stmt (Table es rows)) ≤ 4608) (legal : Each (λ e. LegalInt e 64) es) (agree : Every (AgreesWith parted with-ifs) (columns-keys es (at + 3))) where
+    (from : folded ≤ at) (to : at + length (encode-stmt (Table es rows)) ≤ folded-end) (legal : Each (λ e. LegalInt e 64) es) (agree : Every (AgreesWith parted with-ifs) (columns-keys es (at + 3))) where
   abbrev stage : Stage
   stage = table-stage ds rec cap F es rows at
 

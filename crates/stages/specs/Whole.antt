@@ -12,7 +12,9 @@ use lib.Seq.{sets}
 use Rattle.laws.specs.Bools.{never}
 use Rattle.laws.specs.Lists.{flat, below, counted, length-from}
 use Rattle.laws.specs.Slices.{Has}
+use Rattle.memory.specs.Places.{folded, limit}
 use Rattle.syntax.specs.Syntax.{Domain, Stmt, Problem}
+use Rattle.syntax.specs.Words.{max-bools, max-answer-words}
 use Rattle.words.specs.Exact.{Each}
 use Rattle.fold.specs.Fold.{Fixed}
 use Rattle.clauses.specs.Clause.{lit, Clause, clause}
@@ -20,7 +22,7 @@ use Rattle.clauses.specs.Log.{MadeInt, declared-int, column, chosen, binary, Lo
 use Rattle.clauses.specs.Emitted.{length-emitted}
 use Rattle.answer.specs.Answer.{emitted-of, emitted, fixed-word, map-word, bool-word, start-log, lit-words, emitted-words, linear-words, clause-words, layout, answer-of, normalize, normalize-stmts}
 use Rattle.answer.specs.Start.{start-well}
-use Rattle.walk.specs.Item.{limit, bool-at, int-entry}
+use Rattle.walk.specs.Item.{bool-at, int-entry}
 use Rattle.walk.specs.Texts.{layout as clauses-layout, layout-words}
 use Rattle.walk.specs.declared.Counters.{Counters}
 use Rattle.walks.specs.Item.{counters}
@@ -95,7 +97,7 @@ records-from p = 2 * p .bools + length (p .domains) + 2
 
 -- cap: the longest answer
 unfoldable pub set-stages : Problem → List Stmt → List ℤ → ℕ → List Stage
-set-stages p ss F cap = stmts-stages (p .domains) (records-from p) cap F 512 ss
+set-stages p ss F cap = stmts-stages (p .domains) (records-from p) cap F folded ss
 
 -- the state behind the last statement
 unfoldable pub behind : Problem → List Stmt → List ℤ → ℕ → State → State
@@ -103,13 +105,13 @@ behind p ss F cap st = meet-parts (parts (set-stages p ss F cap)) st
 
 -- what the walks ask of the set; with-ifs: whether an If stands in the folded words
 pub record Walkable (p : Problem) (ss : List Stmt) (F : List ℤ) (with-ifs : Bool) (cap : ℕ) : Type 0 where
-  pub few-bools : p .bools ≤ 512
+  pub few-bools : p .bools ≤ max-bools
   pub few-ints : length (p .domains) ≤ 256
   pub legal : Each LegalStmt ss
   pub short : length (stmts-words ss) ≤ 4096
-  pub stands : Has F 512 (stmts-words ss)
-  pub marked : Marked F (512 + length (stmts-words ss)) with-ifs
-  pub small : cap ≤ 16777216
+  pub stands : Has F folded (stmts-words ss)
+  pub marked : Marked F (folded + length (stmts-words ss)) with-ifs
+  pub small : cap ≤ max-answer-words
 
 -- m: merging chosen
 abbrev pub log-of : Bool → Problem → List Stmt → Log
@@ -141,10 +143,10 @@ module _ (m : Bool) (p : Problem) (f : Fixed) (ss : List Stmt) (F : List ℤ) (w
   rec = records-from p
 
   abbrev end : ℕ
-  end = 512 + length (stmts-words ss)
+  end = folded + length (stmts-words ss)
 
   abbrev parted : ℕ → Bool
-  parted = parted-of 512 ss
+  parted = parted-of folded ss
 
   abbrev stages : List Stage
   stages = set-stages p ss F cap
@@ -160,38 +162,38 @@ module _ (m : Bool) (p : Problem) (f : Fixed) (ss : List Stmt) (F : List ℤ) (w
 
   walk : (before : List ℤ) → AllWalk ds F parted rec cap with-ifs before cap-low stages
   unfolding set-stages
-  walk before = stmts-walk ds F parted rec cap with-ifs before cap-low end (omega (arith, set .short)) (set .marked) 512 ss (set .legal) (λ q l. refl) (set .stands) (omega arith) (omega arith)
+  walk before = stmts-walk ds F parted rec cap with-ifs before cap-low end (omega (arith, set .short)) (set .marked) folded ss (set .legal) (λ q l. refl) (set .stands) (omega arith) (omega arith)
 
   log-is : steps stages s0 ≡ log
   unfolding set-stages
-  log-is = stmts-steps ds rec cap F 512 ss s0
+  log-is = stmts-steps ds rec cap F folded ss s0
 
   knows : AllKnown stages s0
   unfolding set-stages
-  knows = stmts-known ds rec cap F 512 ss s0
+  knows = stmts-known ds rec cap F folded ss s0
 
-  chain : Chained 512 512 stages
+  chain : Chained folded folded stages
   unfolding set-stages
-  chain = stmts-chains ds rec cap F 512 ss 512 512 (omega arith) (omega arith)
+  chain = stmts-chains ds rec cap F folded ss folded folded (omega arith) (omega arith)
 
   -- ---- the first walk, from the slice w on; n: how many numbers merging gave
 
   module _ (w : List ℤ) (n : ℕ) (begun : Begun F with-ifs w n (start-log m ss)) where
     -- with room for each statement by its words, as a loop over them asks (StatementsEach)
-    pub begins : (before : List ℤ) → Standing ds F parted rec cap with-ifs before cap-low 512 (49152 * length (stmts-words ss)) (start w before n) s0
+    pub begins : (before : List ℤ) → Standing ds F parted rec cap with-ifs before cap-low folded (49152 * length (stmts-words ss)) (start w before n) s0
     begins before = start-stands ds F parted rec cap with-ifs before cap-low w n s0 (start-well m ss) begun (49152 * length (stmts-words ss)) (omega (arith, set .small, set .short, begun .bools, start-low m ss))
 
-    roomy : (before : List ℤ) → Standing ds F parted rec cap with-ifs before cap-low 512 (rooms stages + 0) (start w before n) s0
+    roomy : (before : List ℤ) → Standing ds F parted rec cap with-ifs before cap-low folded (rooms stages + 0) (start w before n) s0
     unfolding set-stages
-    roomy before = standing-less ds F parted rec cap with-ifs before cap-low 512 512 (49152 * length (stmts-words ss)) (rooms stages + 0) (start w before n) s0 (omega arith) (omega (arith, stmts-rooms ds rec cap F 512 ss (set .short))) (begins before)
+    roomy before = standing-less ds F parted rec cap with-ifs before cap-low folded folded (49152 * length (stmts-words ss)) (rooms stages + 0) (start w before n) s0 (omega arith) (omega (arith, stmts-rooms ds rec cap F folded ss (set .short))) (begins before)
 
     abbrev Pass : List ℤ → Log → Type 0
-    Pass before t = Passed ds F parted rec cap with-ifs before cap-low (last-to 512 stages) 0 (AllAgain ds F parted rec cap with-ifs before cap-low 512 stages (start w before n) s0) (behind p ss F cap (start w before n)) t
+    Pass before t = Passed ds F parted rec cap with-ifs before cap-low (last-to folded stages) 0 (AllAgain ds F parted rec cap with-ifs before cap-low folded stages (start w before n) s0) (behind p ss F cap (start w before n)) t
 
     pass : (before : List ℤ) → Pass before (steps stages s0)
     unfolding behind
     pass before =
-        parts-pass ds F parted rec cap with-ifs before cap-low stages (walk before) 512 512 chain 0 (start w before n) s0 knows
+        parts-pass ds F parted rec cap with-ifs before cap-low stages (walk before) folded folded chain 0 (start w before n) s0 knows
         (roomy before) (omega arith)
 
     -- refusal 12
@@ -204,15 +206,15 @@ module _ (m : Bool) (p : Problem) (f : Fixed) (ss : List Stmt) (F : List ℤ) (w
 
     -- behind one that is not full
     pub record Ended (before : List ℤ) : Type 0 where
-      pub standing : Standing ds F parted rec cap with-ifs before cap-low (last-to 512 stages) 0 (behind p ss F cap (start w before n)) log
-      pub again : AllAgain ds F parted rec cap with-ifs before cap-low 512 stages (start w before n) s0
+      pub standing : Standing ds F parted rec cap with-ifs before cap-low (last-to folded stages) 0 (behind p ss F cap (start w before n)) log
+      pub again : AllAgain ds F parted rec cap with-ifs before cap-low folded stages (start w before n) s0
 
     pub ended : (before : List ℤ) → behind p ss F cap (start w before n) .used ≤ cap → Ended before
     ended before h = go (pass before)
       where
         go : Pass before (steps stages s0) → Ended before
         go (full x y) = absurd (omega arith)
-        go (good g u a) = record { standing = subst (λ (t : Log). Standing ds F parted rec cap with-ifs before cap-low (last-to 512 stages) 0 (behind p ss F cap (start w before n)) t) log-is g; again = a }
+        go (good g u a) = record { standing = subst (λ (t : Log). Standing ds F parted rec cap with-ifs before cap-low (last-to folded stages) 0 (behind p ss F cap (start w before n)) t) log-is g; again = a }
 
     -- ---- the second: each part numbered again, with an empty output
 
@@ -228,7 +230,7 @@ module _ (m : Bool) (p : Problem) (f : Fixed) (ss : List Stmt) (F : List ℤ) (w
         let g = e .standing in
         let r : Ready v log = good-ready ds F PlainInt parted (g .key) (fixed ds) rec cap with-ifs before (Named ds) (names ds) (g .places) cap-low 0 (behind p ss F cap (start w before n)) log (g .state) in
         let c : at v s0 ≡ counters n 0 = rw (g .state .word, off, begun .bools) refl in
-        let x = parts-written ds F parted rec cap with-ifs before cap-low end none-stands stages (unfold set-stages in stmts-up-to ds rec cap F end 512 ss (omega arith)) (walk before) v s0 knows (subst (λ (t : Log). Ready v t) (sym log-is) r) (unfold behind in e .again .owned) in
+        let x = parts-written ds F parted rec cap with-ifs before cap-low end none-stands stages (unfold set-stages in stmts-up-to ds rec cap F end folded ss (omega arith)) (walk before) v s0 knows (subst (λ (t : Log). Ready v t) (sym log-is) r) (unfold behind in e .again .owned) in
         let y : Registers (parts-text (parts stages) v (counters n 0)) (parts-lines (parts stages) v (counters n 0)) s0 (steps stages s0) = subst (λ (k : Counters). Registers (parts-text (parts stages) v k) (parts-lines (parts stages) v k) s0 (steps stages s0)) c x in
         subst (λ (t : Log). Registers (parts-text (parts stages) v (counters n 0)) (parts-lines (parts stages) v (counters n 0)) s0 t) log-is y
       where

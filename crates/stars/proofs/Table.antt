@@ -10,6 +10,7 @@ use Rattle.laws.specs.Bools.{or-no-l, or-no-r}
 use Rattle.laws.specs.Order.{not-eqZ}
 use Rattle.laws.specs.Lists.{keep-if, select, flat, flat-append}
 use Rattle.laws.specs.Writes.{wrote-to}
+use Rattle.memory.specs.Places.{limit}
 use Rattle.syntax.specs.Words.{star-word}
 use Rattle.syntax.specs.Syntax.{Cell, star, value, encode-cell}
 use Rattle.words.specs.Exact.{Value, Each}
@@ -19,7 +20,7 @@ use Rattle.clauses.specs.Log.{Log, next-bool}
 use Rattle.clauses.specs.Disjunction.{Out, pool, sorted, finish-disjunction, finish-sorted}
 use Rattle.answer.specs.Answer.{linear-words, clause-words}
 use Rattle.tables.specs.Tables.{Row, linear-eq, star-row, star-table}
-use Rattle.walk.specs.Item.{limit, clause-text, mode-in, extra, block, pool-text}
+use Rattle.walk.specs.Item.{clause-text, mode-in, extra, block, pool-text}
 use Rattle.walk.specs.Texts.{layout, layout-words, long-layout, lengths, linears, finish-words, finish-lines, disjunction-finish}
 use Rattle.walk.specs.declared.Mode.{Mode}
 use Rattle.walk.specs.declared.Mode.the-variants.{Pool, One, Two, Each as Every}

@@ -8,13 +8,13 @@ use lib.Signed.{leZ}
 use lib.ListN.{length, drop}
 use Rattle.laws.specs.Slices.{Has}
 use Rattle.laws.specs.Writes.{cap}
+use Rattle.memory.specs.Places.{limit}
 use Rattle.syntax.specs.Words.{max-count}
 use Rattle.syntax.specs.Syntax.{Cell}
 use Rattle.words.specs.Exact.{Each}
 use Rattle.read.specs.WellFormed.{WellRow}
 use Rattle.clauses.specs.Log.{Log, next-bool}
 use Rattle.tables.specs.Tables.{star-table}
-use Rattle.walk.specs.Item.{limit}
 use Rattle.sorting.specs.Columns.{word, EachColumn, vars-of}
 use Rattle.rows.specs.Stands.{cells-words}
 use Rattle.rows.specs.Emit.{Clauses}

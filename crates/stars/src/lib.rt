@@ -3,8 +3,9 @@ ghost use mathlib.Core.List.{[], _∷_};
 ghost use Prim.Native.Nat.{_+_, _≤_, _<_};
 ghost use lib.ListN.{drop};
 ghost use Rattle.laws.specs.Writes.{Wrote, Open};
+ghost use Rattle.memory.specs.Places.{limit};
 ghost use Rattle.syntax.specs.Words.{max-count};
-ghost use Rattle.walk.specs.Item.{limit, extra};
+ghost use Rattle.walk.specs.Item.{extra};
 ghost use Rattle.sorting.specs.Rows.{rows-of, row-at};
 ghost use Rattle.sorting.specs.Columns.{vars-of};
 ghost use Rattle.rows.specs.Emit.{linears-words, Behind};
@@ -51,7 +52,7 @@ fn put_equality(
     if x == -2147483648 {
         return Written { at: o, clauses: c };
     }
-    if o == 16777217 {
+    if o == memory::CAP {
         return Written { at: o, clauses: c };
     }
     let a = put_literal(mode, m, j, out, o);
@@ -210,7 +211,7 @@ fn put_pool(
     requires { ⌜ RowsAt (now work) at n k cols × (m ≤ limit) × (x ≤ max-count) × (y ≤ max-count) × Behind (now out) o c ⌝ }
     ensures { λ r. ⌜ Lines (now (out .entry)) o c (pool-line m x y (single-linears (vars-of n (drop cols (now (work .entry)))) (rows-of n k (drop at (now (work .entry))))) ∷ []) (now (out .exit)) (r .at) (r .clauses) ⌝ }
 {
-    if o == 16777217 {
+    if o == memory::CAP {
         return Written { at: o, clauses: c };
     }
     let a = output::put(out, o, x as i32);

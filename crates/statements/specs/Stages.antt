@@ -8,7 +8,8 @@ use lib.IntN.{ℤ, pos}
 use lib.ListN.{length, getD, length-append}
 use Rattle.laws.specs.Lists.{flat, counted}
 use Rattle.laws.specs.Slices.{Has}
-use Rattle.syntax.specs.Words.{max-set-words}
+use Rattle.memory.specs.Places.{folded as folded-place}
+use Rattle.syntax.specs.Words.{max-set-words, max-bools}
 use Rattle.syntax.specs.Syntax.{Domain, Range, Enumerative, Stmt, encode-domain, encode-stmt, Problem, encode}
 use Rattle.words.specs.Exact.{Each}
 use Rattle.read.specs.WellFormed.{WellDomain, WellFormed}
@@ -63,15 +64,15 @@ module _ (p : Problem) (f : Fixed) (ss : List Stmt) (s : Settled p f ss) where
 -- before numbering: the fixed values, the folded statements, empty maps
 pub record Folded (p : Problem) (f : Fixed) (ss : List Stmt) (w : List ℤ) : Type 0 where
   pub set : Settled p f ss
-  pub values : (v : ℕ) → v < 512 → getD w v (pos 0) ≡ fixed-word (f v)
-  pub stands : Has (read-part w) 512 (stmts-words ss)
+  pub values : (v : ℕ) → v < max-bools → getD w v (pos 0) ≡ fixed-word (f v)
+  pub stands : Has (read-part w) folded-place (stmts-words ss)
   pub empty : Empty w
 
 -- after merging, if it was chosen: the map of the log from which clauses are made; n: how many numbers it has
 pub record Started (m : Bool) (p : Problem) (f : Fixed) (ss : List Stmt) (w : List ℤ) (n : ℕ) : Type 0 where
   pub set : Settled p f ss
-  pub values : (v : ℕ) → v < 512 → getD w v (pos 0) ≡ fixed-word (f v)
-  pub stands : Has (read-part w) 512 (stmts-words ss)
+  pub values : (v : ℕ) → v < max-bools → getD w v (pos 0) ≡ fixed-word (f v)
+  pub stands : Has (read-part w) folded-place (stmts-words ss)
   pub numbered : Numbered (start w n) (start-log m ss)
 
 -- ---- what a walk is lent: some such set
@@ -82,4 +83,4 @@ pub record SomeFolded (w : List ℤ) (end : ℕ) : Type 0 where
   pub fixed : Fixed
   pub stmts : List Stmt
   pub folded : Folded it fixed stmts w
-  pub ends : end ≡ 512 + length (stmts-words stmts)
+  pub ends : end ≡ folded-place + length (stmts-words stmts)

@@ -13,12 +13,15 @@ use lib.ListN.{length, set, length-set}
 use lib.Seq.{getD-set-same}
 use Rattle.laws.specs.Ints.{is-zero}
 use Rattle.laws.specs.Slices.{Has, has-back, has-word}
+use Rattle.memory.specs.Places.{bool-map, limit}
+use Rattle.memory.specs.Number.{nat}
 use Rattle.syntax.specs.Syntax.{Stmt, encode-stmt}
+use Rattle.syntax.specs.Words.{max-bools}
 use Rattle.clauses.specs.Clause.{BoolLit, lit}
 use Rattle.clauses.specs.Log.{declared, bool, merged, Log, next-bool, negate-lit, negate-found, get-bool-var, get-int-var}
 use Rattle.clauses.specs.Merge.{tie-found, tie}
 use Rattle.answer.specs.Answer.{bool-word}
-use Rattle.walk.specs.Item.{limit, bump, nat, bool-map, bool-at, signed, State, new-bool, meet-bool}
+use Rattle.walk.specs.Item.{bump, bool-at, signed, State, new-bool, meet-bool}
 use Rattle.walk.specs.Decode.{word}
 use Rattle.walk.specs.Grow.{bool-below, bool-here, lit-word, signed-lit}
 use Rattle.walk.specs.Num.{Numbered, word-some, bool-other, int-other, bool-num}
@@ -44,7 +47,7 @@ meet-tie x y g st = cond (eqb x y) st (tie-words (is-zero (bool-at (st .work) x)
 -- the two sides from a place on, if both are variables
 unfoldable pub meet-sides : List ℤ → ℕ → Bool → State → State
 meet-sides F at g st =
-    cond (eqb (word F at) 11 && (eqb (word F (at + 2)) 11 && (ltb (word F (at + 1)) 512 && ltb (word F (at + 3)) 512)))
+    cond (eqb (word F at) 11 && (eqb (word F (at + 2)) 11 && (ltb (word F (at + 1)) max-bools && ltb (word F (at + 3)) max-bools)))
     (meet-tie (word F (at + 1)) (word F (at + 3)) g st) st
 
 unfoldable pub meet-ties-at : List ℤ → ℕ → State → State
@@ -63,7 +66,7 @@ zero-some : (l : BoolLit) → is-zero (bool-word (some l)) ≡ false
 zero-some (lit n false) = ne-eqb (suc n) 0 (λ q. omega arith)
 zero-some (lit n true) = refl
 
-give-num : (u v : ℕ) (g : Bool) (st : State) (s : Log) (l : BoolLit) → get-bool-var u s ≡ some l → v < 512 → Numbered st s → next-bool s ≤ limit → Numbered (give v (signed (lit-word l) g) st) (merged v u g ∷ s)
+give-num : (u v : ℕ) (g : Bool) (st : State) (s : Log) (l : BoolLit) → get-bool-var u s ≡ some l → v < max-bools → Numbered st s → next-bool s ≤ limit → Numbered (give v (signed (lit-word l) g) st) (merged v u g ∷ s)
 unfolding get-bool-var get-int-var bool-at
 give-num u v g st s l e hv h low = record {
   map = λ x hx. mp x hx (eqb x v) refl;
@@ -76,22 +79,22 @@ give-num u v g st s l e hv h low = record {
     sign : signed (lit-word l) g ≡ bool-word (some (negate-lit g l))
     sign = signed-lit l g (omega (arith, bool-below s u l e)) ∙ sym (word-some (negate-lit g l) (some (negate-lit g l)) refl)
 
-    mp : (x : ℕ) → x < 512 → (c : Bool) → eqb x v ≡ c → bool-at (set (st .work) (bool-map + v) (signed (lit-word l) g)) x ≡ bool-word (cond c (negate-found g (get-bool-var u s)) (get-bool-var x s))
+    mp : (x : ℕ) → x < max-bools → (c : Bool) → eqb x v ≡ c → bool-at (set (st .work) (bool-map + v) (signed (lit-word l) g)) x ≡ bool-word (cond c (negate-found g (get-bool-var u s)) (get-bool-var x s))
     mp x hx true q =
         let p : x ≡ v = eqb-true x v q in
         rw (e, p) (getD-set-same (st .work) (bool-map + v) _ (pos 0) (omega (arith, h .size)) ∙ sign)
     mp x hx false q = bool-other (st .work) (bool-map + v) _ x (λ k. false≢true (sym q ∙ eq-eqb x v (omega arith))) ∙ h .map x hx
 
-    lw : (x : ℕ) (n : BoolLit) (c : Bool) → eqb x v ≡ c → cond c (negate-found g (get-bool-var u s)) (get-bool-var x s) ≡ some n → x < 512
+    lw : (x : ℕ) (n : BoolLit) (c : Bool) → eqb x v ≡ c → cond c (negate-found g (get-bool-var u s)) (get-bool-var x s) ≡ some n → x < max-bools
     lw x n true q f = let p : x ≡ v = eqb-true x v q in omega arith
     lw x n false q f = h .low x n f
 
 -- x has l
-old-num : (x y : ℕ) (g : Bool) (st : State) (s : Log) (l : BoolLit) → get-bool-var x s ≡ some l → x < 512 → y < 512 → Numbered st s → next-bool s ≤ limit → Numbered (give y (signed (bool-at (st .work) x) g) st) (merged y x g ∷ s)
+old-num : (x y : ℕ) (g : Bool) (st : State) (s : Log) (l : BoolLit) → get-bool-var x s ≡ some l → x < max-bools → y < max-bools → Numbered st s → next-bool s ≤ limit → Numbered (give y (signed (bool-at (st .work) x) g) st) (merged y x g ∷ s)
 old-num x y g st s l e hx hy h low = let z : bool-at (st .work) x ≡ lit-word l = h .map x hx ∙ word-some l (get-bool-var x s) e in rw z (give-num x y g st s l e hy h low)
 
 -- neither has
-new-num : (x y : ℕ) (g : Bool) (st : State) (s : Log) → get-bool-var x s ≡ none → x < 512 → y < 512 → Numbered st s → suc (next-bool s) ≤ limit → Numbered (give y (signed (pos (bump (st .bools) 1)) g) (new-bool x st)) (merged y x g ∷ bool (declared x) ∷ s)
+new-num : (x y : ℕ) (g : Bool) (st : State) (s : Log) → get-bool-var x s ≡ none → x < max-bools → y < max-bools → Numbered st s → suc (next-bool s) ≤ limit → Numbered (give y (signed (pos (bump (st .bools) 1)) g) (new-bool x st)) (merged y x g ∷ bool (declared x) ∷ s)
 unfolding meet-bool
 new-num x y g st s e hx hy h low =
     let z : is-zero (bool-at (st .work) x) ≡ true = ap is-zero (h .map x hx ∙ ap bool-word e) in
@@ -99,14 +102,14 @@ new-num x y g st s e hx hy h low =
     let n : bump (st .bools) 1 ≡ suc (next-bool s) = omega (arith, h .bools) in
     subst (λ (z : ℤ). Numbered (give y (signed z g) (new-bool x st)) (merged y x g ∷ bool (declared x) ∷ s)) (ap pos (sym n)) (give-num x y g (new-bool x st) (bool (declared x) ∷ s) (lit (next-bool s) false) (bool-here x s) hy k low)
 
-found-num : (x y : ℕ) (g : Bool) (st : State) (s : Log) (a b : Option BoolLit) → get-bool-var x s ≡ a → get-bool-var y s ≡ b → x < 512 → y < 512 → Numbered st s → next-bool (tie-found a b x y g s) ≤ limit
+found-num : (x y : ℕ) (g : Bool) (st : State) (s : Log) (a b : Option BoolLit) → get-bool-var x s ≡ a → get-bool-var y s ≡ b → x < max-bools → y < max-bools → Numbered st s → next-bool (tie-found a b x y g s) ≤ limit
     → Numbered (tie-words (is-zero (bool-word a)) (is-zero (bool-word b)) x y g st) (tie-found a b x y g s)
 found-num x y g st s (some l) (some m) p q hx hy h low = rw (zero-some l, zero-some m) h
 found-num x y g st s (some l) none p q hx hy h low = rw (zero-some l) (old-num x y g st s l p hx hy h low)
 found-num x y g st s none (some m) p q hx hy h low = rw (zero-some m) (old-num y x g st s m q hy hx h low)
 found-num x y g st s none none p q hx hy h low = new-num x y g st s p hx hy h low
 
-tie-num : (x y : ℕ) (g : Bool) (st : State) (s : Log) → x < 512 → y < 512 → Numbered st s → next-bool (tie (some x) (some y) g s) ≤ limit → Numbered (meet-tie x y g st) (tie (some x) (some y) g s)
+tie-num : (x y : ℕ) (g : Bool) (st : State) (s : Log) → x < max-bools → y < max-bools → Numbered st s → next-bool (tie (some x) (some y) g s) ≤ limit → Numbered (meet-tie x y g st) (tie (some x) (some y) g s)
 unfolding meet-tie tie
 tie-num x y g st s hx hy h low = go (eqb x y) low
   where
@@ -129,11 +132,11 @@ module _ (F : List ℤ) where
   word-is at n us h = ap nat (has-word F at (pos n) us (pos 0) h)
 
   -- two variables
-  pub two-num : (st : State) (s : Log) → Numbered st s → (at : ℕ) (g : Bool) (x y : ℕ) → Has F at (pos 11 ∷ pos x ∷ pos 11 ∷ pos y ∷ []) → x < 512 → y < 512 → next-bool (tie (some x) (some y) g s) ≤ limit → Numbered (meet-sides F at g st) (tie (some x) (some y) g s)
+  pub two-num : (st : State) (s : Log) → Numbered st s → (at : ℕ) (g : Bool) (x y : ℕ) → Has F at (pos 11 ∷ pos x ∷ pos 11 ∷ pos y ∷ []) → x < max-bools → y < max-bools → next-bool (tie (some x) (some y) g s) ≤ limit → Numbered (meet-sides F at g st) (tie (some x) (some y) g s)
   unfolding meet-sides
   two-num st s h at g x y k hx hy low =
       let w0 = word-is at 11 _ k in
       let w1 = word-is (at + 1) x _ (has-back F at (pos 11 ∷ []) _ k) in
       let w2 = word-is (at + 2) 11 _ (has-back F at (pos 11 ∷ pos x ∷ []) _ k) in
       let w3 = word-is (at + 3) y _ (has-back F at (pos 11 ∷ pos x ∷ pos 11 ∷ []) _ k) in
-      rw (w0, w1, w2, w3, lt-ltb x 512 hx, lt-ltb y 512 hy) (tie-num x y g st s hx hy h low)
+      rw (w0, w1, w2, w3, lt-ltb x max-bools hx, lt-ltb y max-bools hy) (tie-num x y g st s hx hy h low)

@@ -6,7 +6,6 @@ use planner::Answer;
 use sheetcall::Sheeted;
 ghost use mathlib.Core.Path.{_≡_};
 ghost use Prim.Native.Nat.{_<_};
-ghost use lib.IntN.{pos};
 ghost use lib.ListN.{set};
 ghost use Rattle.call.specs.Call.{unchosen};
 ghost use Rattle.station.specs.Returned.{choices-of, Returns};
@@ -69,16 +68,6 @@ pub extern "C" fn join_sets(
     }
 }
 
-// A number stored at a place, where there is one.
-fn put(place: &mut [i32], i: usize, n: usize)
-    requires { ⌜ n < 2147483648 ⌝ }
-    ensures { λ _. ⌜ now (place .exit) ≡ set (now (place .entry)) i (pos n) ⌝ }
-{
-    if i < place.len() {
-        place[i] = n as i32;
-    }
-}
-
 // Where a joined statement stands: its set's number, 1 or 2, 0 for none, is returned and stored; behind it where the statement starts, and how many words it has.
 #[no_mangle]
 pub extern "C" fn find_statement(
@@ -90,14 +79,14 @@ pub extern "C" fn find_statement(
 ) -> i64
     ensures { λ r. ⌜ Find-returns (now (first .entry)) (now (second .entry)) (now (place .entry)) (now (work .entry)) (now (place .exit)) (now (work .exit)) number r ⌝ }
 {
-    refuse::clear(place);
+    memory::clear(place);
     let p = join::find_place(first, second, work, number);
     let set = p.set;
     let from = p.from;
     let words = p.to - from;
-    put(place, 0, set);
-    put(place, 1, from);
-    put(place, 2, words);
+    memory::store_number(place, 0, set);
+    memory::store_number(place, 1, from);
+    memory::store_number(place, 2, words);
     set as i64
 }
 

@@ -4,53 +4,37 @@ use mathlib.Core.Bool.{Bool, true, false, not, cond}
 use mathlib.Core.List.{List}
 use Prim.Native.Nat.{ℕ, zero, suc, _≤_, _<_, min}
 use native.Mathlib.Omega.{arith}
-use lib.IntN.{ℤ, pos, negsuc, negℤ, natAbs, _-ℤ_, +ℤ-idl}
-use lib.ListN.{length, getD, length-take, List·getD-eq-default}
+use lib.IntN.{ℤ, pos, negℤ, _-ℤ_, +ℤ-idl}
+use lib.ListN.{length, getD, length-take}
 use mir.Syntax.{w32}
 use mir.Val.{SFits, toZ}
 use mir.Facts.{toZ-ofZ}
 use lib.Seq.{getD-take}
-use lib.Signed.{ltZ, nonNeg}
-use lib.Dec.{T, eqb}
-use borrow.Author.Tests.{ltb-true}
+use lib.Dec.{eqb}
+use Rattle.memory.specs.Places.{folded-end, limit}
+use Rattle.memory.specs.Number.{nat}
+use Rattle.memory.proofs.Laws.{no-entry}
 use Rattle.clauses.specs.Clause.{negate-if}
-use Rattle.walk.specs.Item.{limit, nat, bump, is-none, mode-in}
+use Rattle.walk.specs.Item.{bump, is-none, mode-in}
 use Rattle.walk.specs.Decode.{word, past, read-part, surveyed, fresh-of, lines-in-of, closed-disj}
 use Rattle.walk.specs.declared.Mode.the-variants.{One, Each}
 use Rattle.walk.specs.declared.Surveyed.{Surveyed}
 use Rattle.walk.specs.declared.Node.{Node}
 use Rattle.walk.specs.declared.Node.the-variants.{Join}
+use Rattle.walk.specs.NumberingSteps.{part-length}
 
 -- ---- words
 
-pub is-negative : (z : ℤ) → ltZ z (pos 0) ≡ true → 0 ≡ nat z
-unfolding nat
-is-negative (pos n) h = absurd (let l = ltb-true n 0 h in omega arith)
-is-negative (negsuc n) h = refl
-
-pub is-number : (z : ℤ) → T (nonNeg z) → natAbs z ≡ nat z
-unfolding nat
-is-number (pos n) h = refl
-is-number (negsuc n) h = absurd h
-
-pub no-entry : (w : List ℤ) (i : ℕ) → length w ≤ i → 0 ≡ nat (getD w i (pos 0))
-unfolding nat
-no-entry w i h = rw (List·getD-eq-default w (pos 0) h)
-
-pub read-length : (w : List ℤ) → 4608 ≤ length w → length (read-part w) ≡ 4608
-unfolding read-part
-read-length w h = omega (arith, length-take 4608 w)
-
-pub word-inside : (w : List ℤ) (at : ℕ) → at < 4608 → nat (getD w at (pos 0)) ≡ word (read-part w) at
+pub word-inside : (w : List ℤ) (at : ℕ) → at < folded-end → nat (getD w at (pos 0)) ≡ word (read-part w) at
 unfolding word read-part
-word-inside w at h = ap nat (sym (getD-take 4608 w at (pos 0) h))
+word-inside w at h = ap nat (sym (getD-take folded-end w at (pos 0) h))
 
-pub word-outside : (w : List ℤ) (at : ℕ) → 4608 ≤ at → 0 ≡ word (read-part w) at
+pub word-outside : (w : List ℤ) (at : ℕ) → folded-end ≤ at → 0 ≡ word (read-part w) at
 unfolding word read-part
-word-outside w at h = no-entry (read-part w) at (omega (arith, length-take 4608 w))
+word-outside w at h = no-entry (read-part w) at (omega (arith, length-take folded-end w))
 
-pub past-is : (w : List ℤ) (p q : ℕ) → 4608 ≤ length w → q ≡ min p 4608 → q ≡ past (read-part w) p
-past-is w p q h e = omega (arith, read-length w h)
+pub past-is : (w : List ℤ) (p q : ℕ) → folded-end ≤ length w → q ≡ min p folded-end → q ≡ past (read-part w) p
+past-is w p q h e = omega (arith, part-length w h)
 
 -- ---- modes
 

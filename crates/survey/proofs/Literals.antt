@@ -1,11 +1,10 @@
--- Laws of literals in the Boolean map: read, and negated within the limit.
-use mathlib.Core.Path.{_≡_, refl, sym, ap, _∙_}
+-- Laws of literals in the Boolean map, negated within the limit.
+use mathlib.Core.Path.{_≡_, refl, ap, _∙_}
 use mathlib.Core.Bool.{Bool, true, false}
 use mathlib.Core.List.{List}
 use Prim.Native.Nat.{ℕ, suc, _+_, _≤_}
 use native.Mathlib.Omega.{arith}
 use lib.IntN.{ℤ, pos, negsuc, negℤ, natAbs, _-ℤ_, +ℤ-idl}
-use lib.ListN.{length, getD, List·getD-eq-default}
 use lib.Signed.{ltZ}
 use mir.Syntax.{w32}
 use mir.Val.{SFits, ofZ, toZ}
@@ -13,21 +12,14 @@ use mir.Facts.{toZ-ofZ}
 use borrow.Author.Tests.{ltb-true, ltb-false, le-leb, lt-leb}
 use Rattle.laws.specs.Bools.{never}
 use Rattle.laws.specs.Ints.{natAbs-negℤ, sfits-natAbs}
-use Rattle.walk.specs.Item.{limit, bool-at, signed}
-
-pub literal-there : (w : List ℤ) (v : ℕ) → SFits w32 (getD w (4608 + v) (pos 0)) → toZ w32 (ofZ w32 (getD w (4608 + v) (pos 0))) ≡ bool-at w v
-unfolding bool-at
-literal-there w v f = toZ-ofZ f
-
-pub literal-none : (w : List ℤ) (v : ℕ) → length w ≤ 4608 + v → pos 0 ≡ bool-at w v
-unfolding bool-at
-literal-none w v h = sym (List·getD-eq-default w (pos 0) h)
+use Rattle.memory.specs.Places.{limit}
+use Rattle.walk.specs.Item.{bool-at, signed}
 
 -- ---- beyond the limit
 
-pub signed-above : (z : ℤ) (g : Bool) → ltZ (pos 1073741824) z ≡ true → pos 0 ≡ signed z g
+pub signed-above : (z : ℤ) (g : Bool) → ltZ (pos limit) z ≡ true → pos 0 ≡ signed z g
 unfolding signed
-signed-above (pos n) g h = rw (lt-leb n limit (ltb-true 1073741824 n h)) refl
+signed-above (pos n) g h = rw (lt-leb n limit (ltb-true limit n h)) refl
 signed-above (negsuc n) g h = never h
 
 pub signed-below : (z : ℤ) (g : Bool) → ltZ z (negsuc 1073741823) ≡ true → pos 0 ≡ signed z g
@@ -37,8 +29,8 @@ signed-below (negsuc n) g h = rw (lt-leb (suc n) limit (let l = ltb-true 1073741
 
 -- ---- within it
 
-pub near : (z : ℤ) → ltZ (pos 1073741824) z ≡ false → ltZ z (negsuc 1073741823) ≡ false → natAbs z ≤ limit
-near (pos n) h k = let l = ltb-false 1073741824 n h in omega arith
+pub near : (z : ℤ) → ltZ (pos limit) z ≡ false → ltZ z (negsuc 1073741823) ≡ false → natAbs z ≤ limit
+near (pos n) h k = let l = ltb-false limit n h in omega arith
 near (negsuc n) h k = let l = ltb-false 1073741823 n k in omega arith
 
 minus-size : (z : ℤ) → natAbs (pos 0 -ℤ z) ≡ natAbs z

@@ -1,47 +1,29 @@
 // Small functions of the walks over the folded words: words, literals, counters, and what members of a survey come to.
 ghost use mathlib.Core.Path.{_≡_};
 ghost use Prim.Native.Nat.{_+_, _≤_, _<_, min};
-ghost use lib.IntN.{pos};
-ghost use lib.ListN.{getD};
-ghost use Rattle.walk.specs.Item.{bump as bump-of, nat, bool-at, signed as signed-of, mode-in, fresh-in, lines-in};
+ghost use Rattle.memory.specs.Places.{folded-end};
+ghost use Rattle.syntax.specs.Words.{max-bools};
+ghost use Rattle.walk.specs.Item.{bump as bump-of, bool-at, signed as signed-of, mode-in, fresh-in, lines-in};
 ghost use Rattle.walk.specs.Decode.{word as word-in, below as below-of, read-part, surveyed, closed-disj, closed-cross, added};
 use walk::Mode;
 use walk::Surveyed;
 
-// The number at a place of the work slice; 0 for a negative word and past the end.
-pub fn entry(work: &[i32], i: usize) -> usize
-    ensures { λ r. ⌜ r ≡ nat (getD (now (work .entry)) i (pos 0)) ⌝ }
-{
-    if i < work.len() {
-        let w = work[i];
-        if w < 0 {
-            return 0;
-        }
-        return w as usize;
-    }
-    0
-}
-
 // The literal of a declared Boolean in the map: its number plus 1, negative if negated; 0 for none.
 pub fn literal(work: &[i32], v: usize) -> i32
-    requires { ⌜ v < 512 ⌝ }
+    requires { ⌜ v < max-bools ⌝ }
     ensures { λ r. ⌜ r ≡ bool-at (now (work .entry)) v ⌝ }
 {
-    let i = 4608 + v;
-    if i < work.len() {
-        return work[i];
-    }
-    0
+    memory::plain(work, memory::BOOL_MAP + v)
 }
 
 // The same literal, negated if g.
 pub fn signed(z: i32, g: bool) -> i32
     ensures { λ r. ⌜ r ≡ signed-of z g ⌝ }
 {
-    if z > 1073741824 {
+    if z > memory::LIMIT_WORD {
         return 0;
     }
-    if z < -1073741824 {
+    if z < memory::LIMIT_NEGATED {
         return 0;
     }
     if g {
@@ -54,16 +36,20 @@ pub fn signed(z: i32, g: bool) -> i32
 pub fn word(work: &[i32], at: usize) -> usize
     ensures { λ r. ⌜ r ≡ word-in (read-part (now (work .entry))) at ⌝ }
 {
-    if at < 4608 {
-        return entry(work, at);
+    if at < memory::FOLDED_END {
+        return memory::entry(work, at);
     }
     0
 }
 
 pub fn within(p: usize) -> usize
-    ensures { λ r. ⌜ r ≡ min p 4608 ⌝ }
+    ensures { λ r. ⌜ r ≡ min p folded-end ⌝ }
 {
-    if p < 4608 { p } else { 4608 }
+    if p < memory::FOLDED_END {
+        p
+    } else {
+        memory::FOLDED_END
+    }
 }
 
 // A variable's index; 0 for what is none.
@@ -76,14 +62,14 @@ pub fn below(x: usize, count: usize) -> usize
 pub fn bump(n: usize, k: usize) -> usize
     ensures { λ r. ⌜ r ≡ bump-of n k ⌝ }
 {
-    if n < 1073741824 {
-        if k < 1073741824 {
-            if n + k < 1073741824 {
+    if n < memory::LIMIT {
+        if k < memory::LIMIT {
+            if n + k < memory::LIMIT {
                 return n + k;
             }
         }
     }
-    1073741824
+    memory::LIMIT
 }
 
 pub fn mode_of(longs: usize, lits: usize, cmps: usize) -> Mode
@@ -211,7 +197,7 @@ pub fn close_cross(s: Surveyed, u: Surveyed) -> Surveyed
 
 // One member more.
 pub fn add_member(r: Surveyed, s: Surveyed) -> Surveyed
-    requires { ⌜ (r .longs + s .longs ≤ 4608) × (r .lits + s .lits ≤ 4608) × (r .cmps + s .cmps ≤ 4608) ⌝ }
+    requires { ⌜ (r .longs + s .longs ≤ folded-end) × (r .lits + s .lits ≤ folded-end) × (r .cmps + s .cmps ≤ folded-end) ⌝ }
     ensures { λ x. ⌜ x ≡ added r s ⌝ }
 {
     Surveyed {

@@ -23,7 +23,8 @@ use Rattle.sums.specs.Domain.{ordered}
 use Rattle.call.specs.Demand.{domains-ordered}
 use Rattle.sorting.specs.Columns.{domain-in}
 use Rattle.rows.specs.Described.{range-described, list-described}
-use Rattle.tablewriter.specs.Describing.{Declared, SomeDeclared, Describes}
+use Rattle.declared.specs.InSet.{Declared, SomeDeclared}
+use Rattle.tablewriter.specs.Describing.{Describes}
 
 -- ---- a range
 

@@ -7,12 +7,13 @@ use native.Mathlib.Omega.{arith}
 use lib.IntN.{ℤ, pos, natAbs}
 use lib.ListN.{getD, take}
 use lib.Seq.{take-take, getD-take}
+use Rattle.memory.specs.Places.{folded-end, declared-domains, table}
+use Rattle.memory.specs.Number.{nat}
 use Rattle.syntax.specs.Syntax.{Domain, lower-bound, upper-bound}
 use Rattle.sums.specs.LinearSum.{Term, term, LinearSum, linear-sum, get-domain-linear-sum}
 use Rattle.sums.specs.Norm.{norm, load}
 use Rattle.sums.specs.Bounds.{reach}
 use Rattle.sums.specs.Rising.{terms-of, Each}
-use Rattle.walk.specs.Item.{nat}
 use Rattle.walk.specs.Decode.{read-part}
 use Rattle.walk.specs.declared.Counters.{Counters}
 use Rattle.walks.specs.Form.{IntForm, const, ivar, sum, choice}
@@ -21,8 +22,7 @@ use Rattle.walks.specs.Meet.{found, range-of}
 use Rattle.walks.specs.Near.{WithinInt}
 use Rattle.walks.specs.Ranges.{SameBounds, domain-same}
 use Rattle.walks.specs.ColumnText.{column-number, column-end}
-use Rattle.memory.specs.Places.{table}
-use Rattle.memory.specs.DomainTable.{word-at, Declares}
+use Rattle.declared.specs.DomainTable.{word-at, Declares}
 use Rattle.stages.specs.ColumnsText.{column-var, column-domain}
 use Rattle.tablewriter.specs.Same.{SameBelow, same-entry, same-cell, more-same, SameInt, int-same}
 use Rattle.tablewriter.specs.Describing.{Sound, Ranged, ColumnTold, Near}
@@ -47,15 +47,15 @@ module _ (w v : List ℤ) (below : take table v ≡ take table w) where
 
   pub same-part : read-part v ≡ read-part w
   unfolding read-part
-  same-part = sym (take-take 4608 table v (omega arith)) ∙ ap (take 4608) below ∙ take-take 4608 table w (omega arith)
+  same-part = sym (take-take folded-end table v (omega arith)) ∙ ap (take folded-end) below ∙ take-take folded-end table w (omega arith)
 
-  same-number : (p : ℕ) → p ≤ 4608 → column-number v p ≡ column-number w p
+  same-number : (p : ℕ) → p ≤ folded-end → column-number v p ≡ column-number w p
   unfolding column-number
   same-number p l = ap (λ (z : ℤ). nat z - 1) (same-cell w v same-below p (omega arith))
 
   pub same-declares : (ds : List Domain) → Declares ds w → Declares ds v
   unfolding word-at
-  same-declares ds d x l = rw (same-below (9480 + 3 * x + 0) (omega arith), same-below (9480 + 3 * x + 1) (omega arith), same-below (9480 + 3 * x + 2) (omega arith)) (d x l)
+  same-declares ds d x l = rw (same-below (declared-domains + 3 * x + 0) (omega arith), same-below (declared-domains + 3 * x + 1) (omega arith), same-below (declared-domains + 3 * x + 2) (omega arith)) (d x l)
 
   module _ (ds : List Domain) (e : IntForm) (near : Near e) where
     same-item : SameInt w v same-below (form-int-item ds e)
@@ -103,7 +103,7 @@ module _ (w v : List ℤ) (below : take table v ≡ take table w) where
     same-told (sum ts) h n r = same-ranged ds (sum ts) h n r
     same-told (choice q o c d t f) h n r = same-ranged ds (choice q o c d t f) h n r
 
-  pub same-var : (e : IntForm) → Near e → (p : ℕ) → p ≤ 4608 → column-var v p e ≡ column-var w p e
+  pub same-var : (e : IntForm) → Near e → (p : ℕ) → p ≤ folded-end → column-var v p e ≡ column-var w p e
   unfolding column-var WithinInt
   same-var (const c) h p l = same-number p l
   same-var (ivar x) h p l = ap (λ (k : ℕ). k - 1) (same-entry w v same-below x (h .within))

@@ -8,11 +8,13 @@ use native.Mathlib.Numerals.{sub-one}
 use lib.IntN.{ℤ, pos}
 use lib.ListN.{length, getD}
 use Rattle.laws.specs.Writes.{cap, Wrote, Open, wrote-none, wrote-then, wrote-to, wrote-length, wrote-low}
+use Rattle.memory.specs.Places.{cells, limit}
+use Rattle.memory.specs.Number.{nat}
 use Rattle.syntax.specs.Syntax.{Domain, Eq}
 use Rattle.sums.specs.LinearSum.{singleton, sub-sum}
 use Rattle.clauses.specs.Clause.{linear}
 use Rattle.answer.specs.Answer.{linear-words}
-use Rattle.walk.specs.Item.{limit, bump, nat, clause-text, lines-of}
+use Rattle.walk.specs.Item.{bump, clause-text, lines-of}
 use Rattle.walk.specs.Decode.{word, read-part}
 use Rattle.walk.specs.declared.Counters.{Counters}
 use Rattle.walks.specs.Form.{IntForm, const, ivar, sum, choice}
@@ -86,7 +88,7 @@ module _ {w : List ℤ} {p : ℕ} {n : Counters} {out : List ℤ} {o k : ℕ} {m
         low = b .low;
       }
 
-  pub own-put : (j ≡ 21 → ⊥) → length out ≤ cap → {v : ℕ} → v ≡ nat (getD w (4864 + p) (pos 0)) - 1 → {out' : List ℤ} {q : ℕ}
+  pub own-put : (j ≡ 21 → ⊥) → length out ≤ cap → {v : ℕ} → v ≡ nat (getD w (cells + p) (pos 0)) - 1 → {out' : List ℤ} {q : ℕ}
       → ((ds : List Domain) → Wrote mid o₁ (clause-text [] [] 1 (linear-words (linear Eq (sub-sum (item-at ds w p .total w n) (singleton v))))) out' q)
       → {c : ℕ} → c ≡ bump k (bump l₁ 1) → ColumnPut w p n out o k out' (columned (a .next) (a .n) q c)
   own-put z room {v} i y {c} l =

@@ -6,12 +6,13 @@ use Prim.Native.Nat.{ℕ, zero, suc, _+_, _*_, _≤_, _<_}
 use native.Mathlib.Omega.{arith}
 use native.Mathlib.Nat.{suc-mul}
 use lib.IntN.{ℤ, pos}
-use lib.ListN.{length, take, drop, length-append, length-take}
+use lib.ListN.{length, take, drop, length-append}
 use lib.Seq.{sets, length-sets, take-take}
 use Rattle.laws.specs.Ints.{eqZ}
 use Rattle.laws.specs.Lists.{any}
 use Rattle.laws.specs.Slices.{Has, has-fits, has-back, has-sets}
 use Rattle.laws.specs.Writes.{cap, Wrote, wrote-then}
+use Rattle.memory.specs.Places.{folded-end, table as table-place, limit}
 use Rattle.syntax.specs.Words.{star-word}
 use Rattle.syntax.specs.Lengths.{int-long}
 use Rattle.syntax.specs.Syntax.{Domain, IntExpr, encode-int, Cell, Table, encode-stmt}
@@ -23,10 +24,10 @@ use Rattle.clauses.specs.Emitted.{domain-at}
 use Rattle.clauses.specs.Normalize.{register}
 use Rattle.clauses.specs.Disjunction.{Out}
 use Rattle.tables.specs.Tables.{star-table, plain-table, plain-clauses, sort-rows, normalize-extension-supports, normalize-table}
-use Rattle.walk.specs.Item.{limit}
 use Rattle.walk.specs.Decode.{read-part}
 use Rattle.walk.specs.DecodeExact.{has-part}
 use Rattle.walk.specs.declared.Counters.{Counters}
+use Rattle.walk.specs.NumberingSteps.{part-short}
 use Rattle.walks.specs.Tree.{never, resolve-int}
 use Rattle.walks.specs.Form.{int-form}
 use Rattle.walks.specs.Item.{has-ifs}
@@ -34,7 +35,6 @@ use Rattle.walks.specs.Near.{column-inside}
 use Rattle.walks.specs.Resolve.{never-int}
 use Rattle.walks.specs.Implements.{at, Ready, ready-back}
 use Rattle.walks.specs.SumsFit.{WithinColumns, column-fits}
-use Rattle.memory.specs.Places.{table as table-place}
 use Rattle.stages.specs.Columns.{columns-words, ColumnsStand, stand-rest, first-stands}
 use Rattle.stages.specs.ColumnsText.{columns-vars, columns-domains, ColumnsWrite, columns-written}
 use Rattle.stages.specs.Table.{rows-behind, table-grows}
@@ -126,11 +126,7 @@ table-length : (es : List IntExpr) (rows : List (List Cell)) → length (encode-
 unfolding encode-stmt
 table-length es rows = omega (arith, length-append (columns-words es) (cells-words rows))
 
-part-short : (w : List ℤ) → length (read-part w) ≤ 4608
-unfolding read-part
-part-short w = omega (arith, length-take 4608 w)
-
-stmt-inside : (w : List ℤ) (q : ℕ) (es : List IntExpr) (rows : List (List Cell)) → Has (read-part w) q (encode-stmt (Table es rows)) → q + length (encode-stmt (Table es rows)) ≤ 4608
+stmt-inside : (w : List ℤ) (q : ℕ) (es : List IntExpr) (rows : List (List Cell)) → Has (read-part w) q (encode-stmt (Table es rows)) → q + length (encode-stmt (Table es rows)) ≤ folded-end
 stmt-inside w q es rows h = omega (arith, has-fits (read-part w) q (encode-stmt (Table es rows)) h (omega (arith, table-length es rows)), part-short w)
 
 empty-rows : (ds : List Domain) (vs : List ℕ) (z : Log) → normalize-extension-supports ds vs [] z .0 ≡ clause [] [] ∷ []
@@ -160,7 +156,7 @@ module _ {x : Place} {set w : List ℤ} {q : ℕ} {n : Counters} (h : At x set w
   pub low-counters : Low n
   low-counters = subst Low (sym (h .counters)) (before-ready .fit .small, low-of (has-ifs w) _ (before-ready .ints))
 
-  pub table-under : q + 3 ≤ 4608
+  pub table-under : q + 3 ≤ folded-end
   table-under = omega (arith, h .stand .to)
 
   pub table-placed : Placed w (q + 3) n
@@ -182,7 +178,7 @@ module _ {x : Place} {set w : List ℤ} {q p c k : ℕ} {n : Counters} {m : ℕ}
   cells-length : length (cells-words (x .rows)) ≡ k * c
   cells-length = length-cells c (x .rows) (rows-wide c (x .rows) well) ∙ ap (λ (i : ℕ). i * c) (sym (h .height))
 
-  pub rows-inside : p + k * c ≤ 4608
+  pub rows-inside : p + k * c ≤ folded-end
   rows-inside = omega (arith, stmt-inside w q (x .exprs) (x .rows) (h .at .stands), table-length (x .exprs) (x .rows), cells-length, h .cells)
 
   pub table-end : p + k * c ≡ q + length (encode-stmt (Table (x .exprs) (x .rows)))
@@ -325,7 +321,7 @@ module _ {x : Place} {set w : List ℤ} {q p c k : ℕ} {n : Counters} {m : ℕ}
 -- ---- some table stands there
 
 module _ {set w : List ℤ} {q p c k : ℕ} {n : Counters} {m : ℕ} (s : SomeRowsAt set w q p c k n m) where
-  pub some-inside : p + k * c ≤ 4608
+  pub some-inside : p + k * c ≤ folded-end
   some-inside = rows-inside (s .it)
 
   pub some-describable : (k ≡ 0 → ⊥) → SomeDescribable set w (q + 3) c (table-place + k * c) n

@@ -9,19 +9,20 @@ use lib.ListN.{length, take, drop, length-append}
 use lib.ListN.{set as store}
 use lib.Seq.{sets, length-sets, take-take}
 use Rattle.laws.specs.Writes.{sets-append}
+use Rattle.memory.specs.Places.{table as table-place}
 use Rattle.syntax.specs.Syntax.{Domain}
 use Rattle.words.specs.Exact.{Each}
 use Rattle.walk.specs.Decode.{read-part}
 use Rattle.walk.specs.declared.Counters.{Counters}
 use Rattle.walks.specs.Form.{IntForm}
 use Rattle.walks.specs.ColumnText.{column-end}
-use Rattle.memory.specs.Places.{table as table-place}
-use Rattle.memory.specs.DomainTable.{Declares}
+use Rattle.declared.specs.DomainTable.{Declares}
+use Rattle.declared.specs.InSet.{Declared}
 use Rattle.stages.specs.Columns.{column-at}
 use Rattle.stages.specs.ColumnsText.{column-var, columns-vars, column-domain, columns-domains}
 use Rattle.tablewriter.specs.declared.Passed.{Passed}
 use Rattle.tablewriter.specs.Columns.{Placed, form-at}
-use Rattle.tablewriter.specs.Describing.{Declared, Describes, ColumnTold, Told, SomeTold, PassedColumn, Storable, StoredColumn, AllTold, Near, AllNear, SomeDescribable, Described}
+use Rattle.tablewriter.specs.Describing.{Describes, ColumnTold, Told, SomeTold, PassedColumn, Storable, StoredColumn, AllTold, Near, AllNear, SomeDescribable, Described}
 use Rattle.tablewriter.proofs.Triples.{Triple, triple-words, triples-words, Lies, domain-by, words-length, words-more, each-more, map-more, numbers-read, domains-read, columns-read}
 use Rattle.tablewriter.proofs.Copying.{kept-below, new-words}
 use Rattle.tablewriter.proofs.Elsewhere.{same-part, same-declares, same-end, same-domain, same-told, same-var}

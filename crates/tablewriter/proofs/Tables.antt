@@ -8,6 +8,8 @@ use lib.IntN.{ℤ, pos}
 use lib.ListN.{length, length-append}
 use Rattle.laws.specs.Slices.{Has, has-word, has-back}
 use Rattle.laws.specs.Writes.{cap, Wrote, wrote-to}
+use Rattle.memory.specs.Places.{folded-end}
+use Rattle.memory.specs.Number.{nat}
 use Rattle.syntax.specs.Syntax.{Domain, IntExpr, Cell, Table, encode-stmt}
 use Rattle.clauses.specs.Clause.{Clause, clause}
 use Rattle.clauses.specs.Log.{Log, next-bool, next-int, clauses-of}
@@ -17,7 +19,7 @@ use Rattle.clauses.specs.Disjunction.{Out}
 use Rattle.clauses.specs.Normalize.{register}
 use Rattle.tables.specs.Tables.{star-row, star-table, plain-table, normalize-extension-supports, normalize-table}
 use Rattle.answer.specs.Answer.{clause-words}
-use Rattle.walk.specs.Item.{bump, nat}
+use Rattle.walk.specs.Item.{bump}
 use Rattle.walk.specs.Grow.{grow-added}
 use Rattle.walk.specs.Texts.{layout-words, disjunction-auxed, auxed-untouched}
 use Rattle.walk.specs.Decode.{word, read-part}
@@ -173,7 +175,7 @@ module _ {set w : List ℤ} {q : ℕ} {n : Counters} where
 
   -- ---- some table stands there
 
-  pub some-under : SomeAt set w q n → q + 3 ≤ 4608
+  pub some-under : SomeAt set w q n → q + 3 ≤ folded-end
   some-under s = table-under (s .it)
 
   module _ {c k : ℕ} (hc : c ≡ word (read-part w) (q + 1)) (hk : k ≡ word (read-part w) (q + 2)) (s : SomeAt set w q n) where

@@ -12,8 +12,10 @@ use borrow.Author.Tests.{ltb-true}
 use mir.Syntax.{w32}
 use mir.Val.{SFits}
 use Rattle.laws.specs.Ints.{natAbs-add, natAbs-negℤ, sfits-natAbs}
+use Rattle.memory.specs.Places.{int-map, cells}
+use Rattle.memory.specs.Number.{nat}
 use Rattle.syntax.specs.Syntax.{Domain, Range, domain-of}
-use Rattle.walk.specs.Item.{nat, int-entry}
+use Rattle.walk.specs.Item.{int-entry}
 use Rattle.walk.specs.Decode.{word, below as index, read-part}
 use Rattle.walk.specs.declared.Counters.{Counters}
 use Rattle.walks.specs.Form.{IntForm, const, ivar, sum, choice}
@@ -26,8 +28,9 @@ use Rattle.scan.specs.Skip.{split-by}
 use Rattle.scan.specs.SurveyLaws.{IntSurveys}
 use Rattle.scan.specs.declared.Behind.{Behind}
 use Rattle.totals.specs.Ranges.{inside-branches, Ranging, Ranges}
+use Rattle.declared.specs.InSet.{Declared, SomeDeclared}
 use Rattle.tablewriter.specs.Columns.{form-at, item-at}
-use Rattle.tablewriter.specs.Describing.{Declared, SomeDeclared, Describes, Sound, Ranged, ColumnTold, Told, SomeTold, PassedColumn}
+use Rattle.tablewriter.specs.Describing.{Describes, Sound, Ranged, ColumnTold, Told, SomeTold, PassedColumn}
 use Rattle.tablewriter.proofs.Forms.{Own, own-at, variable-at, own-end}
 use Rattle.tablewriter.proofs.Descriptions.{range-describes}
 
@@ -71,7 +74,7 @@ module _ (w : List ℤ) (p : ℕ) {j : ℕ} (code : j ≡ word (read-part w) p) 
     form-is : form-at w p ≡ ivar v
     form-is = variable-at w p j code k ∙ ap ivar (sym (small ∙ ap (index 256) written))
 
-    pub variable-number : {r : ℕ} → r ≡ nat (getD w (5120 + v) (pos 0)) - 1 → r ≡ column-var w p (form-at w p)
+    pub variable-number : {r : ℕ} → r ≡ nat (getD w (int-map + v) (pos 0)) - 1 → r ≡ column-var w p (form-at w p)
     unfolding column-var int-entry
     variable-number e = e ∙ ap (column-var w p) (sym form-is)
 
@@ -92,7 +95,7 @@ module _ (w : List ℤ) (p : ℕ) {j : ℕ} (code : j ≡ word (read-part w) p) 
     own : Own (form-at w p)
     own = own-at w p j code z
 
-    pub own-number : {r : ℕ} → r ≡ nat (getD w (4864 + p) (pos 0)) - 1 → r ≡ column-var w p (form-at w p)
+    pub own-number : {r : ℕ} → r ≡ nat (getD w (cells + p) (pos 0)) - 1 → r ≡ column-var w p (form-at w p)
     own-number {r} e =
         let i : r ≡ column-number w p = unfold column-number cell in e in
         i ∙ sym (own-var w p (form-at w p) own)

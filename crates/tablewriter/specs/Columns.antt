@@ -6,6 +6,7 @@ use Prim.Native.Nat.{ℕ, zero, suc, _≤_}
 use lib.IntN.{ℤ}
 use lib.ListN.{length}
 use Rattle.laws.specs.Writes.{Wrote}
+use Rattle.memory.specs.Places.{folded-end}
 use Rattle.syntax.specs.Syntax.{Domain}
 use Rattle.walk.specs.Item.{bump}
 use Rattle.walk.specs.Decode.{read-part}
@@ -21,8 +22,8 @@ use Rattle.tablewriter.specs.declared.Columned.{Columned}
 
 -- a place in the folded words, and counters
 pub record Placed (w : List ℤ) (p : ℕ) (n : Counters) : Type 0 where
-  pub size : 4608 ≤ length w
-  pub inside : p ≤ 4608
+  pub size : folded-end ≤ length w
+  pub inside : p ≤ folded-end
   pub low : Low n
 
 abbrev pub form-at : List ℤ → ℕ → IntForm
@@ -52,7 +53,7 @@ pub record ColumnPut (w : List ℤ) (p : ℕ) (n : Counters) (out : List ℤ) (o
   pub lines : (ds : List Domain) → r .clauses ≡ bump k (column-lines ds p (form-at w p) w n)
   pub behind : (ds : List Domain) → r .n ≡ column-end ds p (form-at w p) w n
   pub next : r .next ≡ column-at (read-part w) p .end
-  pub inside : r .next ≤ 4608
+  pub inside : r .next ≤ folded-end
   pub low : Low (r .n)
 
 -- of so many columns

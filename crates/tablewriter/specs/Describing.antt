@@ -1,18 +1,15 @@
 -- The words that describe a table's columns to the code of its rows, three to a column (sorting/specs/Columns): what storing them asks and gives.
 use mathlib.Core.Path.{_≡_}
 use mathlib.Core.Bool.{true}
-use mathlib.Core.List.{List, [], _∷_, map}
+use mathlib.Core.List.{List, [], _∷_}
 use Prim.Native.Nat.{ℕ, zero, suc, _+_, _*_, _≤_, _<_, _^_}
 use lib.IntN.{ℤ, pos, natAbs}
 use lib.Signed.{leZ}
 use lib.ListN.{length, take, drop}
 use lib.Seq.{sets}
-use Rattle.laws.specs.Lists.{flat}
-use Rattle.laws.specs.Slices.{Has}
-use Rattle.syntax.specs.Words.{max-value, max-set-words}
-use Rattle.syntax.specs.Syntax.{Domain, lower-bound, upper-bound, encode-domain}
-use Rattle.words.specs.Exact.{Each}
-use Rattle.read.specs.WellFormed.{WellDomain}
+use Rattle.memory.specs.Places.{folded-end, table as table-place}
+use Rattle.syntax.specs.Words.{max-value}
+use Rattle.syntax.specs.Syntax.{Domain, lower-bound, upper-bound}
 use Rattle.sums.specs.Norm.{load}
 use Rattle.sums.specs.Bounds.{reach}
 use Rattle.walk.specs.Decode.{read-part}
@@ -23,8 +20,8 @@ use Rattle.walks.specs.Meet.{found, range-of}
 use Rattle.walks.specs.Near.{WithinInt}
 use Rattle.walks.specs.SumsFit.{InsideFits, AlwaysEquated}
 use Rattle.walks.specs.ColumnText.{column-end}
-use Rattle.memory.specs.Places.{table as table-place}
-use Rattle.memory.specs.DomainTable.{Declares}
+use Rattle.declared.specs.DomainTable.{Declares}
+use Rattle.declared.specs.InSet.{Declared}
 use Rattle.stages.specs.Columns.{column-at}
 use Rattle.stages.specs.ColumnsText.{column-var, columns-vars, column-domain, columns-domains}
 use Rattle.sorting.specs.Columns.{domain-in, vars-of, domains-of, Columns, Placed as Lies}
@@ -33,17 +30,6 @@ use Rattle.tablewriter.specs.declared.Passed.{Passed}
 use Rattle.tablewriter.specs.Columns.{Placed, form-at}
 
 -- ---- domains
-
--- the set's words say the declared domains
-pub record Declared (set : List ℤ) (ds : List Domain) : Type 0 where
-  pub words : Has set 2 (flat (map encode-domain ds))
-  pub well : Each WellDomain ds
-  pub short : length set ≤ max-set-words
-
-pub record SomeDeclared (set : List ℤ) (v : ℕ) : Type 0 where
-  pub domains : List Domain
-  pub it : Declared set domains
-  pub below : v < length domains
 
 -- c and x describe the domain d
 pub record Describes (set : List ℤ) (d : Domain) (c x : ℤ) : Type 0 where
@@ -86,7 +72,7 @@ pub record SomeTold (set w : List ℤ) (p : ℕ) (n : Counters) : Type 0 where
 pub record PassedColumn (w : List ℤ) (p : ℕ) (n : Counters) (r : Passed) : Type 0 where
   pub behind : (ds : List Domain) → r .n ≡ column-end ds p (form-at w p) w n
   pub next : r .next ≡ column-at (read-part w) p .end
-  pub inside : r .next ≤ 4608
+  pub inside : r .next ≤ folded-end
   pub low : Low (r .n)
 
 -- its three words can be stored at `to`
@@ -117,7 +103,7 @@ AllTold ds ws (suc k) p w n = let r = column-at ws p in ColumnTold ds w n (r .tr
 pub record Near (e : IntForm) : Type 0 where
   pub from : ℕ
   pub to : ℕ
-  pub inside : to ≤ 4608
+  pub inside : to ≤ folded-end
   pub within : WithinInt from to e
 
 unfoldable pub AllNear : List ℤ → ℕ → ℕ → Type 0

@@ -10,15 +10,17 @@ use lib.IntN.{ℤ, pos}
 use lib.ListN.{getD}
 use lib.Dec.{eqb}
 use Rattle.laws.specs.Ints.{is-zero}
+use Rattle.memory.specs.Places.{folded-end, bool-map, int-map, cells, ifs-word, table}
+use Rattle.memory.specs.Number.{nat}
 use Rattle.syntax.specs.Syntax.{Domain, domain-of}
+use Rattle.syntax.specs.Words.{max-bools}
 use Rattle.sums.specs.LinearSum.{LinearSum, constant, singleton, add-sum, mul-sum}
-use Rattle.walk.specs.Item.{bump, nat, bool-map, int-map, bool-entry, int-entry, fresh}
+use Rattle.walk.specs.Item.{bump, bool-entry, int-entry, fresh}
 use Rattle.walk.specs.declared.Counters.{Counters}
 use Rattle.walks.specs.Tree.{Place}
 use Rattle.walks.specs.Form.{Form, var, num, cmp, conj, disj, cross, tied, Forms, nil, cons, IntForm, const, ivar, sum, choice, TermForms, none as no-terms, term}
-use Rattle.walks.specs.Item.{counters, ifs-word, has-ifs, more-bools, more-ints, meets-bool, meets-int, cells, cell, seen-in, seen, known-in, constant-in, number-in, Item, IntItem, TermsItem, tallies, counts, var-item, num-item, cmp-item, conj-item, disj-item, cross-item, tied-item, equal-item, const-item, or-else, ivar-item, no-terms-item, term-item, sum-item, open-item, condition-item, constant-making, open-making, if-making, passed, if-behind, if-number, if-domain, choice-item, form-item, form-items, form-int-item, form-terms-item}
+use Rattle.walks.specs.Item.{counters, has-ifs, more-bools, more-ints, meets-bool, meets-int, cell, seen-in, seen, known-in, constant-in, number-in, Item, IntItem, TermsItem, tallies, counts, var-item, num-item, cmp-item, conj-item, disj-item, cross-item, tied-item, equal-item, const-item, or-else, ivar-item, no-terms-item, term-item, sum-item, open-item, condition-item, constant-making, open-making, if-making, passed, if-behind, if-number, if-domain, choice-item, form-item, form-items, form-int-item, form-terms-item}
 use Rattle.walks.specs.Near.{WithinForm, WithinForms, WithinInt, WithinTerms}
-use Rattle.memory.specs.Places.{table}
 
 abbrev pub SameBelow : List ℤ → List ℤ → Type 0
 SameBelow w v = (i : ℕ) → i < table → getD v i (pos 0) ≡ getD w i (pos 0)
@@ -34,11 +36,11 @@ module _ (w v : List ℤ) (same : SameBelow w v) where
   unfolding int-entry
   same-entry x l = ap nat (same (int-map + x) (omega arith))
 
-  same-bool : (x : ℕ) → x < 512 → bool-entry v x ≡ bool-entry w x
+  same-bool : (x : ℕ) → x < max-bools → bool-entry v x ≡ bool-entry w x
   unfolding bool-entry
   same-bool x l = ap nat (same (bool-map + x) (omega arith))
 
-  pub same-cell : (p : ℕ) → p ≤ 4611 → cell v p ≡ cell w p
+  pub same-cell : (p : ℕ) → p ≤ folded-end + 3 → cell v p ≡ cell w p
   unfolding cell
   same-cell p l = same (cells + p) (omega arith)
 
@@ -47,7 +49,7 @@ module _ (w v : List ℤ) (same : SameBelow w v) where
   pub more-same : (k : ℕ) (n : Counters) → more-ints v k n ≡ more-ints w k n
   more-same k n = ap (λ b. cond b (counters (n .bools) (bump (n .ints) k)) n) same-ifs
 
-  meets-same : (x : ℕ) → x < 512 → (n : Counters) → meets-bool v x n ≡ meets-bool w x n
+  meets-same : (x : ℕ) → x < max-bools → (n : Counters) → meets-bool v x n ≡ meets-bool w x n
   unfolding meets-bool
   meets-same x l n = ap (λ e. cond (eqb e (n .bools + 1)) (more-bools 1 n) n) (same-bool x l)
 
@@ -83,7 +85,7 @@ module _ (w v : List ℤ) (same : SameBelow w v) where
 
   -- ---- an If
 
-  module _ (o : Option ℕ) (p : Place) (c d : Item) (t f : IntItem) (low : (x : ℕ) → o ≡ some x → x < 512) (near : p .at + 6 ≤ 4608) (sc : SameItem c) (sd : SameItem d) (st : SameInt t) (sf : SameInt f) where
+  module _ (o : Option ℕ) (p : Place) (c d : Item) (t f : IntItem) (low : (x : ℕ) → o ≡ some x → x < max-bools) (near : p .at + 6 ≤ folded-end) (sc : SameItem c) (sd : SameItem d) (st : SameInt t) (sf : SameInt f) where
     seen-same : seen v p ≡ seen w p
     unfolding seen
     seen-same = ap seen-in (same-cell (p .at + 1) (omega arith))
@@ -150,7 +152,7 @@ module _ (w v : List ℤ) (same : SameBelow w v) where
 
   -- ---- forms that stand from a to b
 
-  module _ (ds : List Domain) (a b : ℕ) (to : b ≤ 4608) where
+  module _ (ds : List Domain) (a b : ℕ) (to : b ≤ folded-end) where
     mutual
       unfolding form-item WithinForm var-item num-item cmp-item conj-item disj-item tied-item const-item ivar-item sum-item no-terms-item term-item counts
 

@@ -7,26 +7,26 @@ use Prim.Native.Nat.{ℕ, _+_, _≤_}
 use lib.IntN.{ℤ}
 use lib.ListN.{length, take, drop}
 use Rattle.laws.specs.Slices.{Has}
-use Rattle.syntax.specs.Words.{max-count}
+use Rattle.memory.specs.Places.{table as table-place, limit}
+use Rattle.syntax.specs.Words.{max-count, min-work-words}
 use Rattle.syntax.specs.Syntax.{Domain, IntExpr, Cell, Table, encode-stmt}
 use Rattle.words.specs.Exact.{Each}
 use Rattle.read.specs.WellFormed.{WellRow}
 use Rattle.clauses.specs.Log.{Log, next-bool}
 use Rattle.clauses.specs.Since.{clauses-since}
 use Rattle.tables.specs.Tables.{Columns, equivalent-int-vars, star-table, normalize-extension-supports, normalize-table}
-use Rattle.walk.specs.Item.{limit}
 use Rattle.walk.specs.Decode.{read-part}
 use Rattle.walk.specs.declared.Counters.{Counters}
 use Rattle.walks.specs.Implements.{at, Ready}
 use Rattle.walks.specs.SumsFit.{WithinColumns}
-use Rattle.memory.specs.Places.{table as table-place, work-length}
-use Rattle.memory.specs.DomainTable.{Declares}
+use Rattle.declared.specs.DomainTable.{Declares}
+use Rattle.declared.specs.InSet.{Declared}
 use Rattle.stages.specs.Columns.{PlacedColumns, columns-words, ColumnsStand}
 use Rattle.sorting.specs.Columns.{vars-of}
 use Rattle.rows.specs.Emit.{Clauses}
 use Rattle.setnumbers.specs.Fresh.{RowsStand}
 use Rattle.tablewriter.specs.declared.Columned.{Columned}
-use Rattle.tablewriter.specs.Describing.{Declared, AllTold}
+use Rattle.tablewriter.specs.Describing.{AllTold}
 
 -- a table, the declared domains and the log before it
 pub record Place : Type 0 where
@@ -58,7 +58,7 @@ pub record At (x : Place) (set w : List ℤ) (q : ℕ) (n : Counters) : Type 0 w
   pub few : length (x .rows) ≤ max-count
   pub narrow : length (x .exprs) ≤ max-count
   pub counters : n ≡ at w (x .before)
-  pub size : work-length ≤ length w
+  pub size : min-work-words ≤ length w
 
 pub record SomeAt (set w : List ℤ) (q : ℕ) (n : Counters) : Type 0 where
   pub place : Place

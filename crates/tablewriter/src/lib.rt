@@ -1,22 +1,25 @@
 // The clauses of a table whose columns may hold Ifs: the words of its columns, then its rows.
 ghost use mathlib.Core.Path.{_≡_};
 ghost use mathlib.Core.List.{List, [], _∷_};
-ghost use Prim.Native.Nat.{_+_, _-_, _≤_, _<_, min};
+ghost use Prim.Native.Nat.{_+_, _-_, _≤_, _<_};
 ghost use lib.IntN.{pos};
 ghost use lib.ListN.{length, getD, take, drop};
 ghost use lib.Seq.{sets};
 ghost use Rattle.laws.specs.Writes.{Wrote, Open};
+ghost use Rattle.memory.specs.Places.{folded-end, limit};
+ghost use Rattle.memory.specs.Number.{nat};
 ghost use Rattle.syntax.specs.Syntax.{Domain, domain-of, Eq};
 ghost use Rattle.sums.specs.LinearSum.{singleton, sub-sum};
 ghost use Rattle.clauses.specs.Clause.{linear, clause};
 ghost use Rattle.answer.specs.Answer.{linear-words};
-ghost use Rattle.walk.specs.Item.{limit, nat, clause-text};
+ghost use Rattle.walk.specs.Item.{clause-text};
 ghost use Rattle.walk.specs.Decode.{read-part};
 ghost use Rattle.stages.specs.ColumnsText.{column-var, column-domain};
 ghost use Rattle.rows.specs.Emit.{Clauses, Behind};
 ghost use Rattle.stars.specs.Stars.{StarRows};
+ghost use Rattle.declared.specs.InSet.{Declared, SomeDeclared};
 ghost use Rattle.tablewriter.specs.Columns.{Placed, form-at, item-at, Fits, AllFit, Added, ColumnPut, ColumnsPut};
-ghost use Rattle.tablewriter.specs.Describing.{Declared, SomeDeclared, Describes, SomeTold, Told, Storable, StoredColumn, PassedColumn, SomeDescribable, Described};
+ghost use Rattle.tablewriter.specs.Describing.{Describes, SomeTold, Told, Storable, StoredColumn, PassedColumn, SomeDescribable, Described};
 ghost use Rattle.tablewriter.specs.Step.{Place, At, SomeAt, Did, RowsAt, SomeRowsAt, RowsDid, StarsDid};
 use rows::Written;
 use survey::below;
@@ -164,7 +167,7 @@ fn put_columns(
 
 // The number of the column at p: a declared variable's from the map, another's from its cell.
 fn column_number(work: &[i32], p: usize) -> usize
-    requires { ⌜ p ≤ 4608 ⌝ }
+    requires { ⌜ p ≤ folded-end ⌝ }
     ensures { λ r. ⌜ (r ≡ column-var (now (work .entry)) p (form-at (now (work .entry)) p)) × (r < 2147483648) ⌝ }
 {
     if word(work, p) == 21 {
@@ -271,7 +274,7 @@ fn put_empty(out: &mut [i32], o: usize, k: usize) -> Written
     requires { ⌜ Behind (now out) o k ⌝ }
     ensures { λ r. ⌜ Clauses (now (out .entry)) o k (clause [] [] ∷ []) (now (out .exit)) (r .at) (r .clauses) ⌝ }
 {
-    if o == 16777217 {
+    if o == memory::CAP {
         return Written { at: o, clauses: k };
     }
     let a = output::put(out, o, 0);
@@ -336,13 +339,6 @@ fn write_rows(
 
 // ---- the table
 
-// Clauses have two words at least, so there are no more than words; a larger count says that the answer is too long.
-pub fn lesser(k: usize, o: usize) -> usize
-    ensures { λ r. ⌜ r ≡ min k o ⌝ }
-{
-    if k < o { k } else { o }
-}
-
 // The clauses of the table at `at`, behind k others.
 pub fn write_table(
     set: &[i32],
@@ -362,7 +358,7 @@ pub fn write_table(
     let p = e.next;
     let b = e.n;
     let f = setnumbers::table_fresh(work, p, c, rows);
-    let j = lesser(e.clauses, e.at);
+    let j = rows::lesser(e.clauses, e.at);
     let r = write_rows(set, work, at, p, c, rows, n, b.bools, out, e.at, j);
     let i = Counters {
         bools: bump(b.bools, f),

@@ -20,7 +20,7 @@ use Rattle.sums.proofs.Laws.{stands-sum}
 use Rattle.walk.specs.declared.Counters.{Counters}
 use Rattle.walks.specs.Tree.{Splitting}
 use Rattle.walks.specs.Meet.{found, range-of}
-use Rattle.memory.specs.DomainTable.{Declares}
+use Rattle.declared.specs.DomainTable.{Declares}
 use Rattle.totals.specs.declared.Found.{Found}
 use Rattle.totals.specs.declared.Nested.{Nested}
 use Rattle.totals.specs.Linear.{Linear}

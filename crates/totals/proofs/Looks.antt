@@ -12,19 +12,21 @@ use lib.Signed.{leZ}
 use borrow.Author.Tests.{eq-eqb, ne-eqb}
 use Rattle.laws.specs.Bools.{never}
 use Rattle.laws.specs.Ints.{lower, higher}
+use Rattle.memory.specs.Places.{folded-end, declared-domains, limit}
 use Rattle.syntax.specs.Syntax.{Domain}
 use Rattle.sums.specs.Rising.{constant-of}
-use Rattle.walk.specs.Item.{limit, is-none, int-number}
+use Rattle.walk.specs.Item.{is-none, int-number}
 use Rattle.walk.specs.Decode.{word, past, below as index, read-part}
 use Rattle.walk.specs.declared.Counters.{Counters}
+use Rattle.walk.specs.NumberingSteps.{part-length}
 use Rattle.walks.specs.Tree.{Place, Splitting}
 use Rattle.walks.specs.Form.{Form, IntForm, const, ivar, choice}
 use Rattle.walks.specs.Item.{cell, Seen, unseen, both-constant, numbered, seen, constant-in, number-in, or-else, const-item, ivar-item, no-terms-item, term-item, sum-item, if-number, if-domain, choice-item, form-int-item, form-terms-item}
 use Rattle.walks.specs.Decode.{IntRead, own-at, if-step, int-step, many-terms, decode, decode-int}
 use Rattle.walks.specs.Totals.{total-of, behind-of}
-use Rattle.memory.specs.DomainTable.{word-at, Declares}
+use Rattle.declared.specs.DomainTable.{word-at, Declares}
 use Rattle.scan.specs.declared.Behind.{Behind}
-use Rattle.scan.specs.Nodes.{part-length, int-level}
+use Rattle.scan.specs.Nodes.{int-level}
 use Rattle.scan.specs.Skip.{Skips}
 use Rattle.scan.specs.IfLaws.{seen-code, seen-at, Low}
 use Rattle.scan.specs.SurveyLaws.{behind-at, IntSurveys, terms-none, terms-more}
@@ -58,10 +60,10 @@ module _ (x y : ℤ) where
   pub between-high : leZ x y ≡ false → (r : Found) → r ≡ hit y x → r ≡ hit (lower x y) (higher x y)
   between-high h r e = rw h e
 
-pub table-words : (w : List ℤ) (v : ℕ) (r : Found) (x y : ℤ) → x ≡ getD w (9480 + 3 * v) (pos 0) → y ≡ getD w (9480 + 3 * v + 1) (pos 0) → r ≡ hit x y → r ≡ hit (word-at w v 0) (word-at w v 1)
+pub table-words : (w : List ℤ) (v : ℕ) (r : Found) (x y : ℤ) → x ≡ getD w (declared-domains + 3 * v) (pos 0) → y ≡ getD w (declared-domains + 3 * v + 1) (pos 0) → r ≡ hit x y → r ≡ hit (word-at w v 0) (word-at w v 1)
 unfolding word-at
 table-words w v r x y a b e =
-    let i : 9480 + 3 * v + 0 ≡ 9480 + 3 * v = omega arith in
+    let i : declared-domains + 3 * v + 0 ≡ declared-domains + 3 * v = omega arith in
     rw (i, ← a, ← b) e
 
 -- ---- an If's own domain
@@ -114,7 +116,7 @@ pub find-none : (w : List ℤ) (l : ℕ) (m : Splitting) (at base : ℕ) (n : Co
 unfolding decode form-int-item const-item
 find-none w l m at base n x r e i ds d = rw e (told-none r i)
 
-module _ (w : List ℤ) (long : 4608 ≤ length w) (l : ℕ) (m : Splitting) (at base : ℕ) (n : Counters) (z : l ≡ 0 → ⊥) (k : ℕ) (hk : k ≡ word (read-part w) at) (x : ℕ) where
+module _ (w : List ℤ) (long : folded-end ≤ length w) (l : ℕ) (m : Splitting) (at base : ℕ) (n : Counters) (z : l ≡ 0 → ⊥) (k : ℕ) (hk : k ≡ word (read-part w) at) (x : ℕ) where
   read-tree : int-at w l m at base ≡ int-step (read-part w) (decode (read-part w) (l - 1)) (decode-int (read-part w) (l - 1)) m at base k .tree
   read-tree = ap (λ (t : IntRead). t .tree) (int-level (read-part w) l (l - 1) m at base k z refl hk)
 
@@ -140,7 +142,7 @@ module _ (w : List ℤ) (long : 4608 ≤ length w) (l : ℕ) (m : Splitting) (at
   other-miss s a b r g = to (const (getD (read-part w) (at + 1) (pos 0))) r (read-tree ∙ rw (ne-eqb k 21 a, sum-code w l at k z hk ∙ s, ne-eqb k 23 b) refl) (λ ds d. told-none r g)
 
   -- an If; its condition stands at c
-  module _ (c : ℕ) (e : k ≡ 23) (hc : c ≡ min (at + 1) 4608) where
+  module _ (c : ℕ) (e : k ≡ 23) (hc : c ≡ min (at + 1) folded-end) where
     abbrev If-place : Place
     If-place =
         let a = decode (read-part w) (l - 1) m false c base in
@@ -173,7 +175,7 @@ module _ (w : List ℤ) (long : 4608 ≤ length w) (l : ℕ) (m : Splitting) (at
 
 -- ---- the terms of a sum
 
-module _ (w : List ℤ) (long : 4608 ≤ length w) (l u : ℕ) (m : Splitting) (at base : ℕ) (n : Counters) (e : is-sum w l at ≡ true) (hu : u ≡ l - 1) (k two : ℕ) (hk : k ≡ word (read-part w) (at + 1)) (h2 : two ≡ min (at + 2) 4608) (x : ℕ) where
+module _ (w : List ℤ) (long : folded-end ≤ length w) (l u : ℕ) (m : Splitting) (at base : ℕ) (n : Counters) (e : is-sum w l at ≡ true) (hu : u ≡ l - 1) (k two : ℕ) (hk : k ≡ word (read-part w) (at + 1)) (h2 : two ≡ min (at + 2) folded-end) (x : ℕ) where
   pub look-start : base ≤ limit → Low n → Branched w l m at base n → Looking w u m k two base n x k (behind-at two base n)
   unfolding BranchSteps
   look-start b low h = record {
@@ -193,7 +195,7 @@ module _ (w : List ℤ) (long : 4608 ≤ length w) (l u : ℕ) (m : Splitting) (
   look-end (suc rest) q r g z i = absurd (omega arith)
 
   -- a turn: the term at p, where o is found
-  module _ (rest : ℕ) (r : Behind) (g : Looking w u m k two base n x rest r) (z : rest ≡ 0 → ⊥) (p : ℕ) (hp : p ≡ min (r .at + 1) 4608) where
+  module _ (rest : ℕ) (r : Behind) (g : Looking w u m k two base n x rest r) (z : rest ≡ 0 → ⊥) (p : ℕ) (hp : p ≡ min (r .at + 1) folded-end) where
     branched-of : (rest : ℕ) → (rest ≡ 0 → ⊥) → TermBranches (g .domains) w (terms-at w u m (r .at) (r .base) rest) (r .n) → BranchSteps (g .domains) w (int-at w u m p (r .base)) (r .n)
     unfolding many-terms BranchSteps
     branched-of zero z h = absurd (z refl)

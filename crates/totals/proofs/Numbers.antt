@@ -13,7 +13,9 @@ use borrow.Author.Tests.{ltb-true, ltb-false, le-ltb, ne-eqb}
 use mir.Syntax.{w32}
 use mir.Val.{SFits}
 use Rattle.laws.specs.Bools.{never}
-use Rattle.walk.specs.Item.{nat, int-entry, int-number}
+use Rattle.memory.specs.Places.{folded-end, int-map}
+use Rattle.memory.specs.Number.{nat}
+use Rattle.walk.specs.Item.{int-entry, int-number}
 use Rattle.walk.specs.Decode.{word, below as index, read-part}
 use Rattle.walks.specs.Item.{cell, number-in}
 use Rattle.scan.specs.IfLaws.{seen-at}
@@ -36,7 +38,7 @@ unfolding nat
 one-less (pos n) f h = let l = ltb-false n 1 h in let k = f .sfits in (omega arith, refl, omega arith)
 one-less (negsuc n) f h = never (sym h)
 
-pub entry-is : (w : List ℤ) (v r : ℕ) → r ≡ nat (getD w (5120 + v) (pos 0)) - 1 → r ≡ int-number w v
+pub entry-is : (w : List ℤ) (v r : ℕ) → r ≡ nat (getD w (int-map + v) (pos 0)) - 1 → r ≡ int-number w v
 unfolding int-entry
 entry-is w v r e = e
 
@@ -73,13 +75,13 @@ module _ (w : List ℤ) (at ints : ℕ) (z : ℤ) (e : z ≡ cell w (at + 1)) wh
 
 -- ---- words
 
-pub word-there : (w : List ℤ) (at : ℕ) → at < 4608 → getD w at (pos 0) ≡ getD (read-part w) at (pos 0)
+pub word-there : (w : List ℤ) (at : ℕ) → at < folded-end → getD w at (pos 0) ≡ getD (read-part w) at (pos 0)
 unfolding read-part
-word-there w at h = sym (getD-take 4608 w at (pos 0) h)
+word-there w at h = sym (getD-take folded-end w at (pos 0) h)
 
-pub word-behind : (w : List ℤ) (at : ℕ) → 4608 ≤ at → pos 0 ≡ getD (read-part w) at (pos 0)
+pub word-behind : (w : List ℤ) (at : ℕ) → folded-end ≤ at → pos 0 ≡ getD (read-part w) at (pos 0)
 unfolding read-part
-word-behind w at h = sym (List·getD-eq-default (read-part w) (pos 0) (omega (arith, length-take 4608 w)))
+word-behind w at h = sym (List·getD-eq-default (read-part w) (pos 0) (omega (arith, length-take folded-end w)))
 
 -- ---- what is no sum
 

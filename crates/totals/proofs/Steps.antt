@@ -9,6 +9,7 @@ use lib.IntN.{ℤ, pos, negsuc, natAbs}
 use lib.ListN.{length, getD}
 use borrow.Author.Tests.{eqb-true}
 use Rattle.laws.specs.Bools.{never}
+use Rattle.memory.specs.Places.{folded-end, limit}
 use Rattle.syntax.specs.Syntax.{Domain}
 use Rattle.sums.specs.LinearSum.{LinearSum, constant, add-sum, mul-sum, sub-sum}
 use Rattle.sums.specs.Rising.{terms-of, Each, constant-each, add-sum-each, mul-sum-each, sub-sum-each}
@@ -16,16 +17,16 @@ use Rattle.sums.specs.Bounds.{size, Room}
 use Rattle.sums.specs.Struct.{terms, sum-of, Stands}
 use Rattle.sums.specs.declared.LinearSum.{LinearSum as Sum}
 use Rattle.sums.proofs.Laws.{is-own, stands-sum, stands-to}
-use Rattle.walk.specs.Item.{limit}
 use Rattle.walk.specs.Decode.{word, past, read-part}
 use Rattle.walk.specs.declared.Counters.{Counters}
+use Rattle.walk.specs.NumberingSteps.{part-length}
 use Rattle.walks.specs.Tree.{Splitting}
 use Rattle.walks.specs.Form.{IntForm, sum}
 use Rattle.walks.specs.Item.{has-ifs, no-terms-item, term-item, sum-item, form-int-item}
 use Rattle.walks.specs.Decode.{IntRead, many-terms, int-step}
 use Rattle.walks.specs.Totals.{Word, Adds, total-of, behind-of, terms-total, Steps, TermSteps}
 use Rattle.scan.specs.declared.Behind.{Behind}
-use Rattle.scan.specs.Nodes.{part-length, int-level}
+use Rattle.scan.specs.Nodes.{int-level}
 use Rattle.scan.specs.Skip.{int-leaf, int-sum}
 use Rattle.scan.specs.IfLaws.{Low}
 use Rattle.scan.specs.SurveyLaws.{behind-at, IntSurveys, ints-off, ints-sum, terms-none, terms-more, terms-done}
@@ -48,7 +49,7 @@ on false b e h = never (sym h)
 
 module _ (w : List ℤ) (l : ℕ) (m : Splitting) (at base : ℕ) (n : Counters) where
   -- where no integer is counted
-  pub leaf-passed : 4608 ≤ length w → at ≤ 4608 → base ≤ limit → Low n → (l ≡ 0 → ⊥) → (k : ℕ) → k ≡ word (read-part w) at → k < 22 → (i : Bool) → i ≡ has-ifs w → not i ≡ true → (two : ℕ) → two ≡ min (at + 2) 4608 → IntSurveys w l m at base n (behind-at two base n)
+  pub leaf-passed : folded-end ≤ length w → at ≤ folded-end → base ≤ limit → Low n → (l ≡ 0 → ⊥) → (k : ℕ) → k ≡ word (read-part w) at → k < 22 → (i : Bool) → i ≡ has-ifs w → not i ≡ true → (two : ℕ) → two ≡ min (at + 2) folded-end → IntSurveys w l m at base n (behind-at two base n)
   leaf-passed long inside low h z k e f i o g two j =
       ints-off w long l m at base n h (behind-at two base n) two base i o g (int-leaf w long l m at base inside low (l - 1) z refl k two e (λ q. omega arith) (λ q. omega arith) j) refl
 
@@ -74,7 +75,7 @@ unfolding is-sum
 sum-left w zero at e = never e
 sum-left w (suc l) at e = omega arith
 
-module _ (w : List ℤ) (long : 4608 ≤ length w) (l u : ℕ) (m : Splitting) (at base : ℕ) (n : Counters) (e : is-sum w l at ≡ true) (hu : u ≡ l - 1) (x two : ℕ) (hx : x ≡ word (read-part w) (at + 1)) (h2 : two ≡ min (at + 2) 4608) where
+module _ (w : List ℤ) (long : folded-end ≤ length w) (l u : ℕ) (m : Splitting) (at base : ℕ) (n : Counters) (e : is-sum w l at ≡ true) (hu : u ≡ l - 1) (x two : ℕ) (hx : x ≡ word (read-part w) (at + 1)) (h2 : two ≡ min (at + 2) folded-end) where
   pub tree-is : int-at w l m at base ≡ sum (terms-at w u m two base x)
   unfolding int-step
   tree-is =
@@ -95,7 +96,7 @@ module _ (w : List ℤ) (long : 4608 ≤ length w) (l u : ℕ) (m : Splitting) (
         words = rw (o .same) (constant-each Word (pos 0));
       }
 
-  pub going-end : at ≤ 4608 → base ≤ limit → Low n → (rest : ℕ) (r : Nested) → Going w u m x two base n rest (r .behind) (r .sum) → rest ≡ 0 → Linear w l m at base n r
+  pub going-end : at ≤ folded-end → base ≤ limit → Low n → (rest : ℕ) (r : Nested) → Going w u m x two base n rest (r .behind) (r .sum) → rest ≡ 0 → Linear w l m at base n r
   unfolding form-int-item sum-item no-terms-item many-terms
   going-end inside b low zero r g z =
       let t = sum-there w l at e in
@@ -108,7 +109,7 @@ module _ (w : List ℤ) (long : 4608 ≤ length w) (l u : ℕ) (m : Splitting) (
   going-end inside b low (suc rest) r g z = absurd (omega arith)
 
 -- a turn: the term at p, its coefficient K
-module _ (w : List ℤ) (long : 4608 ≤ length w) (u : ℕ) (m : Splitting) (x two base : ℕ) (n : Counters) (rest : ℕ) (r : Behind) (s : Sum) (g : Going w u m x two base n rest r s) (z : rest ≡ 0 → ⊥) (p : ℕ) (hp : p ≡ min (r .at + 1) 4608) (K : ℤ) (hk : K ≡ getD (read-part w) (r .at) (pos 0)) where
+module _ (w : List ℤ) (long : folded-end ≤ length w) (u : ℕ) (m : Splitting) (x two base : ℕ) (n : Counters) (rest : ℕ) (r : Behind) (s : Sum) (g : Going w u m x two base n rest r s) (z : rest ≡ 0 → ⊥) (p : ℕ) (hp : p ≡ min (r .at + 1) folded-end) (K : ℤ) (hk : K ≡ getD (read-part w) (r .at) (pos 0)) where
   abbrev E : IntForm
   E = int-at w u m p (r .base)
 

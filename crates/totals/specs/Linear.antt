@@ -3,12 +3,12 @@ use mathlib.Core.Path.{_≡_}
 use mathlib.Core.List.{List}
 use Prim.Native.Nat.{ℕ, _≤_}
 use lib.IntN.{ℤ, pos, negsuc}
+use Rattle.memory.specs.Places.{limit}
 use Rattle.syntax.specs.Syntax.{Domain}
 use Rattle.sums.specs.LinearSum.{constant, sub-sum}
 use Rattle.sums.specs.Rising.{Each}
 use Rattle.sums.specs.Struct.{terms, sum-of, Is, Stands}
 use Rattle.sums.specs.declared.LinearSum.{LinearSum as Sum}
-use Rattle.walk.specs.Item.{limit}
 use Rattle.walk.specs.Decode.{read-part}
 use Rattle.walk.specs.declared.Counters.{Counters}
 use Rattle.walks.specs.Tree.{Splitting}

@@ -22,7 +22,7 @@ use Rattle.walks.specs.Meet.{found, range-of}
 use Rattle.walks.specs.Decode.{decode, decode-int}
 use Rattle.walks.specs.Totals.{Light, light-weight, total-of, behind-of, Carries, total-load, Steps}
 use Rattle.walks.specs.SumsFit.{InsideFits, TermsFit}
-use Rattle.memory.specs.DomainTable.{Declares}
+use Rattle.declared.specs.DomainTable.{Declares}
 use Rattle.scan.specs.declared.Behind.{Behind}
 use Rattle.scan.specs.SurveyLaws.{TermsSofar}
 use Rattle.totals.specs.declared.Found.{Found}

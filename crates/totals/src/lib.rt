@@ -5,14 +5,16 @@ ghost use Prim.Native.Nat.{_+_, _-_, _*_, _<_, _≤_, _^_};
 ghost use lib.IntN.{pos, negsuc, natAbs};
 ghost use lib.ListN.{getD};
 ghost use Rattle.laws.specs.Ints.{lower, higher};
+ghost use Rattle.memory.specs.Places.{folded-end, limit};
+ghost use Rattle.memory.specs.Number.{nat};
 ghost use Rattle.sums.specs.LinearSum.{singleton, add-sum, mul-sum, sub-sum};
 ghost use Rattle.sums.specs.Rising.{terms-of};
 ghost use Rattle.sums.specs.Bounds.{size, Room};
 ghost use Rattle.sums.specs.Struct.{terms, sum-of, sum-at, Stands, Wide, Keeps};
-ghost use Rattle.walk.specs.Item.{limit, nat, int-number};
+ghost use Rattle.walk.specs.Item.{int-number};
 ghost use Rattle.walk.specs.Decode.{read-part};
 ghost use Rattle.walks.specs.Item.{number-in};
-ghost use Rattle.memory.specs.DomainTable.{word-at};
+ghost use Rattle.declared.specs.DomainTable.{word-at};
 ghost use Rattle.scan.specs.Skip.{split-by};
 ghost use Rattle.scan.specs.IfLaws.{seen-at, Low};
 ghost use Rattle.scan.specs.SurveyLaws.{IntSurveys};
@@ -40,27 +42,17 @@ fn number_in(z: i32) -> u32
     (k - 1) as u32
 }
 
-// The word at a place; 0 behind the end.
-fn cell_at(work: &[i32], i: usize) -> i32
-    ensures { λ r. ⌜ r ≡ getD (now (work .entry)) i (pos 0) ⌝ }
-{
-    if i < work.len() {
-        return work[i];
-    }
-    0
-}
-
 // The emitted number of a declared integer.
 fn number_at(work: &[i32], v: usize) -> u32
     requires { ⌜ v < 256 ⌝ }
     ensures { λ r. ⌜ (r ≡ int-number (now (work .entry)) v) × (r < 2147483648) ⌝ }
 {
-    number_in(cell_at(work, 5120 + v))
+    number_in(memory::plain(work, memory::INT_MAP + v))
 }
 
 // The number of the If at a place, where its visit ends with so many integers.
 pub fn if_number(work: &[i32], at: usize, ints: usize) -> u32
-    requires { ⌜ (at ≤ 4608) × (ints ≤ limit) ⌝ }
+    requires { ⌜ (at ≤ folded-end) × (ints ≤ limit) ⌝ }
     ensures { λ r. ⌜ (r ≡ number-in (seen-at (now (work .entry)) at) ints) × (r < 2147483648) ⌝ }
 {
     let z = scan::cell(work, at + 1);
@@ -80,8 +72,8 @@ pub fn if_number(work: &[i32], at: usize, ints: usize) -> u32
 fn word_at(work: &[i32], at: usize) -> i32
     ensures { λ r. ⌜ r ≡ getD (read-part (now (work .entry))) at (pos 0) ⌝ }
 {
-    if at < 4608 {
-        return cell_at(work, at);
+    if at < memory::FOLDED_END {
+        return memory::plain(work, at);
     }
     0
 }
@@ -94,7 +86,7 @@ enum Lone {
 
 // Of the expression at a place, where its visit ends with so many integers.
 fn lone_at(work: &[i32], at: usize, left: usize, ints: usize) -> Lone
-    requires { ⌜ (at ≤ 4608) × (ints ≤ limit) ⌝ }
+    requires { ⌜ (at ≤ folded-end) × (ints ≤ limit) ⌝ }
     ensures { λ r. ⌜ (r ≡ lone-of (now (work .entry)) left at ints) × WordIn r ⌝ }
 {
     if left == 0 {
@@ -160,7 +152,7 @@ fn is_sum(work: &[i32], at: usize, left: usize) -> bool
 
 // Behind the integer expression at a place; where no integer is counted, a constant or a variable is passed at once.
 pub fn end_of(work: &[i32], at: usize, left: usize, m: usize, base: usize, n: Counters) -> Behind
-    requires { do ⌜ (4608 ≤ (← ⟦work.len()⟧)) × ((at ≤ 4608) × ((base ≤ limit) × Low n)) ⌝ }
+    requires { do ⌜ (folded-end ≤ (← ⟦work.len()⟧)) × ((at ≤ folded-end) × ((base ≤ limit) × Low n)) ⌝ }
     ensures { λ r. ⌜ IntSurveys (now (work .entry)) left (split-by m) at base n r ⌝ }
 {
     if left != 0 {
@@ -179,7 +171,7 @@ pub fn end_of(work: &[i32], at: usize, left: usize, m: usize, base: usize, n: Co
 
 // An expression that is no sum.
 fn alone(work: &[i32], at: usize, left: usize, m: usize, base: usize, n: Counters) -> Nested
-    requires { do ⌜ (4608 ≤ (← ⟦work.len()⟧)) × ((at ≤ 4608) × ((base ≤ limit) × (Low n × (is-sum-of (now work) left at ≡ false)))) ⌝ }
+    requires { do ⌜ (folded-end ≤ (← ⟦work.len()⟧)) × ((at ≤ folded-end) × ((base ≤ limit) × (Low n × (is-sum-of (now work) left at ≡ false)))) ⌝ }
     ensures { λ r. ⌜ Linear (now (work .entry)) left (split-by m) at base n r ⌝ }
 {
     let e = end_of(work, at, left, m, base, n);
@@ -190,7 +182,7 @@ fn alone(work: &[i32], at: usize, left: usize, m: usize, base: usize, n: Counter
 
 // The sum of the expression at a place: the terms of a sum one after another.
 pub fn linear_of(work: &[i32], at: usize, left: usize, m: usize, base: usize, n: Counters) -> Nested
-    requires { do ⌜ (4608 ≤ (← ⟦work.len()⟧)) × ((at ≤ 4608) × ((base ≤ limit) × (Low n × Stepping (now work) left (split-by m) at base n))) ⌝ }
+    requires { do ⌜ (folded-end ≤ (← ⟦work.len()⟧)) × ((at ≤ folded-end) × ((base ≤ limit) × (Low n × Stepping (now work) left (split-by m) at base n))) ⌝ }
     ensures { λ r. ⌜ Linear (now (work .entry)) left (split-by m) at base n r ⌝ }
 {
     if !is_sum(work, at, left) {
@@ -255,7 +247,7 @@ pub fn less_variable(s: LinearSum, n: u32) -> LinearSum
 
 // A side minus the expression at q, which is visited behind it.
 pub fn less_side(a: Nested, work: &[i32], q: usize, left: usize, m: usize) -> Nested
-    requires { do ⌜ (4608 ≤ (← ⟦work.len()⟧)) × ((q ≤ 4608) × Subtracts (now work) left (split-by m) q a) ⌝ }
+    requires { do ⌜ (folded-end ≤ (← ⟦work.len()⟧)) × ((q ≤ folded-end) × Subtracts (now work) left (split-by m) q a) ⌝ }
     ensures { λ r. ⌜ Less (now (work .entry)) left (split-by m) q a r ⌝ }
 {
     let e = a.behind;
@@ -301,7 +293,7 @@ pub fn difference(
     base: usize,
     n: Counters,
 ) -> Nested
-    requires { do ⌜ (4608 ≤ (← ⟦work.len()⟧)) × ((at ≤ 4608) × ((base ≤ limit) × (Low n × Compares (now work) left (split-by m) at base n))) ⌝ }
+    requires { do ⌜ (folded-end ≤ (← ⟦work.len()⟧)) × ((at ≤ folded-end) × ((base ≤ limit) × (Low n × Compares (now work) left (split-by m) at base n))) ⌝ }
     ensures { λ r. ⌜ Differs (now (work .entry)) left (split-by m) at base n r ⌝ }
 {
     let a = linear_of(work, at, left, m, base, n);
@@ -343,9 +335,9 @@ fn declared(work: &[i32], v: usize) -> Found
     requires { ⌜ v < 256 ⌝ }
     ensures { λ r. ⌜ r ≡ hit-of (word-at (now (work .entry)) v 0) (word-at (now (work .entry)) v 1) ⌝ }
 {
-    let i = 9480 + 3 * v;
-    let low = cell_at(work, i);
-    let high = cell_at(work, i + 1);
+    let i = memory::DECLARED_DOMAINS + 3 * v;
+    let low = memory::plain(work, i);
+    let high = memory::plain(work, i + 1);
     hit(low, high)
 }
 
@@ -369,7 +361,7 @@ fn if_domain(
     base: usize,
     n: Counters,
 ) -> Found
-    requires { do ⌜ (4608 ≤ (← ⟦work.len()⟧)) × ((p ≤ 4608) × ((c ≤ 4608) × ((base ≤ limit) × (Low n × Branching (now work) left (split-by m) c base n)))) ⌝ }
+    requires { do ⌜ (folded-end ≤ (← ⟦work.len()⟧)) × ((p ≤ folded-end) × ((c ≤ folded-end) × ((base ≤ limit) × (Low n × Branching (now work) left (split-by m) c base n)))) ⌝ }
     ensures { λ r. ⌜ IfBounds (now (work .entry)) left (split-by m) p c base n r ⌝ }
 {
     if scan::seen(work, p) != 1 {
@@ -396,7 +388,7 @@ fn find_lone(
     n: Counters,
     x: u32,
 ) -> Found
-    requires { do ⌜ (4608 ≤ (← ⟦work.len()⟧)) × ((at ≤ 4608) × ((base ≤ limit) × (Low n × ((is-sum-of (now work) left at ≡ false) × Branched (now work) left (split-by m) at base n)))) ⌝ }
+    requires { do ⌜ (folded-end ≤ (← ⟦work.len()⟧)) × ((at ≤ folded-end) × ((base ≤ limit) × (Low n × ((is-sum-of (now work) left at ≡ false) × Branched (now work) left (split-by m) at base n)))) ⌝ }
     ensures { λ r. ⌜ Finds (now (work .entry)) left (split-by m) at base n x r ⌝ }
 {
     if left == 0 {
@@ -424,7 +416,7 @@ fn find_lone(
 
 // The domain of the number x where it is first met in the expression at a place.
 fn find(work: &[i32], at: usize, left: usize, m: usize, base: usize, n: Counters, x: u32) -> Found
-    requires { do ⌜ (4608 ≤ (← ⟦work.len()⟧)) × ((at ≤ 4608) × ((base ≤ limit) × (Low n × Branched (now work) left (split-by m) at base n))) ⌝ }
+    requires { do ⌜ (folded-end ≤ (← ⟦work.len()⟧)) × ((at ≤ folded-end) × ((base ≤ limit) × (Low n × Branched (now work) left (split-by m) at base n))) ⌝ }
     ensures { λ r. ⌜ Finds (now (work .entry)) left (split-by m) at base n x r ⌝ }
 {
     if !is_sum(work, at, left) {
@@ -464,7 +456,7 @@ fn bounds(
     base: usize,
     n: Counters,
 ) -> Interval
-    requires { do ⌜ (4608 ≤ (← ⟦work.len()⟧)) × ((at ≤ 4608) × ((base ≤ limit) × (Low n × Bounded (now work) left (split-by m) at base n s))) ⌝ }
+    requires { do ⌜ (folded-end ≤ (← ⟦work.len()⟧)) × ((at ≤ folded-end) × ((base ≤ limit) × (Low n × Bounded (now work) left (split-by m) at base n s))) ⌝ }
     ensures { λ r. ⌜ Bounds (now (work .entry)) left (split-by m) at base n s (r .low) (r .high) ⌝ }
 {
     let count = s.count;
@@ -494,7 +486,7 @@ pub fn range_of(
     base: usize,
     n: Counters,
 ) -> Interval
-    requires { do ⌜ (4608 ≤ (← ⟦work.len()⟧)) × ((at ≤ 4608) × ((base ≤ limit) × (Low n × Ranging (now work) left (split-by m) at base n))) ⌝ }
+    requires { do ⌜ (folded-end ≤ (← ⟦work.len()⟧)) × ((at ≤ folded-end) × ((base ≤ limit) × (Low n × Ranging (now work) left (split-by m) at base n))) ⌝ }
     ensures { λ r. ⌜ Ranges (now (work .entry)) left (split-by m) at base n (r .low) (r .high) ⌝ }
 {
     let l = linear_of(work, at, left, m, base, n);

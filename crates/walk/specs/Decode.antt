@@ -5,8 +5,10 @@ use Prim.Native.Nat.{ℕ, _+_, min}
 use lib.IntN.{ℤ, pos}
 use lib.ListN.{length, getD, take}
 use lib.Dec.{eqb, ltb}
+use Rattle.memory.specs.Places.{folded-end}
+use Rattle.memory.specs.Number.{nat}
 use Rattle.clauses.specs.Clause.{negate-if}
-use Rattle.walk.specs.Item.{bump, is-none, mode-in, fresh-in, lines-in, nat}
+use Rattle.walk.specs.Item.{bump, is-none, mode-in, fresh-in, lines-in}
 use Rattle.walk.specs.declared.Node.{Node}
 use Rattle.walk.specs.declared.Node.the-variants.{Join}
 use Rattle.walk.specs.declared.Surveyed.{Surveyed}
@@ -27,7 +29,7 @@ constant-node x g q = Join (not (negate-if g (eqb x 1))) 0 g g q
 
 -- the words of the work slice that hold the folded statements
 unfoldable pub read-part : List ℤ → List ℤ
-read-part w = take 4608 w
+read-part w = take folded-end w
 
 abbrev pub surveyed : ℕ → ℕ → ℕ → ℕ → ℕ → ℕ → ℕ → ℕ → Surveyed
 surveyed at base n longs lits cmps lines all = record { at = at; base = base; n = n; longs = longs; lits = lits; cmps = cmps; lines = lines; all = all }

@@ -7,6 +7,7 @@ use lib.IntN.{ℤ}
 use lib.ListN.{length, take, drop, take-append-drop, length-drop}
 use lib.Seq.{drop-append-le, take-append-le}
 use Rattle.laws.specs.Slices.{Has, has-fits}
+use Rattle.memory.specs.Places.{folded-end}
 use Rattle.walk.specs.Decode.{read-part}
 
 has-wider : (xs ys : List ℤ) (at : ℕ) (us : List ℤ) → 0 < length us → Has xs at us → Has (xs ++ ys) at us
@@ -17,4 +18,4 @@ has-wider xs ys at us z h =
 pub has-part : (w : List ℤ) (at : ℕ) (us : List ℤ) → Has (read-part w) at us → Has w at us
 unfolding read-part
 has-part w at [] h = refl
-has-part w at (u ∷ us) h = subst (λ (l : List ℤ). Has l at (u ∷ us)) (take-append-drop 4608 w) (has-wider (take 4608 w) (drop 4608 w) at (u ∷ us) (omega arith) h)
+has-part w at (u ∷ us) h = subst (λ (l : List ℤ). Has l at (u ∷ us)) (take-append-drop folded-end w) (has-wider (take folded-end w) (drop folded-end w) at (u ∷ us) (omega arith) h)

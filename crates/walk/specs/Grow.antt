@@ -8,9 +8,10 @@ use native.Mathlib.Omega.{arith}
 use lib.IntN.{ℤ, pos, negsuc}
 use lib.Dec.{eqb, eqb→eq}
 use borrow.Author.Tests.{le-leb, eq-eqb}
+use Rattle.memory.specs.Places.{limit}
 use Rattle.clauses.specs.Clause.{Clause, BoolLit, lit}
 use Rattle.clauses.specs.Log.{declared, aux, declared-int, bool, int, added, Log, next-bool, next-int, number-of, negate-lit, get-bool-var, get-int-var}
-use Rattle.walk.specs.Item.{limit, int-entry, word-of, bool-at, signed}
+use Rattle.walk.specs.Item.{int-entry, word-of, bool-at, signed}
 use Rattle.clauses.specs.Grow.{get-bool-below}
 use Rattle.clauses.specs.Since.{OnTop, here, over, top-then}
 

@@ -3,16 +3,14 @@
 use mathlib.Core.Bool.{Bool, true, false, cond}
 use mathlib.Core.List.{List, [], _∷_, _++_}
 use Prim.Native.Nat.{ℕ, zero, suc, _+_, _-_, min}
-use lib.IntN.{ℤ, pos, negsuc, negℤ, natAbs}
+use lib.IntN.{ℤ, pos, negℤ, natAbs}
 use Rattle.laws.specs.Ints.{is-zero}
+use Rattle.memory.specs.Places.{bool-map, int-map, limit}
+use Rattle.memory.specs.Number.{nat}
 use lib.ListN.{length, getD, set}
 use lib.Dec.{leb}
 use Rattle.walk.specs.declared.Mode.{Mode}
 use Rattle.walk.specs.declared.Mode.the-variants.{Pool, One, Two, Each}
-
--- counters stop here
-abbrev pub limit : ℕ
-limit = 1073741824
 
 abbrev pub bump : ℕ → ℕ → ℕ
 bump n k = min (n + k) limit
@@ -21,17 +19,7 @@ abbrev pub is-none : ℕ → Bool
 is-none zero = true
 is-none (suc n) = false
 
--- ---- the work slice: the maps hold number plus 1, or 0
-
-abbrev pub bool-map : ℕ
-bool-map = 4608
-
-abbrev pub int-map : ℕ
-int-map = 5120
-
-unfoldable pub nat : ℤ → ℕ
-nat (pos n) = n
-nat (negsuc n) = 0
+-- ---- the maps hold number plus 1, or 0
 
 -- a Boolean's word is negative where it is tied to the negation of a number
 unfoldable pub bool-at : List ℤ → ℕ → ℤ

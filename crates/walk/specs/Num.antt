@@ -11,8 +11,11 @@ use lib.ListN.{length, set, length-set}
 use lib.Seq.{getD-set-same, getD-set-other}
 use lib.Dec.{eqb, eqb→eq}
 use borrow.Author.Tests.{eq-eqb, ne-eqb}
+use Rattle.memory.specs.Places.{bool-map, int-map, limit}
+use Rattle.memory.specs.Number.{nat}
+use Rattle.syntax.specs.Words.{max-bools, min-work-words}
 use Rattle.clauses.specs.Log.{declared, bool, Log, next-bool, get-bool-var, get-int-var, bool-var-at}
-use Rattle.walk.specs.Item.{limit, bump, bool-map, int-map, nat, int-entry, State, meet-bool, bool-at}
+use Rattle.walk.specs.Item.{bump, int-entry, State, meet-bool, bool-at}
 use Rattle.walk.specs.Grow.{lit-word}
 use Rattle.clauses.specs.Clause.{BoolLit, lit}
 use Rattle.answer.specs.Answer.{bool-word}
@@ -22,11 +25,11 @@ code none = 0
 code (some n) = suc n
 
 pub record Numbered (st : State) (s : Log) : Type 0 where
-  pub map : (v : ℕ) → v < 512 → bool-at (st .work) v ≡ bool-word (get-bool-var v s)
+  pub map : (v : ℕ) → v < max-bools → bool-at (st .work) v ≡ bool-word (get-bool-var v s)
   pub map-int : (v : ℕ) → v < 256 → int-entry (st .work) v ≡ code (get-int-var v s)
   pub bools : st .bools ≡ next-bool s
-  pub low : (v : ℕ) (n : BoolLit) → get-bool-var v s ≡ some n → v < 512
-  pub size : 16384 ≤ length (st .work)
+  pub low : (v : ℕ) (n : BoolLit) → get-bool-var v s ≡ some n → v < max-bools
+  pub size : min-work-words ≤ length (st .work)
 
 pub word-some : (l : BoolLit) (o : Option BoolLit) → o ≡ some l → bool-word o ≡ lit-word l
 word-some (lit n false) o e = rw e
@@ -48,7 +51,7 @@ bool-same w v n h = getD-set-same w (bool-map + v) (pos n) (pos 0) h
 
 -- ---- a declared variable
 
-pub bool-num : (v : ℕ) (st : State) (s : Log) (o : Option BoolLit) → get-bool-var v s ≡ o → v < 512 → Numbered st s → next-bool (bool-var-at o v s .1) ≤ limit → Numbered (meet-bool v st) (bool-var-at o v s .1)
+pub bool-num : (v : ℕ) (st : State) (s : Log) (o : Option BoolLit) → get-bool-var v s ≡ o → v < max-bools → Numbered st s → next-bool (bool-var-at o v s .1) ≤ limit → Numbered (meet-bool v st) (bool-var-at o v s .1)
 unfolding meet-bool get-bool-var get-int-var
 bool-num v st s (some (lit n false)) e hv h l = rw (h .map v hv ∙ ap bool-word e, ne-eqb (suc n) 0 (λ q. omega arith)) h
 bool-num v st s (some (lit n true)) e hv h l = rw (h .map v hv ∙ ap bool-word e) h
@@ -63,12 +66,12 @@ bool-num v st s none e hv h l =
       size = rw length-set (h .size);
     })
   where
-    mp : (u : ℕ) → u < 512 → (c : Bool) → eqb u v ≡ c → bool-at (set (st .work) (bool-map + v) (pos (suc (next-bool s)))) u ≡ bool-word (get-bool-var u (bool (declared v) ∷ s))
+    mp : (u : ℕ) → u < max-bools → (c : Bool) → eqb u v ≡ c → bool-at (set (st .work) (bool-map + v) (pos (suc (next-bool s)))) u ≡ bool-word (get-bool-var u (bool (declared v) ∷ s))
     mp u hu true q = let p : u ≡ v = eqb→eq u v (rw q tt) in rw q (rw p (bool-same (st .work) v (suc (next-bool s)) (omega (arith, h .size))))
     mp u hu false q =
         let ne : u ≢ v = λ (p : u ≡ v). false≢true (sym q ∙ eq-eqb u v p) in
         rw q (bool-other (st .work) (bool-map + v) (pos (suc (next-bool s))) u (λ x. ne (omega arith)) ∙ h .map u hu)
 
-    lw : (u : ℕ) (n : BoolLit) (c : Bool) → eqb u v ≡ c → get-bool-var u (bool (declared v) ∷ s) ≡ some n → u < 512
+    lw : (u : ℕ) (n : BoolLit) (c : Bool) → eqb u v ≡ c → get-bool-var u (bool (declared v) ∷ s) ≡ some n → u < max-bools
     lw u n true q f = let p : u ≡ v = eqb→eq u v (rw q tt) in omega arith
     lw u n false q f = h .low u n (rw q at f)

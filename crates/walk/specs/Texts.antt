@@ -7,11 +7,12 @@ use native.Mathlib.Omega.{arith}
 use lib.IntN.{ℤ, pos, negsuc}
 use lib.ListN.{length, length-append, length-map}
 use Rattle.laws.specs.Lists.{flat, flat-append}
+use Rattle.memory.specs.Places.{limit}
 use Rattle.clauses.specs.Clause.{BoolLit, lit, LinearLit, Clause, clause}
 use Rattle.clauses.specs.Log.{aux, bool, Log, next-bool, next-int, get-bool-var, get-int-var, clauses-of}
 use Rattle.clauses.specs.Disjunction.{add-bool-each, Sorted, satisfied, pool, sorted, each-longer, finish-disjunction, finish-sorted, normalize-disjunction}
 use Rattle.answer.specs.Answer.{lit-words, linear-words, clause-words}
-use Rattle.walk.specs.Item.{limit, word-of, clause-text, mode-in, fresh-in, lines-in, extra, block, pool-text}
+use Rattle.walk.specs.Item.{word-of, clause-text, mode-in, fresh-in, lines-in, extra, block, pool-text}
 use Rattle.walk.specs.Grow.{Grows, same, then, grow-aux, lit-word, word-lit}
 use Rattle.walk.specs.declared.Mode.the-variants.{Each}
 

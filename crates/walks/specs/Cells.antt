@@ -16,12 +16,13 @@ use Rattle.laws.specs.Bools.{never as no-bool}
 use Rattle.laws.specs.Ints.{is-zero}
 use Rattle.laws.specs.Same.{same-words, same-is, same-refl}
 use Rattle.laws.specs.Slices.{Has}
+use Rattle.memory.specs.Places.{folded, folded-end, cells, ifs-word}
 use Rattle.syntax.specs.Syntax.{Domain, lower-bound, upper-bound, IntExpr, IConst, IVar, Linear, If, encode-int}
 use Rattle.syntax.specs.Unique.{int-unique, int-unique-words}
 use Rattle.clauses.specs.Log.{Log, known, next-int, get-if, made-ints, emitted-domains}
 use Rattle.clauses.specs.Emitted.{domain-at}
 use Rattle.clauses.specs.Since.{OnTop, top-domain}
-use Rattle.walks.specs.Item.{ifs-word, has-ifs, cells, cell, unseen, both-constant, numbered, seen-in}
+use Rattle.walks.specs.Item.{has-ifs, cell, unseen, both-constant, numbered, seen-in}
 use Rattle.walks.specs.Distinct.{none-some, some-is, unseen-numbered, constant-numbered}
 use Rattle.walks.specs.Meet.{set-cells}
 
@@ -75,7 +76,7 @@ pub word-kept : (w : List ℤ) (p : ℕ) (x : ℤ) → (ifs-word ≡ p → ⊥) 
 unfolding has-ifs
 word-kept w p x h = ap (λ y. not (is-zero y)) (getD-set-other w p ifs-word x (pos 0) h)
 
-pub cells-word : (p : ℕ) (x y z : ℤ) (w : List ℤ) → p < 4608 → has-ifs (set-cells p x y z w) ≡ has-ifs w
+pub cells-word : (p : ℕ) (x y z : ℤ) (w : List ℤ) → p < folded-end → has-ifs (set-cells p x y z w) ≡ has-ifs w
 unfolding set-cells
 cells-word p x y z w h =
     let a = set w (cells + (p + 1)) x in
@@ -101,8 +102,8 @@ module _ (ds : List Domain) (F : List ℤ) (Plain : IntExpr → Type 0) (parted 
     pub is-if : IsIf e
     pub plain : Plain e
     pub words : Has F q (encode-int e)
-    pub low : 512 ≤ q
-    pub high : q < 4608
+    pub low : folded ≤ q
+    pub high : q < folded-end
 
   -- what is looked up for the If at a place
   pub data Key (q : ℕ) (e : IntExpr) : Type 0 where
@@ -144,13 +145,13 @@ module _ (ds : List Domain) (F : List ℤ) (Plain : IntExpr → Type 0) (parted 
   -- ---- elsewhere
 
   -- the log grows by no If, and the cells stay
-  module _ (w w' : List ℤ) (s s' : Log) (same : (q : ℕ) → 512 < q → cell w' q ≡ cell w q) (ifs : (e : IntExpr) → get-if e s' ≡ get-if e s) (top : OnTop s s') (below : Below s) where
-    is-kept : (q : ℕ) (e : IntExpr) (v : ℕ) → 512 ≤ q → Is w s q e v → Is w' s' q e v
+  module _ (w w' : List ℤ) (s s' : Log) (same : (q : ℕ) → folded < q → cell w' q ≡ cell w q) (ifs : (e : IntExpr) → get-if e s' ≡ get-if e s) (top : OnTop s s') (below : Below s) where
+    is-kept : (q : ℕ) (e : IntExpr) (v : ℕ) → folded ≤ q → Is w s q e v → Is w' s' q e v
     is-kept q e v h i =
         let d = top-domain ds top v (below e v (i .found)) in
         record { found = ifs e ∙ i .found; low = same (q + 2) (omega arith) ∙ i .low ∙ ap lower-bound (sym d); high = same (q + 3) (omega arith) ∙ i .high ∙ ap upper-bound (sym d) }
 
-    seen-kept : (q : ℕ) → 512 ≤ q → seen-in (cell w' (q + 1)) ≡ seen-in (cell w (q + 1))
+    seen-kept : (q : ℕ) → folded ≤ q → seen-in (cell w' (q + 1)) ≡ seen-in (cell w (q + 1))
     seen-kept q h = ap seen-in (same (q + 1) (omega arith))
 
     pub cells-kept : Places → Cells w s → Cells w' s'
@@ -164,7 +165,7 @@ module _ (ds : List Domain) (F : List ℤ) (Plain : IntExpr → Type 0) (parted 
       unshared = λ q e v t d h. c .unshared q e v t d (sym (seen-kept q (t .low)) ∙ h);
     }
       where
-        key-low : (q : ℕ) (e : IntExpr) → Key q e → 512 ≤ q
+        key-low : (q : ℕ) (e : IntExpr) → Key q e → folded ≤ q
         key-low q e (whole t d) = t .low
         key-low q e (own k) = P .stand q e k .low
 

@@ -12,10 +12,12 @@ use lib.Seq.{getD-set-same, getD-set-other, take-set-le}
 use lib.Dec.{eqb}
 use borrow.Author.Tests.{eqb-true, eqb-false}
 use Rattle.laws.specs.Bools.{never}
+use Rattle.memory.specs.Places.{folded, folded-end, maps-end, cells}
 use Rattle.syntax.specs.Syntax.{Domain, IntExpr}
+use Rattle.syntax.specs.Words.{min-work-words}
 use Rattle.walk.specs.Decode.{read-part}
 use Rattle.walks.specs.Tree.{Place}
-use Rattle.walks.specs.Item.{has-ifs, cells, cell, unseen, numbered, seen-in}
+use Rattle.walks.specs.Item.{has-ifs, cell, unseen, numbered, seen-in}
 use Rattle.walks.specs.Distinct.{unseen-numbered}
 use Rattle.walks.specs.Meet.{set-cell}
 use Rattle.walks.specs.Cells.{word-kept, Off, Stands, Places, off-apart}
@@ -48,14 +50,14 @@ clear-size (p ∷ ps) w = clear-size ps (clear-place p w) ∙ either (λ (x : Li
 clear-words : (ps : List Place) (w : List ℤ) → read-part (clear-places ps w) ≡ read-part w
 unfolding clear-places clear-place read-part
 clear-words [] w = refl
-clear-words (p ∷ ps) w = clear-words ps (clear-place p w) ∙ either (λ (x : List ℤ). read-part x ≡ read-part w) (p .whole) w _ refl (take-set-le 4608 w (cells + (p .at + 1)) (pos 0) (omega arith))
+clear-words (p ∷ ps) w = clear-words ps (clear-place p w) ∙ either (λ (x : List ℤ). read-part x ≡ read-part w) (p .whole) w _ refl (take-set-le folded-end w (cells + (p .at + 1)) (pos 0) (omega arith))
 
-clear-below : {ps : List Place} → Each (λ p. 512 ≤ p .at) ps → (w : List ℤ) (q : ℕ) → q < 5376 → getD (clear-places ps w) q (pos 0) ≡ getD w q (pos 0)
+clear-below : {ps : List Place} → Each (λ p. folded ≤ p .at) ps → (w : List ℤ) (q : ℕ) → q < maps-end → getD (clear-places ps w) q (pos 0) ≡ getD w q (pos 0)
 unfolding clear-places clear-place
 clear-below none w q h = refl
 clear-below (one {p} {ps} l ls) w q h = clear-below ls (clear-place p w) q h ∙ either (λ (x : List ℤ). getD x q (pos 0) ≡ getD w q (pos 0)) (p .whole) w _ refl (getD-set-other w (cells + (p .at + 1)) q (pos 0) (pos 0) (λ e. omega arith))
 
-clear-word : {ps : List Place} → Each (λ p. p .at < 4608) ps → (w : List ℤ) → has-ifs (clear-places ps w) ≡ has-ifs w
+clear-word : {ps : List Place} → Each (λ p. p .at < folded-end) ps → (w : List ℤ) → has-ifs (clear-places ps w) ≡ has-ifs w
 unfolding clear-places clear-place
 clear-word none w = refl
 clear-word (one {p} {ps} l ls) w = clear-word ls (clear-place p w) ∙ either (λ (x : List ℤ). has-ifs x ≡ has-ifs w) (p .whole) w _ refl (word-kept w (cells + (p .at + 1)) (pos 0) (λ e. omega arith))
@@ -64,10 +66,10 @@ clear-word (one {p} {ps} l ls) w = clear-word ls (clear-place p w) ∙ either (�
 
 -- among the folded words, and the slice is long enough
 abbrev Low : Place → Type 0
-Low p = p .at < 4608
+Low p = p .at < folded-end
 
 abbrev Long : List ℤ → Type 0
-Long w = 16384 ≤ length w
+Long w = min-work-words ≤ length w
 
 cleared : (p : Place) (w : List ℤ) → p .whole ≡ false → Low p → Long w → seen-in (cell (clear-place p w) (p .at + 1)) ≡ unseen
 unfolding clear-place cell

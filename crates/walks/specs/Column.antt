@@ -14,18 +14,21 @@ use borrow.Author.Tests.{lt-ltb}
 use Rattle.laws.specs.Ints.{is-zero}
 use Rattle.laws.specs.Bools.{never as no-bool}
 use Rattle.laws.specs.Slices.{Has}
+use Rattle.memory.specs.Places.{folded, folded-end, bool-map, int-map, cells, limit}
+use Rattle.memory.specs.Number.{nat}
 use Rattle.syntax.specs.Syntax.{Domain, IntExpr, IConst, IVar, Linear, If, encode-int}
 use Rattle.syntax.specs.Lengths.{int-long}
+use Rattle.syntax.specs.Words.{max-bools, min-work-words}
 use Rattle.clauses.specs.Log.{column, int, Log, next-int}
 use Rattle.clauses.specs.Normalize.{IntOut, equals, normalize-int-var, domain-of-sum, normalize-int-expr}
 use Rattle.tables.specs.Tables.{new-column, old-column, equivalent-int-var}
-use Rattle.walk.specs.Item.{limit, bool-map, int-map, nat, bool-at, int-entry}
+use Rattle.walk.specs.Item.{bool-at, int-entry}
 use Rattle.walk.specs.Decode.{read-part}
 use Rattle.walk.specs.Grow.{grow-added}
 use Rattle.walks.specs.Tree.{IntTree, never, splits-int, resolve-int, run-int}
 use Rattle.walks.specs.Form.{IntForm, const, ivar, sum, choice, int-form}
 use Rattle.walks.specs.Resolve.{column-runs, never-int}
-use Rattle.walks.specs.Item.{has-ifs, cells, cell, unseen, numbered, seen-in, form-int-item}
+use Rattle.walks.specs.Item.{has-ifs, cell, unseen, numbered, seen-in, form-int-item}
 use Rattle.walks.specs.Distinct.{unseen-numbered}
 use Rattle.walks.specs.Placed.{PlacedInt}
 use Rattle.walks.specs.Meet.{State, counters-of, with-work, set-cell, range-record, range-of, is-full, new-int, form-meet-int, meet-int}
@@ -129,12 +132,12 @@ module _ (F : List ℤ) (e : IntExpr) (p : ℕ) (words : Has F p (encode-int e))
 
   -- no If before it is seen that reaches it
   abbrev Clear : List ℤ → Type 0
-  Clear w = (q : ℕ) (d : IntExpr) → IsIf d → Has F q (encode-int d) → 512 ≤ q → q < 4608 → p ≤ q + 3 → q < p → seen-in (cell w (q + 1)) ≡ unseen
+  Clear w = (q : ℕ) (d : IntExpr) → IsIf d → Has F q (encode-int d) → folded ≤ q → q < folded-end → p ≤ q + 3 → q < p → seen-in (cell w (q + 1)) ≡ unseen
 
-  own-word : (w : List ℤ) (x : ℤ) → p < 4608 → has-ifs (set-cell p x w) ≡ has-ifs w
+  own-word : (w : List ℤ) (x : ℤ) → p < folded-end → has-ifs (set-cell p x w) ≡ has-ifs w
   own-word w x h = word-kept w (cells + p) x (λ z. omega arith)
 
-  own-later : (ds : List Domain) (parted : ℕ → Bool) (K : ℕ → Option IntExpr) (fixed : IntExpr → Bool) (w : List ℤ) (x : ℤ) → p < 4608 → Clear w → Later ds F PlainInt parted K fixed w (set-cell p x w)
+  own-later : (ds : List Domain) (parted : ℕ → Bool) (K : ℕ → Option IntExpr) (fixed : IntExpr → Bool) (w : List ℤ) (x : ℤ) → p < folded-end → Clear w → Later ds F PlainInt parted K fixed w (set-cell p x w)
   own-later ds parted K fixed w x h a = record {
     stay = λ q d t n k l m. own-cell w x (q + k) (λ z. n (a q d (t .is-if) (t .words) (t .low) (t .high) (omega arith) (omega arith)));
     word = own-word w x h;
@@ -154,12 +157,12 @@ module _ (ds : List Domain) (F : List ℤ) (parted : ℕ → Bool) (K : ℕ → 
   abbrev OutcomeAt : ℕ → ℕ → (List ℤ → Type 0) → State → State → Log → Type 0
   OutcomeAt = Outcome ds F PlainInt parted K (fixed ds) rec cap with-ifs before (Named ds)
 
-  module _ (e : IntExpr) (p : ℕ) (words : Has F p (encode-int e)) (from : 512 ≤ p) (to : p < 4608) where
+  module _ (e : IntExpr) (p : ℕ) (words : Has F p (encode-int e)) (from : folded ≤ p) (to : p < folded-end) where
     cell-good : (x : ℤ) (n : ℕ) (st : State) (s : Log) → Clear F e p words (st .work) → GoodAt n st s → GoodAt n (with-work (set-cell p x (st .work)) st) s
     unfolding bool-at int-entry read-part
     cell-good x n st s a g =
         let w = st .work in
-        let b : blanks is-zero (set-cell p x w) bool-map 512 ≡ blanks is-zero w bool-map 512 = blanks-other is-zero w bool-map (cells + p) x 512 (λ u m q. omega arith) in
+        let b : blanks is-zero (set-cell p x w) bool-map max-bools ≡ blanks is-zero w bool-map max-bools = blanks-other is-zero w bool-map (cells + p) x max-bools (λ u m q. omega arith) in
         let c : blanks no-int (set-cell p x w) int-map 256 ≡ blanks no-int w int-map 256 = blanks-other no-int w int-map (cells + p) x 256 (λ u m q. omega arith) in
         record {
           map = λ u l. getD-set-other w (cells + p) (bool-map + u) x (pos 0) (λ q. omega arith) ∙ g .map u l;
@@ -169,7 +172,7 @@ module _ (ds : List Domain) (F : List ℤ) (parted : ℕ → Bool) (K : ℕ → 
           low = g .low;
           low-int = g .low-int;
           size = rw length-set (g .size);
-          words = take-set-le 4608 w (cells + p) x (omega arith) ∙ g .words;
+          words = take-set-le folded-end w (cells + p) x (omega arith) ∙ g .words;
           word = own-word F e p words w x to ∙ g .word;
           records = g .records;
           cells = cells-later ds F PlainInt parted K (fixed ds) P w (set-cell p x w) (λ q d t. own-same F e p words w x q d (t .is-if) (t .words)) (own-later F e p words ds parted K (fixed ds) w x to a) s (g .cells);
@@ -231,7 +234,7 @@ module _ (ds : List Domain) (F : List ℤ) (parted : ℕ → Bool) (K : ℕ → 
               (good (number-good (run-int ds t s) m (visited st) c h) (omega (arith, v, column-words (run-int ds t s)))
               (later-then ds F PlainInt parted K (fixed ds) (st .work) (visited st .work) w r o) (λ w' l. q w' (later-then ds F PlainInt parted K (fixed ds) (visited st .work) w w' o l))))
 
-      number-kept : (d : Domain) (a : State) → 16384 ≤ length (a .work) → cell (number-column ds rec cap p d a .work) p ≡ pos (a .ints + 1)
+      number-kept : (d : Domain) (a : State) → min-work-words ≤ length (a .work) → cell (number-column ds rec cap p d a .work) p ≡ pos (a .ints + 1)
       unfolding number-column new-int cell
       number-kept d a h = getD-set-same (a .work) (cells + p) (pos (a .ints + 1)) (pos 0) (omega arith)
 
@@ -264,14 +267,14 @@ module _ (ds : List Domain) (F : List ℤ) (parted : ℕ → Bool) (K : ℕ → 
   abbrev column-tree : IntExpr → ℕ → IntTree
   column-tree e p = resolve-int e never p 0
 
-  module _ (l p : ℕ) (from : 512 ≤ p) where
+  module _ (l p : ℕ) (from : folded ≤ p) where
     abbrev pub StandsHere : IntExpr → Type 0
-    StandsHere e = LegalInt e l × Has F p (encode-int e) × (p + length (encode-int e) ≤ 4608) × Every (AgreesWith parted with-ifs) (keys-int e never p 0)
+    StandsHere e = LegalInt e l × Has F p (encode-int e) × (p + length (encode-int e) ≤ folded-end) × Every (AgreesWith parted with-ifs) (keys-int e never p 0)
 
-    high : (e : IntExpr) → StandsHere e → p < 4608
+    high : (e : IntExpr) → StandsHere e → p < folded-end
     high e h = below (length (encode-int e)) (int-long e) (h .2)
       where
-        below : (n : ℕ) → 2 ≤ n → p + n ≤ 4608 → p < 4608
+        below : (n : ℕ) → 2 ≤ n → p + n ≤ folded-end → p < folded-end
         below n i j = omega arith
 
     column-know : (e : IntExpr) → StandsHere e → FactsInt ds F parted K rec cap with-ifs before P low (column-tree e p)

@@ -5,11 +5,12 @@ use mathlib.Core.List.{List, [], _∷_, _++_}
 use Prim.Native.Nat.{ℕ, _+_, _-_}
 use native.Mathlib.Omega.{arith}
 use lib.IntN.{ℤ, pos}
+use Rattle.memory.specs.Number.{nat}
 use Rattle.syntax.specs.Syntax.{Domain, IntExpr, IConst, IVar, Linear, If}
 use Rattle.clauses.specs.Log.{column, int, added, Log, next-int, clauses-of}
 use Rattle.clauses.specs.Normalize.{equals, domain-of-sum, normalize-int-var, normalize-int-expr}
 use Rattle.tables.specs.Tables.{new-column, old-column, equivalent-int-var}
-use Rattle.walk.specs.Item.{bump, nat}
+use Rattle.walk.specs.Item.{bump}
 use Rattle.walk.specs.declared.Counters.{Counters}
 use Rattle.walk.specs.Grow.{grow-added}
 use Rattle.walks.specs.Tree.{IntTree, never, resolve-int, run-int}

@@ -7,6 +7,7 @@ use lib.IntN.{ℤ, pos}
 use lib.ListN.{getD}
 use lib.Dec.{eqb}
 use Rattle.syntax.specs.Syntax.{op-at}
+use Rattle.syntax.specs.Words.{max-bools}
 use Rattle.walk.specs.Item.{bump, is-none}
 use Rattle.walk.specs.Decode.{word, past, below as index, constant-node}
 use Rattle.walk.specs.declared.Node.{Node}
@@ -20,7 +21,7 @@ use Rattle.walks.specs.Form.{Form, var, num, cmp, disj, cross, tied, For
 unfoldable pub node-of : List ℤ → Bool → ℕ → ℕ → Node
 node-of ws g at k =
     cond (eqb k 10) (constant-node (word ws (at + 1)) g (past ws (at + 2)))
-    (cond (eqb k 11) (VarAt (index 512 (word ws (at + 1))) (past ws (at + 2)))
+    (cond (eqb k 11) (VarAt (index max-bools (word ws (at + 1))) (past ws (at + 2)))
     (cond (eqb k 12) (Join g (word ws (at + 1)) g g (past ws (at + 2)))
     (cond (eqb k 13) (Join (not g) (word ws (at + 1)) g g (past ws (at + 2)))
     (cond (eqb k 14) (NotAt (past ws (at + 1)))
@@ -102,7 +103,7 @@ many-terms ws q (suc k) at n =
 
 -- the condition at c, where it is a declared variable
 abbrev pub own-at : List ℤ → ℕ → Option ℕ
-own-at ws c = cond (eqb (word ws c) 11) (some (index 512 (word ws (c + 1)))) none
+own-at ws c = cond (eqb (word ws c) 11) (some (index max-bools (word ws (c + 1)))) none
 
 -- an If at a place; its condition stands at c and is o, where it is a declared variable
 unfoldable pub if-step : Option ℕ → (Splitting → Reader) → (Splitting → IntReader) → Splitting → ℕ → ℕ → ℕ → IntRead

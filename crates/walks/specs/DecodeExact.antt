@@ -9,8 +9,11 @@ use lib.IntN.{ℤ, pos}
 use borrow.Author.Tests.{lt-ltb}
 use lib.ListN.{length, getD, length-append}
 use Rattle.laws.specs.Slices.{Has, has-fits, has-front, has-back, has-word, has-rest}
+use Rattle.memory.specs.Places.{limit}
+use Rattle.memory.specs.Number.{nat}
 use Rattle.syntax.specs.Syntax.{IfIsRead, CmpOp, Eq, Ne, Le, Lt, Ge, Gt, op-at, encode-op, IntExpr, IConst, IVar, Linear, If, Terms, tnil, tmore, count-terms, encode-int, encode-terms, BoolExpr, Const, Var, NVar, And, Or, Not, Xor, Iff, Imp, Cmp, Members, mnil, more, count-members, encode-bool, encode-members}
-use Rattle.walk.specs.Item.{limit, bump, is-none, nat}
+use Rattle.syntax.specs.Words.{max-bools}
+use Rattle.walk.specs.Item.{bump, is-none}
 use Rattle.walk.specs.Decode.{word, past}
 use Rattle.walks.specs.Tree.{Place, Tree, Trees, nil as no-trees, cons as more-trees, own-var, Splitting, never, below, here, inner, own-splits, splits, splits-members, splits-int, splits-terms, split-of, split-int, crossed-at as crossed-trees-at, resolve, resolves, resolve-int, resolve-terms, tie, sides-tied as trees-tied, append as append-trees, ties, ties-members, ties-int, ties-terms}
 use Rattle.walks.specs.Form.{Form, cmp, Forms, nil, cons, pair, append, sides-tied, IntForm, choice, TermForms, form, forms, int-form, term-forms, form-joined, forms-append}
@@ -66,7 +69,7 @@ unfolding Legal encode-bool split-of word nat
 own-is (Const b) l m n ws at h d = absurd h
 own-is (Var v) l m n ws at h d =
     let p = two ws at (pos 11) (pos v) [] d in
-    rw (p .first, p .second, lt-ltb v 512 (h .1))
+    rw (p .first, p .second, lt-ltb v max-bools (h .1))
 own-is (NVar k) l m n ws at h d = absurd h
 own-is (And ms) l m n ws at h d = rw (has-word ws at (pos 12) _ (pos 0) d)
 own-is (Or ms) l m n ws at h d = rw (has-word ws at (pos 13) _ (pos 0) d)
@@ -175,7 +178,7 @@ mutual
   decode-is (Const b) l m g ws at n h d k = absurd h
   decode-is (Var v) l m g ws at n h d k =
       let p = two ws at (pos 11) (pos v) [] d in
-      rw (level ws l m g at n (h .0), p .first, p .second, p .stop, lt-ltb v 512 (h .1)) (reading-to _ _ _ _ _ _ refl refl (omega arith))
+      rw (level ws l m g at n (h .0), p .first, p .second, p .stop, lt-ltb v max-bools (h .1)) (reading-to _ _ _ _ _ _ refl refl (omega arith))
   decode-is (NVar j) l m g ws at n h d k = absurd h
   decode-is (And ms) l m g ws at n h d k =
       let p = two ws at (pos 12) (pos (count-members ms)) (encode-members ms) d in

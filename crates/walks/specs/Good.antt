@@ -16,16 +16,19 @@ use borrow.Author.Tests.{ne-eqb, eqb-true, eqb-false}
 use Rattle.laws.specs.Ints.{is-zero}
 use Rattle.laws.specs.Lists.{flat, flat-append}
 use Rattle.laws.specs.Writes.{sets-append}
+use Rattle.memory.specs.Places.{folded, folded-end, bool-map, int-map, maps-end, cells, limit}
+use Rattle.memory.specs.Number.{nat}
 use Rattle.syntax.specs.Syntax.{Domain, domain-of, IntExpr}
+use Rattle.syntax.specs.Words.{max-bools, min-work-words}
 use Rattle.clauses.specs.Clause.{BoolLit, lit, Clause}
 use Rattle.clauses.specs.Log.{MadeBool, MadeInt, declared-int, column, chosen, binary, declared, bool, merged, int, added, defined, known, Log, next-bool, next-int, get-bool-var, get-int-var, get-if, is-declared-int, made-ints, bool-var-at, int-var-at, convert-bool-var, convert-int-var}
 use Rattle.clauses.specs.Since.{OnTop, here, over}
 use Rattle.answer.specs.Answer.{bool-word}
-use Rattle.walk.specs.Item.{limit, bump, is-none, bool-map, int-map, nat, bool-at, int-entry}
+use Rattle.walk.specs.Item.{bump, is-none, bool-at, int-entry}
 use Rattle.walk.specs.Decode.{read-part}
 use Rattle.walk.specs.Grow.{lit-word}
 use Rattle.walk.specs.Num.{code}
-use Rattle.walks.specs.Item.{has-ifs, cells, cell}
+use Rattle.walks.specs.Item.{has-ifs, cell}
 use Rattle.walks.specs.Meet.{State, with-work, more-bools, spend, meet-bool, range-record, new-int, meet-int-var}
 use Rattle.walks.specs.Cells.{word-kept, Cells, Below, Places, cells-kept}
 
@@ -125,13 +128,13 @@ pub record Names (Named : Log → Type 0) : Type 0 where
 -- rec: where the records begin; cap: the longest answer; with-ifs: whether the folded statements have Ifs; before: the output before the walk
 module _ (ds : List Domain) (F : List ℤ) (Plain : IntExpr → Type 0) (parted : ℕ → Bool) (K : ℕ → Option IntExpr) (fixed : IntExpr → Bool) (rec cap : ℕ) (with-ifs : Bool) (before : List ℤ) (Named : Log → Type 0) where
   pub record Good (budget : ℕ) (st : State) (s : Log) : Type 0 where
-    pub map : (v : ℕ) → v < 512 → bool-at (st .work) v ≡ bool-word (get-bool-var v s)
+    pub map : (v : ℕ) → v < max-bools → bool-at (st .work) v ≡ bool-word (get-bool-var v s)
     pub map-int : (v : ℕ) → v < 256 → int-entry (st .work) v ≡ code (get-int-var v s)
     pub bools : st .bools ≡ next-bool s
     pub ints : st .ints ≡ next-int s
-    pub low : (v : ℕ) (l : BoolLit) → get-bool-var v s ≡ some l → v < 512
+    pub low : (v : ℕ) (l : BoolLit) → get-bool-var v s ≡ some l → v < max-bools
     pub low-int : (v n : ℕ) → get-int-var v s ≡ some n → v < 256
-    pub size : 16384 ≤ length (st .work)
+    pub size : min-work-words ≤ length (st .work)
     pub words : read-part (st .work) ≡ F
     pub word : has-ifs (st .work) ≡ with-ifs
     pub records : st .out ≡ sets before rec (records-of ds s)
@@ -140,7 +143,7 @@ module _ (ds : List Domain) (F : List ℤ) (Plain : IntExpr → Type 0) (parted 
     pub opens : (e : IntExpr) (v : ℕ) → get-if e s ≡ some v → fixed e ≡ false
     pub named : Named s
     pub used : st .used ≤ cap
-    pub room : st .bools + st .ints + blanks is-zero (st .work) bool-map 512 + blanks no-int (st .work) int-map 256 + 4 * (cap - st .used) + budget ≤ limit
+    pub room : st .bools + st .ints + blanks is-zero (st .work) bool-map max-bools + blanks no-int (st .work) int-map 256 + 4 * (cap - st .used) + budget ≤ limit
 
   pub good-less : (n m : ℕ) (st : State) (s : Log) → m ≤ n → Good n st s → Good m st s
   good-less n m st s l g = record {
@@ -191,13 +194,13 @@ module _ (ds : List Domain) (F : List ℤ) (Plain : IntExpr → Type 0) (parted 
 
   module _ (N : Names Named) (P : Places ds F Plain parted K fixed) where
     -- a store below the cells
-    keeps-cells : (w : List ℤ) (p : ℕ) (x : ℤ) → p < 5376 → (q : ℕ) → 512 < q → cell (set w p x) q ≡ cell w q
+    keeps-cells : (w : List ℤ) (p : ℕ) (x : ℤ) → p < maps-end → (q : ℕ) → folded < q → cell (set w p x) q ≡ cell w q
     unfolding cell
     keeps-cells w p x h q l = getD-set-other w p (cells + q) x (pos 0) (λ e. omega arith)
 
-    keeps-words : (w : List ℤ) (p : ℕ) (x : ℤ) → 4608 ≤ p → read-part (set w p x) ≡ read-part w
+    keeps-words : (w : List ℤ) (p : ℕ) (x : ℤ) → folded-end ≤ p → read-part (set w p x) ≡ read-part w
     unfolding read-part
-    keeps-words w p x h = take-set-le 4608 w p x h
+    keeps-words w p x h = take-set-le folded-end w p x h
 
     bool-other : (w : List ℤ) (p : ℕ) (x : ℤ) (u : ℕ) → (bool-map + u ≡ p → ⊥) → bool-at (set w p x) u ≡ bool-at w u
     unfolding bool-at
@@ -208,15 +211,15 @@ module _ (ds : List Domain) (F : List ℤ) (Plain : IntExpr → Type 0) (parted 
     int-other w p x u h = ap nat (getD-set-other w p (int-map + u) x (pos 0) h)
 
     -- a variable with a literal is passed over
-    old-bool : (v : ℕ) (st : State) (s : Log) (n : ℕ) (g : Good n st s) (l : BoolLit) → v < 512 → get-bool-var v s ≡ some l → is-zero (bool-at (st .work) v) ≡ false
+    old-bool : (v : ℕ) (st : State) (s : Log) (n : ℕ) (g : Good n st s) (l : BoolLit) → v < max-bools → get-bool-var v s ≡ some l → is-zero (bool-at (st .work) v) ≡ false
     old-bool v st s n g (lit k false) h e = rw (g .map v h ∙ ap bool-word e) (ne-eqb (suc k) 0 (λ q. omega arith))
     old-bool v st s n g (lit k true) h e = rw (g .map v h ∙ ap bool-word e) refl
 
-    new-bool : (v : ℕ) → v < 512 → (n : ℕ) (st : State) (s : Log) → get-bool-var v s ≡ none → bool-at (st .work) v ≡ pos 0 → Good n st s → Good n (more-bools 1 (with-work (set (st .work) (bool-map + v) (pos (st .bools + 1))) st)) (bool (declared v) ∷ s)
+    new-bool : (v : ℕ) → v < max-bools → (n : ℕ) (st : State) (s : Log) → get-bool-var v s ≡ none → bool-at (st .work) v ≡ pos 0 → Good n st s → Good n (more-bools 1 (with-work (set (st .work) (bool-map + v) (pos (st .bools + 1))) st)) (bool (declared v) ∷ s)
     unfolding get-bool-var get-int-var get-if bool-at records-of made-ints
     new-bool v h n st s e z g =
         let w = set (st .work) (bool-map + v) (pos (st .bools + 1)) in
-        let k : suc (blanks is-zero w bool-map 512) ≡ blanks is-zero (st .work) bool-map 512 = blanks-set is-zero (st .work) bool-map v (pos (st .bools + 1)) 512 h (omega (arith, g .size)) (rw z refl) (ne-eqb (st .bools + 1) 0 (λ q. omega arith)) in
+        let k : suc (blanks is-zero w bool-map max-bools) ≡ blanks is-zero (st .work) bool-map max-bools = blanks-set is-zero (st .work) bool-map v (pos (st .bools + 1)) max-bools h (omega (arith, g .size)) (rw z refl) (ne-eqb (st .bools + 1) 0 (λ q. omega arith)) in
         let j : blanks no-int w int-map 256 ≡ blanks no-int (st .work) int-map 256 = blanks-other no-int (st .work) int-map (bool-map + v) (pos (st .bools + 1)) 256 (λ u m q. omega arith) in
         let b : bump (st .bools) 1 ≡ suc (st .bools) = omega (arith, g .room, k) in
         record {
@@ -238,22 +241,22 @@ module _ (ds : List Domain) (F : List ℤ) (Plain : IntExpr → Type 0) (parted 
           room = rw b (omega (arith, g .room, k, j));
         }
       where
-        mp : (u : ℕ) → u < 512 → (c : Bool) → eqb u v ≡ c → bool-at (set (st .work) (bool-map + v) (pos (st .bools + 1))) u ≡ bool-word (get-bool-var u (bool (declared v) ∷ s))
+        mp : (u : ℕ) → u < max-bools → (c : Bool) → eqb u v ≡ c → bool-at (set (st .work) (bool-map + v) (pos (st .bools + 1))) u ≡ bool-word (get-bool-var u (bool (declared v) ∷ s))
         mp u l true q = let p : u ≡ v = eqb-true u v q in rw q (ap (λ x. getD (set (st .work) (bool-map + v) (pos (st .bools + 1))) (bool-map + x) (pos 0)) p ∙ getD-set-same (st .work) (bool-map + v) (pos (st .bools + 1)) (pos 0) (omega (arith, g .size)) ∙ ap pos (omega (arith, g .bools)))
         mp u l false q = rw q (bool-other (st .work) (bool-map + v) (pos (st .bools + 1)) u (λ x. eqb-false u v q (omega arith)) ∙ g .map u l)
 
-        lw : (u : ℕ) (l : BoolLit) (c : Bool) → eqb u v ≡ c → get-bool-var u (bool (declared v) ∷ s) ≡ some l → u < 512
+        lw : (u : ℕ) (l : BoolLit) (c : Bool) → eqb u v ≡ c → get-bool-var u (bool (declared v) ∷ s) ≡ some l → u < max-bools
         lw u l true q f = let p : u ≡ v = eqb-true u v q in omega arith
         lw u l false q f = g .low u l (rw q at f)
 
-    bool-good : (v : ℕ) → v < 512 → (n : ℕ) (st : State) (s : Log) (o : Option BoolLit) → get-bool-var v s ≡ o → Good n st s → Good n (meet-bool v st) (bool-var-at o v s .1)
+    bool-good : (v : ℕ) → v < max-bools → (n : ℕ) (st : State) (s : Log) (o : Option BoolLit) → get-bool-var v s ≡ o → Good n st s → Good n (meet-bool v st) (bool-var-at o v s .1)
     unfolding meet-bool
     bool-good v h n st s (some l) e g = rw (old-bool v st s n g l h e) g
     bool-good v h n st s none e g =
         let z : bool-at (st .work) v ≡ pos 0 = g .map v h ∙ ap bool-word e in
         rw z (new-bool v h n st s e z g)
 
-    pub good-bool : (v : ℕ) → v < 512 → (n : ℕ) (st : State) (s : Log) → Good n st s → Good n (meet-bool v st) (convert-bool-var v s .1)
+    pub good-bool : (v : ℕ) → v < max-bools → (n : ℕ) (st : State) (s : Log) → Good n st s → Good n (meet-bool v st) (convert-bool-var v s .1)
     unfolding convert-bool-var
     good-bool v h n st s g = bool-good v h n st s (get-bool-var v s) refl g
 
@@ -275,7 +278,7 @@ module _ (ds : List Domain) (F : List ℤ) (Plain : IntExpr → Type 0) (parted 
         let x : ℤ = pos (st .ints + 1) in
         let w = set (st .work) (int-map + v) x in
         let k : suc (blanks no-int w int-map 256) ≡ blanks no-int (st .work) int-map 256 = blanks-set no-int (st .work) int-map v x 256 h (omega (arith, g .size)) (rw z refl) (unfold nat in none-suc (st .ints)) in
-        let j : blanks is-zero w bool-map 512 ≡ blanks is-zero (st .work) bool-map 512 = blanks-other is-zero (st .work) bool-map (int-map + v) x 512 (λ u m q. omega arith) in
+        let j : blanks is-zero w bool-map max-bools ≡ blanks is-zero (st .work) bool-map max-bools = blanks-other is-zero (st .work) bool-map (int-map + v) x max-bools (λ u m q. omega arith) in
         let b : bump (st .ints) 1 ≡ suc (st .ints) = omega (arith, g .room, k) in
         record {
           map = λ u l. bool-other (st .work) (int-map + v) x u (λ q. omega arith) ∙ g .map u l;

@@ -12,7 +12,10 @@ use lib.ListN.{length, length-append, length-map}
 use lib.Dec.{eqb}
 use borrow.Author.Tests.{eq-eqb, ne-eqb, lt-ltb, le-ltb}
 use Rattle.laws.specs.Lists.{flat}
+use Rattle.memory.specs.Places.{limit}
+use Rattle.memory.specs.Number.{nat}
 use Rattle.syntax.specs.Syntax.{IfIsRead, Domain, CmpOp, Eq, IntExpr, BoolExpr, Const, Var, NVar, And, Or, Not, Xor, Iff, Imp, Cmp}
+use Rattle.syntax.specs.Words.{max-bools}
 use Rattle.sums.specs.LinearSum.{LinearSum, constant, singleton, is-constant, add-sum, mul-sum, sub-sum}
 use Rattle.sums.specs.Rising.{constant-of}
 use Rattle.clauses.specs.Clause.{BoolLit, lit, LinearLit, linear, Clause, clause}
@@ -22,7 +25,7 @@ use Rattle.clauses.specs.Normalize.{Run, Runs, IntRun, IntOut, define, no-run, 
 use Rattle.clauses.specs.Grow.{get-int-below}
 use Rattle.clauses.specs.Since.{Adds, adds-same, adds-then}
 use Rattle.answer.specs.Answer.{linear-words}
-use Rattle.walk.specs.Item.{limit, bump, bool-at, nat, signed, bool-entry, int-entry, word-of, clause-text, tally, long, fresh, disj-lines, closed, lines-of, extra}
+use Rattle.walk.specs.Item.{bump, bool-at, signed, bool-entry, int-entry, word-of, clause-text, tally, long, fresh, disj-lines, closed, lines-of, extra}
 use Rattle.walk.specs.Grow.{Grows, same, then, bool-below, bool-here, int-here, Fit, back, lit-word, word-lit, signed-lit}
 use Rattle.walk.specs.Texts.{words, linears, layout, words-more, linears-more, layout-append, layout-add, long-layout, AllLong, finish-words, finish-count, lengths, finish-lines, finish-long, disjunction-finish, disjunction-auxed, auxed-untouched}
 use Rattle.walk.specs.declared.Mode.{Mode}
@@ -75,7 +78,7 @@ NoNumber (Cmp o a b) = Unit {0}
 -- conjunctions have two members or more, variables are declared, and numbers are below the limit
 unfoldable mutual
   pub Proper : Tree → Type 0
-  Proper (var v g) = v < 512
+  Proper (var v g) = v < max-bools
   Proper (num n g) = n < limit
   Proper (cmp o a b g) = ProperInt a × ProperInt b
   Proper (conj ts) = (2 ≤ size ts) × Propers ts

@@ -8,6 +8,7 @@ use lib.IntN.{ℤ, pos, negsuc}
 use lib.ListN.{getD}
 use lib.Dec.{eqb, ltb}
 use Rattle.laws.specs.Ints.{is-zero, lower, higher}
+use Rattle.memory.specs.Places.{cells, ifs-word}
 use Rattle.syntax.specs.Syntax.{Domain, Range, domain-of, CmpOp, Eq}
 use Rattle.sums.specs.LinearSum.{LinearSum, constant, singleton, add-sum, mul-sum, sub-sum}
 use Rattle.sums.specs.Rising.{constant-of}
@@ -28,10 +29,6 @@ counters n k = record { bools = n; ints = k }
 abbrev pub more-bools : ℕ → Counters → Counters
 more-bools k n = counters (bump (n .bools) k) (n .ints)
 
--- this word of the work slice is not 0 where the folded statements have Ifs; without, no integer's counter is asked for, and none is kept
-abbrev pub ifs-word : ℕ
-ifs-word = 9476
-
 unfoldable pub has-ifs : List ℤ → Bool
 has-ifs w = not (is-zero (getD w ifs-word (pos 0)))
 
@@ -50,10 +47,6 @@ unfoldable pub meets-int : List ℤ → ℕ → Counters → Counters
 meets-int w v n = cond (eqb (int-entry w v) (n .ints + 1)) (more-ints w 1 n) n
 
 -- ---- the numbers of Ifs by place
-
--- a column's number plus 1 stands at its place; an If's word and its bounds in the three cells behind its place
-abbrev pub cells : ℕ
-cells = 4864
 
 unfoldable pub cell : List ℤ → ℕ → ℤ
 cell w p = getD w (cells + p) (pos 0)

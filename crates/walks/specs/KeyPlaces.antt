@@ -9,6 +9,7 @@ use lib.IntN.{ℤ}
 use lib.ListN.{length}
 use Rattle.laws.specs.Bools.{never as no-bool}
 use Rattle.laws.specs.Slices.{Has}
+use Rattle.memory.specs.Places.{folded, folded-end}
 use Rattle.syntax.specs.Syntax.{Domain, IntExpr, IConst, IVar, Linear, If, Terms, tnil, tmore, BoolExpr, Const, Var, NVar, And, Or, Not, Xor, Iff, Imp, Cmp, Members, mnil, more, encode-bool, encode-int}
 use Rattle.syntax.specs.Written.{EveryIntOf}
 use Rattle.clauses.specs.Bounds.{expr-bound, members-bound, int-bound, terms-numbers}
@@ -93,10 +94,10 @@ pub every-both : {P Q : Key → Type 0} {xs : List Key} → Every P xs → Every
 every-both every-none every-none = every-none
 every-both (every-more h hs) (every-more k ks) = every-more (h, k) (every-both hs ks)
 
-pub at-least : (at q p : ℕ) → p ≡ q → 512 ≤ at → at ≤ p → 512 ≤ q
+pub at-least : (at q p : ℕ) → p ≡ q → folded ≤ at → at ≤ p → folded ≤ q
 at-least at q p e h k = omega arith
 
-pub at-most : (stop q p : ℕ) → p ≡ q → stop ≤ 4608 → p < stop → q < 4608
+pub at-most : (stop q p : ℕ) → p ≡ q → stop ≤ folded-end → p < stop → q < folded-end
 at-most stop q p e h k = omega arith
 
 begins-none : (xs : List ℕ) (a : ℕ) → Begins xs a → Between 0 0 xs → ⊥
@@ -105,7 +106,7 @@ begins-none (x ∷ xs) a h k = omega (arith, k .1)
 
 -- F: the folded words; xs: the keys; they stand from `at` to `stop`
 module _ (ds : List Domain) (F : List ℤ) (parted : ℕ → Bool) (fixed : IntExpr → Bool) (xs : List Key) {at stop n next size : ℕ}
-    (distinct : Distinct xs) (within : Every (Within at stop n next size) xs) (written : Every (Written F) xs) (plain : Every PlainIf xs) (low : 512 ≤ at) (high : stop ≤ 4608)
+    (distinct : Distinct xs) (within : Every (Within at stop n next size) xs) (written : Every (Written F) xs) (plain : Every PlainIf xs) (low : folded ≤ at) (high : stop ≤ folded-end)
     (agree : (q : ℕ) → parted-in (places xs) q ≡ true → parted q ≡ true) where
   abbrev At : ℕ → Option IntExpr
   At = looked-up xs
@@ -184,13 +185,13 @@ list-keyed xs d = every-map (λ x h w. found-looked-up (x .place) (x .key) d h w
 -- ---- a rule, a pair, a column
 
 module _ (ds : List Domain) (F : List ℤ) (parted : ℕ → Bool) (fixed : IntExpr → Bool) where
-  pub rule-places : (e : BoolExpr) (at n : ℕ) → Plain e → Has F at (encode-bool e) → 512 ≤ at → at + length (encode-bool e) ≤ 4608
+  pub rule-places : (e : BoolExpr) (at n : ℕ) → Plain e → Has F at (encode-bool e) → folded ≤ at → at + length (encode-bool e) ≤ folded-end
       → ((q : ℕ) → parted-in (places (keys e below at n)) q ≡ true → parted q ≡ true) → Places ds F PlainInt parted (looked-up (keys e below at n)) fixed
   rule-places e at n h d i j a =
       list-places ds F parted fixed (keys e below at n) (keys-distinct e below at n (plain-bound e h)) (keys-within e below at n (plain-bound e h)) (keys-written F e below at n d) (keys-plain e below at n h) i j a
 
   -- p and q: where its sides stand
-  pub pair-places : (a b : IntExpr) (p q n : ℕ) → PlainInt a → PlainInt b → Has F p (encode-int a) → Has F q (encode-int b) → 512 ≤ p → p + length (encode-int a) ≤ q → q + length (encode-int b) ≤ 4608
+  pub pair-places : (a b : IntExpr) (p q n : ℕ) → PlainInt a → PlainInt b → Has F p (encode-int a) → Has F q (encode-int b) → folded ≤ p → p + length (encode-int a) ≤ q → q + length (encode-int b) ≤ folded-end
       → ((o : ℕ) → parted-in (places (pair-keys a b p q n)) o ≡ true → parted o ≡ true) → Places ds F PlainInt parted (looked-up (pair-keys a b p q n)) fixed
   pair-places a b p q n h k d c i l j o =
       list-places ds F parted fixed (pair-keys a b p q n) (pair-distinct a b p q n (plain-int-bound a h) (plain-int-bound b k) l) (pair-within a b p q n (plain-int-bound a h) (plain-int-bound b k) l)
@@ -199,4 +200,4 @@ module _ (ds : List Domain) (F : List ℤ) (parted : ℕ → Bool) (fixed : IntE
   -- a column has no key of its own
   pub column-places : Places ds F PlainInt parted (looked-up []) fixed
   unfolding parted-in
-  column-places = list-places ds F parted fixed [] {at = 512} {stop = 512} {n = 0} {next = 0} {size = 0} distinct-none every-none every-none every-none (omega arith) (omega arith) (λ q h. no-bool h)
+  column-places = list-places ds F parted fixed [] {at = folded} {stop = folded} {n = 0} {next = 0} {size = 0} distinct-none every-none every-none every-none (omega arith) (omega arith) (λ q h. no-bool h)

@@ -9,6 +9,7 @@ use native.Mathlib.Omega.{arith}
 use lib.IntN.{pos}
 use lib.ListN.{length, length-append, length-map}
 use Rattle.laws.specs.Lists.{flat}
+use Rattle.memory.specs.Places.{limit}
 use Rattle.syntax.specs.Syntax.{IfIsRead, Domain, IntExpr, BoolExpr, Const, Var, NVar, And, Or, Not, Xor, Iff, Imp, Cmp}
 use Rattle.sums.specs.LinearSum.{LinearSum, linear-sum, singleton, is-constant}
 use Rattle.sums.specs.Rising.{constant-of}
@@ -18,7 +19,7 @@ use Rattle.clauses.specs.Disjunction.{Out, add-bool-each, Sorted, satisfied, po
 use Rattle.clauses.specs.Normalize.{Run, Runs, IntOut, own-literal, condition-literal, two-valued, hull, domain-of-sum, if-constant, if-open, normalize-if, define, two, equals, no-run, run-then, normalize-conjunction, disjunction-of, cross as cross-run, lit-clauses, normalize-num, normalize-var, normalize-comparison}
 use Rattle.clauses.specs.Since.{clauses-since, top-adds}
 use Rattle.answer.specs.Answer.{linear-words}
-use Rattle.walk.specs.Item.{limit, bump, clause-text, Tally, tally, mode-in, fresh-in, fresh, closed}
+use Rattle.walk.specs.Item.{bump, clause-text, Tally, tally, mode-in, fresh-in, fresh, closed}
 use Rattle.walk.specs.Grow.{Grows, then, lit-word}
 use Rattle.walk.specs.Texts.{words, linears, layout, layout-append, disjunction-finish, disjunction-auxed, auxed-untouched}
 use Rattle.walks.specs.Tree.{own-var, Place, Tree, var, num, cmp, conj, disj, cross, tied, Trees, nil, cons, size, IntTree, const, ivar, sum, choice, TermTrees, none as no-terms, term, condition-of, run, runs, run-int, run-terms}

@@ -4,6 +4,7 @@ use Prim.Native.Nat.{ℕ, _-_, _≤_, _<_}
 use native.Mathlib.Omega.{arith}
 use Rattle.syntax.specs.Syntax.{IntExpr, IConst, IVar, Linear, If, Terms, tnil, tmore, BoolExpr, Const, Var, NVar, And, Or, Not, Xor, Iff, Imp, Cmp, Members, mnil, more, count-members}
 use Rattle.syntax.specs.Written.{Any, None, EveryInt, EveryIntOf, EveryTermOf, EveryOf, EveryMemberOf}
+use Rattle.syntax.specs.Words.{max-bools}
 use Rattle.clauses.specs.Bounds.{expr-bound, members-bound, int-bound, terms-numbers}
 use Rattle.walks.specs.Thirds.{most-three}
 use Rattle.walks.specs.Plain.{Plain, PlainInt}
@@ -22,7 +23,7 @@ unfoldable mutual
 
   pub Legal : BoolExpr → ℕ → Type 0
   Legal (Const b) l = ⊥
-  Legal (Var v) l = (0 < l) × (v < 512)
+  Legal (Var v) l = (0 < l) × (v < max-bools)
   Legal (NVar n) l = ⊥
   Legal (And ms) l = (0 < l) × (2 ≤ count-members ms) × LegalMembers ms (l - 1)
   Legal (Or ms) l = (0 < l) × (2 ≤ count-members ms) × LegalMembers ms (l - 1)

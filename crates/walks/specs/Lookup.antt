@@ -13,13 +13,16 @@ use borrow.Author.Tests.{eqb-true, eqb-false, lt-ltb}
 use Rattle.laws.specs.Bools.{never as no-bool, and-l, and-r, and-i}
 use Rattle.laws.specs.Same.{same-words, same-is, same-refl}
 use Rattle.laws.specs.Ints.{is-zero}
+use Rattle.memory.specs.Places.{folded, folded-end, bool-map, int-map, maps-end, cells, limit}
+use Rattle.memory.specs.Number.{nat}
 use Rattle.syntax.specs.Syntax.{Domain, lower-bound, upper-bound, IntExpr, encode-int}
+use Rattle.syntax.specs.Words.{max-bools}
 use Rattle.clauses.specs.Log.{Log, next-int, get-if}
 use Rattle.clauses.specs.Emitted.{domain-at}
-use Rattle.walk.specs.Item.{limit, bool-map, int-map, nat, bool-at, int-entry}
+use Rattle.walk.specs.Item.{bool-at, int-entry}
 use Rattle.walk.specs.Decode.{read-part}
 use Rattle.walks.specs.Tree.{Place}
-use Rattle.walks.specs.Item.{has-ifs, cells, cell, Seen, unseen, both-constant, numbered, seen-in, seen, known-in}
+use Rattle.walks.specs.Item.{has-ifs, cell, Seen, unseen, both-constant, numbered, seen-in, seen, known-in}
 use Rattle.walks.specs.Distinct.{none-some, some-is, unseen-numbered, constant-numbered}
 use Rattle.walks.specs.Placed.{HasNumber, Numbered}
 use Rattle.walks.specs.Meet.{State, with-work, is-unseen, is-shared, words-at, equal-from, find-equal, set-cells, copied, Parts, is-full, meet-unknown, meet-new, meet-if}
@@ -35,7 +38,7 @@ pub cells-length : (p : ℕ) (x y z : ℤ) (w : List ℤ) → length (set-cells 
 unfolding set-cells
 cells-length p x y z w = rw (length-set, length-set, length-set) refl
 
-pub cells-below : (p : ℕ) (x y z : ℤ) (w : List ℤ) (q : ℕ) → 512 ≤ p → q < 5376 → getD (set-cells p x y z w) q (pos 0) ≡ getD w q (pos 0)
+pub cells-below : (p : ℕ) (x y z : ℤ) (w : List ℤ) (q : ℕ) → folded ≤ p → q < maps-end → getD (set-cells p x y z w) q (pos 0) ≡ getD w q (pos 0)
 unfolding set-cells
 cells-below p x y z w q h l =
     let a = set w (cells + (p + 1)) x in
@@ -47,7 +50,7 @@ unfolding set-cells read-part
 cells-words p x y z w =
     let a = set w (cells + (p + 1)) x in
     let b = set a (cells + (p + 2)) y in
-    take-set-le 4608 b (cells + (p + 3)) z (omega arith) ∙ take-set-le 4608 a (cells + (p + 2)) y (omega arith) ∙ take-set-le 4608 w (cells + (p + 1)) x (omega arith)
+    take-set-le folded-end b (cells + (p + 3)) z (omega arith) ∙ take-set-le folded-end a (cells + (p + 2)) y (omega arith) ∙ take-set-le folded-end w (cells + (p + 1)) x (omega arith)
 
 -- ---- the steps of an If's visit
 
@@ -58,9 +61,9 @@ and-off : (a b : Bool) → b ≡ false → a && b ≡ false
 and-off true b q = q
 and-off false b q = refl
 
-find-by : (w : List ℤ) (p : Place) (b : Bool) → is-unseen (seen w p) && p .whole ≡ b → find-equal w p ≡ cond b (equal-from w p 4096 512) none
+find-by : (w : List ℤ) (p : Place) (b : Bool) → is-unseen (seen w p) && p .whole ≡ b → find-equal w p ≡ cond b (equal-from w p 4096 folded) none
 unfolding find-equal
-find-by w p b h = ap (λ c. cond c (equal-from w p 4096 512) none) h
+find-by w p b h = ap (λ c. cond c (equal-from w p 4096 folded) none) h
 
 step-known : (ds : List Domain) (rec cap : ℕ) (q : Parts) (st : State) → known-in (seen (st .work) (q .place)) (st .ints) ≡ true → meet-if ds rec cap q st ≡ st
 unfolding meet-if
@@ -86,10 +89,10 @@ module _ (ds : List Domain) (F : List ℤ) (Plain : IntExpr → Type 0) (parted 
   CellsAt = Cells ds F Plain parted K fixed
 
   -- cells alone change
-  pub good-cells : (n : ℕ) (st : State) (s : Log) (w : List ℤ) → length w ≡ length (st .work) → ((q : ℕ) → q < 5376 → getD w q (pos 0) ≡ getD (st .work) q (pos 0)) → read-part w ≡ read-part (st .work) → has-ifs w ≡ has-ifs (st .work) → CellsAt w s → GoodAt n st s → GoodAt n (with-work w st) s
+  pub good-cells : (n : ℕ) (st : State) (s : Log) (w : List ℤ) → length w ≡ length (st .work) → ((q : ℕ) → q < maps-end → getD w q (pos 0) ≡ getD (st .work) q (pos 0)) → read-part w ≡ read-part (st .work) → has-ifs w ≡ has-ifs (st .work) → CellsAt w s → GoodAt n st s → GoodAt n (with-work w st) s
   unfolding bool-at int-entry
   good-cells n st s w l h r o c g =
-      let i = blanks-same is-zero (st .work) bool-map w 512 (λ v m. h (bool-map + v) (omega arith)) in
+      let i = blanks-same is-zero (st .work) bool-map w max-bools (λ v m. h (bool-map + v) (omega arith)) in
       let j = blanks-same no-int (st .work) int-map w 256 (λ v m. h (int-map + v) (omega arith)) in
       record {
         map = λ v m. h (bool-map + v) (omega arith) ∙ g .map v m;
@@ -158,7 +161,7 @@ module _ (ds : List Domain) (F : List ℤ) (Plain : IntExpr → Type 0) (parted 
       stands-words x t = ap (λ (y : List ℤ). take (length (encode-int e)) (drop x y)) (g .words) ∙ t .words
 
       -- found by its words: it stands there, and has a number
-      found-stands : Stands ds F Plain parted K fixed (p .at) e → p .size ≡ length (encode-int e) → (x : ℕ) → FoundAt w p 512 4096 x → Stands ds F Plain parted K fixed x e
+      found-stands : Stands ds F Plain parted K fixed (p .at) e → p .size ≡ length (encode-int e) → (x : ℕ) → FoundAt w p folded 4096 x → Stands ds F Plain parted K fixed x e
       unfolding words-at
       found-stands t z x f =
           let h : words-at w x (p .size) ≡ words-at w (p .at) (p .size) = same-is (words-at w x (p .size)) (words-at w (p .at) (p .size)) (and-r (is-shared (seen-in (cell w (x + 1)))) _ (f .test)) in
@@ -265,21 +268,21 @@ module _ (ds : List Domain) (F : List ℤ) (Plain : IntExpr → Type 0) (parted 
             let y : a ≡ v = some-is (sym (i .found) ∙ h) in
             outcome-to ds F Plain parted K fixed rec cap with-ifs before Named (λ w' l. (below, l)) (copied-outcome t c z x v (m ∙ ap (λ b. numbered b true) y) (subst (λ b. Is ds F Plain parted K fixed w s x e b) y i) k u)
 
-        elsewhere : Stands ds F Plain parted K fixed (p .at) e → parted (p .at) ≡ false → seen-in (cell w (p .at + 1)) ≡ unseen → (o : Option ℕ) → equal-from w p 4096 512 ≡ o → Result (meet-unknown ds rec cap q o st)
+        elsewhere : Stands ds F Plain parted K fixed (p .at) e → parted (p .at) ≡ false → seen-in (cell w (p .at + 1)) ≡ unseen → (o : Option ℕ) → equal-from w p 4096 folded ≡ o → Result (meet-unknown ds rec cap q o st)
         elsewhere t c z none y =
             let x = g .cells .complete e v (t .plain) h in
             let m : Equal w p (x .place) ≡ true = and-i (is-shared (seen-in (cell w (x .place + 1)))) _ (ap is-shared (x .shared)) (same-here t c x) in
-            no-bool (sym (equal-none w p 4096 512 y (x .place) (x .stands .low) (omega (arith, x .stands .high))) ∙ m)
+            no-bool (sym (equal-none w p 4096 folded y (x .place) (x .stands .low) (omega (arith, x .stands .high))) ∙ m)
         elsewhere t c z (some x) y =
-            let f = equal-some w p 4096 512 x y in
+            let f = equal-some w p 4096 folded x y in
             let tx = found-stands t (nd .size (is-whole c)) x f in
             shared-is (seen-in (cell w (x + 1))) (and-l (is-shared (seen-in (cell w (x + 1)))) _ (f .test)) _ (λ a m. from t c z x a m (found-number x a tx m))
 
         by-seen : (o : Seen) → seen-in (cell w (p .at + 1)) ≡ o → KeyAt (p .at) e → Result (meet-if ds rec cap q st)
         unfolding seen
         by-seen unseen z (whole t c) =
-            let f : find-equal w p ≡ equal-from w p 4096 512 = find-by w p true (and-on (is-unseen (seen w p)) (p .whole) (ap is-unseen z) (is-whole c)) in
-            subst Result (sym (step-unknown ds rec cap q st (equal-from w p 4096 512) free (ap (λ o. known-in o (st .ints)) z) f)) (elsewhere t c z (equal-from w p 4096 512) refl)
+            let f : find-equal w p ≡ equal-from w p 4096 folded = find-by w p true (and-on (is-unseen (seen w p)) (p .whole) (ap is-unseen z) (is-whole c)) in
+            subst Result (sym (step-unknown ds rec cap q st (equal-from w p 4096 folded) free (ap (λ o. known-in o (st .ints)) z) f)) (elsewhere t c z (equal-from w p 4096 folded) refl)
         by-seen unseen z (own y) = none-some (sym (g .cells .fresh (p .at) e y z) ∙ h)
         by-seen both-constant z y = no-bool (sym (g .opens e v h) ∙ g .cells .const (p .at) e y z)
         by-seen (numbered a b) z y = here a b z (g .cells .number (p .at) e a b y z)
@@ -290,18 +293,18 @@ module _ (ds : List Domain) (F : List ℤ) (Plain : IntExpr → Type 0) (parted 
       -- ---- new: neither its own cells nor an equal one's have a number
 
       module _ (h : get-if e s ≡ none) where
-        nowhere : Stands ds F Plain parted K fixed (p .at) e → parted (p .at) ≡ false → (o : Option ℕ) → equal-from w p 4096 512 ≡ o → o ≡ none
+        nowhere : Stands ds F Plain parted K fixed (p .at) e → parted (p .at) ≡ false → (o : Option ℕ) → equal-from w p 4096 folded ≡ o → o ≡ none
         nowhere t c none y = refl
         nowhere t c (some x) y =
-            let f = equal-some w p 4096 512 x y in
+            let f = equal-some w p 4096 folded x y in
             let tx = found-stands t (nd .size (is-whole c)) x f in
             shared-is (seen-in (cell w (x + 1))) (and-l (is-shared (seen-in (cell w (x + 1)))) _ (f .test)) _ (λ a m. none-some (sym h ∙ found-number x a tx m .found))
 
         new-by : (o : Seen) → seen-in (cell w (p .at + 1)) ≡ o → KeyAt (p .at) e → meet-if ds rec cap q st ≡ meet-new ds rec cap q st
         unfolding seen
         new-by unseen z (whole t c) =
-            let f : find-equal w p ≡ equal-from w p 4096 512 = find-by w p true (and-on (is-unseen (seen w p)) (p .whole) (ap is-unseen z) (is-whole c)) in
-            step-unknown ds rec cap q st none free (ap (λ o. known-in o (st .ints)) z) (f ∙ nowhere t c (equal-from w p 4096 512) refl)
+            let f : find-equal w p ≡ equal-from w p 4096 folded = find-by w p true (and-on (is-unseen (seen w p)) (p .whole) (ap is-unseen z) (is-whole c)) in
+            step-unknown ds rec cap q st none free (ap (λ o. known-in o (st .ints)) z) (f ∙ nowhere t c (equal-from w p 4096 folded) refl)
         new-by unseen z (own y) = step-unknown ds rec cap q st none free (ap (λ o. known-in o (st .ints)) z) (find-by w p false (and-off (is-unseen (seen w p)) (p .whole) (not-whole (P .parts (p .at) e y))))
         new-by both-constant z y = step-unknown ds rec cap q st none free (ap (λ o. known-in o (st .ints)) z) (find-by w p false (ap (λ o. is-unseen o && p .whole) z))
         new-by (numbered a b) z y = none-some (sym h ∙ g .cells .number (p .at) e a b y z .found)

@@ -18,10 +18,13 @@ use Rattle.syntax.specs.Unique.{int-unique-words}
 use Rattle.clauses.specs.Log.{MadeInt, is-declared-int, int, known, Log, next-int, get-bool-var, get-int-var, get-if, made-ints, convert-bool-var}
 use Rattle.clauses.specs.Emitted.{domain-at}
 use Rattle.laws.specs.Ints.{is-zero}
-use Rattle.walk.specs.Item.{limit, bump, fresh, bool-map, int-map, nat, bool-at, int-entry}
+use Rattle.memory.specs.Places.{folded-end, bool-map, int-map, maps-end, cells, limit}
+use Rattle.memory.specs.Number.{nat}
+use Rattle.syntax.specs.Words.{max-bools}
+use Rattle.walk.specs.Item.{bump, fresh, bool-at, int-entry}
 use Rattle.walk.specs.Decode.{read-part}
 use Rattle.walks.specs.Tree.{Place}
-use Rattle.walks.specs.Item.{has-ifs, tallies, num-item, cells, cell, Seen, unseen, both-constant, numbered, seen-in, seen}
+use Rattle.walks.specs.Item.{has-ifs, tallies, num-item, cell, Seen, unseen, both-constant, numbered, seen-in, seen}
 use Rattle.walks.specs.Distinct.{none-some, unseen-numbered, unseen-constant, constant-numbered}
 use Rattle.walks.specs.Placed.{HasNumber, Numbered}
 use Rattle.walks.specs.Meet.{State, with-work, more-bools, spend, set-cell, number-word, stored, range-record, two-record, Parts, is-full, new-int, meet-bool, meet-open, meet-constant, meet-branches, meet-new}
@@ -105,13 +108,13 @@ module _ (ds : List Domain) (F : List ℤ) (Plain : IntExpr → Type 0) (parted 
           go true z r = x (int-unique-words a e (same-is (encode-int a) (encode-int e) z)) (cc)
           go false z r = y r
 
-      kept-below : (x : ℕ) → x < 5376 → getD w' x (pos 0) ≡ getD w x (pos 0)
+      kept-below : (x : ℕ) → x < maps-end → getD w' x (pos 0) ≡ getD w x (pos 0)
       kept-below x l = cells-below (p .at) (number-word (p .whole) v) (lower-bound d) (upper-bound d) w x (at-place .low) l
 
       pub known-log : GoodAt n (with-work w' st) (known e v ∷ s)
       unfolding get-bool-var get-int-var made-ints records-of bool-at int-entry
       known-log =
-          let i = blanks-same is-zero w bool-map w' 512 (λ x m. kept-below (bool-map + x) (omega arith)) in
+          let i = blanks-same is-zero w bool-map w' max-bools (λ x m. kept-below (bool-map + x) (omega arith)) in
           let j = blanks-same no-int w int-map w' 256 (λ x m. kept-below (int-map + x) (omega arith)) in
           record {
             map = λ x m. kept-below (bool-map + x) (omega arith) ∙ g .map x m;
@@ -233,12 +236,12 @@ module _ (ds : List Domain) (F : List ℤ) (Plain : IntExpr → Type 0) (parted 
           (λ v b x. constant-numbered (sym const-seen ∙ x)) (λ x. closed) (λ x y. none-yet) (λ x v y. constant-numbered (sym const-seen ∙ y))
           (λ v x. none-some (sym none-yet ∙ g .cells .number (p .at) e v true (nd .key) x .found)) (g .cells)
 
-      marked-below : (x : ℕ) → x < 5376 → getD marked x (pos 0) ≡ getD (st .work) x (pos 0)
+      marked-below : (x : ℕ) → x < maps-end → getD marked x (pos 0) ≡ getD (st .work) x (pos 0)
       marked-below x l = getD-set-other (st .work) (cells + (p .at + 1)) x (negsuc 0) (pos 0) (λ y. omega (arith, stand .low))
 
       marked-words : read-part marked ≡ read-part (st .work)
       unfolding read-part
-      marked-words = take-set-le 4608 (st .work) (cells + (p .at + 1)) (negsuc 0) (omega arith)
+      marked-words = take-set-le folded-end (st .work) (cells + (p .at + 1)) (negsuc 0) (omega arith)
 
       marked-word : has-ifs marked ≡ has-ifs (st .work)
       marked-word = word-kept (st .work) (cells + (p .at + 1)) (negsuc 0) (λ y. omega (arith, stand .high))
@@ -280,7 +283,7 @@ module _ (ds : List Domain) (F : List ℤ) (Plain : IntExpr → Type 0) (parted 
         ap seen-in (l .stay (p .at) _ (stand n st s g closed none-yet) (λ y. unseen-constant (sym y ∙ c)) 1 (omega arith) (omega arith)) ∙ c
 
     -- the condition is a declared variable
-    module _ (k n : ℕ) (b : State) (z t : Log) (m : MadeInt) (x y : ℤ) (v : ℕ) (under-512 : v < 512) (closed : fixed e ≡ true) (none-yet : get-if e z ≡ none)
+    module _ (k n : ℕ) (b : State) (z t : Log) (m : MadeInt) (x y : ℤ) (v : ℕ) (under-512 : v < max-bools) (closed : fixed e ≡ true) (none-yet : get-if e z ≡ none)
         (undeclared : (v : ℕ) → is-declared-int v m ≡ false) (var-is : convert-bool-var v z .1 ≡ t) (gb : GoodAt (16 + n) b z) where
       abbrev st₀ : State
       st₀ = with-work (marked (16 + n) b z gb closed none-yet) b

@@ -11,17 +11,18 @@ use lib.Seq.{sets}
 use lib.Dec.{ltb}
 use Rattle.laws.specs.Ints.{eqZ, is-zero}
 use Rattle.laws.specs.Same.{same-words}
+use Rattle.memory.specs.Places.{folded, bool-map, int-map, cells}
 use Rattle.syntax.specs.Syntax.{Domain, Range, lower-bound, upper-bound, domain-of}
 use Rattle.sums.specs.LinearSum.{is-constant, get-domain-linear-sum}
 use Rattle.sums.specs.Rising.{constant-of}
 use Rattle.clauses.specs.Normalize.{hull}
 use Rattle.answer.specs.Answer.{domain-words}
-use Rattle.walk.specs.Item.{bump, is-none, bool-map, int-map, bool-at, int-entry, fresh}
+use Rattle.walk.specs.Item.{bump, is-none, bool-at, int-entry, fresh}
 use Rattle.walk.specs.Decode.{read-part}
 use Rattle.walk.specs.declared.Counters.{Counters}
 use Rattle.walks.specs.Tree.{Place, Tree, Trees, IntTree, TermTrees}
 use Rattle.walks.specs.Form.{Form, var, num, cmp, conj, disj, cross, tied, Forms, nil, cons, IntForm, const, ivar, sum, choice, TermForms, none as no-terms, term, form, forms, int-form, term-forms}
-use Rattle.walks.specs.Item.{counters, int-count, cells, cell, Seen, unseen, both-constant, numbered, seen-in, seen, known-in, Item, IntItem, tallies, num-item, form-item, form-items, form-int-item}
+use Rattle.walks.specs.Item.{counters, int-count, cell, Seen, unseen, both-constant, numbered, seen-in, seen, known-in, Item, IntItem, tallies, num-item, form-item, form-items, form-int-item}
 
 -- the work slice, the output, the next Boolean's and the next integer's number, and words of the answer that are sure to come
 pub record State : Type 0 where
@@ -82,7 +83,7 @@ equal-from w p (suc k) q =
 
 -- looked for where nothing is known yet; the folded words stand from 512 on
 unfoldable pub find-equal : List ℤ → Place → Option ℕ
-find-equal w p = cond (is-unseen (seen w p) && p .whole) (equal-from w p 4096 512) none
+find-equal w p = cond (is-unseen (seen w p) && p .whole) (equal-from w p 4096 folded) none
 
 -- an If's three cells
 unfoldable pub set-cells : ℕ → ℤ → ℤ → ℤ → List ℤ → List ℤ

@@ -11,15 +11,17 @@ use lib.IntN.{ℤ, pos, negsuc}
 use lib.ListN.{length, length-append, set}
 use lib.Seq.{getD-set-other}
 use Rattle.laws.specs.Ints.{is-zero}
+use Rattle.memory.specs.Places.{folded, bool-map, int-map, maps-end, cells, limit}
 use Rattle.syntax.specs.Syntax.{Domain, lower-bound, upper-bound, IntExpr, IConst, IVar, Linear, If, Terms, tnil, tmore, BoolExpr, Const, Var, NVar, And, Or, Not, Xor, Iff, Imp, Cmp, Members, mnil, more, encode-bool, encode-members, encode-int, encode-terms}
+use Rattle.syntax.specs.Words.{max-bools}
 use Rattle.sums.specs.LinearSum.{is-constant}
-use Rattle.walk.specs.Item.{limit, is-none, bool-map, int-map, bool-at, int-entry}
+use Rattle.walk.specs.Item.{is-none, bool-at, int-entry}
 use Rattle.walks.specs.Tree.{Place, Tree, Trees, IntTree, TermTrees, Splitting, below, here, inner, own-splits, splits, splits-int, split-int, resolve-int}
 use Rattle.walks.specs.Tree.{var as tree-var, num as tree-num, cmp as tree-cmp, conj as tree-conj, disj as tree-disj, cross as tree-cross, tied as tree-tied, nil as no-trees, cons as more-trees, const as tree-const, ivar as tree-ivar, sum as tree-sum, choice as tree-choice, none as no-term-trees, term as tree-term}
 use Rattle.walks.specs.Form.{Form, var, num, cmp, conj, disj, cross, tied, Forms, nil, cons, IntForm, const, ivar, sum, choice, TermForms, none as no-terms, term, form, forms, int-form, term-forms}
 use Rattle.walks.specs.Thirds.{length-three, le-same}
 use Rattle.walks.specs.Resolve.{rule-trees, pair-trees}
-use Rattle.walks.specs.Item.{cells, cell, seen, known-in}
+use Rattle.walks.specs.Item.{cell, seen, known-in}
 use Rattle.walks.specs.Meet.{State, counters-of, with-work, more-bools, spend, meet-bool, set-cell, number-word, stored, find-equal, range-record, Parts, is-full, new-int, meet-int-var, meet-constant, meet-open, meet-branches, meet-new, meet-unknown, meet-if, form-meet, form-meets, form-meet-int, form-meet-terms}
 use Rattle.walks.specs.Cells.{Off, cells-other}
 use Rattle.walks.specs.Implements.{Proper, Propers, ProperInt, ProperTerms}
@@ -38,12 +40,12 @@ abbrev pub InPlace : ℕ → ℕ → Place → Type 0
 InPlace a b p = (a ≤ p .at) × (p .at + 6 ≤ b)
 
 abbrev pub LowOwn : Option ℕ → Type 0
-LowOwn o = (v : ℕ) → o ≡ some v → v < 512
+LowOwn o = (v : ℕ) → o ≡ some v → v < max-bools
 
 module _ (a b : ℕ) where
   unfoldable mutual
     pub WithinForm : Form → Type 0
-    WithinForm (var v g) = v < 512
+    WithinForm (var v g) = v < max-bools
     WithinForm (num n g) = Unit {0}
     WithinForm (cmp o x y g) = WithinInt x × WithinInt y
     WithinForm (conj ts) = WithinForms ts
@@ -69,7 +71,7 @@ module _ (a b : ℕ) where
 
 -- a cell behind the maps; not between, or one of the last two
 abbrev pub Outside : ℕ → ℕ → ℕ → Type 0
-Outside a b q = (512 ≤ q) × (q ≤ a ⊎ b ≤ q + 2)
+Outside a b q = (folded ≤ q) × (q ≤ a ⊎ b ≤ q + 2)
 
 off-place : (a b q : ℕ) (p : Place) → InPlace a b p → (q ≤ a ⊎ b ≤ q + 2) → Off (p .at) q
 off-place a b q p h (inl l) = inl (omega (arith, h .0))
@@ -84,11 +86,11 @@ module _ (q : ℕ) where
   either-cell true w x y i j = i
   either-cell false w x y i j = j
 
-  map-cell : (w : List ℤ) (p : ℕ) (x : ℤ) → p < 5376 → 512 ≤ q → cell (set w p x) q ≡ cell w q
+  map-cell : (w : List ℤ) (p : ℕ) (x : ℤ) → p < maps-end → folded ≤ q → cell (set w p x) q ≡ cell w q
   unfolding cell
   map-cell w p x h l = getD-set-other w p (cells + q) x (pos 0) (λ e. omega arith)
 
-  pub bool-near : 512 ≤ q → (v : ℕ) → v < 512 → (st : State) → cell (meet-bool v st .work) q ≡ cell (st .work) q
+  pub bool-near : folded ≤ q → (v : ℕ) → v < max-bools → (st : State) → cell (meet-bool v st .work) q ≡ cell (st .work) q
   unfolding meet-bool
   bool-near l v h st = either-cell (is-zero (bool-at (st .work) v)) (st .work) _ st (map-cell (st .work) (bool-map + v) (pos (st .bools + 1)) (omega arith) l) refl
 

@@ -13,9 +13,12 @@ use Rattle.laws.specs.Ints.{is-zero}
 use Rattle.laws.specs.Bools.{never as no-bool}
 use Rattle.laws.specs.Slices.{Has}
 use Rattle.laws.specs.Same.{same-refl}
+use Rattle.memory.specs.Places.{folded, folded-end, bool-map, int-map, maps-end}
+use Rattle.memory.specs.Number.{nat}
 use Rattle.syntax.specs.Syntax.{Domain, IntExpr, encode-int}
+use Rattle.syntax.specs.Words.{max-bools}
 use Rattle.clauses.specs.Log.{Log, get-if}
-use Rattle.walk.specs.Item.{bool-map, int-map, nat, bool-at, int-entry}
+use Rattle.walk.specs.Item.{bool-at, int-entry}
 use Rattle.walk.specs.Decode.{read-part}
 use Rattle.walks.specs.Tree.{Place}
 use Rattle.walks.specs.Form.{Forms, IntForm}
@@ -37,13 +40,13 @@ use Rattle.walks.specs.Near.{WithinForms, WithinInt, forms-near, int-for
 -- no If is seen that stands from `at` on, or whose cells reach there; F: the folded words
 module _ (F : List ℤ) where
   abbrev pub Ahead : ℕ → List ℤ → Type 0
-  Ahead at w = (q : ℕ) (e : IntExpr) → IsIf e → Has F q (encode-int e) → 512 ≤ q → q < 4608 → at ≤ q + 3 → seen-in (cell w (q + 1)) ≡ unseen
+  Ahead at w = (q : ℕ) (e : IntExpr) → IsIf e → Has F q (encode-int e) → folded ≤ q → q < folded-end → at ≤ q + 3 → seen-in (cell w (q + 1)) ≡ unseen
 
   pub ahead-more : (a b : ℕ) (w : List ℤ) → a ≤ b → Ahead a w → Ahead b w
   ahead-more a b w l h q e i t m n k = h q e i t m n (omega arith)
 
   -- the cells from b - 2 on stay
-  pub ahead-same : (b : ℕ) (w w' : List ℤ) → ((q : ℕ) → 512 ≤ q → b ≤ q + 2 → cell w' q ≡ cell w q) → Ahead b w → Ahead b w'
+  pub ahead-same : (b : ℕ) (w w' : List ℤ) → ((q : ℕ) → folded ≤ q → b ≤ q + 2 → cell w' q ≡ cell w q) → Ahead b w → Ahead b w'
   ahead-same b w w' c h q e i t m n k = ap seen-in (c (q + 1) (omega arith) (omega arith)) ∙ h q e i t m n k
 
   module _ (ds : List Domain) (rec cap a b : ℕ) where
@@ -104,7 +107,7 @@ module _ (ds : List Domain) (F : List ℤ) (Plain : IntExpr → Type 0) (parted 
 
   -- a slice with the same maps and words, and the word for Ifs; such is one in which the cells of Ifs with split parts are cleared, as before each pair
   pub record SameMaps (w w' : List ℤ) : Type 0 where
-    pub low : (q : ℕ) → q < 5376 → getD w' q (pos 0) ≡ getD w q (pos 0)
+    pub low : (q : ℕ) → q < maps-end → getD w' q (pos 0) ≡ getD w q (pos 0)
     pub words : read-part w' ≡ read-part w
     pub word : has-ifs w' ≡ has-ifs w
     pub size : length w' ≡ length w
@@ -113,7 +116,7 @@ module _ (ds : List Domain) (F : List ℤ) (Plain : IntExpr → Type 0) (parted 
       → Good ds F Plain parted K fixed rec cap with-ifs before Named n st s → Good ds F Plain parted L fixed rec cap with-ifs before Named n (with-work w st) s
   unfolding bool-at int-entry
   good-reset rec cap with-ifs before Named n st w s m r u g =
-      let b : blanks is-zero w bool-map 512 ≡ blanks is-zero (st .work) bool-map 512 = blanks-same is-zero (st .work) bool-map w 512 (λ v l. m .low (bool-map + v) (omega arith)) in
+      let b : blanks is-zero w bool-map max-bools ≡ blanks is-zero (st .work) bool-map max-bools = blanks-same is-zero (st .work) bool-map w max-bools (λ v l. m .low (bool-map + v) (omega arith)) in
       let c : blanks no-int w int-map 256 ≡ blanks no-int (st .work) int-map 256 = blanks-same no-int (st .work) int-map w 256 (λ v l. m .low (int-map + v) (omega arith)) in
       record {
         map = λ v l. m .low (bool-map + v) (omega arith) ∙ g .map v l;
@@ -146,7 +149,7 @@ none-found (some x) f = absurd (f x refl)
 
 -- they stand from `at` to `stop` and hold numbers from n on; K: what is looked up so far
 module _ (ds : List Domain) (F : List ℤ) (parted : ℕ → Bool) (K : ℕ → Option IntExpr) (fixed : IntExpr → Bool) {xs : List Key} {at stop n next size : ℕ}
-    (within : Every (Within at stop n next size) xs) (written : Every (Written F) xs) (plain : Every PlainIf xs) (low : 512 ≤ at) (high : stop ≤ 4608) where
+    (within : Every (Within at stop n next size) xs) (written : Every (Written F) xs) (plain : Every PlainIf xs) (low : folded ≤ at) (high : stop ≤ folded-end) where
   reaches : (q p : ℕ) → p ≡ q → at ≤ p → at ≤ q + 3
   reaches q p e h = omega arith
 

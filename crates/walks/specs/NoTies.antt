@@ -8,7 +8,8 @@ use Prim.Native.Nat.{ℕ, zero, suc, _+_, _≤_, _<_}
 use native.Mathlib.Omega.{arith}
 use lib.IntN.{ℤ}
 use lib.Dec.{eqb}
-use Rattle.walk.specs.Item.{limit, bump}
+use Rattle.memory.specs.Places.{limit}
+use Rattle.walk.specs.Item.{bump}
 use Rattle.walk.specs.Decode.{word, past}
 use Rattle.walk.specs.declared.Node.{Node}
 use Rattle.walk.specs.declared.Node.the-variants.{Var as VarAt, Cmp as CmpAt, Not as NotAt, Join, Cross}

@@ -4,8 +4,8 @@ use mathlib.Core.Bool.{Bool, true, false, not}
 use Prim.Native.Nat.{ℕ, suc, _+_, _-_, _≤_, _<_}
 use native.Mathlib.Omega.{arith}
 use lib.ListN.{length}
+use Rattle.memory.specs.Places.{limit}
 use Rattle.syntax.specs.Syntax.{Ne, IntExpr, IConst, IVar, Linear, If, Terms, tnil, tmore, BoolExpr, Const, Var, NVar, And, Or, Not, Xor, Iff, Imp, Cmp, Members, mnil, more, count-members, encode-bool, encode-int}
-use Rattle.walk.specs.Item.{limit}
 use Rattle.walks.specs.Tree.{Tree, num, cmp, Trees, nil, cons, size, append, joined, IntTree, TermTrees, Splitting, never, below, here, inner, own-splits, splits, splits-members, splits-int, splits-terms, split-of, crossed, crossed-at, resolve, resolves, resolve-int, resolve-terms, tie, sides-tied, ties, ties-members, ties-int, ties-terms}
 use Rattle.walks.specs.Implements.{NoNumber, Proper, Propers, ProperInt, ProperTerms}
 use Rattle.walks.specs.Leaves.{Leafy, Leafies, LeafyInt, LeafyTerms}

@@ -9,11 +9,12 @@ use native.Mathlib.Omega.{arith}
 use lib.IntN.{ℤ}
 use lib.ListN.{length}
 use Rattle.laws.specs.Slices.{Has}
+use Rattle.memory.specs.Places.{folded, folded-end, limit}
 use Rattle.syntax.specs.Syntax.{Domain, Ne, IntExpr, BoolExpr, Const, Cmp, encode-bool, encode-int}
 use Rattle.clauses.specs.Log.{added, Log, next-bool, made-ints, clauses-of}
 use Rattle.clauses.specs.Normalize.{register, normalize-bool-expr}
 use Rattle.clauses.specs.Split.{unsplit, register-each, tseitin-transformation-bool as cut, normalize-and-register-expr}
-use Rattle.walk.specs.Item.{limit, bump, lines-of}
+use Rattle.walk.specs.Item.{bump, lines-of}
 use Rattle.walk.specs.Grow.{grow-added}
 use Rattle.walks.specs.Tree.{Trees, below, here, splits, splits-int, resolve, ties, registers}
 use Rattle.walks.specs.Form.{forms}
@@ -126,7 +127,7 @@ module _ (ds : List Domain) (F : List ℤ) (parted : ℕ → Bool) (rec cap : �
   split-room K k n st s g = omega (arith, g .room, g .bools)
 
   -- a rule at p, from the log s
-  module _ (e : BoolExpr) (l p : ℕ) (legal : Legal e l) (words : Has F p (encode-bool e)) (from : 512 ≤ p) (to : p + length (encode-bool e) ≤ 4608) (s : Log) (agree : Every (AgreesWith parted with-ifs) (keys e below p (next-bool s))) where
+  module _ (e : BoolExpr) (l p : ℕ) (legal : Legal e l) (words : Has F p (encode-bool e)) (from : folded ≤ p) (to : p + length (encode-bool e) ≤ folded-end) (s : Log) (agree : Every (AgreesWith parted with-ifs) (keys e below p (next-bool s))) where
     abbrev pub rule-key : ℕ → Option IntExpr
     rule-key = looked-up (keys e below p (next-bool s))
 
@@ -163,7 +164,7 @@ module _ (ds : List Domain) (F : List ℤ) (parted : ℕ → Bool) (rec cap : �
     rule-ahead i st h = forms-ahead F ds rec cap p (p + length (encode-bool e)) (forms trees) (rule-inside e l p (next-bool s) legal i) st h
 
   -- a pair of an AllDifferent, its sides at p and q
-  module _ (a b : IntExpr) (l p q : ℕ) (first : LegalInt a l) (second : LegalInt b l) (words : Has F p (encode-int a)) (others : Has F q (encode-int b)) (from : 512 ≤ p) (then : p + length (encode-int a) ≤ q) (to : q + length (encode-int b) ≤ 4608)
+  module _ (a b : IntExpr) (l p q : ℕ) (first : LegalInt a l) (second : LegalInt b l) (words : Has F p (encode-int a)) (others : Has F q (encode-int b)) (from : folded ≤ p) (then : p + length (encode-int a) ≤ q) (to : q + length (encode-int b) ≤ folded-end)
       (s : Log) (agree : Every (AgreesWith parted with-ifs) (pair-keys a b p q (next-bool s))) where
     abbrev pub pair-key : ℕ → Option IntExpr
     pair-key = looked-up (pair-keys a b p q (next-bool s))

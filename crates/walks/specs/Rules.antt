@@ -7,12 +7,13 @@ use mathlib.Core.List.{List, _∷_}
 use Prim.Native.Nat.{ℕ, _+_, _≤_, _<_}
 use native.Mathlib.Omega.{arith}
 use lib.IntN.{ℤ}
+use Rattle.memory.specs.Places.{limit}
 use Rattle.syntax.specs.Syntax.{Domain, IntExpr}
 use Rattle.clauses.specs.Clause.{Clause}
 use Rattle.clauses.specs.Log.{added, Log, get-bool-var, get-int-var, get-if, made-ints}
 use Rattle.clauses.specs.Since.{here, over}
 use Rattle.clauses.specs.Normalize.{register}
-use Rattle.walk.specs.Item.{limit, bump}
+use Rattle.walk.specs.Item.{bump}
 use Rattle.walk.specs.Grow.{grow-added}
 use Rattle.walks.specs.Tree.{Trees, nil, cons, run, registers}
 use Rattle.walks.specs.Form.{form}

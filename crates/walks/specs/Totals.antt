@@ -16,6 +16,7 @@ use borrow.Author.Tests.{eq-eqb}
 use Rattle.laws.specs.Bools.{or-l}
 use Rattle.laws.specs.Ints.{lower, higher}
 use Rattle.laws.specs.Lists.{any, different}
+use Rattle.memory.specs.Places.{limit}
 use Rattle.syntax.specs.Words.{max-weight}
 use Rattle.syntax.specs.Syntax.{Domain, lower-bound, upper-bound, domain-of}
 use Rattle.limits.specs.Limits.{domain-weight}
@@ -24,7 +25,7 @@ use Rattle.sums.specs.Rising.{terms-of, constant-of, Proper, constant-proper, s
 use Rattle.sums.specs.Norm.{load, constant-load, singleton-load, add-sum-load, mul-sum-load}
 use Rattle.sums.specs.Bounds.{domain-weight-one, size, reach, lowest-size, highest-size, Room, room-among}
 use Rattle.clauses.specs.Normalize.{hull}
-use Rattle.walk.specs.Item.{limit, int-number, int-entry}
+use Rattle.walk.specs.Item.{int-number, int-entry}
 use Rattle.walk.specs.declared.Counters.{Counters}
 use Rattle.walks.specs.Tree.{Place}
 use Rattle.walks.specs.Form.{IntForm, const, ivar, sum, choice, TermForms, none as no-terms, term}
@@ -399,21 +400,6 @@ module _ (ds : List Domain) (w : List ℤ) where
     pub ReadsTerms : TermForms → Type 0
     ReadsTerms no-terms = Unit {0}
     ReadsTerms (term k e ts) = Reads e × ReadsTerms ts
-
-  -- so where all entries and all cells are
-  module _ (f : (v : ℕ) → int-entry w v ≤ 2147483648) (g : (p : ℕ) → natAbs (cell w p) ≤ 2147483648) where
-    mutual
-      unfolding Reads
-
-      pub reads-all : (e : IntForm) → Reads e
-      reads-all (const c) = tt
-      reads-all (ivar v) = f v
-      reads-all (sum ts) = reads-all-terms ts
-      reads-all (choice p o c d t e) = g (p .at + 1)
-
-      reads-all-terms : (ts : TermForms) → ReadsTerms ts
-      reads-all-terms no-terms = tt
-      reads-all-terms (term k e ts) = (reads-all e, reads-all-terms ts)
 
   -- where no integer's counter is kept, it is any number within the limit
   abbrev pub Low : Counters → Type 0

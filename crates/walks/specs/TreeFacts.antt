@@ -9,12 +9,14 @@ use lib.IntN.{ℤ}
 use lib.ListN.{length}
 use Rattle.laws.specs.Bools.{never as no-bool}
 use Rattle.laws.specs.Slices.{Has}
+use Rattle.memory.specs.Places.{folded, folded-end, limit}
 use Rattle.syntax.specs.Syntax.{Domain, IntExpr, IConst, IVar, Linear, If, Terms, tnil, tmore, BoolExpr, Const, Var, NVar, And, Or, Not, Xor, Iff, Imp, Cmp, Members, mnil, more, encode-bool, encode-int}
+use Rattle.syntax.specs.Words.{max-bools}
 use Rattle.clauses.specs.Bounds.{int-bound}
 use Rattle.clauses.specs.Log.{Log, get-if}
 use Rattle.clauses.specs.Normalize.{Run, IntRun, normalize-bool-expr, normalize-int-expr}
 use Rattle.clauses.specs.Once.{int-stays, bool-stays}
-use Rattle.walk.specs.Item.{limit, is-none}
+use Rattle.walk.specs.Item.{is-none}
 use Rattle.walks.specs.Tree.{own-var, Place, Tree, var, num, cmp, conj, disj, cross, tied, Trees, nil, cons, IntTree, const, ivar, sum, choice, TermTrees, none as no-terms, term, Splitting, never, below, here, inner, own-splits, splits, splits-int, split-of, split-int, condition-of, resolve, resolve-int, run, run-int}
 use Rattle.walks.specs.Distinct.{none-some}
 use Rattle.walks.specs.Thirds.{fewer-first, fewer-second, fewer-third}
@@ -39,9 +41,9 @@ none-behind n k e = omega arith
 
 -- of an If as written: where its condition is a declared variable, that is within the limit
 abbrev pub LowVar : IntExpr → Type 0
-LowVar e = (v : ℕ) → own-var (condition-of e) ≡ some v → v < 512
+LowVar e = (v : ℕ) → own-var (condition-of e) ≡ some v → v < max-bools
 
-low-condition : (c : BoolExpr) (l v : ℕ) → Legal c l → own-var c ≡ some v → v < 512
+low-condition : (c : BoolExpr) (l v : ℕ) → Legal c l → own-var c ≡ some v → v < max-bools
 unfolding Legal
 low-condition (Const b) l v h e = absurd h
 low-condition (Var u) l v h e = let z : u ≡ v = cc in omega (arith, h .1, z)
@@ -173,7 +175,7 @@ module _ (ds : List Domain) (F : List ℤ) (parted : ℕ → Bool) (K : ℕ → 
   -- ---- from a list
 
   module _ {xs : List Key} {at stop n next size : ℕ} (within : Every (Within at stop n next size) xs) (written : Every (Written F) xs) (plain : Every PlainIf xs) (vars : Every (λ x. LowVar (x .written)) xs)
-      (from : 512 ≤ at) (to : stop ≤ 4608) (agree : Every (AgreesWith parted with-ifs) xs) (keyed : Every (λ x. x .place .whole ≡ false → K (x .place .at) ≡ some (x .key)) xs) where
+      (from : folded ≤ at) (to : stop ≤ folded-end) (agree : Every (AgreesWith parted with-ifs) xs) (keyed : Every (λ x. x .place .whole ≡ false → K (x .place .at) ≡ some (x .key)) xs) where
     known-one : (x : Key) → Within at stop n next size x → Written F x → PlainIf x → LowVar (x .written) → AgreesWith parted with-ifs x → (x .place .whole ≡ false → K (x .place .at) ≡ some (x .key)) → Known x
     known-one x w r p v a k = record {
       node = record {
@@ -206,7 +208,7 @@ module _ (ds : List Domain) (F : List ℤ) (parted : ℕ → Bool) (rec cap : �
   abbrev PlacesOf : List Key → Type 0
   PlacesOf xs = Places ds F PlainInt parted (looked-up xs) (fixed ds)
 
-  pub rule-facts : (e : BoolExpr) (l at n : ℕ) → Legal e l → Has F at (encode-bool e) → 512 ≤ at → at + length (encode-bool e) ≤ 4608 → Every (AgreesWith parted with-ifs) (keys e below at n)
+  pub rule-facts : (e : BoolExpr) (l at n : ℕ) → Legal e l → Has F at (encode-bool e) → folded ≤ at → at + length (encode-bool e) ≤ folded-end → Every (AgreesWith parted with-ifs) (keys e below at n)
       → (P : PlacesOf (keys e below at n)) → FactsAll ds F parted (looked-up (keys e below at n)) rec cap with-ifs before P low (rule-trees e at n)
   rule-facts e l at n h d i j a P =
       let xs = keys e below at n in
@@ -215,7 +217,7 @@ module _ (ds : List Domain) (F : List ℤ) (parted : ℕ → Bool) (rec cap : �
       all-facts-of ds F parted (looked-up xs) rec cap with-ifs before P low (rule-trees e at n) (rule-choices (ChoiceAt ds F parted (looked-up xs) rec cap with-ifs before P low) (Known ds F parted (looked-up xs) rec cap with-ifs before P low) (make-choice ds F parted (looked-up xs) rec cap with-ifs before P low) e at n k)
 
   -- p and q: where its sides stand
-  pub pair-facts : (a b : IntExpr) (l p q n : ℕ) → LegalInt a l → LegalInt b l → Has F p (encode-int a) → Has F q (encode-int b) → 512 ≤ p → p + length (encode-int a) ≤ q → q + length (encode-int b) ≤ 4608 → Every (AgreesWith parted with-ifs) (pair-keys a b p q n)
+  pub pair-facts : (a b : IntExpr) (l p q n : ℕ) → LegalInt a l → LegalInt b l → Has F p (encode-int a) → Has F q (encode-int b) → folded ≤ p → p + length (encode-int a) ≤ q → q + length (encode-int b) ≤ folded-end → Every (AgreesWith parted with-ifs) (pair-keys a b p q n)
       → (P : PlacesOf (pair-keys a b p q n)) → FactsAll ds F parted (looked-up (pair-keys a b p q n)) rec cap with-ifs before P low (pair-trees a b p q n)
   pair-facts a b l p q n h g d c i o j w P =
       let xs = pair-keys a b p q n in
@@ -229,7 +231,7 @@ module _ (ds : List Domain) (F : List ℤ) (parted : ℕ → Bool) (rec cap : �
   none-split : (e : IntExpr) (at n : ℕ) → int-bound e ≤ 0 → Every (λ x. x .place .whole ≡ true) (keys-int e never at n)
   none-split e at n b = every-map (λ x w. w .flag ∙ ap is-none (uncount n (n + splits-int e never) (x .first) (x .count) (w .low) (w .high) (none-behind n (splits-int e never) (never-int e)))) (keys-int-within e never at n b)
 
-  pub column-facts : (K : ℕ → Option IntExpr) (e : IntExpr) (l at n : ℕ) → LegalInt e l → Has F at (encode-int e) → 512 ≤ at → at + length (encode-int e) ≤ 4608 → Every (AgreesWith parted with-ifs) (keys-int e never at n)
+  pub column-facts : (K : ℕ → Option IntExpr) (e : IntExpr) (l at n : ℕ) → LegalInt e l → Has F at (encode-int e) → folded ≤ at → at + length (encode-int e) ≤ folded-end → Every (AgreesWith parted with-ifs) (keys-int e never at n)
       → (P : Places ds F PlainInt parted K (fixed ds)) → FactsInt ds F parted K rec cap with-ifs before P low (resolve-int e never at n)
   column-facts K e l at n h d i j a P =
       let b = legal-int-bound e l h in

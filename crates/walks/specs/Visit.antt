@@ -12,19 +12,21 @@ use lib.Seq.{getD-set-other}
 use lib.Dec.{ltb}
 use borrow.Author.Tests.{ltb-true, lt-ltb}
 use Rattle.laws.specs.Ints.{is-zero}
+use Rattle.memory.specs.Places.{bool-map, int-map, maps-end, cells, limit}
 use Rattle.syntax.specs.Syntax.{Domain, IntExpr}
+use Rattle.syntax.specs.Words.{max-bools}
 use Rattle.clauses.specs.Clause.{BoolLit, lit}
 use Rattle.clauses.specs.Log.{aux, bool, Log, next-bool, next-int, get-bool-var, get-int-var, get-if, made-ints}
 use Rattle.clauses.specs.Disjunction.{Outs, normalize-disjunction, finish-sorted}
 use Rattle.clauses.specs.Since.{here, over, top-then}
-use Rattle.walk.specs.Item.{limit, is-none, bool-map, int-map, bool-at, int-entry, fresh}
+use Rattle.walk.specs.Item.{is-none, bool-at, int-entry, fresh}
 use Rattle.answer.specs.Answer.{bool-word}
 use Rattle.walk.specs.Grow.{lit-word}
 use Rattle.walk.specs.Num.{code}
 use Rattle.walk.specs.Texts.{Auxed, here as no-aux, above, disjunction-auxed, disjunction-finish, finish-count}
 use Rattle.walks.specs.Tree.{Tree, var, num, cmp, conj, disj, cross, tied, Trees, nil, cons, IntTree, const, ivar, sum, choice, TermTrees, none as no-terms, term}
 use Rattle.walks.specs.Form.{form}
-use Rattle.walks.specs.Item.{has-ifs, int-count, cells, cell, unseen, seen-in, Item, tallies}
+use Rattle.walks.specs.Item.{has-ifs, int-count, cell, unseen, seen-in, Item, tallies}
 use Rattle.walks.specs.Meet.{form-meet, State, counters-of, more-bools, meet-bool, Parts, is-full, new-int, meet-int-var, meet-if, meet, meets, meet-int, meet-terms}
 use Rattle.walks.specs.Cells.{word-kept, Stands, Places}
 use Rattle.walks.specs.Good.{Quiet, Names, Good, good-quiet}
@@ -118,7 +120,7 @@ module _ (ds : List Domain) (F : List ℤ) (Plain : IntExpr → Type 0) (parted 
   }
 
   -- the stores of declared variables lie below the cells
-  map-later : (w : List ℤ) (p : ℕ) (x : ℤ) → p < 5376 → Later w (set w p x)
+  map-later : (w : List ℤ) (p : ℕ) (x : ℤ) → p < maps-end → Later w (set w p x)
   map-later w p x h = record {
     stay = λ q e t n k l m. unfold cell in getD-set-other w p (cells + (q + k)) x (pos 0) (λ e. omega (arith, t .low));
     word = word-kept w p x (λ e. omega arith);
@@ -131,7 +133,7 @@ module _ (ds : List Domain) (F : List ℤ) (Plain : IntExpr → Type 0) (parted 
   pub same-later : (w : List ℤ) → Later w w
   same-later w = record { stay = λ q e t n k l m. refl; word = refl }
 
-  pub bool-later : (v : ℕ) → v < 512 → (st : State) → Later (st .work) (meet-bool v st .work)
+  pub bool-later : (v : ℕ) → v < max-bools → (st : State) → Later (st .work) (meet-bool v st .work)
   unfolding meet-bool
   bool-later v h st = either-later (is-zero (bool-at (st .work) v)) (st .work) _ st (map-later (st .work) (bool-map + v) (pos (st .bools + 1)) (omega arith)) (same-later (st .work))
 

@@ -11,7 +11,9 @@ use lib.Signed.{ltZ}
 use lib.ListN.{length}
 use borrow.Author.Tests.{eq-eqb}
 use Rattle.laws.specs.Ints.{eqZ}
+use Rattle.memory.specs.Places.{limit}
 use Rattle.syntax.specs.Syntax.{IfIsRead, Domain, Range, CmpOp, IntExpr, IConst, IVar, Linear, If, BoolExpr, Const, Var, NVar, And, Or, Not, Xor, Iff, Imp, Cmp}
+use Rattle.syntax.specs.Words.{max-bools}
 use Rattle.sums.specs.LinearSum.{LinearSum, constant, is-constant, add-sum, mul-sum}
 use Rattle.sums.specs.Rising.{constant-of}
 use Rattle.clauses.specs.Clause.{BoolLit, lit, Clause}
@@ -20,7 +22,7 @@ use Rattle.clauses.specs.Disjunction.{normalize-disjunction, finish-disjunction
 use Rattle.clauses.specs.Normalize.{Run, two, define, no-run, run-then, cross as cross-run, normalize-num, lit-clauses, normalize-var, normalize-comparison, normalize-conjunction, disjunction-of, normalize-int-var, normalize-term, equals, own-literal, condition-literal, two-valued, hull, domain-of-sum, if-constant, if-open, normalize-if}
 use Rattle.clauses.specs.Emitted.{domain-at, new-domain}
 use Rattle.clauses.specs.Since.{OnTop, here, over, top-then, top-domain}
-use Rattle.walk.specs.Item.{limit, bump, fresh, bool-at}
+use Rattle.walk.specs.Item.{bump, fresh, bool-at}
 use Rattle.answer.specs.Answer.{bool-word}
 use Rattle.walk.specs.Grow.{Grows, same, lit-word, bool-here}
 use Rattle.walks.specs.Tree.{own-var, Place, Tree, var, num, cmp, conj, disj, cross, tied, Trees, nil, cons, IntTree, const, ivar, sum, choice, TermTrees, none as no-terms, term, condition-of, run, runs, run-int, run-terms}
@@ -186,7 +188,7 @@ module _ (ds : List Domain) (F : List ℤ) (parted : ℕ → Bool) (K : ℕ → 
     pub stays-negated : (s : Log) → get-if e (run ds d s .1) ≡ get-if e s
     pub stays-first : (s : Log) → get-if e (run-int ds t s .1) ≡ get-if e s
     pub stays-second : (s : Log) → get-if e (run-int ds f s .1) ≡ get-if e s
-    pub low-var : (v : ℕ) → own-var (condition-of e) ≡ some v → v < 512
+    pub low-var : (v : ℕ) → own-var (condition-of e) ≡ some v → v < max-bools
     pub some-ifs : with-ifs ≡ true
 
   unfoldable mutual
@@ -433,13 +435,13 @@ module _ (ds : List Domain) (F : List ℤ) (parted : ℕ → Bool) (K : ℕ → 
                   (fin b gb u)
 
           -- the literal's word
-          own-word : (v : ℕ) → v < 512 → (m : ℕ) (st : State) → GoodAt m st (convert-bool-var v (fb .1) .1) → bool-at (st .work) v ≡ lit-word (convert-bool-var v (fb .1) .0)
+          own-word : (v : ℕ) → v < max-bools → (m : ℕ) (st : State) → GoodAt m st (convert-bool-var v (fb .1) .1) → bool-at (st .work) v ≡ lit-word (convert-bool-var v (fb .1) .0)
           own-word v l m st g = g .map v l ∙ found-word (convert-bool-var v (fb .1) .0) (get-bool-var v (convert-bool-var v (fb .1) .1)) (bool-found v (fb .1))
 
           abbrev own-log : ℕ → Log
           own-log v = int (two-valued i (convert-bool-var v (fb .1) .0) jx jy) ∷ convert-bool-var v (fb .1) .1
 
-          own-finish : (v : ℕ) → v < 512 → (b : State) (gb : GoodAt (16 + n) b (fb .1)) → b .used ≤ words-of (fb .1) + (k + 4)
+          own-finish : (v : ℕ) → v < max-bools → (b : State) (gb : GoodAt (16 + n) b (fb .1)) → b .used ≤ words-of (fb .1) + (k + 4)
               → OutcomeAt k n (λ w. (seen w p ≡ both-constant) × Unit {0}) b (meet-constant ds rec cap parts jx jy (some v) (with-work (set-cell (p .at + 1) (negsuc 0) (b .work)) b)) (own-log v)
           own-finish v l b gb u =
               let m = two-valued i (convert-bool-var v (fb .1) .0) jx jy in
@@ -518,7 +520,7 @@ module _ (ds : List Domain) (F : List ℤ) (parted : ℕ → Bool) (K : ℕ → 
 
   -- ---- steps of trees
 
-  var-visit : (v : ℕ) (g : Bool) → v < 512 → Visits (var v g)
+  var-visit : (v : ℕ) (g : Bool) → v < max-bools → Visits (var v g)
   unfolding form-meet form run Placed normalize-var weight
   var-visit v g h k n st s gd u = good
       (good-bool ds F PlainInt parted K (fixed ds) rec cap with-ifs before (Named ds) (names ds) P v h n st s (good-less ds F PlainInt parted K (fixed ds) rec cap with-ifs before (Named ds) (0 + n) n st s (omega arith) gd))

@@ -28,6 +28,7 @@ use mir.Val.{SFits, toZ, ofZ}
 use mir.Facts.{toZ-ofZ}
 use borrow.Author.Needs.{sfits-of}
 use Rattle.laws.specs.Ints.{lower, higher, times-low}
+use Rattle.memory.specs.Places.{bounds}
 use Rattle.accept.specs.Walk.{Ready-ranges, Ranges-post}
 use Rattle.accept.proofs.Laws.{var-inside}
 use Rattle.accept.proofs.RangeLaws.{range-first-word, range-inside, const-range, if-range-ready, if-range-int, range-second, range-var, var-range, sum-ranges, sum-range, range-condition, range-if-inside, range-left, range-right, range-if, ranges-none, ranges-inside, range-first, ranges-next, ranges-more}
@@ -147,7 +148,7 @@ int-range-add-t15 : (t : ℕ) → int-range-lts.Need-add-t15 (int-range-claims t
 int-range-add-t15 t c = let q = range-inside (c .before .before .before .before .before .before .before .args .set .now) (c .before .before .before .before .before .before .before .args .work .now) (c .before .before .before .before .before .before .before .args .at) (c .before .before .before .before .before .before .before .pre .1) in omega (arith, c .before .before .before .before .before .before .before .good .0 .0)
 
 int-range-returns-3 : (t : ℕ) → int-range-lts.Need-returns-3 (int-range-claims t) (int-range-at t) int-range.Post
-int-range-returns-3 t c = let f : SFits w32 (getD (c .before .before .before .before .before .before .before .args .work .now) (7936 + 2 * (c .before .before .before .number2 .result)) (pos 0)) = sfits-of (c .before .low .given) in let g : SFits w32 (getD (c .before .before .before .before .before .before .before .args .work .now) (7936 + (2 * (c .before .before .before .number2 .result) + 1)) (pos 0)) = sfits-of (c .high .given) in var-range (c .before .before .before .before .before .before .before .args .set .now) (c .before .before .before .before .before .before .before .args .work .now) (c .before .before .before .before .before .before .before .args .at) _ (c .before .before .before .before .before .before .number .ensures .0) _ (c .before .before .before .number2 .ensures .0) _ _ (c .before .before .if3 .taken) (toZ-ofZ f) (toZ-ofZ g)
+int-range-returns-3 t c = let f : SFits w32 (getD (c .before .before .before .before .before .before .before .args .work .now) (bounds + 2 * (c .before .before .before .number2 .result)) (pos 0)) = sfits-of (c .before .low .given) in let g : SFits w32 (getD (c .before .before .before .before .before .before .before .args .work .now) (bounds + (2 * (c .before .before .before .number2 .result) + 1)) (pos 0)) = sfits-of (c .high .given) in var-range (c .before .before .before .before .before .before .before .args .set .now) (c .before .before .before .before .before .before .before .args .work .now) (c .before .before .before .before .before .before .before .args .at) _ (c .before .before .before .before .before .before .number .ensures .0) _ (c .before .before .before .number2 .ensures .0) _ _ (c .before .before .if3 .taken) (toZ-ofZ f) (toZ-ofZ g)
 
 int-range-add-terms-range : (t : ℕ) → int-range-lts.Need-add-terms-range (int-range-claims t) (int-range-at t) int-range.Post
 int-range-add-terms-range t c = let q = range-inside (c .before .before .before .before .before .args .set .now) (c .before .before .before .before .before .args .work .now) (c .before .before .before .before .before .args .at) (c .before .before .before .before .before .pre .1) in omega (arith, c .before .before .before .before .before .good .0 .0)

@@ -6,6 +6,7 @@ use mir.Syntax.{w32}
 use mir.Val.{SFits}
 use mir.Facts.{toZ-ofZ}
 use borrow.Author.Needs.{needs, sfits-of}
+use Rattle.memory.specs.Places.{bounds}
 use Rattle.accept.proofs.Laws.{var-inside, var-post}
 use borrow.Author.Needs.{needs}
 use Rattle.accept.proofs.variable_total.Statement.{statement}
@@ -45,7 +46,7 @@ bounds-total-requires : tie.Need-bounds-total-requires
 bounds-total-requires c κs = search needs
 
 returns : tie.Need-returns
-returns c = let f : SFits w32 (getD (c .before .before .before .args .work .now) (7936 + 2 * (c .before .before .before .args .v)) (pos 0)) = sfits-of (c .before .before .low .given) in let g : SFits w32 (getD (c .before .before .before .args .work .now) (7936 + (2 * (c .before .before .before .args .v) + 1)) (pos 0)) = sfits-of (c .before .high .given) in var-post (c .before .before .before .args .work .now) (c .before .before .before .args .v) (c .bounds-total .result) (getD (c .before .before .before .args .work .now) (7936 + 2 * (c .before .before .before .args .v)) (pos 0)) (getD (c .before .before .before .args .work .now) (7936 + (2 * (c .before .before .before .args .v) + 1)) (pos 0)) refl refl (rw (toZ-ofZ f, toZ-ofZ g) at (c .bounds-total .ensures))
+returns c = let f : SFits w32 (getD (c .before .before .before .args .work .now) (bounds + 2 * (c .before .before .before .args .v)) (pos 0)) = sfits-of (c .before .before .low .given) in let g : SFits w32 (getD (c .before .before .before .args .work .now) (bounds + (2 * (c .before .before .before .args .v) + 1)) (pos 0)) = sfits-of (c .before .high .given) in var-post (c .before .before .before .args .work .now) (c .before .before .before .args .v) (c .bounds-total .result) (getD (c .before .before .before .args .work .now) (bounds + 2 * (c .before .before .before .args .v)) (pos 0)) (getD (c .before .before .before .args .work .now) (bounds + (2 * (c .before .before .before .args .v) + 1)) (pos 0)) refl refl (rw (toZ-ofZ f, toZ-ofZ g) at (c .bounds-total .ensures))
 
 pub variable-total-spec : {M : Type 1} → statement M
 variable-total-spec =

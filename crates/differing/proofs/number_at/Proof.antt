@@ -9,12 +9,14 @@ use lib.ListN.{length, getD, List·getD-eq-default}
 use mir.Syntax.{w32}
 use mir.Val.{SFits}
 use mir.Facts.{toZ-ofZ}
-use Rattle.walk.specs.Item.{nat, int-entry, int-number}
+use Rattle.memory.specs.Places.{int-map}
+use Rattle.memory.specs.Number.{nat}
+use Rattle.walk.specs.Item.{int-entry, int-number}
 use Rattle.totals.proofs.Numbers.{entry-is}
 use Rattle.differing.proofs.number_at.Statement.{statement}
 use Rattle.differing.proofs.number_at.Tie as tie
 
-entry-past : (w : List ℤ) (v : ℕ) → length w ≤ 5120 + v → 0 ≡ int-number w v
+entry-past : (w : List ℤ) (v : ℕ) → length w ≤ int-map + v → 0 ≡ int-number w v
 unfolding int-entry nat
 entry-past w v h = rw (List·getD-eq-default w (pos 0) h) refl
 
@@ -31,7 +33,7 @@ number-in-requires : tie.Need-number-in-requires
 number-in-requires c κs = search needs
 
 returns : tie.Need-returns
-returns c = let z = getD (c .before .before .before .args .work .now) (5120 + (c .before .before .before .args .v)) (pos 0) in
+returns c = let z = getD (c .before .before .before .args .work .now) (int-map + (c .before .before .before .args .v)) (pos 0) in
     let f : SFits w32 z = sfits-of (c .before .z .given) in
     (entry-is (c .before .before .before .args .work .now) (c .before .before .before .args .v) _ (c .number-in .ensures .0 ∙ ap (λ (x : ℤ). nat x - 1) (toZ-ofZ f)), c .number-in .ensures .1)
 

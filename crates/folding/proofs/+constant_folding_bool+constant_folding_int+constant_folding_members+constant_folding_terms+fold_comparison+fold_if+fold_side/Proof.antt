@@ -28,7 +28,7 @@ use Rattle.folding.proofs.at_state.Reads as at-state-reads
 use Rattle.folding.proofs.close_binary.Reads as close-binary-reads
 use Rattle.folding.proofs.close_list.Reads as close-list-reads
 use Rattle.folding.proofs.close_not.Reads as close-not-reads
-use Rattle.folding.proofs.copy_word.Reads as copy-word-reads
+use Rattle.memory.proofs.copy_word.Reads as copy-word-reads
 use Rattle.folding.proofs.fold_leaf.Reads as fold-leaf-reads
 use Rattle.folding.proofs.hits.Reads as hits-reads
 use Rattle.folding.proofs.is_single.Reads as is-single-reads

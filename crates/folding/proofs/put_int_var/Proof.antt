@@ -4,7 +4,7 @@ use Rattle.folding.proofs.put_int_var.Tie as tie
 use Rattle.folding.proofs.put_int_var.Reads as reads
 use Rattle.folding.proofs.put_int_var.Lts as lts
 use Rattle.domains.proofs.as_constant.Reads as as-constant-reads
-use Rattle.folding.proofs.copy_word.Reads as copy-word-reads
+use Rattle.memory.proofs.copy_word.Reads as copy-word-reads
 use Rattle.domains.proofs.domain_of.Reads as domain-of-reads
 use Rattle.folding.proofs.put.Reads as put-reads
 use Rattle.folding.proofs.put_two.Reads as put-two-reads

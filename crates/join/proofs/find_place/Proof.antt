@@ -10,7 +10,7 @@ use Rattle.join.proofs.find_place.Reads as reads
 use Rattle.join.proofs.find_place.Lts as lts
 use Rattle.join.proofs.agree.Reads as agree-reads
 use Rattle.join.proofs.find.Reads as find-reads
-use Rattle.refuse.proofs.clear.Reads as clear-reads
+use Rattle.memory.proofs.clear.Reads as clear-reads
 
 agree-requires : tie.Need-agree-requires
 agree-requires c κs = search needs

@@ -8,7 +8,7 @@ use Rattle.join.proofs.join.Reads as reads
 use Rattle.join.proofs.join.Lts as lts
 use Rattle.join.proofs.agree.Reads as agree-reads
 use Rattle.join.proofs.write_both.Reads as write-both-reads
-use Rattle.refuse.proofs.clear.Reads as clear-reads
+use Rattle.memory.proofs.clear.Reads as clear-reads
 
 clear-requires : tie.Need-clear-requires
 clear-requires c κs = search needs

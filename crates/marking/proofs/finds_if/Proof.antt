@@ -4,8 +4,8 @@ use mathlib.Core.Logic.{⊎-elim}
 use Prim.Native.Nat.{_-_}
 use native.Mathlib.Omega.{arith}
 use borrow.Author.Needs.{needs, sfits-of}
-use Rattle.walk.specs.Decode.{read-part}
 use Rattle.memory.specs.Places.{folded}
+use Rattle.walk.specs.Decode.{read-part}
 use Rattle.marking.specs.Mark.{finds-if}
 use Rattle.marking.proofs.Laws.{if-found, if-unread, if-later, if-last}
 use Rattle.marking.proofs.finds_if.Statement.{statement}

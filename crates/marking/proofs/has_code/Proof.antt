@@ -5,8 +5,8 @@ use mathlib.Core.Logic.{⊎-elim}
 use Prim.Native.Nat.{_+_, _-_}
 use native.Mathlib.Omega.{arith}
 use borrow.Author.Needs.{needs, sfits-of}
-use Rattle.walk.specs.Decode.{read-part}
 use Rattle.memory.specs.Places.{folded}
+use Rattle.walk.specs.Decode.{read-part}
 use Rattle.marking.specs.Mark.{has-code}
 use Rattle.marking.proofs.Laws.{code-found, code-later, code-last}
 use Rattle.marking.proofs.has_code.Statement.{statement}

@@ -3,8 +3,8 @@ use mathlib.Core.Path.{sym, ap, _∙_}
 use mathlib.Core.Bool.{Bool, cond}
 use lib.IntN.{pos}
 use lib.ListN.{set}
-use Rattle.walks.specs.Item.{ifs-word}
 use borrow.Author.Needs.{needs}
+use Rattle.memory.specs.Places.{ifs-word}
 use Rattle.marking.proofs.mark_ifs.Statement.{statement}
 use Rattle.marking.proofs.mark_ifs.Tie as tie
 

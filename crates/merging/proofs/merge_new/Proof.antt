@@ -4,7 +4,8 @@ use mir.Syntax.{w32}
 use mir.Val.{SFits}
 use mir.Facts.{toZ-ofZ}
 use Prim.Native.Nat.{_≤_}
-use Rattle.walk.specs.Item.{limit, signed}
+use Rattle.memory.specs.Places.{limit}
+use Rattle.walk.specs.Item.{signed}
 use Rattle.survey.proofs.Leaves.{pos-is}
 use Rattle.merging.proofs.Laws.{ties-new}
 use borrow.Author.Needs.{needs}

@@ -54,7 +54,7 @@ use Rattle.numbering.proofs.settle.Reads as settle-reads
 use Rattle.numbering.proofs.single.Reads as single-reads
 use Rattle.numbering.proofs.spend.Reads as spend-reads
 use Rattle.numbering.proofs.start_open.Reads as start-open-reads
-use Rattle.numbering.proofs.store.Reads as store-reads
+use Rattle.memory.proofs.store.Reads as store-reads
 use Rattle.scan.proofs.inner.Reads as inner-reads
 use Rattle.scan.proofs.node_at.Reads as node-at-reads
 use Rattle.scan.proofs.skips.Reads as skips-reads
@@ -73,7 +73,8 @@ use mathlib.Core.Path.{refl, sym, ap, _∙_}
 use native.Mathlib.Omega.{arith}
 use Rattle.walk.specs.Decode.{read-part}
 use Rattle.walk.specs.Steps.{below-lt}
-use Rattle.scan.specs.Nodes.{part-length, okay-at}
+use Rattle.walk.specs.NumberingSteps.{part-length}
+use Rattle.scan.specs.Nodes.{okay-at}
 use Rattle.scan.specs.Skip.{split-by, int-none, int-leaf, int-sum}
 use Rattle.numbering.specs.Task.{state-of}
 use Rattle.numbering.specs.Steps.{cmp-first, cmp-second, not-starts, join-starts, cross-first, cross-second}
@@ -87,7 +88,7 @@ use Prim.Native.Nat.{_≤_}
 use lib.Dec.{leb}
 use mir.Syntax.{w32}
 use mir.Val.{SFits}
-use Rattle.syntax.specs.Words.{max-weight}
+use Rattle.syntax.specs.Words.{max-weight, max-bools}
 use Rattle.walks.specs.Meet.{number-word}
 use Rattle.numbering.proofs.Results.{pair-bits}
 use Rattle.numbering.specs.declared.Numbered.{Numbered}
@@ -488,7 +489,7 @@ number-constant-below-requires : (t : ℕ) → number-constant-lts.Need-below-re
 number-constant-below-requires t c κs = search needs
 
 number-constant-follow-requires : (t : ℕ) → number-constant-lts.Need-follow-requires (number-constant-claims t) (number-constant-at t) number-constant.Post
-number-constant-follow-requires t c κs = (rw (c .below .ensures) (below-lt 512 (c .before .before .before .word2 .result) (omega arith)), ((c .before .before .before .before .before .before .before .before .pre .1) .records, ((c .before .before .before .before .before .before .before .before .pre .1) .low .bools, ((c .before .before .before .before .before .before .before .before .pre .1) .low .ints, ((c .before .before .before .before .before .before .before .before .pre .1) .low .used, follow-ready ((c .before .before .before .before .before .before .before .before .args .room) .records) ((c .before .before .before .before .before .before .before .before .args .room) .cap) (c .before .before .before .before .before .before .before .before .args .left) (split-by (c .before .before .before .before .before .before .before .before .args .m)) (c .before .before .before .before .before .before .before .before .args .at) (c .before .before .before .before .before .before .before .before .args .base) (c .before .before .before .before .before .before .before .before .args .p) (c .before .before .before .before .before .before .before .before .args .work .now) (c .before .before .before .before .before .before .before .before .args .out .now) (c .before .before .before .before .before .before .before .before .args .c) (c .before .before .before .before .before .before .before .before .args .x) (c .before .before .before .before .before .before .before .before .args .y) (c .before .before .before .before .before .before .before .before .pre .1) _ _ _ (c .before .before .before .before .before .before .word .ensures) (c .before .before .before .before .before .if1 .taken) (c .before .before .before .word2 .ensures) (c .below .ensures))))))
+number-constant-follow-requires t c κs = (rw (c .below .ensures) (below-lt max-bools (c .before .before .before .word2 .result) (omega arith)), ((c .before .before .before .before .before .before .before .before .pre .1) .records, ((c .before .before .before .before .before .before .before .before .pre .1) .low .bools, ((c .before .before .before .before .before .before .before .before .pre .1) .low .ints, ((c .before .before .before .before .before .before .before .before .pre .1) .low .used, follow-ready ((c .before .before .before .before .before .before .before .before .args .room) .records) ((c .before .before .before .before .before .before .before .before .args .room) .cap) (c .before .before .before .before .before .before .before .before .args .left) (split-by (c .before .before .before .before .before .before .before .before .args .m)) (c .before .before .before .before .before .before .before .before .args .at) (c .before .before .before .before .before .before .before .before .args .base) (c .before .before .before .before .before .before .before .before .args .p) (c .before .before .before .before .before .before .before .before .args .work .now) (c .before .before .before .before .before .before .before .before .args .out .now) (c .before .before .before .before .before .before .before .before .args .c) (c .before .before .before .before .before .before .before .before .args .x) (c .before .before .before .before .before .before .before .before .args .y) (c .before .before .before .before .before .before .before .before .pre .1) _ _ _ (c .before .before .before .before .before .before .word .ensures) (c .before .before .before .before .before .if1 .taken) (c .before .before .before .word2 .ensures) (c .below .ensures))))))
 
 number-constant-same-length : (t : ℕ) → number-constant-lts.Need-same-length (number-constant-claims t) (number-constant-at t) number-constant.Post
 number-constant-same-length t c = search needs

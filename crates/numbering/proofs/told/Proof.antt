@@ -1,4 +1,4 @@
-use Rattle.memory.specs.DomainTable.{word-at}
+use Rattle.declared.specs.DomainTable.{word-at}
 use borrow.Author.Needs.{needs}
 use Rattle.numbering.proofs.told.Statement.{statement}
 use Rattle.numbering.proofs.told.Tie as tie

@@ -5,7 +5,7 @@ use Rattle.passes.proofs.fold_table.Lts as lts
 use Rattle.domains.proofs.number.Reads as number-reads
 use Rattle.folding.proofs.put.Reads as put-reads
 use Rattle.folding.proofs.put_two.Reads as put-two-reads
-use Rattle.passes.proofs.copy_words.Reads as copy-words-reads
+use Rattle.memory.proofs.copy_words.Reads as copy-words-reads
 use Rattle.passes.proofs.fold_columns.Reads as fold-columns-reads
 use mathlib.Core.Path.{_∙_}
 use native.Mathlib.Omega.{arith}

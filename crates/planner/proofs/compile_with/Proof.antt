@@ -8,7 +8,7 @@ use Rattle.planner.proofs.compile_with.Tie as tie
 use Rattle.planner.proofs.compile_with.Reads as reads
 use Rattle.planner.proofs.compile_with.Lts as lts
 use Rattle.planner.proofs.emit.Reads as emit-reads
-use Rattle.refuse.proofs.clear.Reads as clear-reads
+use Rattle.memory.proofs.clear.Reads as clear-reads
 use Rattle.settle.proofs.settle.Reads as settle-reads
 
 clear-requires : tie.Need-clear-requires

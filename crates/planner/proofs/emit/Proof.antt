@@ -10,7 +10,7 @@ use Rattle.planner.proofs.emit.Reads as reads
 use Rattle.planner.proofs.emit.Lts as lts
 use Rattle.planner.proofs.lent.Reads as lent-reads
 use Rattle.planner.proofs.write_answer.Reads as write-answer-reads
-use Rattle.refuse.proofs.clear.Reads as clear-reads
+use Rattle.memory.proofs.clear.Reads as clear-reads
 
 lent-requires : tie.Need-lent-requires
 lent-requires c κs = search needs

@@ -7,7 +7,7 @@ use Rattle.planner.proofs.prepare.Reads as reads
 use Rattle.planner.proofs.prepare.Lts as lts
 use Rattle.memory.proofs.clear_words.Reads as clear-words-reads
 use Rattle.marking.proofs.mark_ifs.Reads as mark-ifs-reads
-use Rattle.memory.proofs.write_domains.Reads as write-domains-reads
+use Rattle.declared.proofs.write_domains.Reads as write-domains-reads
 
 clear-words-requires : tie.Need-clear-words-requires
 clear-words-requires c κs = search needs

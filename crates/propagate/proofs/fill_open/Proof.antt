@@ -6,13 +6,14 @@ use Rattle.folding.proofs.put.Reads as put-reads
 use borrow.Author.Needs.{needs}
 use native.Mathlib.Omega.{arith}
 use Prim.Native.Nat.{_-_, _≤_}
+use Rattle.syntax.specs.Words.{max-bools}
 use Rattle.propagate.proofs.PassLaws.{Opening, opening-none, opening-next, opening-end}
 
 abbrev Inv-loop : tie.InvT-loop
-Inv-loop work₀ i₀ work i = (i ≤ 512) × Opening work₀ work i
+Inv-loop work₀ i₀ work i = (i ≤ max-bools) × Opening work₀ work i
 
 abbrev μ-loop : tie.MeasureT-loop
-μ-loop work₀ i₀ work i = 512 - i
+μ-loop work₀ i₀ work i = max-bools - i
 
 loop-holds : tie.Need-loop-holds Inv-loop μ-loop
 loop-holds c = (omega arith, opening-none _)

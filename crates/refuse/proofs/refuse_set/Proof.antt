@@ -8,7 +8,7 @@ use Rattle.refuse.proofs.refuse_set.Tie as tie
 use Rattle.refuse.proofs.refuse_set.Reads as reads
 use Rattle.refuse.proofs.refuse_set.Lts as lts
 use Rattle.accept.proofs.accept.Reads as accept-reads
-use Rattle.refuse.proofs.clear.Reads as clear-reads
+use Rattle.memory.proofs.clear.Reads as clear-reads
 
 -- src/lib.rt:24:9
 accept-requires : tie.Need-accept-requires

@@ -6,7 +6,7 @@ use Rattle.remaining.proofs.copy_folded.Statement.{statement}
 use Rattle.remaining.proofs.copy_folded.Tie as tie
 use Rattle.remaining.proofs.copy_folded.Reads as reads
 use Rattle.remaining.proofs.copy_folded.Lts as lts
-use Rattle.passes.proofs.copy_words.Reads as copy-words-reads
+use Rattle.memory.proofs.copy_words.Reads as copy-words-reads
 
 sub-n : tie.Need-sub-n
 sub-n c = search needs

@@ -6,7 +6,7 @@ use Rattle.remaining.proofs.settle_set.Statement.{statement}
 use Rattle.remaining.proofs.settle_set.Tie as tie
 use Rattle.remaining.proofs.settle_set.Reads as reads
 use Rattle.remaining.proofs.settle_set.Lts as lts
-use Rattle.refuse.proofs.clear.Reads as clear-reads
+use Rattle.memory.proofs.clear.Reads as clear-reads
 use Rattle.remaining.proofs.copy_folded.Reads as copy-folded-reads
 use Rattle.settle.proofs.settle.Reads as settle-reads
 

@@ -59,7 +59,8 @@ use native.Mathlib.Omega.{arith}
 use lib.IntN.{ℤ}
 use lib.ListN.{length}
 use Rattle.laws.specs.Writes.{Wrote, wrote-length, Open}
-use Rattle.walk.specs.Item.{limit, bump}
+use Rattle.memory.specs.Places.{limit}
+use Rattle.walk.specs.Item.{bump}
 use Rattle.walk.specs.Decode.{read-part}
 use Rattle.walks.specs.Item.{regs, reg-lines}
 use Rattle.walks.specs.Decode.{many-terms, decode-int}

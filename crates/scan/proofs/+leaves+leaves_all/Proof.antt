@@ -22,7 +22,8 @@ use mathlib.Core.Bool.{false}
 use native.Mathlib.Omega.{arith}
 use Rattle.walk.specs.Item.{bump}
 use Rattle.walk.specs.Decode.{read-part}
-use Rattle.scan.specs.Nodes.{part-length, okay-at}
+use Rattle.walk.specs.NumberingSteps.{part-length}
+use Rattle.scan.specs.Nodes.{okay-at}
 use Rattle.scan.specs.Skip.{split-by, inside-same, skips-none, skips-var, skips-cmp, skips-not, skips-join, skips-cross}
 use Rattle.scan.specs.LeafLaws.{as-counted, leaves-none, leaves-var, leaves-cmp, leaves-not, leaves-join, leaves-split, leaves-cross, Leaving, leaving-first, leaving-next, leaving-last, split-here, not-here}
 

@@ -2,6 +2,7 @@ use borrow.Author.Needs.{needs}
 use Prim.Native.Nat.{ℕ, _<_}
 use borrow.Fn.Kinds.{In}
 use borrow.Fn.PlainCycle.{Measures, is, falls, and}
+use Rattle.syntax.specs.Words.{max-bools}
 use Rattle.scan.proofs.make_if.Reads as make-if
 use Rattle.scan.proofs.make_if.Kinds as make-if-kinds
 use Rattle.scan.proofs.+make_if+survey+survey_int+survey_terms+surveys.Lts-make_if as make-if-lts
@@ -47,8 +48,9 @@ use Prim.Native.Nat.{ℕ, _<_, _+_, _*_}
 use mathlib.Core.Path.{refl, sym, ap, _∙_}
 use native.Mathlib.Omega.{arith}
 use Rattle.walk.specs.Steps.{below-lt}
+use Rattle.walk.specs.NumberingSteps.{part-length}
 use Rattle.walks.specs.Item.{counters}
-use Rattle.scan.specs.Nodes.{part-length, okay-at}
+use Rattle.scan.specs.Nodes.{okay-at}
 use Rattle.scan.specs.Skip.{split-by, inside-same, inside-more, skips-none, skips-var, skips-cmp, skips-not, skips-join, skips-cross, int-none, int-leaf, int-sum, int-if}
 use Rattle.scan.specs.LeafLaws.{split-here, not-here}
 use Rattle.scan.specs.IfLaws.{more-bools-low, more-ints-low}
@@ -165,7 +167,7 @@ make-if-below-requires : (t : ℕ) → make-if-lts.Need-below-requires (make-if-
 make-if-below-requires t c κs = search needs
 
 make-if-met-requires : (t : ℕ) → make-if-lts.Need-met-requires (make-if-claims t) (make-if-at t) make-if.Post
-make-if-met-requires t c κs = (rw (c .below .ensures) (below-lt 512 (c .before .word2 .result) (omega arith)), ((c .before .before .before .before .before .before) .pre .1 .1 .1 .1 .1) .0)
+make-if-met-requires t c κs = (rw (c .below .ensures) (below-lt max-bools (c .before .word2 .result) (omega arith)), ((c .before .before .before .before .before .before) .pre .1 .1 .1 .1 .1) .0)
 
 make-if-more-ints-requires-2 : (t : ℕ) → make-if-lts.Need-more-ints-requires-2 (make-if-claims t) (make-if-at t) make-if.Post
 make-if-more-ints-requires-2 t c κs = search needs

@@ -27,7 +27,8 @@ use mathlib.Core.Path.{refl, sym, _∙_}
 use mathlib.Core.Bool.{false}
 use native.Mathlib.Omega.{arith}
 use Rattle.walk.specs.Decode.{read-part}
-use Rattle.scan.specs.Nodes.{part-length, okay-at}
+use Rattle.walk.specs.NumberingSteps.{part-length}
+use Rattle.scan.specs.Nodes.{okay-at}
 use Rattle.scan.specs.Skip.{split-by, inside-low, skips-none, skips-var, skips-cmp, skips-not, skips-join, skips-cross, int-none, int-leaf, int-sum, int-if, Skipping, skipping-first, skipping-next, skipping-last, TermSkipping, terms-first, terms-next, terms-leaf, terms-last}
 
 abbrev μ-skip : Measures 1 skip-kinds.ps ℕ

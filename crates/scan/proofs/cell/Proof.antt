@@ -1,25 +1,17 @@
-use borrow.Author.Needs.{needs, sfits-of}
-use Rattle.scan.proofs.Seeing.{cell-there, cell-past}
+use Rattle.walks.specs.Item.{cell}
 use borrow.Author.Needs.{needs}
 use Rattle.scan.proofs.cell.Statement.{statement}
 use Rattle.scan.proofs.cell.Tie as tie
-use Rattle.scan.proofs.cell.Reads as reads
-use Rattle.scan.proofs.cell.Lts as lts
 
-add-i : tie.Need-add-i
-add-i c = search needs
+add-plain : tie.Need-add-plain
+add-plain c = search needs
 
-mul-result : tie.Need-mul-result
-mul-result c = search needs
-
-shared-slice-copy-out-result : tie.Need-shared-slice-copy-out-result
-shared-slice-copy-out-result c = search needs
+plain-requires : tie.Need-plain-requires
+plain-requires c κs = search needs
 
 returns : tie.Need-returns
-returns c = cell-there _ _ (sfits-of (c .result .given))
-
-returns-2 : tie.Need-returns-2
-returns-2 c = cell-past _ _ (c .if1 .left)
+unfolding cell
+returns c = search needs
 
 pub cell-spec : {M : Type 1} → statement M
-cell-spec = tie.close (tie.spec add-i mul-result shared-slice-copy-out-result returns returns-2)
+cell-spec = tie.close (tie.spec add-plain plain-requires returns)

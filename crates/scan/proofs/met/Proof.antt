@@ -4,7 +4,7 @@ use Rattle.scan.proofs.met.Tie as tie
 use Rattle.scan.proofs.met.Reads as reads
 use Rattle.scan.proofs.met.Lts as lts
 use Rattle.survey.proofs.bump.Reads as bump-reads
-use Rattle.survey.proofs.entry.Reads as entry-reads
+use Rattle.memory.proofs.entry.Reads as entry-reads
 use Rattle.scan.proofs.Meeting.{bool-new, bool-old}
 
 add-entry : tie.Need-add-entry

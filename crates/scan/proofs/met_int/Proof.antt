@@ -5,7 +5,7 @@ use Rattle.scan.proofs.met_int.Tie as tie
 use Rattle.scan.proofs.met_int.Reads as reads
 use Rattle.scan.proofs.met_int.Lts as lts
 use Rattle.scan.proofs.more_ints.Reads as more-ints-reads
-use Rattle.survey.proofs.entry.Reads as entry-reads
+use Rattle.memory.proofs.entry.Reads as entry-reads
 
 add-entry : tie.Need-add-entry
 add-entry c = search needs

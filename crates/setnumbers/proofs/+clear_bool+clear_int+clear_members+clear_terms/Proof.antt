@@ -25,7 +25,8 @@ use Prim.Native.Nat.{ℕ, _<_, _+_, _*_}
 use mathlib.Core.Path.{refl, sym, _∙_}
 use mathlib.Core.Bool.{false}
 use native.Mathlib.Omega.{arith}
-use Rattle.scan.specs.Nodes.{part-length, okay-at}
+use Rattle.scan.specs.Nodes.{okay-at}
+use Rattle.walk.specs.NumberingSteps.{part-length}
 use Rattle.setnumbers.proofs.Clearing.{clears-none, clears-var, clears-cmp, clears-not, clears-join, clears-cross, int-clears-none, int-clears-leaf, int-clears-sum, int-clears-if, Clearing, clearing-first, clearing-next, clearing-last, TermClearing, term-clearing-first, term-clearing-next, term-clearing-last}
 
 abbrev μ-clear-bool : Measures 1 clear-bool-kinds.ps ℕ

@@ -2,6 +2,7 @@ use borrow.Author.Needs.{needs}
 use mathlib.Core.Path.{_≡_, refl, _∙_}
 use native.Mathlib.Omega.{arith}
 use Prim.Native.Nat.{_≤_}
+use Rattle.memory.specs.Places.{folded-end}
 use Rattle.walk.specs.Decode.{read-part}
 use Rattle.stages.specs.Columns.{columns-end}
 use Rattle.setnumbers.proofs.Words.{columns-more, columns-none}
@@ -12,7 +13,7 @@ use Rattle.setnumbers.proofs.columns_end.Lts as lts
 use Rattle.scan.proofs.skip_int.Reads as skip-int-reads
 
 abbrev Inv-loop : tie.InvT-loop
-Inv-loop work at count q₀ rest₀ q rest = (q ≤ 4608) × (columns-end (read-part work) rest q ≡ columns-end (read-part work) rest₀ q₀)
+Inv-loop work at count q₀ rest₀ q rest = (q ≤ folded-end) × (columns-end (read-part work) rest q ≡ columns-end (read-part work) rest₀ q₀)
 
 abbrev μ-loop : tie.MeasureT-loop
 μ-loop work at count q₀ rest₀ q rest = rest

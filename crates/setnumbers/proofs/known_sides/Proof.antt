@@ -1,6 +1,7 @@
 use mathlib.Core.Bool.{false≢true}
 use native.Mathlib.Omega.{arith}
 use Rattle.laws.specs.Ints.{bits-nonzero}
+use Rattle.syntax.specs.Words.{max-bools}
 use Rattle.walk.specs.Steps.{below-lt}
 use Rattle.setnumbers.proofs.Known.{sides-known}
 use borrow.Author.Needs.{needs}
@@ -41,7 +42,7 @@ below-requires : tie.Need-below-requires
 below-requires c κs = search needs
 
 literal-requires : tie.Need-literal-requires
-literal-requires c κs = omega (arith, c .below .ensures, below-lt 512 (c .before .word3 .result) (omega arith))
+literal-requires c κs = omega (arith, c .below .ensures, below-lt max-bools (c .before .word3 .result) (omega arith))
 
 returns-3 : tie.Need-returns-3
 returns-3 c = λ e. absurd (false≢true e)
@@ -56,7 +57,7 @@ below-requires-2 : tie.Need-below-requires-2
 below-requires-2 c κs = search needs
 
 literal-requires-2 : tie.Need-literal-requires-2
-literal-requires-2 c κs = omega (arith, c .below2 .ensures, below-lt 512 (c .before .word4 .result) (omega arith))
+literal-requires-2 c κs = omega (arith, c .below2 .ensures, below-lt max-bools (c .before .word4 .result) (omega arith))
 
 returns-4 : tie.Need-returns-4
 returns-4 c = λ e. absurd (false≢true e)

@@ -1,5 +1,6 @@
 use native.Mathlib.Omega.{arith}
 use Prim.Native.Nat.{_-_}
+use Rattle.memory.specs.Places.{folded}
 use Rattle.setnumbers.proofs.Ends.{ends-later}
 use Rattle.stages.specs.Start.{start}
 use Rattle.numbering.specs.Task.{state-of}
@@ -8,7 +9,7 @@ use Rattle.setnumbers.proofs.number_statements.Statement.{statement}
 use Rattle.setnumbers.proofs.number_statements.Tie as tie
 
 abbrev Inv-loop : tie.InvT-loop
-Inv-loop work₀ out₀ end room n q₀ c₀ work out q c = Walking (room .records) (room .cap) 512 end (start work₀ out₀ n) q (state-of work out c)
+Inv-loop work₀ out₀ end room n q₀ c₀ work out q c = Walking (room .records) (room .cap) folded end (start work₀ out₀ n) q (state-of work out c)
 
 abbrev μ-loop : tie.MeasureT-loop
 μ-loop work₀ out₀ end room n q₀ c₀ work out q c = end - q

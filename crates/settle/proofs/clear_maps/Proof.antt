@@ -5,7 +5,7 @@ use Rattle.settle.proofs.clear_maps.Statement.{statement}
 use Rattle.settle.proofs.clear_maps.Tie as tie
 use Rattle.settle.proofs.clear_maps.Reads as reads
 use Rattle.settle.proofs.clear_maps.Lts as lts
-use Rattle.refuse.proofs.clear.Reads as clear-reads
+use Rattle.memory.proofs.clear.Reads as clear-reads
 
 sub-clear : tie.Need-sub-clear
 sub-clear c = search needs

@@ -6,7 +6,7 @@ use Rattle.settle.proofs.fold_taken.Tie as tie
 use Rattle.settle.proofs.fold_taken.Reads as reads
 use Rattle.settle.proofs.fold_taken.Lts as lts
 use Rattle.propagate.proofs.optimize.Reads as optimize-reads
-use Rattle.refuse.proofs.clear.Reads as clear-reads
+use Rattle.memory.proofs.clear.Reads as clear-reads
 
 optimize-requires : tie.Need-optimize-requires
 optimize-requires c κs = search needs

@@ -7,7 +7,7 @@ use Rattle.settle.proofs.settle.Tie as tie
 use Rattle.settle.proofs.settle.Reads as reads
 use Rattle.settle.proofs.settle.Lts as lts
 use Rattle.accept.proofs.accept.Reads as accept-reads
-use Rattle.refuse.proofs.clear.Reads as clear-reads
+use Rattle.memory.proofs.clear.Reads as clear-reads
 use Rattle.settle.proofs.clear_maps.Reads as clear-maps-reads
 use Rattle.settle.proofs.fold_taken.Reads as fold-taken-reads
 

@@ -7,7 +7,7 @@ use Rattle.setwriter.proofs.put_rule.Statement.{statement}
 use Rattle.setwriter.proofs.put_rule.Tie as tie
 use Rattle.setwriter.proofs.put_rule.Reads as reads
 use Rattle.setwriter.proofs.put_rule.Lts as lts
-use Rattle.tablewriter.proofs.lesser.Reads as lesser-reads
+use Rattle.rows.proofs.lesser.Reads as lesser-reads
 use Rattle.rulewriter.proofs.write_rule.Reads as write-rule-reads
 use Rattle.survey.proofs.bump.Reads as bump-reads
 

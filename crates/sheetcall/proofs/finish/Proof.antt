@@ -4,7 +4,7 @@ use Rattle.sheetcall.proofs.finish.Statement.{statement}
 use Rattle.sheetcall.proofs.finish.Tie as tie
 use Rattle.sheetcall.proofs.finish.Reads as reads
 use Rattle.sheetcall.proofs.finish.Lts as lts
-use Rattle.refuse.proofs.clear.Reads as clear-reads
+use Rattle.memory.proofs.clear.Reads as clear-reads
 use Rattle.sheetcall.proofs.clear_bytes.Reads as clear-bytes-reads
 use Rattle.sheetcall.proofs.write_sheet.Reads as write-sheet-reads
 

@@ -3,7 +3,7 @@ use Rattle.survey.proofs.word.Statement.{statement}
 use Rattle.survey.proofs.word.Tie as tie
 use Rattle.survey.proofs.word.Reads as reads
 use Rattle.survey.proofs.word.Lts as lts
-use Rattle.survey.proofs.entry.Reads as entry-reads
+use Rattle.memory.proofs.entry.Reads as entry-reads
 use mathlib.Core.Path.{_∙_}
 use Rattle.survey.proofs.Leaves.{word-inside, word-outside}
 

@@ -11,8 +11,8 @@ use mir.Val.{SFits, ofZ, toZ}
 use mir.Facts.{toZ-ofZ, fits-natAbs}
 use borrow.Author.Needs.{needs, sfits-of}
 use Rattle.laws.specs.Signed.{test-of, not-neg}
-use Rattle.walk.specs.Item.{nat}
-use Rattle.survey.proofs.Leaves.{is-negative, is-number, no-entry}
+use Rattle.memory.specs.Number.{nat}
+use Rattle.memory.proofs.Laws.{is-negative, is-number, no-entry}
 use Rattle.tablewriter.proofs.Tells.{plain-word}
 use borrow.Author.Needs.{needs}
 use Rattle.tablewriter.proofs.number_at.Statement.{statement}

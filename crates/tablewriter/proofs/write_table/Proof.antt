@@ -14,7 +14,7 @@ use Rattle.tablewriter.proofs.write_table.Lts as lts
 use Rattle.setnumbers.proofs.table_fresh.Reads as table-fresh-reads
 use Rattle.survey.proofs.bump.Reads as bump-reads
 use Rattle.survey.proofs.word.Reads as word-reads
-use Rattle.tablewriter.proofs.lesser.Reads as lesser-reads
+use Rattle.rows.proofs.lesser.Reads as lesser-reads
 use Rattle.tablewriter.proofs.put_columns.Reads as put-columns-reads
 use Rattle.tablewriter.proofs.write_rows.Reads as write-rows-reads
 

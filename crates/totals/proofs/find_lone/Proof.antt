@@ -2,6 +2,7 @@
 use native.Mathlib.Omega.{arith}
 use mathlib.Core.Path.{refl}
 use Prim.Native.Nat.{_<_, _+_, min}
+use Rattle.memory.specs.Places.{folded-end}
 use Rattle.scan.specs.Skip.{split-by}
 use Rattle.walk.specs.Steps.{below-lt}
 use Rattle.totals.proofs.Looks.{find-none, variable-hit, variable-miss, other-miss, if-branching, if-hit, if-miss}
@@ -72,7 +73,7 @@ returns-4 : tie.Need-returns-4
 returns-4 c = variable-miss (c .before .before .before .before .before .before .before .before .args .work .now) (c .before .before .before .before .before .before .before .before .pre .0) (c .before .before .before .before .before .before .before .before .args .left) (split-by (c .before .before .before .before .before .before .before .before .args .m)) (c .before .before .before .before .before .before .before .before .args .at) (c .before .before .before .before .before .before .before .before .args .base) (c .before .before .before .before .before .before .before .before .args .n) (c .before .before .before .before .before .before .before .if1 .left) (c .before .before .before .before .before .before .word .result) (c .before .before .before .before .before .before .word .ensures) (c .before .before .before .before .before .before .before .before .args .x) (c .before .before .before .before .word2 .result) (c .before .before .before .below .result) (c .before .before .number-at .result) (c .before .before .before .before .before .match .keys1) (c .before .before .before .before .word2 .ensures) (c .before .before .before .below .ensures) (c .before .before .number-at .ensures .0) (c .before .if2 .left) (c .miss2 .result) (c .miss2 .ensures)
 
 returns-5 : tie.Need-returns-5
-returns-5 c = if-miss (c .before .before .before .before .before .before .before .before .args .work .now) (c .before .before .before .before .before .before .before .before .pre .0) (c .before .before .before .before .before .before .before .before .args .left) (split-by (c .before .before .before .before .before .before .before .before .args .m)) (c .before .before .before .before .before .before .before .before .args .at) (c .before .before .before .before .before .before .before .before .args .base) (c .before .before .before .before .before .before .before .before .args .n) (c .before .before .before .before .before .before .before .if1 .left) (c .before .before .before .before .before .before .word .result) (c .before .before .before .before .before .before .word .ensures) (c .before .before .before .before .before .before .before .before .args .x) (min ((c .before .before .before .before .before .before .before .before .args .at) + 1) 4608) (c .before .before .before .before .before .match .keys2) refl (c .before .before .before .before .survey-int .result) (c .before .before .before .before .survey-int .ensures) (c .before .before .if-number .result) (c .before .before .if-number .ensures .0) (c .before .if3 .left) (c .miss3 .result) (c .miss3 .ensures)
+returns-5 c = if-miss (c .before .before .before .before .before .before .before .before .args .work .now) (c .before .before .before .before .before .before .before .before .pre .0) (c .before .before .before .before .before .before .before .before .args .left) (split-by (c .before .before .before .before .before .before .before .before .args .m)) (c .before .before .before .before .before .before .before .before .args .at) (c .before .before .before .before .before .before .before .before .args .base) (c .before .before .before .before .before .before .before .before .args .n) (c .before .before .before .before .before .before .before .if1 .left) (c .before .before .before .before .before .before .word .result) (c .before .before .before .before .before .before .word .ensures) (c .before .before .before .before .before .before .before .before .args .x) (min ((c .before .before .before .before .before .before .before .before .args .at) + 1) folded-end) (c .before .before .before .before .before .match .keys2) refl (c .before .before .before .before .survey-int .result) (c .before .before .before .before .survey-int .ensures) (c .before .before .if-number .result) (c .before .before .if-number .ensures .0) (c .before .if3 .left) (c .miss3 .result) (c .miss3 .ensures)
 
 returns-6 : tie.Need-returns-6
 returns-6 c = other-miss (c .before .before .before .before .args .work .now) (c .before .before .before .before .pre .0) (c .before .before .before .before .args .left) (split-by (c .before .before .before .before .args .m)) (c .before .before .before .before .args .at) (c .before .before .before .before .args .base) (c .before .before .before .before .args .n) (c .before .before .before .if1 .left) (c .before .before .word .result) (c .before .before .word .ensures) (c .before .before .before .before .args .x) (c .before .before .before .before .pre .1 .1 .1 .1 .0) (c .before .match .rest .0 .1) (c .before .match .rest .1) (c .miss4 .result) (c .miss4 .ensures)

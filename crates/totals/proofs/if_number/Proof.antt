@@ -8,7 +8,7 @@ use mir.Syntax.{w32}
 use mir.Val.{SFits, ofZ}
 use mir.Facts.{toZ-ofZ}
 use Rattle.laws.specs.Signed.{test-of, value-is}
-use Rattle.walk.specs.Item.{nat}
+use Rattle.memory.specs.Number.{nat}
 use Rattle.totals.proofs.Numbers.{turned-fits, number-constant, number-own, number-shared}
 use borrow.Author.Needs.{needs}
 use Rattle.totals.proofs.if_number.Statement.{statement}

@@ -8,14 +8,14 @@ use borrow.Author.Needs.{needs}
 use Rattle.totals.proofs.word_at.Statement.{statement}
 use Rattle.totals.proofs.word_at.Tie as tie
 
-cell-at-requires : tie.Need-cell-at-requires
-cell-at-requires c κs = search needs
+plain-requires : tie.Need-plain-requires
+plain-requires c κs = search needs
 
 returns : tie.Need-returns
-returns c = let f : SFits w32 (c .cell-at .result) = search needs in toZ-ofZ f ∙ c .cell-at .ensures ∙ word-there (c .before .before .args .work .now) (c .before .before .args .at) (c .before .if1 .taken)
+returns c = let f : SFits w32 (c .plain .result) = search needs in toZ-ofZ f ∙ c .plain .ensures ∙ word-there (c .before .before .args .work .now) (c .before .before .args .at) (c .before .if1 .taken)
 
 returns-2 : tie.Need-returns-2
 returns-2 c = word-behind (c .before .args .work .now) (c .before .args .at) (c .if1 .left)
 
 pub word-at-spec : {M : Type 1} → statement M
-word-at-spec = tie.close (tie.spec cell-at-requires returns returns-2)
+word-at-spec = tie.close (tie.spec plain-requires returns returns-2)

@@ -1,8 +1,8 @@
 use borrow.Author.Needs.{needs}
-use Rattle.survey.proofs.entry.Statement.{statement}
-use Rattle.survey.proofs.entry.Tie as tie
-use Rattle.survey.proofs.entry.Reads as reads
-use Rattle.survey.proofs.entry.Lts as lts
+use Rattle.memory.proofs.entry.Statement.{statement}
+use Rattle.memory.proofs.entry.Tie as tie
+use Rattle.memory.proofs.entry.Reads as reads
+use Rattle.memory.proofs.entry.Lts as lts
 use lib.IntN.{pos}
 use lib.Signed.{ltZ}
 use lib.ListN.{getD}
@@ -11,7 +11,7 @@ use mir.Val.{SFits}
 use mir.Facts.{toZ-ofZ, fits-natAbs}
 use borrow.Author.Needs.{sfits-of}
 use Rattle.laws.specs.Signed.{test-of, not-neg}
-use Rattle.survey.proofs.Leaves.{is-negative, is-number, no-entry}
+use Rattle.memory.proofs.Laws.{is-negative, is-number, no-entry}
 
 mul-w : tie.Need-mul-w
 mul-w c = search needs

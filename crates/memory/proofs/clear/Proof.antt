@@ -4,9 +4,9 @@ use Prim.Native.Nat.{_-_}
 use native.Mathlib.Omega.{arith}
 use lib.IntN.{pos}
 use lib.ListN.{length, length-set}
-use Rattle.refuse.proofs.Laws.{Cleared, cleared-none, cleared-next, cleared-all}
-use Rattle.refuse.proofs.clear.Statement.{statement}
-use Rattle.refuse.proofs.clear.Tie as tie
+use Rattle.memory.proofs.Laws.{Cleared, cleared-none, cleared-next, cleared-all}
+use Rattle.memory.proofs.clear.Statement.{statement}
+use Rattle.memory.proofs.clear.Tie as tie
 
 abbrev Inv-loop : tie.InvT-loop
 Inv-loop s₀ i₀ s i = Cleared s₀ s i

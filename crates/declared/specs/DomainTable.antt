@@ -13,12 +13,12 @@ use borrow.Author.Tests.{ltb-true, ltb-false}
 use Rattle.laws.specs.Ints.{natAbs-add, natAbs-negℤ}
 use Rattle.laws.specs.Lists.{flat}
 use Rattle.laws.specs.Slices.{Has, zeros, has-fits, has-nth, has-sets}
+use Rattle.memory.specs.Places.{declared-domains}
 use Rattle.syntax.specs.Words.{max-ints}
 use Rattle.syntax.specs.Syntax.{Domain, Range, Enumerative, domain-of, lower-bound, upper-bound, num-candidates}
 use Rattle.words.specs.Exact.{Each}
 use Rattle.read.specs.WellFormed.{WellDomain}
 use Rattle.domains.specs.Declared.{Domains}
-use Rattle.memory.specs.Places.{declared-domains}
 
 abbrev pub domain-words : Domain → List ℤ
 domain-words d = lower-bound d ∷ upper-bound d ∷ (num-candidates d -ℤ pos 1) ∷ []

@@ -2,8 +2,8 @@ use mathlib.Core.Path.{sym}
 use lib.IntN.{pos}
 use lib.ListN.{List·getD-eq-default}
 use borrow.Author.Needs.{needs}
-use Rattle.numbering.proofs.plain.Statement.{statement}
-use Rattle.numbering.proofs.plain.Tie as tie
+use Rattle.memory.proofs.plain.Statement.{statement}
+use Rattle.memory.proofs.plain.Tie as tie
 
 mul-result : tie.Need-mul-result
 mul-result c = search needs

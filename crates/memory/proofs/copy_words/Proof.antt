@@ -1,18 +1,18 @@
-use Rattle.passes.proofs.copy_words.Statement.{statement}
-use Rattle.passes.proofs.copy_words.Tie as tie
-use Rattle.passes.proofs.copy_words.Reads as reads
-use Rattle.passes.proofs.copy_words.Lts as lts
-use Rattle.folding.proofs.copy_word.Reads as copy-word-reads
+use Rattle.memory.proofs.copy_words.Statement.{statement}
+use Rattle.memory.proofs.copy_words.Tie as tie
+use Rattle.memory.proofs.copy_words.Reads as reads
+use Rattle.memory.proofs.copy_words.Lts as lts
+use Rattle.memory.proofs.copy_word.Reads as copy-word-reads
 use borrow.Author.Needs.{needs}
 use native.Mathlib.Omega.{arith}
 use Prim.Native.Nat.{_-_, _≤_}
-use Rattle.passes.proofs.StmtLaws.{Copying, copying-none, copying-next, copying-end}
+use Rattle.memory.proofs.Laws.{Copying, copying-none, copying-next, copying-end}
 
 abbrev Inv-loop : tie.InvT-loop
-Inv-loop words at n work₀ o i₀ work i = (i ≤ n) × Copying words at work₀ o work i
+Inv-loop words at n work₀ o k₀ work k = (k ≤ n) × Copying words at work₀ o work k
 
 abbrev μ-loop : tie.MeasureT-loop
-μ-loop words at n work₀ o i₀ work i = n - i
+μ-loop words at n work₀ o k₀ work k = n - k
 
 loop-holds : tie.Need-loop-holds Inv-loop μ-loop
 loop-holds c = (omega arith, copying-none _ _ _ _)
@@ -26,8 +26,8 @@ add-copy-word-2 c = search needs
 copy-word-requires : tie.Need-copy-word-requires Inv-loop μ-loop
 copy-word-requires c κs = (omega (arith, c .before .before .before .pre .0), omega (arith, c .before .before .before .pre .1, c .before .before .loop .inv .1 .size))
 
-add-i : tie.Need-add-i Inv-loop μ-loop
-add-i c = search needs
+add-k : tie.Need-add-k Inv-loop μ-loop
+add-k c = search needs
 
 loop-less : tie.Need-loop-less Inv-loop μ-loop
 loop-less c = search needs
@@ -54,7 +54,7 @@ copy-words-spec =
     add-copy-word
     add-copy-word-2
     copy-word-requires
-    add-i
+    add-k
     loop-less
     loop-again
     add-result

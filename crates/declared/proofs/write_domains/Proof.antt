@@ -8,12 +8,12 @@ use lib.ListN.{length, set, length-set}
 use mir.Syntax.{w32}
 use mir.Val.{SFits, ofZ, toZ}
 use mir.Facts.{toZ-ofZ}
-use Rattle.memory.specs.DomainTable.{Table-room, Table-post}
 use Rattle.memory.specs.Places.{declared-domains}
-use Rattle.memory.proofs.Laws.{first-sized, first-at, less-fits, table-rest, table-more, table-none}
+use Rattle.declared.specs.DomainTable.{Table-room, Table-post}
+use Rattle.declared.proofs.Laws.{first-sized, first-at, less-fits, table-rest, table-more, table-none}
 use borrow.Author.Needs.{needs}
-use Rattle.memory.proofs.write_domains.Statement.{statement}
-use Rattle.memory.proofs.write_domains.Tie as tie
+use Rattle.declared.proofs.write_domains.Statement.{statement}
+use Rattle.declared.proofs.write_domains.Tie as tie
 
 abbrev Inv-loop : tie.InvT-loop
 Inv-loop set d n work₀ at₀ p₀ rest₀ work at p rest = Table-room set at rest work p × (length work ≡ length work₀) × ((out : List ℤ) → Table-post set at rest work p out → Table-post set d n work₀ declared-domains out)

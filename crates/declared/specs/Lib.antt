@@ -1,0 +1,2 @@
+pub mod DomainTable
+pub mod InSet
