@@ -1,5 +1,5 @@
 #!/usr/bin/env python3
-"""Writes crates/cases/stdin and stdout: texts with the listings that tools/reference gives them.
+"""Writes tools/cases/recorded: texts with the listings that tools/reference gives them.
 
 Run at the repository's root, after `cargo build --release --manifest-path tools/reference/Cargo.toml`.
 The named cases are document 01's P1 to P12 and "Also" cases, AllDifferents and Ifs (document 02, 2.1 and 2.5), each refusal that a text
@@ -12,7 +12,7 @@ import subprocess
 from recount import recounted
 
 REFERENCE = "tools/reference/target/release/reference"
-MOST = 262000  # what the program's buffer holds, with some to spare
+MOST = 262000  # bytes of all cases together
 
 
 def reference(*args, text=b""):
@@ -319,10 +319,8 @@ def main():
             continue
         all_cases.append(case(name, given, expected))
         size += len(all_cases[-1])
-    with open("crates/cases/stdin", "wb") as out:
+    with open("tools/cases/recorded", "wb") as out:
         out.write(b"".join(all_cases))
-    with open("crates/cases/stdout", "w") as out:
-        out.write(f"{len(all_cases)} cases agree, 0 differ\n")
 
 
 main()

@@ -1,14 +1,13 @@
 -- A law for each answer of the functions that read lines, over variables. Assumes nothing.
 use mathlib.Core.Path.{_≡_, refl, sym, ap, _∙_, subst}
 use mathlib.Core.Bool.{Bool, true, false, cond}
-use mathlib.Core.List.{List, [], _∷_, _++_, append-nil}
+use mathlib.Core.List.{List, [], _∷_, _++_}
 use mathlib.Core.Option.{Option, none, some}
-use Prim.Native.Nat.{ℕ, zero, suc, _+_, _-_, _≤_, _<_}
+use Prim.Native.Nat.{ℕ, suc, _+_, _-_, _≤_, _<_}
 use native.Mathlib.Omega.{arith}
-use native.Mathlib.Numerals.{add-one}
 use lib.IntN.{ℤ, pos}
 use lib.Dec.{eqb, ltb}
-use lib.ListN.{length, take, drop, getD, set, replicate, length-append, length-take, length-drop, length-set, drop-of-length-le}
+use lib.ListN.{length, take, drop, getD, set, length-append, length-take, length-drop, length-set, drop-of-length-le}
 use lib.Seq.{take-suc, getD-drop, sets, set-out, take-all}
 use borrow.Author.Tests.{ltb-true, ltb-false, eq-eqb, ne-eqb}
 use mir.Syntax.{w32}
@@ -125,19 +124,6 @@ after-empty : (key : List ℕ) → 0 < length key → after key [] ≡ none
 unfolding after
 after-empty [] h = absurd (omega arith)
 after-empty (k ∷ key) h = refl
-
--- ---- zeros
-
-pub zeros-more : (n : ℕ) (d : List ℤ) → n < length d → set (replicate n (pos 0) ++ drop n d) n (pos 0) ≡ replicate (n + 1) (pos 0) ++ drop (n + 1) d
-zeros-more n d h = rw (add-one n) (go n d h)
-  where
-    go : (n : ℕ) (d : List ℤ) → n < length d → set (replicate n (pos 0) ++ drop n d) n (pos 0) ≡ replicate (suc n) (pos 0) ++ drop (suc n) d
-    go n [] h = absurd (omega arith)
-    go zero (x ∷ d) h = refl
-    go (suc n) (x ∷ d) h = ap (λ l. pos 0 ∷ l) (go n d (omega arith))
-
-pub zeros-all : (n : ℕ) (d out : List ℤ) → length d ≤ n → n ≤ length d → out ≡ replicate n (pos 0) ++ drop n d → out ≡ replicate (length d) (pos 0)
-zeros-all n d out h k e = e ∙ rw (drop-of-length-le d h, append-nil (replicate n (pos 0))) (let j : n ≡ length d = omega arith in ap (λ m. replicate m (pos 0)) j)
 
 -- ---- storing one number
 
