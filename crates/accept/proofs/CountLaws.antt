@@ -13,6 +13,7 @@ use borrow.Author.Tests.{eqb-true, eqb-false, ne-eqb}
 use Rattle.laws.specs.Bools.{or-assoc, eq4}
 use Rattle.laws.specs.Lists.{any-append}
 use Rattle.laws.specs.Slices.{Has, has-fits, has-front, has-back, has-rest}
+use Rattle.syntax.specs.Words.{max-ints}
 use Rattle.syntax.specs.Syntax.{IfIsRead, IntExpr, IConst, IVar, Linear, If, Terms, tnil, tmore, count-terms, encode-int, encode-terms, BoolExpr, encode-bool}
 use Rattle.syntax.specs.Written.{EveryIntOf, Any, None, ints-of}
 use Rattle.syntax.specs.Lengths.{int-long, int-fits, terms-long}
@@ -146,7 +147,7 @@ marked-more f g x (suc n) l p q h = go (eqb n x) refl (marked-more f g x n)
         pick true = refl
         pick false = refl
 
-module _ (marks : List Bool) (v n : ℕ) (l : length marks ≡ 256) where
+module _ (marks : List Bool) (v n : ℕ) (l : length marks ≡ max-ints) where
   -- nothing new
   kept : ((u : ℕ) → u < n → has-mark marks u ≡ (has-mark marks u || eqb u v)) → Marks marks (λ u. eqb u v) 0 n marks 0
   kept h = record { size = l; each = h; gained = omega arith }
@@ -161,7 +162,7 @@ module _ (marks : List Bool) (v n : ℕ) (l : length marks ≡ 256) where
       go u true q = let x : has-mark marks u ≡ true = ap (has-mark marks) (eqb-true u v q) ∙ h in rw x refl
       go u false q = sym (or-false (has-mark marks u))
 
-  pub mark-new : v < n → n ≤ 256 → has-mark marks v ≡ false → Marks marks (λ u. eqb u v) 0 n (set marks v true) 1
+  pub mark-new : v < n → n ≤ max-ints → has-mark marks v ≡ false → Marks marks (λ u. eqb u v) 0 n (set marks v true) 1
   mark-new h k z =
       let same : has-mark (set marks v true) v ≡ true = getD-set-same marks v true false (omega arith) in
       let other : (u : ℕ) → (u ≡ v → ⊥) → has-mark (set marks v true) u ≡ has-mark marks u = λ u ne. getD-set-other marks v u true false ne in
@@ -186,11 +187,11 @@ module _ (ws : List ℤ) (at n : ℕ) (b : Behind ws at n) where
   head-inside = omega (arith, int-fits ws at (b .it) (b .reads .words), int-long (b .it))
 
 -- no mark more
-same-marks : (marks : List Bool) (n : ℕ) → length marks ≡ 256 → Marks marks (λ v. false) 0 n marks 0
+same-marks : (marks : List Bool) (n : ℕ) → length marks ≡ max-ints → Marks marks (λ v. false) 0 n marks 0
 same-marks marks n l = record { size = l; each = λ v k. sym (or-false (has-mark marks v)); gained = refl }
 
 module _ (ws : List ℤ) (at n : ℕ) (marks : List Bool) (w : ℕ) (hw : getD ws at (pos 0) ≡ pos w) where
-  pub head-const : length marks ≡ 256 → w ≡ 20 → Head-post ws at n marks marks (at + 2) 0 0
+  pub head-const : length marks ≡ max-ints → w ≡ 20 → Head-post ws at n marks marks (at + 2) 0 0
   head-const l z e r = const-inv ws at w hw e (r .words) z λ c q g. rw q (refl, refl, same-marks marks n l)
 
   pub head-second : Behind ws at n → (w ≡ 20 → ⊥) → (w ≡ 23 → ⊥) → Plain ws (at + 1)
@@ -202,7 +203,7 @@ module _ (ws : List ℤ) (at n : ℕ) (marks : List Bool) (w : ℕ) (hw : getD w
         var-inv ws at w hw v hv e (h .words) z λ q.
         rw q (refl, refl, record { size = m .size; each = λ u k. m .each u k ∙ ap (λ x. has-mark marks u || x) (sym (or-false (eqb u v))); gained = m .gained })
 
-    pub head-sum : length marks ≡ 256 → (w ≡ 20 → ⊥) → (w ≡ 21 → ⊥) → (w ≡ 23 → ⊥) → Head-post ws at n marks marks (at + 2) v 0
+    pub head-sum : length marks ≡ max-ints → (w ≡ 20 → ⊥) → (w ≡ 21 → ⊥) → (w ≡ 23 → ⊥) → Head-post ws at n marks marks (at + 2) v 0
     head-sum l a b d e h = sum-inv ws at w hw v hv e (h .words) a b d λ ts q k g. rw q (refl, k, same-marks marks n l)
 
   module _ (z : w ≡ 23) where
@@ -233,7 +234,7 @@ module _ (ws : List ℤ) (at n : ℕ) (marks : List Bool) (w : ℕ) (hw : getD w
             let l : p' ≡ at + 1 + length (encode-bool c) + length (encode-int t) = omega (arith, x, y .0) in
             go i c t f q x (y .0) (y .1) (rw l hf)
 
-        pub head-right : Behind ws at n → Behind ws p' n × (at < p') × (length mid ≡ 256)
+        pub head-right : Behind ws at n → Behind ws p' n × (at < p') × (length mid ≡ max-ints)
         head-right b = left-done (b .it) (b .reads) λ i c t f q x y m hf. (record { it = f; reads = hf; behind = omega arith }, omega arith, m .size)
 
         module _ (marks' : List Bool) (p″ s : ℕ) (wp' : Written-post ws p' n mid marks' p″ s) where
@@ -295,7 +296,7 @@ module _ (ws : List ℤ) (at n : ℕ) (b : Behind ws at n) where
       (omega (arith, length-append (encode-int e) []), subst (λ j. Marks marks (among (written e)) j n marks' r) k (subst (λ us. Marks marks (among us) (ifs e + 0) n marks' r) (append-nil (written e)) (y .1)))
 
 module _ (ws : List ℤ) (q rest n : ℕ) where
-  pub none-pending : (marks : List Bool) → length marks ≡ 256 → rest ≡ 0 → Pending-post ws q rest n marks marks q 0
+  pub none-pending : (marks : List Bool) → length marks ≡ max-ints → rest ≡ 0 → Pending-post ws q rest n marks marks q 0
   unfolding written ifs encode-terms
   none-pending marks l z tnil r = (omega arith, same-marks marks n l)
   none-pending marks l z (tmore k e ts) r = absurd (let s : rest ≡ suc (count-terms ts) = r .size in omega arith)
@@ -368,7 +369,7 @@ pub none-counted : (start : List Bool) (n at : ℕ) → 0 < at → Counted start
 none-counted start n at z = record { k = 0; gained = refl; few = omega arith }
 
 pub counted-next : (ws : List ℤ) (start marks mid : List Bool) (n count at q rest next k c : ℕ) → (rest ≡ 0 → ⊥) → Counted start marks n count at q → Pending ws q rest n → Head-post ws (q + 1) n marks mid next k c
-    → Counted start mid n (count + c) at next × (length mid ≡ 256) × (next ≤ length ws)
+    → Counted start mid n (count + c) at next × (length mid ≡ max-ints) × (next ≤ length ws)
 counted-next ws start marks mid n count at q rest next k c z h p hp =
     let y = pending-behind ws q rest n z p in
     let m = hp (y .it) (y .reads) in
@@ -390,11 +391,11 @@ unfolding marked
 blank-marked f zero h = refl
 blank-marked f (suc n) h = rw (h n (omega arith)) (blank-marked f n (λ v l. h v (omega arith)))
 
-pub blank-of : (n : ℕ) → n ≤ 256 → Blank (replicate 256 false) n
-blank-of n h = record { none = λ v l. getD-replicate 256 v false false (omega arith) }
+pub blank-of : (n : ℕ) → n ≤ max-ints → Blank (replicate max-ints false) n
+blank-of n h = record { none = λ v l. getD-replicate max-ints v false false (omega arith) }
 
 module _ (ws : List ℤ) (a n : ℕ) (marks : List Bool) (z : Blank marks n) (mid : List Bool) (p x : ℕ) (wp : Written-post ws a n marks mid p x) where
-  pub first-size : Behind ws a n → (length mid ≡ 256) × (x ≤ n + length ws)
+  pub first-size : Behind ws a n → (length mid ≡ max-ints) × (x ≤ n + length ws)
   first-size h = let m = wp (h .it) (h .reads) .1 in (m .size, omega (arith, m .gained, marked-few (has-mark mid) n, ifs-few (h .it), int-fits ws a (h .it) (h .reads .words)))
 
   pub one-of : (words : ℕ) → Many-one-post ws a words n (ltb 63 x)

@@ -13,7 +13,7 @@ use Rattle.syntax.specs.Syntax.{encode-domain, Problem}
 use Rattle.domains.specs.Declared.{Plain, bounds-words, Bounds-room, Bounds-post}
 use Rattle.limits.specs.Limits.{check}
 use Rattle.accept.specs.Walk.{Bounds, Stmts-at, Ready-stmts, Check-post}
-use Rattle.syntax.specs.Words.{min-work-words, max-set-words}
+use Rattle.syntax.specs.Words.{min-work-words, max-set-words, max-ints}
 use Rattle.words.specs.Parse.{Parsed, ok, refuse}
 use Rattle.read.specs.Read.{read-set}
 use Rattle.read.specs.Exact.{set-sound}
@@ -32,7 +32,7 @@ module _ (ws work : List ℤ) (r : Ready-set ws work) where
     ints-are : (p : Problem) → Set-of ws p → ni ≡ length (p .domains)
     ints-are p h = pos-eq _ _ _ hi (ints-word ws p h)
 
-    pub few-ints : ni ≤ 256
+    pub few-ints : ni ≤ max-ints
     few-ints = omega (arith, ints-are (r .it) (r .set-of), r .set-of .well .few-ints)
 
     pub table-room : Bounds-room ws 2 ni work bounds

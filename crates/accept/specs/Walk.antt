@@ -10,7 +10,7 @@ use lib.Dec.{eqb, ltb}
 use Rattle.laws.specs.Lists.{any, flat}
 use Rattle.laws.specs.Slices.{Has}
 use Rattle.memory.specs.Places.{bounds}
-use Rattle.syntax.specs.Words.{max-weight}
+use Rattle.syntax.specs.Words.{max-weight, max-ints}
 use Rattle.syntax.specs.Syntax.{Domain, lower-bound, upper-bound, domain-of, IfIsRead, IntExpr, IConst, IVar, Linear, If, Terms, count-terms, encode-int, encode-terms, BoolExpr, Const, Var, NVar, And, Or, Not, Xor, Iff, Imp, Cmp, Members, mnil, more, encode-bool, Stmt, Rule, Table, AllDifferent, encode-stmt}
 use Rattle.syntax.specs.Written.{EveryIntOf, EveryTermOf, EveryColumnOf, EveryOf, EveryMemberOf, Any, None}
 use Rattle.syntax.specs.Lengths.{Wide}
@@ -240,7 +240,7 @@ has-mark marks v = getD marks v false
 
 -- marks that gained the variables below n of which f holds: r are those that had none, and k more
 pub record Marks (marks : List Bool) (f : ℕ → Bool) (k n : ℕ) (marks' : List Bool) (r : ℕ) : Type 0 where
-  pub size : length marks' ≡ 256
+  pub size : length marks' ≡ max-ints
   pub each : (v : ℕ) → v < n → has-mark marks' v ≡ (has-mark marks v || f v)
   pub gained : marked (has-mark marks) n + r ≡ marked (has-mark marks') n + k
 

@@ -7,6 +7,7 @@ ghost use Prim.Native.Nat.{_<_, _≤_, min, max};
 ghost use lib.Dec.{eqb};
 ghost use lib.IntN.{pos, natAbs, _-ℤ_};
 ghost use Rattle.laws.specs.Ints.{lower, higher};
+ghost use Rattle.syntax.specs.Words.{max-ints};
 ghost use lib.ListN.{length};
 ghost use Rattle.limits.specs.Total.{cap, joined, product, constant-total, bounds-total};
 ghost use Rattle.accept.specs.Accepted.{Ready-set, Limits-post, accepted, table-after};
@@ -127,7 +128,7 @@ fn add_term(k: i32, t: usize, acc: usize) -> usize
 
 // Marks variable v if it is below n: 1 where it had no mark, else 0.
 fn mark(marks: &mut [bool; 256], v: usize, n: usize) -> usize
-    requires { ⌜ (n ≤ 256) × (length (now marks) ≡ 256) ⌝ }
+    requires { ⌜ (n ≤ max-ints) × (length (now marks) ≡ max-ints) ⌝ }
     ensures { λ r. ⌜ Marks (now (marks .entry)) (λ u. eqb u v) 0 n (now (marks .exit)) r ⌝ }
 {
     if v >= n {
@@ -149,7 +150,7 @@ pub struct Head {
 // Over all of an If's words, of any other integer expression's own two: how many terms follow.
 // Marks the variables below n written there: how many had no mark, and the Ifs.
 fn mark_head(set: &[i32], at: usize, n: usize, marks: &mut [bool; 256]) -> Head
-    requires { ⌜ Behind (now set) at n × (n ≤ 256) × (length (now marks) ≡ 256) ⌝ }
+    requires { ⌜ Behind (now set) at n × (n ≤ max-ints) × (length (now marks) ≡ max-ints) ⌝ }
     ensures { λ r. ⌜ Head-post (now (set .entry)) at n (now (marks .entry)) (now (marks .exit)) (r .next) (r .terms) (r .count) ⌝ }
 {
     let code = domains::number(set, at);
@@ -194,7 +195,7 @@ pub struct Marked {
 // Marks the variables below n that the integer expression writes: how many had no mark, and the Ifs.
 // Each head is followed by a coefficient or by the end.
 fn mark_written(set: &[i32], at: usize, n: usize, marks: &mut [bool; 256]) -> Marked
-    requires { ⌜ Behind (now set) at n × (n ≤ 256) × (length (now marks) ≡ 256) ⌝ }
+    requires { ⌜ Behind (now set) at n × (n ≤ max-ints) × (length (now marks) ≡ max-ints) ⌝ }
     ensures { λ r. ⌜ Written-post (now (set .entry)) at n (now (marks .entry)) (now (marks .exit)) (r .next) (r .count) ⌝ }
 {
     let mut next = at - 1;
@@ -213,7 +214,7 @@ fn mark_written(set: &[i32], at: usize, n: usize, marks: &mut [bool; 256]) -> Ma
 
 // Whether two integer expressions of so many words write over 64 variables; below 128 words they cannot.
 fn many_comparison(set: &[i32], a: usize, b: usize, words: usize, ni: usize) -> bool
-    requires { ⌜ Behind (now set) a ni × Behind (now set) b ni × (ni ≤ 256) ⌝ }
+    requires { ⌜ Behind (now set) a ni × Behind (now set) b ni × (ni ≤ max-ints) ⌝ }
     ensures { λ r. ⌜ Many-post (now (set .entry)) a b words ni r ⌝ }
 {
     if words < 128 {
@@ -227,7 +228,7 @@ fn many_comparison(set: &[i32], a: usize, b: usize, words: usize, ni: usize) -> 
 
 // Whether a column or a branch of so many words writes over 63 variables; below 128 words it cannot.
 fn many_column(set: &[i32], at: usize, words: usize, ni: usize) -> bool
-    requires { ⌜ Behind (now set) at ni × (ni ≤ 256) ⌝ }
+    requires { ⌜ Behind (now set) at ni × (ni ≤ max-ints) ⌝ }
     ensures { λ r. ⌜ Many-one-post (now (set .entry)) at words ni r ⌝ }
 {
     if words < 128 {
@@ -240,7 +241,7 @@ fn many_column(set: &[i32], at: usize, words: usize, ni: usize) -> bool
 
 // 10 or 12: an If's branches, from t to f and from f to `end`.
 fn branches(set: &[i32], t: usize, f: usize, end: usize, ni: usize) -> usize
-    requires { ⌜ Ready-branches (now set) t f end ni × (ni ≤ 256) ⌝ }
+    requires { ⌜ Ready-branches (now set) t f end ni × (ni ≤ max-ints) ⌝ }
     ensures { λ r. ⌜ Branches-post (now (set .entry)) t f end ni r ⌝ }
 {
     if many_column(set, t, f - t, ni) {
@@ -254,7 +255,7 @@ fn branches(set: &[i32], t: usize, f: usize, end: usize, ni: usize) -> usize
 
 // 9, 10 or 12: two integer expressions of so many words, whose totals are added.
 fn compared(set: &[i32], a: usize, b: usize, words: usize, sum: usize, ni: usize) -> usize
-    requires { ⌜ Behind (now set) a ni × Behind (now set) b ni × (ni ≤ 256) ⌝ }
+    requires { ⌜ Behind (now set) a ni × Behind (now set) b ni × (ni ≤ max-ints) ⌝ }
     ensures { λ r. ⌜ Compared-post (now (set .entry)) a b words sum ni r ⌝ }
 {
     if sum > 1073741823 {
@@ -287,7 +288,7 @@ pub struct Step {
 
 // As many terms as `n` says.
 fn terms_total(set: &[i32], work: &[i32], at: usize, n: usize, ni: usize) -> Total
-    requires { ⌜ Ready-terms (now set) (now work) at n ni × (ni ≤ 256) ⌝ }
+    requires { ⌜ Ready-terms (now set) (now work) at n ni × (ni ≤ max-ints) ⌝ }
     ensures { λ r. ⌜ Terms-post (now (set .entry)) (now (work .entry)) at n ni 0 12 (r .next) (r .total) (r .refusal) ⌝ }
 {
     let mut next = at;
@@ -311,7 +312,7 @@ fn terms_total(set: &[i32], work: &[i32], at: usize, n: usize, ni: usize) -> Tot
 
 // An If: the condition's comparisons, the heavier branch, the tests of both.
 fn if_total(set: &[i32], work: &[i32], at: usize, ni: usize) -> Total
-    requires { ⌜ Ready-if (now set) (now work) at ni × (ni ≤ 256) ⌝ }
+    requires { ⌜ Ready-if (now set) (now work) at ni × (ni ≤ max-ints) ⌝ }
     ensures { λ r. ⌜ If-post (now (set .entry)) (now (work .entry)) at ni (r .next) (r .total) (r .refusal) ⌝ }
 {
     let c = rules(set, work, at + 1, 1, ni);
@@ -345,7 +346,7 @@ fn leaf_total(set: &[i32], work: &[i32], at: usize, code: usize) -> usize
 
 // An If or a sum, whose code is given.
 fn deep_total(set: &[i32], work: &[i32], at: usize, code: usize, ni: usize) -> Total
-    requires { ⌜ Ready-deep (now set) (now work) at code ni × (ni ≤ 256) ⌝ }
+    requires { ⌜ Ready-deep (now set) (now work) at code ni × (ni ≤ max-ints) ⌝ }
     ensures { λ r. ⌜ Int-post (now (set .entry)) (now (work .entry)) at ni (r .next) (r .total) (r .refusal) ⌝ }
 {
     if code == 23 {
@@ -356,7 +357,7 @@ fn deep_total(set: &[i32], work: &[i32], at: usize, code: usize, ni: usize) -> T
 }
 
 fn int_total(set: &[i32], work: &[i32], at: usize, ni: usize) -> Total
-    requires { ⌜ Ready-int (now set) (now work) at ni × (ni ≤ 256) ⌝ }
+    requires { ⌜ Ready-int (now set) (now work) at ni × (ni ≤ max-ints) ⌝ }
     ensures { λ r. ⌜ Int-post (now (set .entry)) (now (work .entry)) at ni (r .next) (r .total) (r .refusal) ⌝ }
 {
     let code = domains::number(set, at);
@@ -372,7 +373,7 @@ fn int_total(set: &[i32], work: &[i32], at: usize, ni: usize) -> Total
 }
 
 fn comparison(set: &[i32], work: &[i32], at: usize, ni: usize) -> Tested
-    requires { ⌜ Ready-pair (now set) (now work) at ni × (ni ≤ 256) ⌝ }
+    requires { ⌜ Ready-pair (now set) (now work) at ni × (ni ≤ max-ints) ⌝ }
     ensures { λ r. ⌜ Pair-post (now (set .entry)) (now (work .entry)) at ni (r .next) (r .refusal) ⌝ }
 {
     let a = int_total(set, work, at, ni);
@@ -387,7 +388,7 @@ fn comparison(set: &[i32], work: &[i32], at: usize, ni: usize) -> Tested
 }
 
 fn rule_step(set: &[i32], work: &[i32], at: usize, ni: usize) -> Step
-    requires { ⌜ Ready-bool (now set) (now work) at ni × (ni ≤ 256) ⌝ }
+    requires { ⌜ Ready-bool (now set) (now work) at ni × (ni ≤ max-ints) ⌝ }
     ensures { λ r. ⌜ Step-post (now (set .entry)) (now (work .entry)) at ni (r .next) (r .members) (r .refusal) ⌝ }
 {
     let code = domains::number(set, at);
@@ -429,7 +430,7 @@ fn rule_step(set: &[i32], work: &[i32], at: usize, ni: usize) -> Step
 }
 
 fn rules(set: &[i32], work: &[i32], at: usize, n: usize, ni: usize) -> Tested
-    requires { ⌜ Ready-bools (now set) (now work) at n ni × (ni ≤ 256) ⌝ }
+    requires { ⌜ Ready-bools (now set) (now work) at n ni × (ni ≤ max-ints) ⌝ }
     ensures { λ r. ⌜ Bools-post (now (set .entry)) (now (work .entry)) at n ni 12 (r .next) (r .refusal) ⌝ }
 {
     let mut next = at;
@@ -523,7 +524,7 @@ fn int_range(set: &[i32], work: &[i32], at: usize) -> Range
 
 // 9, 10, 11 or 12: a column of so many words with this total, but for what stands inside.
 fn root(set: &[i32], work: &[i32], at: usize, words: usize, total: usize, ni: usize) -> usize
-    requires { ⌜ Ready-root (now set) (now work) at total ni × (ni ≤ 256) ⌝ }
+    requires { ⌜ Ready-root (now set) (now work) at total ni × (ni ≤ max-ints) ⌝ }
     ensures { λ r. ⌜ Root-post (now (set .entry)) (now (work .entry)) at words total ni r ⌝ }
 {
     if total > 1073741823 {
@@ -541,7 +542,7 @@ fn root(set: &[i32], work: &[i32], at: usize, words: usize, total: usize, ni: us
 }
 
 fn column(set: &[i32], work: &[i32], at: usize, ni: usize) -> Tested
-    requires { ⌜ Ready-column (now set) (now work) at ni × (ni ≤ 256) ⌝ }
+    requires { ⌜ Ready-column (now set) (now work) at ni × (ni ≤ max-ints) ⌝ }
     ensures { λ r. ⌜ Column-post (now (set .entry)) (now (work .entry)) at ni (r .next) (r .refusal) ⌝ }
 {
     let a = int_total(set, work, at, ni);
@@ -554,7 +555,7 @@ fn column(set: &[i32], work: &[i32], at: usize, ni: usize) -> Tested
 }
 
 fn columns(set: &[i32], work: &[i32], at: usize, n: usize, ni: usize) -> Tested
-    requires { ⌜ Ready-columns (now set) (now work) at n ni × (ni ≤ 256) ⌝ }
+    requires { ⌜ Ready-columns (now set) (now work) at n ni × (ni ≤ max-ints) ⌝ }
     ensures { λ r. ⌜ Columns-post (now (set .entry)) (now (work .entry)) at n ni 12 (r .next) (r .refusal) ⌝ }
 {
     let mut next = at;
@@ -588,7 +589,7 @@ pub struct Weighed {
 
 // 9: the largest total so far with the next one; the first comes beside 0. And what stands inside each.
 fn heavy_pairs(set: &[i32], work: &[i32], at: usize, n: usize, ni: usize) -> Weighed
-    requires { ⌜ Ready-columns (now set) (now work) at n ni × (ni ≤ 256) ⌝ }
+    requires { ⌜ Ready-columns (now set) (now work) at n ni × (ni ≤ max-ints) ⌝ }
     ensures { λ r. ⌜ Over-post (now (set .entry)) (now (work .entry)) at n ni 0 false 12 (r .next) (r .hit) (r .refusal) ⌝ }
 {
     let mut next = at;
@@ -609,7 +610,7 @@ fn heavy_pairs(set: &[i32], work: &[i32], at: usize, n: usize, ni: usize) -> Wei
 
 // 10: whether the expression at `a`, of so many words, writes over 64 variables with one of the n.
 fn many_among(set: &[i32], a: usize, words: usize, at: usize, n: usize, ni: usize) -> bool
-    requires { ⌜ Ready-among (now set) a words at n ni × (ni ≤ 256) ⌝ }
+    requires { ⌜ Ready-among (now set) a words at n ni × (ni ≤ max-ints) ⌝ }
     ensures { λ r. ⌜ Among-post (now (set .entry)) a words at n ni r ⌝ }
 {
     let mut next = at;
@@ -628,7 +629,7 @@ fn many_among(set: &[i32], a: usize, words: usize, at: usize, n: usize, ni: usiz
 
 // 10: the expression from `a` to `end` with the k from `at` on before it and the n behind it. Of two with 128 words one has 64, and asks.
 fn many_beside(set: &[i32], a: usize, end: usize, at: usize, k: usize, n: usize, ni: usize) -> bool
-    requires { ⌜ Ready-beside (now set) a end at k n ni × (ni ≤ 256) ⌝ }
+    requires { ⌜ Ready-beside (now set) a end at k n ni × (ni ≤ max-ints) ⌝ }
     ensures { λ r. ⌜ Beside-post (now (set .entry)) a end at k n ni r ⌝ }
 {
     let words = end - a;
@@ -643,7 +644,7 @@ fn many_beside(set: &[i32], a: usize, end: usize, at: usize, k: usize, n: usize,
 
 // 10.
 fn many_pairs(set: &[i32], at: usize, n: usize, ni: usize) -> bool
-    requires { ⌜ Ready-split (now set) at n at n ni × (ni ≤ 256) ⌝ }
+    requires { ⌜ Ready-split (now set) at n at n ni × (ni ≤ max-ints) ⌝ }
     ensures { λ r. ⌜ Crowded-post (now (set .entry)) at n at n ni r ⌝ }
 {
     let mut next = at;
@@ -661,7 +662,7 @@ fn many_pairs(set: &[i32], at: usize, n: usize, ni: usize) -> bool
 
 // 9, 10 or 12, but for what stands inside.
 fn differ(set: &[i32], at: usize, n: usize, hit: bool, ni: usize) -> usize
-    requires { ⌜ Ready-split (now set) at n at n ni × (ni ≤ 256) ⌝ }
+    requires { ⌜ Ready-split (now set) at n at n ni × (ni ≤ max-ints) ⌝ }
     ensures { λ r. ⌜ Differ-post (now (set .entry)) at n hit ni r ⌝ }
 {
     if hit {
@@ -674,7 +675,7 @@ fn differ(set: &[i32], at: usize, n: usize, hit: bool, ni: usize) -> usize
 }
 
 fn all_different(set: &[i32], work: &[i32], at: usize, n: usize, ni: usize) -> Tested
-    requires { ⌜ Ready-columns (now set) (now work) at n ni × (ni ≤ 256) ⌝ }
+    requires { ⌜ Ready-columns (now set) (now work) at n ni × (ni ≤ max-ints) ⌝ }
     ensures { λ r. ⌜ Different-post (now (set .entry)) (now (work .entry)) at n ni (r .next) (r .refusal) ⌝ }
 {
     let w = heavy_pairs(set, work, at, n, ni);
@@ -690,7 +691,7 @@ fn all_different(set: &[i32], work: &[i32], at: usize, n: usize, ni: usize) -> T
 
 // The place behind the statement, and the refusal that it hits.
 pub fn statement(set: &[i32], work: &[i32], at: usize, ni: usize) -> Tested
-    requires { ⌜ Ready-stmt (now set) (now work) at ni × (ni ≤ 256) ⌝ }
+    requires { ⌜ Ready-stmt (now set) (now work) at ni × (ni ≤ max-ints) ⌝ }
     ensures { λ r. ⌜ Stmt-post (now (set .entry)) (now (work .entry)) at ni (r .next) (r .refusal) ⌝ }
 {
     let code = domains::number(set, at);
@@ -710,7 +711,7 @@ pub fn statement(set: &[i32], work: &[i32], at: usize, ni: usize) -> Tested
 }
 
 fn statements(set: &[i32], work: &[i32], at: usize, n: usize, ni: usize) -> usize
-    requires { ⌜ Ready-stmts (now set) (now work) at n ni × (ni ≤ 256) ⌝ }
+    requires { ⌜ Ready-stmts (now set) (now work) at n ni × (ni ≤ max-ints) ⌝ }
     ensures { λ r. ⌜ Stmts-post (now (set .entry)) (now (work .entry)) at n ni 12 r ⌝ }
 {
     let mut next = at;
@@ -727,7 +728,7 @@ fn statements(set: &[i32], work: &[i32], at: usize, n: usize, ni: usize) -> usiz
 
 // The refusal of n statements from `at` on, or 0.
 fn check(set: &[i32], work: &[i32], at: usize, n: usize, ni: usize) -> usize
-    requires { ⌜ Ready-stmts (now set) (now work) at n ni × (ni ≤ 256) ⌝ }
+    requires { ⌜ Ready-stmts (now set) (now work) at n ni × (ni ≤ max-ints) ⌝ }
     ensures { λ r. ⌜ Check-post (now (set .entry)) (now (work .entry)) at n ni r ⌝ }
 {
     let k = statements(set, work, at, n, ni);
@@ -755,7 +756,7 @@ pub fn accept(set: &[i32], work: &mut [i32]) -> Set
     if work.len() < memory::WORK_LENGTH {
         return Set::Refused(1);
     }
-    if set.len() > 4096 {
+    if set.len() > memory::MAX_SET_WORDS {
         return Set::Refused(2);
     }
     match reader::read_set(set) {

@@ -15,6 +15,7 @@ use Rattle.laws.specs.Bools.{never}
 use Rattle.laws.specs.Ints.{*ℤ-minus-one, natAbs-add, natAbs-negℤ, sfits-natAbs}
 use Rattle.laws.specs.Lists.{counted}
 use Rattle.laws.specs.Writes.{cap, Wrote, wrote-length, wrote-then, wrote-to}
+use Rattle.syntax.specs.Words.{max-ints}
 use Rattle.syntax.specs.Syntax.{Domain, Ne}
 use Rattle.sums.specs.Norm.{norm, load}
 use Rattle.sums.specs.Bounds.{size}
@@ -103,11 +104,11 @@ code-sum k e = rw e refl
 pub code-other : (k : ℕ) → (k ≡ 22 → ⊥) → not (eqb k 23) ≡ leaf-code k
 code-other k z = rw (ne-eqb k 22 z) refl
 
-pub index-low : (x v : ℕ) → v ≡ index 256 x → v < 256
-index-low x v e = go (ltb x 256) refl
+pub index-low : (x v : ℕ) → v ≡ index max-ints x → v < max-ints
+index-low x v e = go (ltb x max-ints) refl
   where
-    go : (b : Bool) → ltb x 256 ≡ b → v < 256
-    go true t = let h : v ≡ x = e ∙ ap (λ (c : Bool). cond c x 0) t in omega (arith, ltb-true x 256 t)
+    go : (b : Bool) → ltb x max-ints ≡ b → v < max-ints
+    go true t = let h : v ≡ x = e ∙ ap (λ (c : Bool). cond c x 0) t in omega (arith, ltb-true x max-ints t)
     go false t = let h : v ≡ 0 = e ∙ ap (λ (c : Bool). cond c x 0) t in omega arith
 
 leaf-codes : (a b : Bool) → not (a || b) ≡ true → (a ≡ false) × (b ≡ false)
@@ -120,7 +121,7 @@ module _ (w : List ℤ) (p k : ℕ) (code : k ≡ word (read-part w) p) where
     abbrev total : LinearSum
     total = total-of ds w (decode-int (read-part w) (suc l) s p base .tree) n
 
-    variable-total : {x v m : ℕ} → k ≡ 21 → x ≡ word (read-part w) (p + 1) → v ≡ index 256 x → m ≡ int-number w v → total ≡ leaf-sum (suc m) (pos 0)
+    variable-total : {x v m : ℕ} → k ≡ 21 → x ≡ word (read-part w) (p + 1) → v ≡ index max-ints x → m ≡ int-number w v → total ≡ leaf-sum (suc m) (pos 0)
     unfolding decode-int int-step form-int-item ivar-item
     variable-total is index-is below number = rw (← code, is, ← index-is, ← below, ← number) refl
 
@@ -131,7 +132,7 @@ module _ (w : List ℤ) (p k : ℕ) (code : k ≡ word (read-part w) p) where
         rw (ne-eqb (word (read-part w) p) 21 (λ i. other (code ∙ i)), j .0, j .1) (ap constant (sym e))
 
   -- a variable, whose number is m
-  pub variable-leaf : {x v m : ℕ} → k ≡ 21 → x ≡ word (read-part w) (p + 1) → v ≡ index 256 x → m ≡ int-number w v → m < 2147483648 → IsLeaf w p (m + 1) (pos 0)
+  pub variable-leaf : {x v m : ℕ} → k ≡ 21 → x ≡ word (read-part w) (p + 1) → v ≡ index max-ints x → m ≡ int-number w v → m < 2147483648 → IsLeaf w p (m + 1) (pos 0)
   variable-leaf {x} {v} {m} is index-is below number small = rw (add-one m) (record {
     sum = λ h ds s base n. variable-total ds 63 s base n is index-is below number;
     small = omega arith;

@@ -9,6 +9,7 @@ use lib.ListN.{length, drop, drop-of-length-le, length-map}
 use lib.Seq.{drop-cons}
 use Rattle.laws.specs.Ints.{*ℤ-minus-one}
 use Rattle.laws.specs.Writes.{cap, Wrote, wrote-none, wrote-length, wrote-low, wrote-then, wrote-to, Open}
+use Rattle.syntax.specs.Words.{max-ints}
 use Rattle.memory.specs.Places.{folded-end}
 use Rattle.syntax.specs.Syntax.{Domain, enumerate, IntExpr, IVar, encode-int}
 use Rattle.sums.specs.LinearSum.{add-terms, add-sum, mul-terms, mul-sum, sub-sum}
@@ -30,7 +31,7 @@ literal-words : (w : List ℤ) (x : ℤ) (v : ℕ) → linear-words (value-liter
 unfolding value-literal linear-of sub-sum add-sum mul-sum add-terms mul-terms
 literal-words w x v = ap (λ (z : ℤ). pos 0 ∷ z ∷ pos 1 ∷ pos (int-number w v) ∷ pos 1 ∷ []) (+ℤ-idl _ ∙ *ℤ-comm x (negsuc 0) ∙ *ℤ-minus-one x)
 
-index-is : (w : List ℤ) (p v : ℕ) → At w p (IVar v) → (word (read-part w) (p + 1) ≡ v) × (v < 256)
+index-is : (w : List ℤ) (p v : ℕ) → At w p (IVar v) → (word (read-part w) (p + 1) ≡ v) × (v < max-ints)
 index-is w p v a = variable-inv w p (IVar v) a (code-is w p (IVar v) a) λ u i h j.
     let e : u ≡ v = cc in
     (j ∙ e, omega arith)
@@ -58,10 +59,10 @@ module _ (w : List ℤ) (at count : ℕ) (x : ℤ) (out₀ : List ℤ) (o : ℕ)
           go (v ∷ vs) s = place-inside w p (first-at w p rest (IVar v) (map IVar vs) s)
 
       module _ {u : ℕ} (index : u ≡ word (read-part w) (p + 1)) where
-        pub writing-index : u < 256
+        pub writing-index : u < max-ints
         writing-index = go (g .left .vars) (g .left .standing)
           where
-            go : (vs : List ℕ) → Standing w p rest (map IVar vs) → u < 256
+            go : (vs : List ℕ) → Standing w p rest (map IVar vs) → u < max-ints
             go [] s = absurd (z (s .counted))
             go (v ∷ vs) s = omega (arith, index, index-is w p v (first-at w p rest (IVar v) (map IVar vs) s) .0, index-is w p v (first-at w p rest (IVar v) (map IVar vs) s) .1)
 

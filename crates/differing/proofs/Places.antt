@@ -8,6 +8,7 @@ use lib.ListN.{length}
 use Rattle.laws.specs.Ints.{natAbs-add, natAbs-negℤ}
 use Rattle.laws.specs.Lists.{flat}
 use Rattle.laws.specs.Slices.{Has, has-word, has-rest, has-front, has-back}
+use Rattle.syntax.specs.Words.{max-ints}
 use Rattle.memory.specs.Places.{folded-end}
 use Rattle.memory.specs.Number.{nat}
 use Rattle.syntax.specs.Lengths.{int-tag, int-tag-word, int-long, int-fits}
@@ -57,7 +58,7 @@ module _ (w : List ℤ) (p : ℕ) where
   code-is e a = rw (int-tag-word (read-part w) p e (a .words)) refl
 
   -- its code word tells a variable from others
-  pub variable-inv : {X : Type 0} (e : IntExpr) → At w p e → word (read-part w) p ≡ 21 → ((v : ℕ) → e ≡ IVar v → v < 256 → word (read-part w) (p + 1) ≡ v → X) → X
+  pub variable-inv : {X : Type 0} (e : IntExpr) → At w p e → word (read-part w) p ≡ 21 → ((v : ℕ) → e ≡ IVar v → v < max-ints → word (read-part w) (p + 1) ≡ v → X) → X
   unfolding encode-int LegalInt word nat
   variable-inv (IConst c) a k go = absurd (omega (arith, code-is (IConst c) a, k))
   variable-inv (IVar v) a k go = go v refl (a .legal .1) (rw (has-word (read-part w) (p + 1) (pos v) [] (pos 0) (has-rest (read-part w) p (pos 21) (pos v ∷ []) (a .words))) refl)

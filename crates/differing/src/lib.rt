@@ -6,6 +6,7 @@ ghost use lib.IntN.{natAbs};
 ghost use lib.ListN.{length};
 ghost use Rattle.laws.specs.Lists.{counted};
 ghost use Rattle.laws.specs.Writes.{Wrote, Open};
+ghost use Rattle.syntax.specs.Words.{max-ints};
 ghost use Rattle.memory.specs.Places.{folded-end};
 ghost use Rattle.memory.specs.Number.{nat};
 ghost use Rattle.syntax.specs.Syntax.{Ne};
@@ -42,7 +43,7 @@ fn number_in(z: i32) -> usize
 
 // The emitted number of a declared integer.
 fn number_at(work: &[i32], v: usize) -> usize
-    requires { ⌜ v < 256 ⌝ }
+    requires { ⌜ v < max-ints ⌝ }
     ensures { λ r. ⌜ (r ≡ int-number (now (work .entry)) v) × (r < 2147483648) ⌝ }
 {
     let i = memory::INT_MAP + v;
@@ -79,7 +80,7 @@ fn leaf_at(work: &[i32], p: usize) -> Leaf
     ensures { λ r. ⌜ IsLeaf (now (work .entry)) p (r .number) (r .constant) ⌝ }
 {
     if survey::word(work, p) == 21 {
-        let v = survey::below(survey::word(work, p + 1), 256);
+        let v = survey::below(survey::word(work, p + 1), memory::MAX_INTS);
         let n = number_at(work, v);
         return Leaf {
             number: n + 1,

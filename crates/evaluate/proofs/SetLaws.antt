@@ -8,7 +8,7 @@ use lib.IntN.{ℤ, pos, natAbs}
 use lib.ListN.{length, getD}
 use borrow.Author.Tests.{ltb-false, eq-eqb, ne-eqb}
 use Rattle.laws.specs.Lists.{all, from, below}
-use Rattle.syntax.specs.Words.{min-work-words, max-set-words, max-bools}
+use Rattle.syntax.specs.Words.{min-work-words, max-set-words, max-bools, max-ints}
 use Rattle.syntax.specs.Syntax.{Domain, domain-of, in-domain, Problem}
 use Rattle.syntax.specs.Satisfies.{in-domains}
 use Rattle.syntax.specs.Written.{in-domains-within}
@@ -79,7 +79,7 @@ module _ (ws values : List ℤ) (n : ℕ) where
     stmts-are : d .stmts ≡ length (p .stmts)
     stmts-are = ap (λ (x : Declared). x .stmts) (declared-is n ws d t)
 
-    pub few-declared : (d .bools ≤ max-bools) × (d .ints ≤ 256)
+    pub few-declared : (d .bools ≤ max-bools) × (d .ints ≤ max-ints)
     few-declared = let w = taken-set n ws d t .well in (omega (arith, bools-are, w .few-bools), omega (arith, ints-are, w .few-ints))
 
     pub judge-count : (length values ≡ d .bools + d .ints → ⊥) → Judged (Refused 14)

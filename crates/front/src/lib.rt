@@ -6,7 +6,7 @@ ghost use lib.ListN.{length, getD};
 ghost use Rattle.laws.specs.Writes.{cap, Wrote, Open};
 ghost use Rattle.memory.specs.Places.{maps-end, limit};
 ghost use Rattle.memory.specs.Number.{nat};
-ghost use Rattle.syntax.specs.Words.{max-bools};
+ghost use Rattle.syntax.specs.Words.{max-bools, max-ints};
 ghost use Rattle.front.specs.Front.{naturals, copied, maps-words, front-words};
 use walk::Counters;
 
@@ -57,7 +57,7 @@ fn put_words(work: &[i32], from: usize, n: usize, out: &mut [i32], o: usize) -> 
 
 // The fixed values and the two maps; bools, ints: how many variables are declared.
 fn put_maps(work: &[i32], bools: usize, ints: usize, out: &mut [i32]) -> usize
-    requires { ⌜ (bools ≤ max-bools) × (ints ≤ 256) × (maps-end ≤ length (now work)) × (length (now out) ≤ cap) ⌝ }
+    requires { ⌜ (bools ≤ max-bools) × (ints ≤ max-ints) × (maps-end ≤ length (now work)) × (length (now out) ≤ cap) ⌝ }
     ensures { λ r. ⌜ Wrote (now (out .entry)) 0 (maps-words (now (work .entry)) bools ints) (now (out .exit)) r ⌝ }
 {
     let a = copy_words(work, 0, bools, out, 0);
@@ -67,7 +67,7 @@ fn put_maps(work: &[i32], bools: usize, ints: usize, out: &mut [i32]) -> usize
 
 // The words in front of the records; how many they are. c: how many numbers are emitted.
 pub fn write_front(work: &[i32], bools: usize, ints: usize, c: Counters, out: &mut [i32]) -> usize
-    requires { ⌜ ((bools ≤ max-bools) × (ints ≤ 256) × (maps-end ≤ length (now work)) × (length (now out) ≤ cap)) × ((c .bools ≤ limit) × (c .ints ≤ limit)) ⌝ }
+    requires { ⌜ ((bools ≤ max-bools) × (ints ≤ max-ints) × (maps-end ≤ length (now work)) × (length (now out) ≤ cap)) × ((c .bools ≤ limit) × (c .ints ≤ limit)) ⌝ }
     ensures { λ r. ⌜ Wrote (now (out .entry)) 0 (front-words (now (work .entry)) bools ints c) (now (out .exit)) r ⌝ }
 {
     let x = c.bools;

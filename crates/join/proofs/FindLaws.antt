@@ -7,6 +7,7 @@ use lib.IntN.{ℤ}
 use lib.ListN.{length, take, drop, getD, List·getD-append, List·getD-eq-default}
 use lib.Seq.{getD-append-add}
 use Rattle.laws.specs.Slices.{Has, has-fits}
+use Rattle.syntax.specs.Words.{max-ints}
 use Rattle.syntax.specs.Syntax.{Stmt, encode-stmt, Problem}
 use Rattle.accept.specs.Walk.{Bounds, Stmts-at}
 use Rattle.accept.specs.Accepted.{Set-of, stmts-stand}
@@ -59,7 +60,7 @@ module _ (first second work : List ℤ) (d : Pair) (y : Ready-find first second 
   domains-are : y .left .domains ≡ y .right .domains
   domains-are = ap (λ (x : Problem). x .domains) (it .same)
 
-  pub find-few : d .ints ≤ 256
+  pub find-few : d .ints ≤ max-ints
   find-few = omega (arith, ints-are, it .left .well .few-ints)
 
   first-listed : Listed first work (d .at) (d .ints) (y .left .domains) (y .left .stmts)

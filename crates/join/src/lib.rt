@@ -7,6 +7,7 @@ ghost use lib.ListN.{length, take, drop};
 ghost use lib.Seq.{sets};
 ghost use Rattle.laws.specs.Slices.{zeros};
 ghost use Rattle.laws.specs.Same.{same-words};
+ghost use Rattle.syntax.specs.Words.{max-ints};
 ghost use Rattle.join.specs.Join.{statement-at, words-of, address-of};
 ghost use Rattle.join.specs.Steps.{Ready-both, Compare-post, Agree-post, Ready-write, Write-post, Ready-nth, Nth-post, Part-post, Ready-find};
 ghost use Rattle.join.specs.Contract.{Joins, place-of, Finds};
@@ -55,7 +56,7 @@ fn compare(first: &[i32], second: &[i32], d: Declared, e: Declared) -> Agreed
     }
     if same_words(first, second, at - 1) {
         let words = first.len() + second.len() - at;
-        if words > 4096 {
+        if words > memory::MAX_SET_WORDS {
             return Agreed::Refused(17);
         }
         return Agreed::Ok(Pair {
@@ -148,7 +149,7 @@ pub struct Place {
 
 // The place of statement k of a set, from 0.
 fn nth(set: &[i32], work: &[i32], at: usize, ni: usize, k: usize) -> usize
-    requires { ⌜ Ready-nth (now set) (now work) at ni k × (ni ≤ 256) ⌝ }
+    requires { ⌜ Ready-nth (now set) (now work) at ni k × (ni ≤ max-ints) ⌝ }
     ensures { λ r. ⌜ Nth-post (now (set .entry)) (now (work .entry)) at ni k r ⌝ }
 {
     let mut next = at;
@@ -162,7 +163,7 @@ fn nth(set: &[i32], work: &[i32], at: usize, ni: usize, k: usize) -> usize
 }
 
 fn part_of(set: &[i32], work: &[i32], at: usize, ni: usize, k: usize, number: usize) -> Place
-    requires { ⌜ Ready-nth (now set) (now work) at ni k × (ni ≤ 256) ⌝ }
+    requires { ⌜ Ready-nth (now set) (now work) at ni k × (ni ≤ max-ints) ⌝ }
     ensures { λ r. ⌜ Part-post (now (set .entry)) (now (work .entry)) at ni k (r .from) (r .to) × (r .set ≡ number) ⌝ }
 {
     let from = nth(set, work, at, ni, k);

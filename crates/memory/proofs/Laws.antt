@@ -7,7 +7,7 @@ use native.Mathlib.Omega.{arith}
 use native.Mathlib.Numerals.{add-one}
 use lib.IntN.{ℤ, pos, negsuc, natAbs}
 use lib.ListN.{length, take, drop, getD, set, length-set, length-drop, List·getD-eq-default}
-use lib.Seq.{sets, take-suc, take-suc-set, take-all, drop-set-lt, getD-drop, length-take-le}
+use lib.Seq.{take-suc, take-suc-set, take-all, drop-set-lt, getD-drop, length-take-le}
 use lib.Signed.{ltZ, nonNeg}
 use lib.Dec.{T}
 use mir.Syntax.{w32}
@@ -15,6 +15,7 @@ use mir.Val.{toZ}
 use mir.Facts.{toZ-ofZ}
 use borrow.Author.Tests.{ltb-true}
 use Rattle.laws.specs.Slices.{Stored, zeros, drop-up}
+use Rattle.memory.specs.Cleared.{cleared}
 use Rattle.memory.specs.Number.{nat}
 
 -- ---- `entry`
@@ -67,13 +68,15 @@ cleared-all s₀ s i c h =
 
 -- ---- `clear_words`
 
-pub clear-next : (w : List ℤ) (i to : ℕ) → i < to → sets (set w i (pos 0)) (i + 1) (zeros (to - (i + 1))) ≡ sets w i (zeros (to - i))
+pub clear-next : (w : List ℤ) (i to : ℕ) → i < to → cleared (set w i (pos 0)) (i + 1) to ≡ cleared w i to
+unfolding cleared
 clear-next w i to l =
     let m : to - i ≡ suc (to - (i + 1)) = omega arith in
     let s : i + 1 ≡ suc i = omega arith in
     rw (m, s) refl
 
-pub clear-none : (w : List ℤ) (i to : ℕ) → to ≤ i → sets w i (zeros (to - i)) ≡ w
+pub clear-none : (w : List ℤ) (i to : ℕ) → to ≤ i → cleared w i to ≡ w
+unfolding cleared
 clear-none w i to l = let m : to - i ≡ 0 = omega arith in rw m refl
 
 -- ---- `copy_words`

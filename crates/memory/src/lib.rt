@@ -1,11 +1,11 @@
 // The work slice: its places, and the functions that read, store, clear and copy words.
 ghost use mathlib.Core.Path.{_≡_};
-ghost use Prim.Native.Nat.{_+_, _-_, _≤_, _<_};
+ghost use Prim.Native.Nat.{_+_, _≤_, _<_};
 ghost use lib.IntN.{pos};
 ghost use lib.ListN.{length, take, drop, getD, set};
-ghost use lib.Seq.{sets};
 ghost use Rattle.laws.specs.Slices.{Stored, zeros};
 ghost use Rattle.memory.specs.Number.{nat};
+ghost use Rattle.memory.specs.Cleared.{cleared};
 
 // ---- places; below the first, a fixed value for each declared Boolean
 
@@ -38,6 +38,15 @@ pub const TABLE: usize = 10248;
 pub const WORK_LENGTH: usize = 16384;
 
 // ---- limits
+
+// Document 01's: declared Booleans and integers, any other count, words of a set.
+pub const MAX_BOOLS: usize = 512;
+
+pub const MAX_INTS: usize = 256;
+
+pub const MAX_COUNT: usize = 4096;
+
+pub const MAX_SET_WORDS: usize = 4096;
 
 // Counters and weights stop here.
 pub const LIMIT: usize = 1073741824;
@@ -115,7 +124,7 @@ pub fn clear(s: &mut [i32])
 // The words from `from` to `to` become 0; the others stay.
 pub fn clear_words(work: &mut [i32], from: usize, to: usize)
     requires { ⌜ to ≤ length (now work) ⌝ }
-    ensures { λ _. ⌜ now (work .exit) ≡ sets (now (work .entry)) from (zeros (to - from)) ⌝ }
+    ensures { λ _. ⌜ now (work .exit) ≡ cleared (now (work .entry)) from to ⌝ }
 {
     let mut i = from;
     while i < to {

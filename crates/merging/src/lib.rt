@@ -66,11 +66,11 @@ fn merge_sides(work: &mut [i32], at: usize, g: bool, n: usize) -> usize
         return n;
     }
     let x = survey::word(work, at + 1);
-    if x >= 512 {
+    if x >= memory::MAX_BOOLS {
         return n;
     }
     let y = survey::word(work, at + 3);
-    if y >= 512 {
+    if y >= memory::MAX_BOOLS {
         return n;
     }
     merge_tie(work, x, y, g, n)

@@ -9,6 +9,7 @@ use lib.Seq.{sets}
 use mir.Syntax.{w32}
 use mir.Val.{SFits, ofZ, toZ}
 use mir.Facts.{toZ-ofZ}
+use Rattle.syntax.specs.Words.{max-ints}
 use Rattle.memory.specs.Places.{limit}
 use Rattle.memory.proofs.Laws.{number-is}
 use Rattle.syntax.specs.Syntax.{Range}
@@ -75,8 +76,8 @@ module _ (e : Progress) (d s : Numbered) (k k' : ℕ) (a b : Progress) (hk : k �
 
 -- ---- a variable's index
 
-pub leaf-index : (x v : ℕ) → v ≡ below 256 x → v < 256
-leaf-index x v e = rw e (below-lt 256 x (omega arith))
+pub leaf-index : (x v : ℕ) → v ≡ below max-ints x → v < max-ints
+leaf-index x v e = rw e (below-lt max-ints x (omega arith))
 
 -- ---- words passed on, as bits
 

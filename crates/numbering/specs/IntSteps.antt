@@ -8,6 +8,7 @@ use lib.IntN.{ℤ, pos}
 use lib.ListN.{length, getD}
 use lib.Dec.{eqb}
 use borrow.Author.Tests.{ne-eqb}
+use Rattle.syntax.specs.Words.{max-ints}
 use Rattle.memory.specs.Places.{folded-end, limit}
 use Rattle.walk.specs.Decode.{word, past, below, read-part}
 use Rattle.walk.specs.NumberingSteps.{part-length}
@@ -25,7 +26,7 @@ use Rattle.numbering.specs.Steps.{int-at}
 -- ---- a variable or a constant, by its code
 
 abbrev pub leaf-form : List ℤ → ℕ → ℕ → IntForm
-leaf-form ws at k = cond (eqb k 21) (ivar (below 256 (word ws (at + 1)))) (const (getD ws (at + 1) (pos 0)))
+leaf-form ws at k = cond (eqb k 21) (ivar (below max-ints (word ws (at + 1)))) (const (getD ws (at + 1) (pos 0)))
 
 module _ (rec cap : ℕ) where
   abbrev pub leaf-at : List ℤ → ℕ → ℕ → Task
@@ -39,7 +40,7 @@ module _ (rec cap : ℕ) where
   if-at ws u m at c base = int-task rec cap (if-step (own-at ws c) (decode ws u) (decode-int ws u) m at c base .tree)
 
 module _ (rec cap : ℕ) (st : State) (at k : ℕ) (s : Starts (leaf-at rec cap (read-part (st .work)) at k) st rec at 0) where
-  module _ (e : k ≡ 21) (x v : ℕ) (hx : x ≡ word (read-part (st .work)) (at + 1)) (hv : v ≡ below 256 x) where
+  module _ (e : k ≡ 21) (x v : ℕ) (hx : x ≡ word (read-part (st .work)) (at + 1)) (hv : v ≡ below max-ints x) where
     pub leaf-ready : Ready (int-var-task rec cap v) st
     leaf-ready = record { domains = s .ready .domains; declares = s .ready .declares; fits = tt }
 
@@ -81,8 +82,8 @@ module _ (rec cap : ℕ) (st : State) (l : ℕ) (m : Splitting) (at base : ℕ) 
     unfolding int-step
     leaf-code ws k x y = rw (ne-eqb k 22 x, ne-eqb k 23 y) (go (eqb k 21))
       where
-        go : (b : Bool) → cond {A = IntRead} b (record { tree = ivar (below 256 (word ws (at + 1))); end = past ws (at + 2); next = base }) (record { tree = const (getD ws (at + 1) (pos 0)); end = past ws (at + 2); next = base }) .tree
-            ≡ cond b (ivar (below 256 (word ws (at + 1)))) (const (getD ws (at + 1) (pos 0)))
+        go : (b : Bool) → cond {A = IntRead} b (record { tree = ivar (below max-ints (word ws (at + 1))); end = past ws (at + 2); next = base }) (record { tree = const (getD ws (at + 1) (pos 0)); end = past ws (at + 2); next = base }) .tree
+            ≡ cond b (ivar (below max-ints (word ws (at + 1)))) (const (getD ws (at + 1) (pos 0)))
         go true = refl
         go false = refl
 

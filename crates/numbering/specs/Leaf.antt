@@ -11,7 +11,7 @@ use Rattle.laws.specs.Ints.{is-zero}
 use Rattle.memory.specs.Places.{bool-map, int-map}
 use Rattle.memory.specs.Number.{nat}
 use Rattle.syntax.specs.Syntax.{domain-of}
-use Rattle.syntax.specs.Words.{max-bools}
+use Rattle.syntax.specs.Words.{max-bools, max-ints}
 use Rattle.walk.specs.Item.{bump, bool-at, int-entry}
 use Rattle.walk.specs.NumberingSteps.{part-set}
 use Rattle.walks.specs.Meet.{State, range-record, meet-bool, new-int, meet-int-var}
@@ -31,7 +31,7 @@ pub kept-set : (w out out' : List ℤ) (c d : Progress) (i : ℕ) (x : ℤ) → 
 kept-set w out out' c d i x a b e = record { part = part-set w i x a; behind = drop-set-lt upper w i x b; size = length-set w i x; room = e }
 
 -- the number of values stays a word where another word is set
-pub stays-few : (rec cap v : ℕ) (st : State) (w' : List ℤ) (x : ℤ) → Ready (int-var-task rec cap v) st → v < 256 → w' ≡ set (st .work) (int-map + v) x → natAbs (word-at w' v 2) < 2147483647
+pub stays-few : (rec cap v : ℕ) (st : State) (w' : List ℤ) (x : ℤ) → Ready (int-var-task rec cap v) st → v < max-ints → w' ≡ set (st .work) (int-map + v) x → natAbs (word-at w' v 2) < 2147483647
 stays-few rec cap v st w' x r h e = declares-kept (r .domains) (st .work) w' (ap (drop upper) e ∙ drop-set-lt upper (st .work) (int-map + v) x (omega arith)) (r .declares) v h .few
 
 module _ (w out : List ℤ) (c : Progress) (low : Low (state-of w out c)) where
@@ -55,7 +55,7 @@ module _ (w out : List ℤ) (c : Progress) (low : Low (state-of w out c)) where
     int-old v (suc x) e z = record { state = λ ds d f. rw (← e); kept = kept-same (state-of w out c); low = low }
 
     -- the record from the table's words
-    pub int-new : (v x : ℕ) (w' out' : List ℤ) (r : Progress) → v < 256 → x ≡ nat (getD w (int-map + v) (pos 0)) → x ≡ 0 → w' ≡ set w (int-map + v) (pos (c .ints + 1))
+    pub int-new : (v x : ℕ) (w' out' : List ℤ) (r : Progress) → v < max-ints → x ≡ nat (getD w (int-map + v) (pos 0)) → x ≡ 0 → w' ≡ set w (int-map + v) (pos (c .ints + 1))
         → out' ≡ sets out (rec + 4 * c .ints) (pos 0 ∷ word-at w' v 0 ∷ word-at w' v 1 ∷ (word-at w' v 2 +ℤ pos 1) ∷ []) → r ≡ record { bools = c .bools; ints = bump (c .ints) 1; used = c .used }
         → Done (int-var-task rec cap v) (state-of w out c) (state-of w' out' r)
     unfolding meet-int-var int-entry new-int

@@ -11,7 +11,7 @@ ghost use Rattle.laws.specs.Ints.{lower as lower-of, higher as higher-of};
 ghost use Rattle.laws.specs.Same.{same-words as same-words-of};
 ghost use Rattle.memory.specs.Places.{folded-end, limit};
 ghost use Rattle.syntax.specs.Syntax.{Domain, Range};
-ghost use Rattle.syntax.specs.Words.{max-weight, max-bools};
+ghost use Rattle.syntax.specs.Words.{max-weight, max-bools, max-ints};
 ghost use Rattle.walk.specs.Item.{bump as bump-of};
 ghost use Rattle.walks.specs.Item.{cell as cell-of, seen-in, known-in};
 ghost use Rattle.walks.specs.Tree.{never, below as below-in, here};
@@ -144,7 +144,7 @@ fn declare(work: &mut [i32], v: usize, c: Progress) -> Progress
 
 // The word of the table that holds the declared domains.
 fn told(work: &[i32], v: usize, k: usize) -> i32
-    requires { ⌜ (v < 256) × (k < 3) ⌝ }
+    requires { ⌜ (v < max-ints) × (k < 3) ⌝ }
     ensures { λ r. ⌜ r ≡ word-at (now (work .entry)) v k ⌝ }
 {
     plain(work, memory::DECLARED_DOMAINS + 3 * v + k)
@@ -152,7 +152,7 @@ fn told(work: &[i32], v: usize, k: usize) -> i32
 
 // The record of the declared integer v, whose number is k.
 fn put_declared(work: &[i32], out: &mut [i32], v: usize, records: usize, k: usize)
-    requires { ⌜ (v < 256) × ((records ≤ limit) × ((k ≤ limit) × (natAbs (word-at (now work) v 2) < 2147483647))) ⌝ }
+    requires { ⌜ (v < max-ints) × ((records ≤ limit) × ((k ≤ limit) × (natAbs (word-at (now work) v 2) < 2147483647))) ⌝ }
     ensures { λ r. ⌜ (now (out .exit) ≡ sets (now (out .entry)) (records + 4 * k) (pos 0 ∷ word-at (now (work .entry)) v 0 ∷ word-at (now (work .entry)) v 1 ∷ (word-at (now (work .entry)) v 2 +ℤ pos 1) ∷ [])) × (length (now (out .exit)) ≡ length (now (out .entry))) ⌝ }
 {
     let x = told(work, v, 0);
@@ -163,7 +163,7 @@ fn put_declared(work: &[i32], out: &mut [i32], v: usize, records: usize, k: usiz
 
 // A declared integer gets its number and its record.
 fn declare_int(work: &mut [i32], out: &mut [i32], v: usize, room: Room, c: Progress) -> Progress
-    requires { ⌜ (v < 256) × ((room .records ≤ limit) × ((c .bools ≤ limit) × ((c .ints ≤ limit) × ((c .used ≤ limit) × Ready (int-var-task (room .records) (room .cap) v) (state-of (now work) (now out) c))))) ⌝ }
+    requires { ⌜ (v < max-ints) × ((room .records ≤ limit) × ((c .bools ≤ limit) × ((c .ints ≤ limit) × ((c .used ≤ limit) × Ready (int-var-task (room .records) (room .cap) v) (state-of (now work) (now out) c))))) ⌝ }
     ensures { λ r. ⌜ Done (int-var-task (room .records) (room .cap) v) (state-of (now (work .entry)) (now (out .entry)) c) (state-of (now (work .exit)) (now (out .exit)) r) ⌝ }
 {
     if entry(work, memory::INT_MAP + v) == 0 {
@@ -418,7 +418,7 @@ fn number_leaf(
 {
     if code == 21 {
         let x = word(work, at + 1);
-        return declare_int(work, out, below(x, 256), room, c);
+        return declare_int(work, out, below(x, memory::MAX_INTS), room, c);
     }
     c
 }
@@ -682,7 +682,7 @@ fn number_constant(
     let q = p.cond;
     if word(work, q) == 11 {
         let z = word(work, q + 1);
-        return follow(work, out, below(z, 512), room, c, x, y);
+        return follow(work, out, below(z, memory::MAX_BOOLS), room, c, x, y);
     }
     let k = leaves_of(work, p, left, m, base);
     let s = spend(c, k);

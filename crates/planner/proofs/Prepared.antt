@@ -10,8 +10,9 @@ use lib.Seq.{sets, length-sets, take-set-le, getD-drop, getD-set-other}
 use Rattle.laws.specs.Ints.{is-zero}
 use Rattle.laws.specs.Slices.{Has, zeros, has-sets}
 use Rattle.memory.specs.Places.{folded, folded-end, ifs-word, declared-domains, table}
+use Rattle.memory.specs.Cleared.{cleared}
 use Rattle.syntax.specs.Syntax.{Domain, Stmt, Problem}
-use Rattle.syntax.specs.Words.{min-work-words}
+use Rattle.syntax.specs.Words.{min-work-words, max-ints}
 use Rattle.fold.specs.Fold.{Fixed}
 use Rattle.accept.specs.Accepted.{domains-stand}
 use Rattle.answer.specs.Answer.{start-log}
@@ -47,8 +48,12 @@ settles-low {p} {f} {ss} {w} {w'} e l h = record {
 
 -- ---- `prepare`
 
-abbrev cleared : List ℤ → List ℤ
-cleared w = sets w declared-domains (zeros (table - declared-domains))
+abbrev blanked : List ℤ → List ℤ
+blanked w = sets w declared-domains (zeros (table - declared-domains))
+
+is-blanked : (w : List ℤ) → cleared w declared-domains table ≡ blanked w
+unfolding cleared
+is-blanked w = refl
 
 module _ (p : Problem) (f : Fixed) (ss : List Stmt) (set' w : List ℤ) (i end : ℕ) (h : Held p f ss set' w i end) where
   abbrev ds : List Domain
@@ -60,10 +65,10 @@ module _ (p : Problem) (f : Fixed) (ss : List Stmt) (set' w : List ℤ) (i end :
   ends-low : end ≤ folded-end
   ends-low = omega (arith, h .settles .ends, settled-short p f ss (h .settles .set))
 
-  few : length ds ≤ 256
+  few : length ds ≤ max-ints
   few = h .settles .set .well .few-ints
 
-  table-room : Table-room set' 2 i (cleared w) declared-domains
+  table-room : Table-room set' 2 i (blanked w) declared-domains
   table-room = record {
     ds = ds;
     domains = domains-stand set' p (record { words = h .words; well = h .settles .set .well });
@@ -73,19 +78,19 @@ module _ (p : Problem) (f : Fixed) (ss : List Stmt) (set' w : List ℤ) (i end :
   }
 
   abbrev tabled : List ℤ
-  tabled = sets (cleared w) declared-domains (domain-table ds)
+  tabled = sets (blanked w) declared-domains (domain-table ds)
 
   tabled-size : length tabled ≡ length w
-  tabled-size = length-sets (cleared w) declared-domains (domain-table ds) ∙ length-sets w declared-domains (zeros (table - declared-domains))
+  tabled-size = length-sets (blanked w) declared-domains (domain-table ds) ∙ length-sets w declared-domains (zeros (table - declared-domains))
 
   last-size : length (marked tabled end) ≡ length w
   last-size = length-set tabled ifs-word _ ∙ tabled-size
 
   part : read-part (marked tabled end) ≡ read-part w
   unfolding read-part
-  part = take-set-le folded-end tabled ifs-word _ (omega arith) ∙ take-below folded-end (cleared w) declared-domains (domain-table ds) (omega arith) ∙ take-below folded-end w declared-domains (zeros (table - declared-domains)) (omega arith)
+  part = take-set-le folded-end tabled ifs-word _ (omega arith) ∙ take-below folded-end (blanked w) declared-domains (domain-table ds) (omega arith) ∙ take-below folded-end w declared-domains (zeros (table - declared-domains)) (omega arith)
 
-  blank : Has (cleared w) declared-domains (zeros (table - declared-domains))
+  blank : Has (blanked w) declared-domains (zeros (table - declared-domains))
   blank = has-sets w declared-domains (zeros (table - declared-domains)) (omega (arith, long, length-replicate (table - declared-domains) (pos 0)))
 
   told : (v k : ℕ) → word-at (marked tabled end) v k ≡ word-at tabled v k
@@ -93,7 +98,7 @@ module _ (p : Problem) (f : Fixed) (ss : List Stmt) (set' w : List ℤ) (i end :
   told v k = getD-set-other tabled ifs-word (declared-domains + 3 * v + k) _ (pos 0) (λ e. omega arith)
 
   declared : Declares ds (marked tabled end)
-  declared v l = rw (told v 0, told v 1, told v 2) (declares (cleared w) blank ds few (sizes-fit ds (h .settles .set .well .domains-well)) v l)
+  declared v l = rw (told v 0, told v 1, told v 2) (declares (blanked w) blank ds few (sizes-fit ds (h .settles .set .well .domains-well)) v l)
 
   prepared : Prepared p f ss set' (marked tabled end) end
   prepared =
@@ -105,18 +110,18 @@ module _ (p : Problem) (f : Fixed) (ss : List Stmt) (set' w : List ℤ) (i end :
         size = s .size;
       }
 
-pub table-asks : (set' w : List ℤ) (i end : ℕ) → SomeHeld set' w i end → {x : List ℤ} → x ≡ sets w declared-domains (zeros (table - declared-domains)) → Table-room set' 2 i x declared-domains
-table-asks set' w i end s e = subst (λ (l : List ℤ). Table-room set' 2 i l declared-domains) (sym e) (table-room (s .it) (s .fixed) (s .stmts) set' w i end (s .held))
+pub table-asks : (set' w : List ℤ) (i end : ℕ) → SomeHeld set' w i end → {x : List ℤ} → x ≡ cleared w declared-domains table → Table-room set' 2 i x declared-domains
+table-asks set' w i end s e = subst (λ (l : List ℤ). Table-room set' 2 i l declared-domains) (sym (e ∙ is-blanked w)) (table-room (s .it) (s .fixed) (s .stmts) set' w i end (s .held))
 
 pub mark-asks : (set' w : List ℤ) (i end : ℕ) → SomeHeld set' w i end → {k : ℕ} → k ≡ length w → (ifs-word < k) × (end ≤ folded-end)
 mark-asks set' w i end s e =
     let h = s .held in
     (omega (arith, h .settles .size), ends-low (s .it) (s .fixed) (s .stmts) set' w i end h)
 
-pub prepares : (set' w : List ℤ) (i end : ℕ) {x y z : List ℤ} → x ≡ sets w declared-domains (zeros (table - declared-domains)) → Table-post set' 2 i x declared-domains y → z ≡ marked y end → Prepares set' w i end z
+pub prepares : (set' w : List ℤ) (i end : ℕ) {x y z : List ℤ} → x ≡ cleared w declared-domains table → Table-post set' 2 i x declared-domains y → z ≡ marked y end → Prepares set' w i end z
 prepares set' w i end {x} {y} {z} a b c p f ss h =
     let d : y ≡ sets x declared-domains (domain-table (p .domains)) = b (p .domains) (domains-stand set' p (record { words = h .words; well = h .settles .set .well })) (h .ints) in
-    let e : y ≡ tabled p f ss set' w i end h = d ∙ ap (λ (l : List ℤ). sets l declared-domains (domain-table (p .domains))) a in
+    let e : y ≡ tabled p f ss set' w i end h = d ∙ ap (λ (l : List ℤ). sets l declared-domains (domain-table (p .domains))) (a ∙ is-blanked w) in
     subst (λ (l : List ℤ). Prepared p f ss set' l end) (sym (c ∙ ap (λ (l : List ℤ). marked l end) e)) (prepared p f ss set' w i end h)
 
 -- ---- what later steps keep

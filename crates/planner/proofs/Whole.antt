@@ -11,7 +11,7 @@ use lib.Seq.{sets}
 use Rattle.laws.specs.Writes.{Wrote, wrote-length, cap}
 use Rattle.memory.specs.Places.{folded, maps-end}
 use Rattle.syntax.specs.Syntax.{Stmt, Problem}
-use Rattle.syntax.specs.Words.{max-bools}
+use Rattle.syntax.specs.Words.{max-bools, max-ints}
 use Rattle.fold.specs.Fold.{Fixed}
 use Rattle.clauses.specs.Clause.{Clause}
 use Rattle.clauses.specs.Log.{Log, clauses-of}
@@ -120,7 +120,7 @@ module _ (merge : Bool) (set' w : List ℤ) (b i end : ℕ) (out x : List ℤ) (
           words = λ k. absurd (omega arith);
         }
 
-        pub front-asks : SomeWrites set' w b i end out → (b ≤ max-bools) × (i ≤ 256) × (maps-end ≤ length (st .work)) × (length (st .out) ≤ cap)
+        pub front-asks : SomeWrites set' w b i end out → (b ≤ max-bools) × (i ≤ max-ints) × (maps-end ≤ length (st .work)) × (length (st .out) ≤ cap)
         front-asks s =
             let p = s .it in
             let h = s .writes in

@@ -74,7 +74,7 @@ fn watch_at(words: &[i32], p: usize, i: usize, watches: &mut [i32]) {
         return;
     }
     let v = entry(words, p + 1);
-    if v >= 512 {
+    if v >= memory::MAX_BOOLS {
         return;
     }
     let before = entry(watches, v);
@@ -141,7 +141,7 @@ fn push(work: &[i32], v: usize, watches: &mut [i32], count: usize) -> usize
     requires { ⌜ count ≤ 2048 ⌝ }
     ensures { λ r. ⌜ r ≤ 2048 ⌝ }
 {
-    if v >= 512 {
+    if v >= memory::MAX_BOOLS {
         return count;
     }
     let value = entry(work, v);
@@ -352,7 +352,7 @@ fn fill_open(work: &mut [i32])
     ensures { λ _. ⌜ Opened (now (work .entry)) (now (work .exit)) ⌝ }
 {
     let mut i = 0;
-    while i < 512 {
+    while i < memory::MAX_BOOLS {
         folding::put(work, i, 2);
         i += 1;
     }

@@ -7,6 +7,7 @@ use lib.IntN.{ℤ}
 use lib.ListN.{length, drop, length-drop, length-append}
 use lib.Seq.{drop-drop, drop-append-seam}
 use Rattle.laws.specs.Lists.{flat}
+use Rattle.syntax.specs.Words.{max-bools, max-ints}
 use Rattle.syntax.specs.Syntax.{encode-domain, encode-stmt, Domain, Stmt, Problem}
 use Rattle.words.specs.Parse.{Parsed, ok, refuse, Parser, parse-then, times, up-to, count}
 use Rattle.words.specs.Exact.{Exact, number-words, up-to-exact, times-exact}
@@ -97,27 +98,27 @@ module _ (b i : ℕ) (ds : List Domain) (t : List ℤ) (hl : length ds ≡ i) wh
       go (refuse k) = finish-stmts (refuse k)
 
 module _ (ws : List ℤ) where
-  pub set-no-bools : (k : ℕ) → counted-at 0 (up-to 512 4 ws) ≡ counted.Refused k → set.Refused k ≡ set-at (read-set ws)
+  pub set-no-bools : (k : ℕ) → counted-at 0 (up-to max-bools 4 ws) ≡ counted.Refused k → set.Refused k ≡ set-at (read-set ws)
   unfolding read-set set-at
-  set-no-bools k h = rw (counted-refused 0 (up-to 512 4 ws) k h)
+  set-no-bools k h = rw (counted-refused 0 (up-to max-bools 4 ws) k h)
 
-  module _ (b : ℕ) (c : Cursor) (hb : counted-at 0 (up-to 512 4 ws) ≡ counted.Number b c) where
-    bools-is : {X : Type 0} → ((r : List ℤ) → up-to 512 4 ws ≡ ok b r → c ≡ cursor 1 → drop 1 ws ≡ r → X) → X
-    bools-is go = counted-number 0 (up-to 512 4 ws) b c hb λ r hp hd. go r hp hd (after-number (up-to 512 4) (up-to-exact 512 4) 0 ws b r hp)
+  module _ (b : ℕ) (c : Cursor) (hb : counted-at 0 (up-to max-bools 4 ws) ≡ counted.Number b c) where
+    bools-is : {X : Type 0} → ((r : List ℤ) → up-to max-bools 4 ws ≡ ok b r → c ≡ cursor 1 → drop 1 ws ≡ r → X) → X
+    bools-is go = counted-number 0 (up-to max-bools 4 ws) b c hb λ r hp hd. go r hp hd (after-number (up-to max-bools 4) (up-to-exact max-bools 4) 0 ws b r hp)
 
-    pub set-no-ints : (k : ℕ) → counted-at (c .at) (up-to 256 4 (drop (c .at) ws)) ≡ counted.Refused k → set.Refused k ≡ set-at (read-set ws)
+    pub set-no-ints : (k : ℕ) → counted-at (c .at) (up-to max-ints 4 (drop (c .at) ws)) ≡ counted.Refused k → set.Refused k ≡ set-at (read-set ws)
     unfolding read-set set-at
     set-no-ints k h = bools-is λ r hp hc e.
-        let q = rw (hc, e) at (counted-refused (c .at) (up-to 256 4 (drop (c .at) ws)) k h) in
+        let q = rw (hc, e) at (counted-refused (c .at) (up-to max-ints 4 (drop (c .at) ws)) k h) in
         rw (hp, q)
 
-    module _ (i : ℕ) (d : Cursor) (hi : counted-at (c .at) (up-to 256 4 (drop (c .at) ws)) ≡ counted.Number i d) where
-      ints-is : {X : Type 0} → ((r s : List ℤ) → up-to 512 4 ws ≡ ok b r → up-to 256 4 r ≡ ok i s → d ≡ cursor 2 → drop 2 ws ≡ s → X) → X
+    module _ (i : ℕ) (d : Cursor) (hi : counted-at (c .at) (up-to max-ints 4 (drop (c .at) ws)) ≡ counted.Number i d) where
+      ints-is : {X : Type 0} → ((r s : List ℤ) → up-to max-bools 4 ws ≡ ok b r → up-to max-ints 4 r ≡ ok i s → d ≡ cursor 2 → drop 2 ws ≡ s → X) → X
       ints-is go =
           bools-is λ r hp hc e.
           let h1 = rw (hc, e) at hi in
-          counted-number 1 (up-to 256 4 r) i d h1 λ s hq hd.
-          go r s hp hq hd (sym (drop-drop 1 1 ws) ∙ ap (drop 1) e ∙ ap (drop 1) (up-to-exact 256 4 .sound r i s hq .0))
+          counted-number 1 (up-to max-ints 4 r) i d h1 λ s hq hd.
+          go r s hp hq hd (sym (drop-drop 1 1 ws) ∙ ap (drop 1) e ∙ ap (drop 1) (up-to-exact max-ints 4 .sound r i s hq .0))
 
       pub set-no-domains : (k : ℕ) → reads (times i read-domain) (d .at) ws ≡ read.Refused k → set.Refused k ≡ set-at (read-set ws)
       unfolding read-set set-at

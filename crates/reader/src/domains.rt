@@ -43,7 +43,7 @@ pub fn read_size(words: &[i32], c: Cursor) -> Counted
                 if n == 0 {
                     return Counted::Refused(7);
                 }
-                if n <= 4096 {
+                if n <= memory::MAX_COUNT {
                     Counted::Number(n, d)
                 } else {
                     Counted::Refused(4)

@@ -68,7 +68,7 @@ pub fn read_int(words: &[i32], c: Cursor, bools: usize, ints: usize, left: usize
             match w {
                 20 => check_value(words, d),
                 21 => check_index(words, d, ints),
-                22 => match d.up_to(words, 4096, 4) {
+                22 => match d.up_to(words, memory::MAX_COUNT, 4) {
                     Counted::Refused(k) => Read::Refused(k),
                     Counted::Number(n, e) => read_terms(words, e, n, bools, ints, left - 1),
                 },
@@ -123,7 +123,7 @@ pub fn read_members(
 pub fn read_list(words: &[i32], c: Cursor, bools: usize, ints: usize, left: usize) -> Read
     ensures { λ r. ⌜ r ≡ reads (list-of (bool-of bools ints left)) (c .at) (now (words .entry)) ⌝ }
 {
-    match c.up_to(words, 4096, 4) {
+    match c.up_to(words, memory::MAX_COUNT, 4) {
         Counted::Refused(k) => Read::Refused(k),
         Counted::Number(n, d) => read_members(words, d, n, bools, ints, left),
     }

@@ -34,7 +34,7 @@ pub enum Set {
 fn read_rest(set: &[i32], c: Cursor, bools: usize, ints: usize) -> Set
     ensures { λ r. ⌜ r ≡ stmts-at bools ints (c .at) (stmts-of bools ints (drop (c .at) (now (set .entry)))) ⌝ }
 {
-    match c.up_to(set, 4096, 4) {
+    match c.up_to(set, memory::MAX_COUNT, 4) {
         Counted::Refused(k) => Set::Refused(k),
         Counted::Number(n, d) => match statements::read_stmts(set, d, n, bools, ints) {
             Read::Refused(k) => Set::Refused(k),
@@ -61,9 +61,9 @@ pub fn read_set(set: &[i32]) -> Set
     ensures { λ r. ⌜ r ≡ set-at (read-set-words (now (set .entry))) ⌝ }
 {
     let start = Cursor { at: 0 };
-    match start.up_to(set, 512, 4) {
+    match start.up_to(set, memory::MAX_BOOLS, 4) {
         Counted::Refused(k) => Set::Refused(k),
-        Counted::Number(b, c) => match c.up_to(set, 256, 4) {
+        Counted::Number(b, c) => match c.up_to(set, memory::MAX_INTS, 4) {
             Counted::Refused(k) => Set::Refused(k),
             Counted::Number(i, d) => match domains::read_domains(set, d, i) {
                 Read::Refused(k) => Set::Refused(k),

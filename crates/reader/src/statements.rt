@@ -89,9 +89,9 @@ pub fn read_columns(words: &[i32], c: Cursor, count: usize, bools: usize, ints: 
 pub fn read_table(words: &[i32], c: Cursor, bools: usize, ints: usize) -> Read
     ensures { λ r. ⌜ r ≡ reads (table-of bools ints) (c .at) (now (words .entry)) ⌝ }
 {
-    match c.up_to(words, 4096, 4) {
+    match c.up_to(words, memory::MAX_COUNT, 4) {
         Counted::Refused(k) => Read::Refused(k),
-        Counted::Number(n, d) => match d.up_to(words, 4096, 4) {
+        Counted::Number(n, d) => match d.up_to(words, memory::MAX_COUNT, 4) {
             Counted::Refused(k) => Read::Refused(k),
             Counted::Number(rows, e) => match read_columns(words, e, n, bools, ints) {
                 Read::Refused(k) => Read::Refused(k),
@@ -105,7 +105,7 @@ pub fn read_table(words: &[i32], c: Cursor, bools: usize, ints: usize) -> Read
 pub fn read_different(words: &[i32], c: Cursor, bools: usize, ints: usize) -> Read
     ensures { λ r. ⌜ r ≡ reads (different-of bools ints) (c .at) (now (words .entry)) ⌝ }
 {
-    match c.up_to(words, 4096, 4) {
+    match c.up_to(words, memory::MAX_COUNT, 4) {
         Counted::Refused(k) => Read::Refused(k),
         Counted::Number(n, d) => read_columns(words, d, n, bools, ints),
     }

@@ -11,7 +11,7 @@ use lib.ListN.{length, getD}
 use borrow.Author.Tests.{ne-eqb}
 use Rattle.memory.specs.Places.{folded-end, limit}
 use Rattle.syntax.specs.Syntax.{Domain}
-use Rattle.syntax.specs.Words.{max-bools}
+use Rattle.syntax.specs.Words.{max-bools, max-ints}
 use Rattle.walk.specs.Item.{bump, is-none, Tally, tally, long, plus, mode-in, fresh, fresh-in, lines-in, disj-lines, closed, lines-of}
 use Rattle.walk.specs.Decode.{word, past, below as index, read-part, surveyed, fresh-of, lines-in-of, closed-disj, closed-cross, added}
 use Rattle.walk.specs.Implements.{tally-eq}
@@ -480,7 +480,7 @@ module _ (w : List ℤ) (size : folded-end ≤ length w) (l : ℕ) (m : Splittin
       low = h;
     })
 
-    pub ints-var : (r : Behind) (x v two : ℕ) (i : Counters) → k ≡ 21 → x ≡ word (read-part w) (at + 1) → v ≡ index 256 x → i ≡ meets-int w v n → IntSkips (read-part w) l m at base two base → r ≡ behind-at two base i → IntSurveys w l m at base n r
+    pub ints-var : (r : Behind) (x v two : ℕ) (i : Counters) → k ≡ 21 → x ≡ word (read-part w) (at + 1) → v ≡ index max-ints x → i ≡ meets-int w v n → IntSkips (read-part w) l m at base two base → r ≡ behind-at two base i → IntSurveys w l m at base n r
     unfolding int-step form-item ivar-item
     ints-var r x v two i e hx hv hi s j = int-carry r (behind-at two base i) j s (λ ds. rw (e, ← hx, ← hv) hi) (subst Low (sym hi) (meets-int-low w v n low))
 

@@ -3,7 +3,7 @@ ghost use mathlib.Core.Path.{_≡_};
 ghost use mathlib.Core.Bool.{true};
 ghost use Prim.Native.Nat.{_+_, _≤_, _<_};
 ghost use Rattle.memory.specs.Places.{folded-end, limit};
-ghost use Rattle.syntax.specs.Words.{max-bools};
+ghost use Rattle.syntax.specs.Words.{max-bools, max-ints};
 ghost use Rattle.walk.specs.Decode.{word as word-in, constant-node, read-part};
 ghost use Rattle.walks.specs.Tree.{inner as inner-of};
 ghost use Rattle.walks.specs.Item.{has-ifs as has-ifs-in, more-ints as more-ints-of, more-bools as more-bools-of, meets-bool, meets-int, cell as cell-of, seen-in};
@@ -48,7 +48,7 @@ pub fn node_at(work: &[i32], g: bool, at: usize) -> Node
     let two = within(at + 2);
     match word(work, at) {
         10 => constant_at(x, g, two),
-        11 => Node::Var(below(x, 512), two),
+        11 => Node::Var(below(x, memory::MAX_BOOLS), two),
         12 => Node::Join(g, x, g, g, two),
         13 => Node::Join(!g, x, g, g, two),
         14 => Node::Not(one),
@@ -283,7 +283,7 @@ pub fn more_bools(n: Counters) -> Counters
 
 // Behind a declared integer.
 fn met_int(work: &[i32], v: usize, n: Counters) -> Counters
-    requires { ⌜ (v < 256) × (n .ints ≤ limit) ⌝ }
+    requires { ⌜ (v < max-ints) × (n .ints ≤ limit) ⌝ }
     ensures { λ r. ⌜ r ≡ meets-int (now (work .entry)) v n ⌝ }
 {
     if memory::entry(work, memory::INT_MAP + v) == n.ints + 1 {
@@ -654,7 +654,7 @@ fn make_if(
         });
     }
     if word(work, c) == 11 {
-        let v = below(word(work, c + 1), 512);
+        let v = below(word(work, c + 1), memory::MAX_BOOLS);
         return more_ints(work, met(work, v, n));
     }
     let a = survey(work, c, left, m, base, true, more_bools(n));
@@ -691,7 +691,7 @@ pub fn survey_int(
     let one = within(at + 1);
     let two = within(at + 2);
     match word(work, at) {
-        21 => behind_of(two, base, met_int(work, below(x, 256), n)),
+        21 => behind_of(two, base, met_int(work, below(x, memory::MAX_INTS), n)),
         22 => survey_terms(work, two, under, m, x, base, n),
         23 => {
             if is_passed(work, at, n.ints) {

@@ -11,7 +11,7 @@ use Rattle.laws.specs.Bools.{never}
 use Rattle.memory.specs.Places.{int-map, limit}
 use Rattle.memory.specs.Number.{nat}
 use Rattle.syntax.specs.Syntax.{Domain, domain-of}
-use Rattle.syntax.specs.Words.{min-work-words}
+use Rattle.syntax.specs.Words.{min-work-words, max-ints}
 use Rattle.words.specs.Exact.{Each}
 use Rattle.walk.specs.Item.{is-none, int-entry}
 use Rattle.walks.specs.Item.{has-ifs}
@@ -52,7 +52,7 @@ module _ (ds : List Domain) (rec cap : ℕ) where
   unfolding meet-int-var
   var-stays v st h = rw h refl
 
-  var-met : (v : ℕ) (st : State) → v < 256 → Unmarked cap st → HasNumber (meet-int-var ds rec cap v st) v
+  var-met : (v : ℕ) (st : State) → v < max-ints → Unmarked cap st → HasNumber (meet-int-var ds rec cap v st) v
   unfolding meet-int-var new-int
   var-met v st l h = go (is-none (int-entry (st .work) v)) refl
     where
@@ -68,7 +68,7 @@ module _ (ds : List Domain) (rec cap : ℕ) where
       go true e = ap is-none (entry-other (st .work) u v (pos (st .ints + 1)) (λ i. never (sym h ∙ ap (λ (x : ℕ). is-none (int-entry (st .work) x)) i ∙ e))) ∙ h
       go false e = h
 
-  var-unmarked : (v : ℕ) (st : State) → v < 256 → Unmarked cap st → Unmarked cap (meet-int-var ds rec cap v st)
+  var-unmarked : (v : ℕ) (st : State) → v < max-ints → Unmarked cap st → Unmarked cap (meet-int-var ds rec cap v st)
   unfolding meet-int-var new-int
   var-unmarked v st l h = go (is-none (int-entry (st .work) v))
     where
@@ -101,14 +101,14 @@ module _ (ds : List Domain) (rec cap : ℕ) where
   vars-kept us [] st h = tt
   vars-kept us (v ∷ vs) st h = (number-kept us v st (h .0), vars-kept us vs st (h .1))
 
-  pub vars-met : (vs : List ℕ) (st : State) → Each (λ v. v < 256) vs → Unmarked cap st → Each (HasNumber (meet-vars vs st)) vs
+  pub vars-met : (vs : List ℕ) (st : State) → Each (λ v. v < max-ints) vs → Unmarked cap st → Each (HasNumber (meet-vars vs st)) vs
   unfolding meet-vars
   vars-met [] st l h = tt
   vars-met (v ∷ vs) st l h =
       let s = meet-int-var ds rec cap v st in
       (number-kept vs v s (var-met v st (l .0) h), vars-met vs s (l .1) (var-unmarked v st (l .0) h))
 
-  pub vars-unmarked : (vs : List ℕ) (st : State) → Each (λ v. v < 256) vs → Unmarked cap st → Unmarked cap (meet-vars vs st)
+  pub vars-unmarked : (vs : List ℕ) (st : State) → Each (λ v. v < max-ints) vs → Unmarked cap st → Unmarked cap (meet-vars vs st)
   unfolding meet-vars
   vars-unmarked [] st l h = h
   vars-unmarked (v ∷ vs) st l h = vars-unmarked vs (meet-int-var ds rec cap v st) (l .1) (var-unmarked v st (l .0) h)

@@ -10,6 +10,7 @@ use lib.ListN.{length}
 use lib.Dec.{ltb}
 use borrow.Author.Tests.{le-ltb}
 use Rattle.laws.specs.Slices.{Has, has-front, has-back}
+use Rattle.syntax.specs.Words.{max-ints}
 use Rattle.memory.specs.Places.{limit}
 use Rattle.syntax.specs.Syntax.{Domain, Ne, IntExpr, IConst, IVar, Linear, If, Terms, tnil, tmore, encode-int}
 use Rattle.words.specs.Exact.{Each}
@@ -80,7 +81,7 @@ each-back P [] vs h = h
 each-back P (u ∷ us) vs h = each-back P us vs (h .1)
 
 abbrev Declared : ℕ → Type 0
-Declared v = v < 256
+Declared v = v < max-ints
 
 mutual
   unfolding LegalInt vars

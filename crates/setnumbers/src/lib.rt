@@ -375,11 +375,11 @@ fn known_sides(work: &[i32], p: usize) -> bool
     if word(work, q) != 11 {
         return false;
     }
-    let x = below(word(work, p + 1), 512);
+    let x = below(word(work, p + 1), memory::MAX_BOOLS);
     if literal(work, x) == 0 {
         return false;
     }
-    let y = below(word(work, q + 1), 512);
+    let y = below(word(work, q + 1), memory::MAX_BOOLS);
     if literal(work, y) == 0 {
         return false;
     }

@@ -10,6 +10,7 @@ use lib.Seq.{sets, sets-eq, length-sets, length-take-le, getD-take, getD-set-oth
 use Rattle.laws.specs.Ints.{is-zero}
 use Rattle.laws.specs.Slices.{zeros, has-sets, has-nth}
 use Rattle.memory.specs.Places.{folded as folded-place, folded-end, bool-map, int-map, cells, ifs-word}
+use Rattle.memory.specs.Cleared.{cleared}
 use Rattle.memory.specs.Number.{nat}
 use Rattle.syntax.specs.Syntax.{Stmt, Problem}
 use Rattle.syntax.specs.Words.{max-bools, min-work-words}
@@ -38,6 +39,10 @@ module _ (w : List ℤ) (long : min-work-words ≤ length w) where
 
   pub blank-size : length blank ≡ length w
   blank-size = length-sets w bool-map (zeros (ifs-word - bool-map))
+
+  is-blank : cleared w bool-map ifs-word ≡ blank
+  unfolding cleared
+  is-blank = refl
 
   part : read-part blank ≡ read-part w
   unfolding read-part
@@ -76,8 +81,8 @@ module _ (w : List ℤ) (long : min-work-words ≤ length w) where
       };
     }
 
-    pub some-folded : SomeFolded blank end
-    some-folded = record { it = p; fixed = f; stmts = ss; folded = folded; ends = h .ends }
+    pub some-folded : SomeFolded (cleared w bool-map ifs-word) end
+    some-folded = subst (λ (l : List ℤ). SomeFolded l end) (sym is-blank) (record { it = p; fixed = f; stmts = ss; folded = folded; ends = h .ends })
 
     module _ (merge : Bool) (w' : List ℤ) (n : ℕ) (m : MergedAll merge blank end w' n) where
       no-cell : (k : ℕ) → folded-place < k → k ≤ folded-end → cell w' k ≡ pos 0
@@ -94,9 +99,9 @@ module _ (w : List ℤ) (long : min-work-words ≤ length w) where
       begun-there = tied-begun (read-part w) (has-ifs w) w' n (start-log merge ss) (start-well merge ss) (m .started p f ss folded (h .ends) .numbered) (record { words = m .aside .part ∙ part; word = same-word; cells = no-cell })
 
   -- x: the slice between
-  pub begins : {x : List ℤ} {end : ℕ} {merge : Bool} {w' : List ℤ} {n : ℕ} → x ≡ sets w bool-map (zeros (ifs-word - bool-map)) → MergedAll merge x end w' n → Begins merge w end w' n
+  pub begins : {x : List ℤ} {end : ℕ} {merge : Bool} {w' : List ℤ} {n : ℕ} → x ≡ cleared w bool-map ifs-word → MergedAll merge x end w' n → Begins merge w end w' n
   begins {x} {end} {merge} {w'} {n} e y =
-      let m : MergedAll merge blank end w' n = subst (λ (l : List ℤ). MergedAll merge l end w' n) e y in
+      let m : MergedAll merge blank end w' n = subst (λ (l : List ℤ). MergedAll merge l end w' n) (e ∙ is-blank) y in
       record {
         begun = λ p f ss h. begun-there p f ss end h merge w' n m;
         part = m .aside .part ∙ part;

@@ -13,7 +13,7 @@ use Rattle.laws.specs.Ints.{is-zero}
 use Rattle.memory.specs.Places.{folded-end, bool-map, int-map, cells, ifs-word, declared-domains, table as table-place, limit}
 use Rattle.memory.specs.Number.{nat}
 use Rattle.syntax.specs.Syntax.{Domain, IntExpr, encode-int, Stmt, Rule, Table, AllDifferent, encode-stmt}
-use Rattle.syntax.specs.Words.{max-bools}
+use Rattle.syntax.specs.Words.{max-bools, max-ints}
 use Rattle.clauses.specs.Clause.{BoolLit}
 use Rattle.clauses.specs.Log.{Log, get-bool-var, get-int-var}
 use Rattle.different.specs.Different.{values-used-up}
@@ -41,7 +41,7 @@ same-then x y = record { below = y .below ∙ x .below; size = y .size ∙ x .si
 -- a log's maps are those of declared variables
 pub record Declared (s : Log) : Type 0 where
   pub bools : (v : ℕ) (l : BoolLit) → get-bool-var v s ≡ some l → v < max-bools
-  pub ints : (v n : ℕ) → get-int-var v s ≡ some n → v < 256
+  pub ints : (v n : ℕ) → get-int-var v s ≡ some n → v < max-ints
 
 module _ {w w' : List ℤ} (same : Same w w') where
   pub word-same : (k : ℕ) → k < table-place → getD w' k (pos 0) ≡ getD w k (pos 0)
@@ -63,11 +63,11 @@ module _ {w w' : List ℤ} (same : Same w w') where
   unfolding bool-at
   bool-same v h = word-same (bool-map + v) (omega arith)
 
-  pub int-same : (v : ℕ) → v < 256 → int-entry w' v ≡ int-entry w v
+  pub int-same : (v : ℕ) → v < max-ints → int-entry w' v ≡ int-entry w v
   unfolding int-entry
   int-same v h = ap nat (word-same (int-map + v) (omega arith))
 
-  told-same : (v k : ℕ) → v < 256 → k < 3 → word-at w' v k ≡ word-at w v k
+  told-same : (v k : ℕ) → v < max-ints → k < 3 → word-at w' v k ≡ word-at w v k
   unfolding word-at
   told-same v k h i = word-same (declared-domains + 3 * v + k) (omega arith)
 

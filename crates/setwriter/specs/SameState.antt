@@ -10,7 +10,7 @@ use lib.IntN.{ℤ}
 use Rattle.laws.specs.Ints.{is-zero}
 use Rattle.memory.specs.Places.{folded-end, bool-map, int-map, limit}
 use Rattle.syntax.specs.Syntax.{Domain, IntExpr}
-use Rattle.syntax.specs.Words.{max-bools}
+use Rattle.syntax.specs.Words.{max-bools, max-ints}
 use Rattle.clauses.specs.Log.{Log}
 use Rattle.walks.specs.Item.{cell, seen-in}
 use Rattle.walks.specs.Plain.{PlainInt}
@@ -53,7 +53,7 @@ module _ (ds : List Domain) (F : List ℤ) (parted : ℕ → Bool) (rec cap : �
   standing-same {w} {w'} same from n out c s h =
       let g = h .state in
       let a : blanks is-zero w' bool-map max-bools ≡ blanks is-zero w bool-map max-bools = blanks-same is-zero w bool-map w' max-bools (λ v l. word-same same (bool-map + v) (omega arith)) in
-      let b : blanks no-int w' int-map 256 ≡ blanks no-int w int-map 256 = blanks-same no-int w int-map w' 256 (λ v l. word-same same (int-map + v) (omega arith)) in
+      let b : blanks no-int w' int-map max-ints ≡ blanks no-int w int-map max-ints = blanks-same no-int w int-map w' max-ints (λ v l. word-same same (int-map + v) (omega arith)) in
       record {
         key = h .key;
         places = h .places;

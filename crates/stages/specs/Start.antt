@@ -11,7 +11,7 @@ use lib.ListN.{length, getD}
 use Rattle.laws.specs.Ints.{is-zero}
 use Rattle.memory.specs.Places.{folded, folded-end, bool-map, int-map, limit}
 use Rattle.syntax.specs.Syntax.{Domain, IntExpr}
-use Rattle.syntax.specs.Words.{max-bools, min-work-words}
+use Rattle.syntax.specs.Words.{max-bools, min-work-words, max-ints}
 use Rattle.clauses.specs.Clause.{BoolLit}
 use Rattle.clauses.specs.Log.{declared, aux, side, bool, merged, int, added, defined, known, Log, next-bool, get-bool-var, get-int-var, get-if, made-ints}
 use Rattle.clauses.specs.Merge.{WellMerged, merged-no-ints, merged-no-ifs}
@@ -41,7 +41,7 @@ start w out n = record { work = w; out = out; bools = n; ints = 0; used = 0 }
 -- the slice w before the first statement: F, the folded words; s, the log that merging leaves
 pub record Begun (F : List ℤ) (with-ifs : Bool) (w : List ℤ) (n : ℕ) (s : Log) : Type 0 where
   pub map : (v : ℕ) → v < max-bools → bool-at w v ≡ bool-word (get-bool-var v s)
-  pub map-int : (v : ℕ) → v < 256 → int-entry w v ≡ 0
+  pub map-int : (v : ℕ) → v < max-ints → int-entry w v ≡ 0
   pub bools : n ≡ next-bool s
   pub low : (v : ℕ) (l : BoolLit) → get-bool-var v s ≡ some l → v < max-bools
   pub size : min-work-words ≤ length w
@@ -143,7 +143,7 @@ module _ (ds : List Domain) (F : List ℤ) (parted : ℕ → Bool) (rec cap : �
     opens = λ e v h. no-if e v h;
     named = merged-named ds s merged-log;
     used = omega arith;
-    room = omega (arith, r, blanks-most is-zero w bool-map max-bools, blanks-most no-int w int-map 256);
+    room = omega (arith, r, blanks-most is-zero w bool-map max-bools, blanks-most no-int w int-map max-ints);
   }
 
   pub start-stands : (k : ℕ) → n + 768 + 4 * cap + k ≤ limit → Standing ds F parted rec cap with-ifs out low folded k (start w out n) s

@@ -12,7 +12,7 @@ use Rattle.laws.specs.Ints.{eqZ}
 use Rattle.syntax.specs.Syntax.{IfIsRead, Domain, IntExpr, IConst, IVar, Linear, If, Terms, tnil, tmore, BoolExpr, Const, Var, NVar, And, Or, Not, Xor, Iff, Imp, Cmp, Members, mnil, more, encode-int, encode-terms, Stmt, Rule, Table, AllDifferent, Problem}
 use Rattle.syntax.specs.Depth.{depth-int, depth-terms, depth, depth-members}
 use Rattle.syntax.specs.Written.{Any, EveryIntOf, EveryTermOf, EveryOf, EveryMemberOf, EveryColumnOf, EveryStmt, EveryStmts, every-stmts-map}
-use Rattle.syntax.specs.Words.{max-bools}
+use Rattle.syntax.specs.Words.{max-bools, max-ints}
 use Rattle.words.specs.Exact.{Each}
 use Rattle.read.specs.WellFormed.{WellFormed}
 use Rattle.fold.specs.Fold.{Fixed, is-const, fold-if, constant-folding-int as fold-int, constant-folding-terms as fold-terms, constant-folding-bool as fold, constant-folding-stmt as fold-stmt}
@@ -73,15 +73,15 @@ module _ (ds : List Domain) (f : Fixed) where
   -- ---- legal
 
   abbrev Small : BoolExpr → Type 0
-  Small e = EveryOf Any (λ v. v < max-bools) (λ v. v < 256) e
+  Small e = EveryOf Any (λ v. v < max-bools) (λ v. v < max-ints) e
 
   abbrev SmallInt : IntExpr → Type 0
-  SmallInt e = EveryIntOf Any (λ v. v < max-bools) (λ v. v < 256) e
+  SmallInt e = EveryIntOf Any (λ v. v < max-bools) (λ v. v < max-ints) e
 
   mutual
     unfolding Solid Legal EveryOf depth expr-bound
 
-    solid-legal : (e : BoolExpr) (l : ℕ) → Solid ds f e → EveryOf Any (λ v. v < max-bools) (λ v. v < 256) e → expr-bound e ≤ 0 → depth e ≤ l → Legal e l
+    solid-legal : (e : BoolExpr) (l : ℕ) → Solid ds f e → EveryOf Any (λ v. v < max-bools) (λ v. v < max-ints) e → expr-bound e ≤ 0 → depth e ≤ l → Legal e l
     solid-legal (Const b) l s v n d = s
     solid-legal (Var v) l s h n d = (omega arith, h)
     solid-legal (NVar k) l s v n d = absurd (omega arith)
@@ -93,11 +93,11 @@ module _ (ds : List Domain) (f : Fixed) where
     solid-legal (Imp a b) l s v n d = (omega arith, solid-legal a (l - 1) (s .0) (v .0) (omega arith) (omega arith), solid-legal b (l - 1) (s .1) (v .1) (omega arith) (omega arith))
     solid-legal (Cmp o a b) l s v n d = (omega arith, int-legal a (l - 1) (s .0) (v .0) (omega arith) (omega arith), int-legal b (l - 1) (s .1) (v .1) (omega arith) (omega arith))
 
-    solids-legal : (ms : Members) (l : ℕ) → SolidMembers ds f ms → EveryMemberOf Any (λ v. v < max-bools) (λ v. v < 256) ms → members-bound ms ≤ 0 → depth-members ms ≤ l → LegalMembers ms l
+    solids-legal : (ms : Members) (l : ℕ) → SolidMembers ds f ms → EveryMemberOf Any (λ v. v < max-bools) (λ v. v < max-ints) ms → members-bound ms ≤ 0 → depth-members ms ≤ l → LegalMembers ms l
     solids-legal mnil l s v n d = tt
     solids-legal (more e ms) l s v n d = (solid-legal e l (s .0) (v .0) (omega arith) (omega arith), solids-legal ms l (s .1) (v .1) (omega arith) (omega arith))
 
-    int-legal : (e : IntExpr) (l : ℕ) → fold-int ds f e ≡ e → EveryIntOf Any (λ v. v < max-bools) (λ v. v < 256) e → int-bound e ≤ 0 → depth-int e ≤ l → LegalInt e l
+    int-legal : (e : IntExpr) (l : ℕ) → fold-int ds f e ≡ e → EveryIntOf Any (λ v. v < max-bools) (λ v. v < max-ints) e → int-bound e ≤ 0 → depth-int e ≤ l → LegalInt e l
     int-legal (IConst c) l q v n d = omega arith
     int-legal (IVar v) l q h n d = (omega arith, h)
     int-legal (Linear ts) l q v n d = (omega arith, terms-legal ts (l - 1) (sum-folded ts q) v n (omega arith))
@@ -108,7 +108,7 @@ module _ (ds : List Domain) (f : Fixed) where
         let m = under (max a (max x y)) l d in
         (m .0, solid-legal c (l - 1) (p .condition) (v .0) (most-first b g h 0 n) (most-first a x y (l - 1) (m .1)), int-legal t (l - 1) (p .first) (v .1 .0) (most-second b g h 0 n) (most-second a x y (l - 1) (m .1)), int-legal e (l - 1) (p .second) (v .1 .1) (most-third b g h 0 n) (most-third a x y (l - 1) (m .1)))
 
-    terms-legal : (ts : Terms) (l : ℕ) → fold-terms ds f ts ≡ ts → EveryTermOf Any (λ v. v < max-bools) (λ v. v < 256) ts → terms-numbers ts ≤ 0 → depth-terms ts ≤ l → LegalTerms ts l
+    terms-legal : (ts : Terms) (l : ℕ) → fold-terms ds f ts ≡ ts → EveryTermOf Any (λ v. v < max-bools) (λ v. v < max-ints) ts → terms-numbers ts ≤ 0 → depth-terms ts ≤ l → LegalTerms ts l
     terms-legal tnil l q v n d = tt
     terms-legal (tmore k e ts) l q v n d = let p = terms-first k e ts q in (int-legal e l (p .0) (v .0) (omega arith) (omega arith), terms-legal ts l (p .1) (v .1) (omega arith) (omega arith))
 
@@ -132,7 +132,7 @@ module _ (ds : List Domain) (f : Fixed) where
   root-legal (Imp a b) s v n d = legal-rule (solid-legal (Imp a b) 64 s v n d)
   root-legal (Cmp o a b) s v n d = legal-rule (solid-legal (Cmp o a b) 64 s v n d)
 
-  columns-legal : (es : List IntExpr) → map (fold-int ds f) es ≡ es → EveryColumnOf Any (λ v. v < max-bools) (λ v. v < 256) es → NoNumbers es → Each (λ e. depth-int e ≤ 64) es → Each (λ e. LegalInt e 64) es
+  columns-legal : (es : List IntExpr) → map (fold-int ds f) es ≡ es → EveryColumnOf Any (λ v. v < max-bools) (λ v. v < max-ints) es → NoNumbers es → Each (λ e. depth-int e ≤ 64) es → Each (λ e. LegalInt e 64) es
   unfolding EveryColumnOf
   columns-legal [] q v n d = tt
   columns-legal (e ∷ es) q v n d =
@@ -140,7 +140,7 @@ module _ (ds : List Domain) (f : Fixed) where
       let b : map (fold-int ds f) es ≡ es = cc in
       (int-legal e 64 a (v .0) (n .0) (d .0), columns-legal es b (v .1) (n .1) (d .1))
 
-  pub stmts-legal : (ss : List Stmt) → SettledStmts ds f ss → EveryStmts (λ v. v < max-bools) (λ v. v < 256) ss → Each Plain ss → Each Shallow ss → Each LegalStmt ss
+  pub stmts-legal : (ss : List Stmt) → SettledStmts ds f ss → EveryStmts (λ v. v < max-bools) (λ v. v < max-ints) ss → Each Plain ss → Each Shallow ss → Each LegalStmt ss
   unfolding SettledStmts EveryStmts EveryStmt
   stmts-legal [] s v n d = tt
   stmts-legal (Rule e ∷ ss) s v n d = (root-legal e (s .0) (v .0) (n .0) (d .0), stmts-legal ss (s .1) (v .1) (n .1) (d .1))
@@ -166,4 +166,4 @@ settled-legal p well f ss end =
     let rests = optimize-rests p (well-declared p well) f ss end in
     let d : Each Shallow ss = subst (λ (ts : List Stmt). Each Shallow ts) (sym (rests .origin)) (folded-shallow (p .domains) f (p .stmts) (well-shallow (p .bools) (length (p .domains)) (p .stmts) (well .stmts-well))) in
     stmts-legal (p .domains) f ss (settled-shape (p .domains) f (p .stmts) ss rests)
-    (every-stmts-map (λ v. v < p .bools) (λ v. v < length (p .domains)) (λ v. v < max-bools) (λ v. v < 256) (λ v h. omega (arith, well .few-bools)) (λ v h. omega (arith, well .few-ints)) ss (settled-declared p well f ss end)) (settled-plain p well f ss end) d
+    (every-stmts-map (λ v. v < p .bools) (λ v. v < length (p .domains)) (λ v. v < max-bools) (λ v. v < max-ints) (λ v h. omega (arith, well .few-bools)) (λ v h. omega (arith, well .few-ints)) ss (settled-declared p well f ss end)) (settled-plain p well f ss end) d

@@ -14,7 +14,7 @@ use Rattle.laws.specs.Lists.{flat, below, counted, length-from}
 use Rattle.laws.specs.Slices.{Has}
 use Rattle.memory.specs.Places.{folded, limit}
 use Rattle.syntax.specs.Syntax.{Domain, Stmt, Problem}
-use Rattle.syntax.specs.Words.{max-bools, max-answer-words}
+use Rattle.syntax.specs.Words.{max-bools, max-answer-words, max-ints}
 use Rattle.words.specs.Exact.{Each}
 use Rattle.fold.specs.Fold.{Fixed}
 use Rattle.clauses.specs.Clause.{lit, Clause, clause}
@@ -106,7 +106,7 @@ behind p ss F cap st = meet-parts (parts (set-stages p ss F cap)) st
 -- what the walks ask of the set; with-ifs: whether an If stands in the folded words
 pub record Walkable (p : Problem) (ss : List Stmt) (F : List ℤ) (with-ifs : Bool) (cap : ℕ) : Type 0 where
   pub few-bools : p .bools ≤ max-bools
-  pub few-ints : length (p .domains) ≤ 256
+  pub few-ints : length (p .domains) ≤ max-ints
   pub legal : Each LegalStmt ss
   pub short : length (stmts-words ss) ≤ 4096
   pub stands : Has F folded (stmts-words ss)

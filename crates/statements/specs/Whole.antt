@@ -9,7 +9,7 @@ use lib.IntN.{ℤ, pos}
 use lib.ListN.{length}
 use Rattle.laws.specs.Lists.{from}
 use Rattle.syntax.specs.Syntax.{Stmt}
-use Rattle.syntax.specs.Words.{max-bools, min-work-words}
+use Rattle.syntax.specs.Words.{max-bools, min-work-words, max-ints}
 use Rattle.clauses.specs.Clause.{BoolLit}
 use Rattle.clauses.specs.Log.{get-bool-var, get-int-var, clauses-of}
 use Rattle.clauses.specs.Merge.{merged-no-clauses}
@@ -20,7 +20,7 @@ use Rattle.walk.specs.Num.{code, Numbered}
 
 pub record Empty (w : List ℤ) : Type 0 where
   pub bools : (v : ℕ) → v < max-bools → bool-at w v ≡ pos 0
-  pub ints : (v : ℕ) → v < 256 → int-entry w v ≡ 0
+  pub ints : (v : ℕ) → v < max-ints → int-entry w v ≡ 0
   pub size : min-work-words ≤ length w
 
 -- n: how many Booleans have a number already

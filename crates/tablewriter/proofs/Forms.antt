@@ -8,6 +8,7 @@ use native.Mathlib.Omega.{arith}
 use lib.IntN.{ℤ}
 use lib.Dec.{eqb}
 use borrow.Author.Tests.{ne-eqb}
+use Rattle.syntax.specs.Words.{max-ints}
 use Rattle.syntax.specs.Syntax.{Domain}
 use Rattle.walk.specs.Decode.{word, below as index, read-part}
 use Rattle.walk.specs.declared.Counters.{Counters}
@@ -43,7 +44,7 @@ module _ (w : List ℤ) (p j : ℕ) (code : j ≡ word (read-part w) p) where
   pub own-at : (j ≡ 21 → ⊥) → Own (form-at w p)
   own-at z = subst (λ (r : IntRead). Own (r .tree)) (sym read-at) (own-step (read-part w) (decode (read-part w) 63) (decode-int (read-part w) 63) never p 0 j z)
 
-  pub variable-at : j ≡ 21 → form-at w p ≡ ivar (index 256 (word (read-part w) (p + 1)))
+  pub variable-at : j ≡ 21 → form-at w p ≡ ivar (index max-ints (word (read-part w) (p + 1)))
   unfolding int-step
   variable-at e = ap (λ (r : IntRead). r .tree) (read-at ∙ ap (int-step (read-part w) (decode (read-part w) 63) (decode-int (read-part w) 63) never p 0) e)
 

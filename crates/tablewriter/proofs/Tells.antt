@@ -12,6 +12,7 @@ use borrow.Author.Tests.{ltb-true}
 use mir.Syntax.{w32}
 use mir.Val.{SFits}
 use Rattle.laws.specs.Ints.{natAbs-add, natAbs-negℤ, sfits-natAbs}
+use Rattle.syntax.specs.Words.{max-ints}
 use Rattle.memory.specs.Places.{int-map, cells}
 use Rattle.memory.specs.Number.{nat}
 use Rattle.syntax.specs.Syntax.{Domain, Range, domain-of}
@@ -38,11 +39,11 @@ pub plain-word : (z : ℤ) → SFits w32 z → T (nonNeg z) → natAbs z < 21474
 plain-word (pos n) f h = omega (arith, f .sfits)
 plain-word (negsuc n) f h = absurd h
 
-pub index-low : (x : ℕ) → index 256 x < 256
-index-low x = go (ltb x 256) refl
+pub index-low : (x : ℕ) → index max-ints x < max-ints
+index-low x = go (ltb x max-ints) refl
   where
-    go : (b : Bool) → ltb x 256 ≡ b → cond b x 0 < 256
-    go true e = ltb-true x 256 e
+    go : (b : Bool) → ltb x max-ints ≡ b → cond b x 0 < max-ints
+    go true e = ltb-true x max-ints e
     go false e = omega arith
 
 -- ---- by the form
@@ -70,9 +71,9 @@ own-told ds w n (choice q o c d x f) h t = t
 module _ (w : List ℤ) (p : ℕ) {j : ℕ} (code : j ≡ word (read-part w) p) where
   -- ---- a declared variable
 
-  module _ {v x : ℕ} (written : x ≡ word (read-part w) (p + 1)) (small : v ≡ index 256 x) (k : j ≡ 21) where
+  module _ {v x : ℕ} (written : x ≡ word (read-part w) (p + 1)) (small : v ≡ index max-ints x) (k : j ≡ 21) where
     form-is : form-at w p ≡ ivar v
-    form-is = variable-at w p j code k ∙ ap ivar (sym (small ∙ ap (index 256) written))
+    form-is = variable-at w p j code k ∙ ap ivar (sym (small ∙ ap (index max-ints) written))
 
     pub variable-number : {r : ℕ} → r ≡ nat (getD w (int-map + v) (pos 0)) - 1 → r ≡ column-var w p (form-at w p)
     unfolding column-var int-entry

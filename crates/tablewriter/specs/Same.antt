@@ -13,7 +13,7 @@ use Rattle.laws.specs.Ints.{is-zero}
 use Rattle.memory.specs.Places.{folded-end, bool-map, int-map, cells, ifs-word, table}
 use Rattle.memory.specs.Number.{nat}
 use Rattle.syntax.specs.Syntax.{Domain, domain-of}
-use Rattle.syntax.specs.Words.{max-bools}
+use Rattle.syntax.specs.Words.{max-bools, max-ints}
 use Rattle.sums.specs.LinearSum.{LinearSum, constant, singleton, add-sum, mul-sum}
 use Rattle.walk.specs.Item.{bump, bool-entry, int-entry, fresh}
 use Rattle.walk.specs.declared.Counters.{Counters}
@@ -32,7 +32,7 @@ module _ (w v : List ℤ) (same : SameBelow w v) where
   unfolding has-ifs
   same-ifs = ap (λ z. not (is-zero z)) (same ifs-word (omega arith))
 
-  pub same-entry : (x : ℕ) → x < 256 → int-entry v x ≡ int-entry w x
+  pub same-entry : (x : ℕ) → x < max-ints → int-entry v x ≡ int-entry w x
   unfolding int-entry
   same-entry x l = ap nat (same (int-map + x) (omega arith))
 
@@ -53,7 +53,7 @@ module _ (w v : List ℤ) (same : SameBelow w v) where
   unfolding meets-bool
   meets-same x l n = ap (λ e. cond (eqb e (n .bools + 1)) (more-bools 1 n) n) (same-bool x l)
 
-  meets-int-same : (x : ℕ) → x < 256 → (n : Counters) → meets-int v x n ≡ meets-int w x n
+  meets-int-same : (x : ℕ) → x < max-ints → (n : Counters) → meets-int v x n ≡ meets-int w x n
   unfolding meets-int
   meets-int-same x l n = ap (λ e. cond (eqb e (n .ints + 1)) (more-ints v 1 n) n) (same-entry x l) ∙ ap (λ m. cond (eqb (int-entry w x) (n .ints + 1)) m n) (more-same 1 n)
 

@@ -171,7 +171,7 @@ fn column_number(work: &[i32], p: usize) -> usize
     ensures { λ r. ⌜ (r ≡ column-var (now (work .entry)) p (form-at (now (work .entry)) p)) × (r < 2147483648) ⌝ }
 {
     if word(work, p) == 21 {
-        let v = below(word(work, p + 1), 256);
+        let v = below(word(work, p + 1), memory::MAX_INTS);
         return number_at(work, memory::INT_MAP + v);
     }
     number_at(work, memory::CELLS + p)
@@ -209,7 +209,7 @@ fn describe(set: &[i32], work: &[i32], p: usize, n: Counters) -> Description
     ensures { λ r. ⌜ ((ds : List Domain) → Told (now (set .entry)) (now (work .entry)) p n ds → Describes (now (set .entry)) (column-domain ds (form-at (now (work .entry)) p) (now (work .entry)) n) (r .count) (r .from)) ⌝ }
 {
     if word(work, p) == 21 {
-        return describe_declared(set, below(word(work, p + 1), 256));
+        return describe_declared(set, below(word(work, p + 1), memory::MAX_INTS));
     }
     let b = totals::range_of(work, p, 64, 0, 0, n);
     let low = b.low;

@@ -12,6 +12,7 @@ use lib.Signed.{leZ}
 use borrow.Author.Tests.{eq-eqb, ne-eqb}
 use Rattle.laws.specs.Bools.{never}
 use Rattle.laws.specs.Ints.{lower, higher}
+use Rattle.syntax.specs.Words.{max-ints}
 use Rattle.memory.specs.Places.{folded-end, declared-domains, limit}
 use Rattle.syntax.specs.Syntax.{Domain}
 use Rattle.sums.specs.Rising.{constant-of}
@@ -124,12 +125,12 @@ module _ (w : List ℤ) (long : folded-end ≤ length w) (l : ℕ) (m : Splittin
   to t r e h ds d = subst (λ (y : IntForm). Told (form-int-item ds y .range w n x) r) (sym e) (h ds d)
 
   -- a variable
-  module _ (c v y : ℕ) (e : k ≡ 21) (hc : c ≡ word (read-part w) (at + 1)) (hv : v ≡ index 256 c) (hy : y ≡ int-number w v) where
+  module _ (c v y : ℕ) (e : k ≡ 21) (hc : c ≡ word (read-part w) (at + 1)) (hv : v ≡ index max-ints c) (hy : y ≡ int-number w v) where
     variable-tree : int-at w l m at base ≡ ivar v
     unfolding int-step
     variable-tree = read-tree ∙ rw (e, ← hc, ← hv) refl
 
-    pub variable-hit : v < 256 → y ≡ x → (r : Found) → r ≡ hit (word-at w v 0) (word-at w v 1) → Finds w l m at base n x r
+    pub variable-hit : v < max-ints → y ≡ x → (r : Found) → r ≡ hit (word-at w v 0) (word-at w v 1) → Finds w l m at base n x r
     unfolding form-int-item ivar-item
     variable-hit i h r g = to (ivar v) r variable-tree (λ ds d. let t = d v i in rw (eq-eqb x (int-number w v) (sym h ∙ hy), g) (record { is = refl; low = t .lowest; high = t .highest }))
 

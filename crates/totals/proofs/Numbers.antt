@@ -13,6 +13,7 @@ use borrow.Author.Tests.{ltb-true, ltb-false, le-ltb, ne-eqb}
 use mir.Syntax.{w32}
 use mir.Val.{SFits}
 use Rattle.laws.specs.Bools.{never}
+use Rattle.syntax.specs.Words.{max-ints}
 use Rattle.memory.specs.Places.{folded-end, int-map}
 use Rattle.memory.specs.Number.{nat}
 use Rattle.walk.specs.Item.{int-entry, int-number}
@@ -100,7 +101,7 @@ module _ (w : List ℤ) (at ints : ℕ) where
   lone-none l e = rw e refl
 
   module _ (k : ℕ) (hk : k ≡ word (read-part w) at) where
-    pub lone-variable : (l x v r : ℕ) → (l ≡ 0 → ⊥) → k ≡ 21 → x ≡ word (read-part w) (at + 1) → v ≡ index 256 x → r ≡ int-number w v → Number r ≡ lone-of w l at ints
+    pub lone-variable : (l x v r : ℕ) → (l ≡ 0 → ⊥) → k ≡ 21 → x ≡ word (read-part w) (at + 1) → v ≡ index max-ints x → r ≡ int-number w v → Number r ≡ lone-of w l at ints
     unfolding lone-of
     lone-variable zero x v r z e hx hv hr = absurd (z refl)
     lone-variable (suc l) x v r z e hx hv hr = rw (← hk, e, ← hx, ← hv) (ap Number hr)

@@ -6,6 +6,7 @@ use Prim.Native.Nat.{ℕ, zero, suc, _+_}
 use lib.IntN.{ℤ, pos}
 use lib.ListN.{getD}
 use lib.Dec.{eqb}
+use Rattle.syntax.specs.Words.{max-ints}
 use Rattle.syntax.specs.Syntax.{Domain}
 use Rattle.sums.specs.LinearSum.{LinearSum, constant, singleton}
 use Rattle.sums.specs.Rising.{terms-of, Each, constant-each, singleton-each}
@@ -30,7 +31,7 @@ unfoldable pub lone-of : List ℤ → ℕ → ℕ → ℕ → Lone
 lone-of w zero at k = Constant (pos 0)
 lone-of w (suc l) at k =
     let code = word (read-part w) at in
-    cond (eqb code 21) (Number (int-number w (index 256 (word (read-part w) (at + 1)))))
+    cond (eqb code 21) (Number (int-number w (index max-ints (word (read-part w) (at + 1)))))
     (cond (eqb code 23) (Number (number-in (seen-at w at) k))
     (Constant (getD (read-part w) (at + 1) (pos 0))))
 

@@ -5,6 +5,7 @@ ghost use Prim.Native.Nat.{_+_, _-_, _*_, _<_, _≤_, _^_};
 ghost use lib.IntN.{pos, negsuc, natAbs};
 ghost use lib.ListN.{getD};
 ghost use Rattle.laws.specs.Ints.{lower, higher};
+ghost use Rattle.syntax.specs.Words.{max-ints};
 ghost use Rattle.memory.specs.Places.{folded-end, limit};
 ghost use Rattle.memory.specs.Number.{nat};
 ghost use Rattle.sums.specs.LinearSum.{singleton, add-sum, mul-sum, sub-sum};
@@ -44,7 +45,7 @@ fn number_in(z: i32) -> u32
 
 // The emitted number of a declared integer.
 fn number_at(work: &[i32], v: usize) -> u32
-    requires { ⌜ v < 256 ⌝ }
+    requires { ⌜ v < max-ints ⌝ }
     ensures { λ r. ⌜ (r ≡ int-number (now (work .entry)) v) × (r < 2147483648) ⌝ }
 {
     number_in(memory::plain(work, memory::INT_MAP + v))
@@ -93,7 +94,7 @@ fn lone_at(work: &[i32], at: usize, left: usize, ints: usize) -> Lone
         return Lone::Constant(0);
     }
     match word(work, at) {
-        21 => Lone::Number(number_at(work, below(word(work, at + 1), 256))),
+        21 => Lone::Number(number_at(work, below(word(work, at + 1), memory::MAX_INTS))),
         23 => Lone::Number(if_number(work, at, ints)),
         _ => Lone::Constant(word_at(work, at + 1)),
     }
@@ -332,7 +333,7 @@ fn miss() -> Found
 
 // Of a declared integer, by the table.
 fn declared(work: &[i32], v: usize) -> Found
-    requires { ⌜ v < 256 ⌝ }
+    requires { ⌜ v < max-ints ⌝ }
     ensures { λ r. ⌜ r ≡ hit-of (word-at (now (work .entry)) v 0) (word-at (now (work .entry)) v 1) ⌝ }
 {
     let i = memory::DECLARED_DOMAINS + 3 * v;
@@ -396,7 +397,7 @@ fn find_lone(
     }
     match word(work, at) {
         21 => {
-            let v = below(word(work, at + 1), 256);
+            let v = below(word(work, at + 1), memory::MAX_INTS);
             if number_at(work, v) == x {
                 return declared(work, v);
             }

@@ -13,7 +13,7 @@ use lib.Dec.{eqb, eqb→eq}
 use borrow.Author.Tests.{eq-eqb, ne-eqb}
 use Rattle.memory.specs.Places.{bool-map, int-map, limit}
 use Rattle.memory.specs.Number.{nat}
-use Rattle.syntax.specs.Words.{max-bools, min-work-words}
+use Rattle.syntax.specs.Words.{max-bools, min-work-words, max-ints}
 use Rattle.clauses.specs.Log.{declared, bool, Log, next-bool, get-bool-var, get-int-var, bool-var-at}
 use Rattle.walk.specs.Item.{bump, int-entry, State, meet-bool, bool-at}
 use Rattle.walk.specs.Grow.{lit-word}
@@ -26,7 +26,7 @@ code (some n) = suc n
 
 pub record Numbered (st : State) (s : Log) : Type 0 where
   pub map : (v : ℕ) → v < max-bools → bool-at (st .work) v ≡ bool-word (get-bool-var v s)
-  pub map-int : (v : ℕ) → v < 256 → int-entry (st .work) v ≡ code (get-int-var v s)
+  pub map-int : (v : ℕ) → v < max-ints → int-entry (st .work) v ≡ code (get-int-var v s)
   pub bools : st .bools ≡ next-bool s
   pub low : (v : ℕ) (n : BoolLit) → get-bool-var v s ≡ some n → v < max-bools
   pub size : min-work-words ≤ length (st .work)

@@ -18,7 +18,7 @@ use Rattle.memory.specs.Places.{folded, folded-end, bool-map, int-map, cells, l
 use Rattle.memory.specs.Number.{nat}
 use Rattle.syntax.specs.Syntax.{Domain, IntExpr, IConst, IVar, Linear, If, encode-int}
 use Rattle.syntax.specs.Lengths.{int-long}
-use Rattle.syntax.specs.Words.{max-bools, min-work-words}
+use Rattle.syntax.specs.Words.{max-bools, min-work-words, max-ints}
 use Rattle.clauses.specs.Log.{column, int, Log, next-int}
 use Rattle.clauses.specs.Normalize.{IntOut, equals, normalize-int-var, domain-of-sum, normalize-int-expr}
 use Rattle.tables.specs.Tables.{new-column, old-column, equivalent-int-var}
@@ -163,7 +163,7 @@ module _ (ds : List Domain) (F : List ℤ) (parted : ℕ → Bool) (K : ℕ → 
     cell-good x n st s a g =
         let w = st .work in
         let b : blanks is-zero (set-cell p x w) bool-map max-bools ≡ blanks is-zero w bool-map max-bools = blanks-other is-zero w bool-map (cells + p) x max-bools (λ u m q. omega arith) in
-        let c : blanks no-int (set-cell p x w) int-map 256 ≡ blanks no-int w int-map 256 = blanks-other no-int w int-map (cells + p) x 256 (λ u m q. omega arith) in
+        let c : blanks no-int (set-cell p x w) int-map max-ints ≡ blanks no-int w int-map max-ints = blanks-other no-int w int-map (cells + p) x max-ints (λ u m q. omega arith) in
         record {
           map = λ u l. getD-set-other w (cells + p) (bool-map + u) x (pos 0) (λ q. omega arith) ∙ g .map u l;
           map-int = λ u l. ap nat (getD-set-other w (cells + p) (int-map + u) x (pos 0) (λ q. omega arith)) ∙ g .map-int u l;

@@ -7,7 +7,7 @@ use lib.IntN.{ℤ, pos}
 use lib.ListN.{getD}
 use lib.Dec.{eqb}
 use Rattle.syntax.specs.Syntax.{op-at}
-use Rattle.syntax.specs.Words.{max-bools}
+use Rattle.syntax.specs.Words.{max-bools, max-ints}
 use Rattle.walk.specs.Item.{bump, is-none}
 use Rattle.walk.specs.Decode.{word, past, below as index, constant-node}
 use Rattle.walk.specs.declared.Node.{Node}
@@ -120,7 +120,7 @@ if-step o p q m at c n =
 -- k: its code
 unfoldable pub int-step : List ℤ → (Splitting → Reader) → (Splitting → IntReader) → Splitting → ℕ → ℕ → ℕ → IntRead
 int-step ws p q m at n k =
-    cond (eqb k 21) (record { tree = ivar (index 256 (word ws (at + 1))); end = past ws (at + 2); next = n })
+    cond (eqb k 21) (record { tree = ivar (index max-ints (word ws (at + 1))); end = past ws (at + 2); next = n })
     (cond (eqb k 22) (let a = many-terms ws (q m) (word ws (at + 1)) (past ws (at + 2)) n in record { tree = sum (a .trees); end = a .end; next = a .next })
     (cond (eqb k 23) (let c = past ws (at + 1) in if-step (own-at ws c) p q m at c n)
     (record { tree = const (getD ws (at + 1) (pos 0)); end = past ws (at + 2); next = n })))

@@ -12,7 +12,7 @@ use Rattle.laws.specs.Slices.{Has, has-fits, has-front, has-back, has-word, has
 use Rattle.memory.specs.Places.{limit}
 use Rattle.memory.specs.Number.{nat}
 use Rattle.syntax.specs.Syntax.{IfIsRead, CmpOp, Eq, Ne, Le, Lt, Ge, Gt, op-at, encode-op, IntExpr, IConst, IVar, Linear, If, Terms, tnil, tmore, count-terms, encode-int, encode-terms, BoolExpr, Const, Var, NVar, And, Or, Not, Xor, Iff, Imp, Cmp, Members, mnil, more, count-members, encode-bool, encode-members}
-use Rattle.syntax.specs.Words.{max-bools}
+use Rattle.syntax.specs.Words.{max-bools, max-ints}
 use Rattle.walk.specs.Item.{bump, is-none}
 use Rattle.walk.specs.Decode.{word, past}
 use Rattle.walks.specs.Tree.{Place, Tree, Trees, nil as no-trees, cons as more-trees, own-var, Splitting, never, below, here, inner, own-splits, splits, splits-members, splits-int, splits-terms, split-of, split-int, crossed-at as crossed-trees-at, resolve, resolves, resolve-int, resolve-terms, tie, sides-tied as trees-tied, append as append-trees, ties, ties-members, ties-int, ties-terms}
@@ -253,7 +253,7 @@ mutual
       rw (int-level ws l m at n h, p .first, p .second, p .stop) (int-reading-to _ _ _ _ _ _ refl refl (omega arith))
   decode-int-is (IVar v) l m ws at n h d k =
       let p = two ws at (pos 21) (pos v) [] d in
-      rw (int-level ws l m at n (h .0), p .first, p .second, p .stop, lt-ltb v 256 (h .1)) (int-reading-to _ _ _ _ _ _ refl refl (omega arith))
+      rw (int-level ws l m at n (h .0), p .first, p .second, p .stop, lt-ltb v max-ints (h .1)) (int-reading-to _ _ _ _ _ _ refl refl (omega arith))
   decode-int-is (Linear ts) l m ws at n h d k =
       let p = two ws at (pos 22) (pos (count-terms ts)) (encode-terms ts) d in
       rw (int-level ws l m at n (h .0), p .first, p .second, p .stop, many-terms-is ts (l - 1) m ws (at + 2) n (h .1) (p .rest) k) (int-reading-to _ _ _ _ _ _ refl (omega arith) refl)

@@ -19,7 +19,7 @@ use Rattle.laws.specs.Writes.{sets-append}
 use Rattle.memory.specs.Places.{folded, folded-end, bool-map, int-map, maps-end, cells, limit}
 use Rattle.memory.specs.Number.{nat}
 use Rattle.syntax.specs.Syntax.{Domain, domain-of, IntExpr}
-use Rattle.syntax.specs.Words.{max-bools, min-work-words}
+use Rattle.syntax.specs.Words.{max-bools, min-work-words, max-ints}
 use Rattle.clauses.specs.Clause.{BoolLit, lit, Clause}
 use Rattle.clauses.specs.Log.{MadeBool, MadeInt, declared-int, column, chosen, binary, declared, bool, merged, int, added, defined, known, Log, next-bool, next-int, get-bool-var, get-int-var, get-if, is-declared-int, made-ints, bool-var-at, int-var-at, convert-bool-var, convert-int-var}
 use Rattle.clauses.specs.Since.{OnTop, here, over}
@@ -129,11 +129,11 @@ pub record Names (Named : Log → Type 0) : Type 0 where
 module _ (ds : List Domain) (F : List ℤ) (Plain : IntExpr → Type 0) (parted : ℕ → Bool) (K : ℕ → Option IntExpr) (fixed : IntExpr → Bool) (rec cap : ℕ) (with-ifs : Bool) (before : List ℤ) (Named : Log → Type 0) where
   pub record Good (budget : ℕ) (st : State) (s : Log) : Type 0 where
     pub map : (v : ℕ) → v < max-bools → bool-at (st .work) v ≡ bool-word (get-bool-var v s)
-    pub map-int : (v : ℕ) → v < 256 → int-entry (st .work) v ≡ code (get-int-var v s)
+    pub map-int : (v : ℕ) → v < max-ints → int-entry (st .work) v ≡ code (get-int-var v s)
     pub bools : st .bools ≡ next-bool s
     pub ints : st .ints ≡ next-int s
     pub low : (v : ℕ) (l : BoolLit) → get-bool-var v s ≡ some l → v < max-bools
-    pub low-int : (v n : ℕ) → get-int-var v s ≡ some n → v < 256
+    pub low-int : (v n : ℕ) → get-int-var v s ≡ some n → v < max-ints
     pub size : min-work-words ≤ length (st .work)
     pub words : read-part (st .work) ≡ F
     pub word : has-ifs (st .work) ≡ with-ifs
@@ -143,7 +143,7 @@ module _ (ds : List Domain) (F : List ℤ) (Plain : IntExpr → Type 0) (parted 
     pub opens : (e : IntExpr) (v : ℕ) → get-if e s ≡ some v → fixed e ≡ false
     pub named : Named s
     pub used : st .used ≤ cap
-    pub room : st .bools + st .ints + blanks is-zero (st .work) bool-map max-bools + blanks no-int (st .work) int-map 256 + 4 * (cap - st .used) + budget ≤ limit
+    pub room : st .bools + st .ints + blanks is-zero (st .work) bool-map max-bools + blanks no-int (st .work) int-map max-ints + 4 * (cap - st .used) + budget ≤ limit
 
   pub good-less : (n m : ℕ) (st : State) (s : Log) → m ≤ n → Good n st s → Good m st s
   good-less n m st s l g = record {
@@ -220,7 +220,7 @@ module _ (ds : List Domain) (F : List ℤ) (Plain : IntExpr → Type 0) (parted 
     new-bool v h n st s e z g =
         let w = set (st .work) (bool-map + v) (pos (st .bools + 1)) in
         let k : suc (blanks is-zero w bool-map max-bools) ≡ blanks is-zero (st .work) bool-map max-bools = blanks-set is-zero (st .work) bool-map v (pos (st .bools + 1)) max-bools h (omega (arith, g .size)) (rw z refl) (ne-eqb (st .bools + 1) 0 (λ q. omega arith)) in
-        let j : blanks no-int w int-map 256 ≡ blanks no-int (st .work) int-map 256 = blanks-other no-int (st .work) int-map (bool-map + v) (pos (st .bools + 1)) 256 (λ u m q. omega arith) in
+        let j : blanks no-int w int-map max-ints ≡ blanks no-int (st .work) int-map max-ints = blanks-other no-int (st .work) int-map (bool-map + v) (pos (st .bools + 1)) max-ints (λ u m q. omega arith) in
         let b : bump (st .bools) 1 ≡ suc (st .bools) = omega (arith, g .room, k) in
         record {
           map = λ u l. mp u l (eqb u v) refl;
@@ -271,13 +271,13 @@ module _ (ds : List Domain) (F : List ℤ) (Plain : IntExpr → Type 0) (parted 
         ∙ sym (sets-append before rec (records-of ds s) (made-record ds m))
         ∙ ap (sets before rec) (sym (records-more ds m s))
 
-    new-declared : (v : ℕ) → v < 256 → (n : ℕ) (st : State) (s : Log) → get-int-var v s ≡ none → int-entry (st .work) v ≡ 0 → Good n st s
+    new-declared : (v : ℕ) → v < max-ints → (n : ℕ) (st : State) (s : Log) → get-int-var v s ≡ none → int-entry (st .work) v ≡ 0 → Good n st s
         → Good n (new-int ds rec cap (range-record (domain-of ds v)) (with-work (set (st .work) (int-map + v) (pos (st .ints + 1))) st)) (int (declared-int v) ∷ s)
     unfolding get-bool-var get-int-var get-if new-int int-entry
     new-declared v h n st s e z g =
         let x : ℤ = pos (st .ints + 1) in
         let w = set (st .work) (int-map + v) x in
-        let k : suc (blanks no-int w int-map 256) ≡ blanks no-int (st .work) int-map 256 = blanks-set no-int (st .work) int-map v x 256 h (omega (arith, g .size)) (rw z refl) (unfold nat in none-suc (st .ints)) in
+        let k : suc (blanks no-int w int-map max-ints) ≡ blanks no-int (st .work) int-map max-ints = blanks-set no-int (st .work) int-map v x max-ints h (omega (arith, g .size)) (rw z refl) (unfold nat in none-suc (st .ints)) in
         let j : blanks is-zero w bool-map max-bools ≡ blanks is-zero (st .work) bool-map max-bools = blanks-other is-zero (st .work) bool-map (int-map + v) x max-bools (λ u m q. omega arith) in
         let b : bump (st .ints) 1 ≡ suc (st .ints) = omega (arith, g .room, k) in
         record {
@@ -302,17 +302,17 @@ module _ (ds : List Domain) (F : List ℤ) (Plain : IntExpr → Type 0) (parted 
         none-suc : (n : ℕ) → is-none (n + 1) ≡ false
         none-suc n = ap is-none (add-one n)
 
-        mp : (u : ℕ) → u < 256 → (c : Bool) → eqb u v ≡ c → int-entry (set (st .work) (int-map + v) (pos (st .ints + 1))) u ≡ code (get-int-var u (int (declared-int v) ∷ s))
+        mp : (u : ℕ) → u < max-ints → (c : Bool) → eqb u v ≡ c → int-entry (set (st .work) (int-map + v) (pos (st .ints + 1))) u ≡ code (get-int-var u (int (declared-int v) ∷ s))
         mp u l true q =
             let p : u ≡ v = eqb-true u v q in
             rw q (ap (λ x. nat (getD (set (st .work) (int-map + v) (pos (st .ints + 1))) (int-map + x) (pos 0))) p ∙ ap nat (getD-set-same (st .work) (int-map + v) (pos (st .ints + 1)) (pos 0) (omega (arith, g .size))) ∙ (unfold nat in omega (arith, g .ints)))
         mp u l false q = rw q (int-other (st .work) (int-map + v) (pos (st .ints + 1)) u (λ x. eqb-false u v q (omega arith)) ∙ g .map-int u l)
 
-        lw : (u m : ℕ) (c : Bool) → eqb u v ≡ c → get-int-var u (int (declared-int v) ∷ s) ≡ some m → u < 256
+        lw : (u m : ℕ) (c : Bool) → eqb u v ≡ c → get-int-var u (int (declared-int v) ∷ s) ≡ some m → u < max-ints
         lw u m true q f = let p : u ≡ v = eqb-true u v q in omega arith
         lw u m false q f = g .low-int u m (rw q at f)
 
-    int-good : (v : ℕ) → v < 256 → (n : ℕ) (st : State) (s : Log) (o : Option ℕ) → get-int-var v s ≡ o → Good n st s → Good n (meet-int-var ds rec cap v st) (int-var-at o v s .1)
+    int-good : (v : ℕ) → v < max-ints → (n : ℕ) (st : State) (s : Log) (o : Option ℕ) → get-int-var v s ≡ o → Good n st s → Good n (meet-int-var ds rec cap v st) (int-var-at o v s .1)
     unfolding meet-int-var
     int-good v h n st s (some k) e g =
         let z : int-entry (st .work) v ≡ suc k = g .map-int v h ∙ ap code e in
@@ -321,7 +321,7 @@ module _ (ds : List Domain) (F : List ℤ) (Plain : IntExpr → Type 0) (parted 
         let z : int-entry (st .work) v ≡ 0 = g .map-int v h ∙ ap code e in
         rw z (new-declared v h n st s e z g)
 
-    pub good-int : (v : ℕ) → v < 256 → (n : ℕ) (st : State) (s : Log) → Good n st s → Good n (meet-int-var ds rec cap v st) (convert-int-var v s .1)
+    pub good-int : (v : ℕ) → v < max-ints → (n : ℕ) (st : State) (s : Log) → Good n st s → Good n (meet-int-var ds rec cap v st) (convert-int-var v s .1)
     unfolding convert-int-var
     good-int v h n st s g = int-good v h n st s (get-int-var v s) refl g
 

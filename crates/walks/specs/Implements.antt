@@ -15,7 +15,7 @@ use Rattle.laws.specs.Lists.{flat}
 use Rattle.memory.specs.Places.{limit}
 use Rattle.memory.specs.Number.{nat}
 use Rattle.syntax.specs.Syntax.{IfIsRead, Domain, CmpOp, Eq, IntExpr, BoolExpr, Const, Var, NVar, And, Or, Not, Xor, Iff, Imp, Cmp}
-use Rattle.syntax.specs.Words.{max-bools}
+use Rattle.syntax.specs.Words.{max-bools, max-ints}
 use Rattle.sums.specs.LinearSum.{LinearSum, constant, singleton, is-constant, add-sum, mul-sum, sub-sum}
 use Rattle.sums.specs.Rising.{constant-of}
 use Rattle.clauses.specs.Clause.{BoolLit, lit, LinearLit, linear, Clause, clause}
@@ -92,7 +92,7 @@ unfoldable mutual
 
   pub ProperInt : IntTree → Type 0
   ProperInt (const c) = Unit {0}
-  ProperInt (ivar v) = v < 256
+  ProperInt (ivar v) = v < max-ints
   ProperInt (sum ts) = ProperTerms ts
   ProperInt (choice i p e c d t f) = NoNumber (condition-of e) × Proper c × Proper d × ProperInt t × ProperInt f
 

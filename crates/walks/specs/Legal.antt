@@ -4,7 +4,7 @@ use Prim.Native.Nat.{ℕ, _-_, _≤_, _<_}
 use native.Mathlib.Omega.{arith}
 use Rattle.syntax.specs.Syntax.{IntExpr, IConst, IVar, Linear, If, Terms, tnil, tmore, BoolExpr, Const, Var, NVar, And, Or, Not, Xor, Iff, Imp, Cmp, Members, mnil, more, count-members}
 use Rattle.syntax.specs.Written.{Any, None, EveryInt, EveryIntOf, EveryTermOf, EveryOf, EveryMemberOf}
-use Rattle.syntax.specs.Words.{max-bools}
+use Rattle.syntax.specs.Words.{max-bools, max-ints}
 use Rattle.clauses.specs.Bounds.{expr-bound, members-bound, int-bound, terms-numbers}
 use Rattle.walks.specs.Thirds.{most-three}
 use Rattle.walks.specs.Plain.{Plain, PlainInt}
@@ -13,7 +13,7 @@ use Rattle.walks.specs.Plain.{Plain, PlainInt}
 unfoldable mutual
   pub LegalInt : IntExpr → ℕ → Type 0
   LegalInt (IConst c) l = 0 < l
-  LegalInt (IVar v) l = (0 < l) × (v < 256)
+  LegalInt (IVar v) l = (0 < l) × (v < max-ints)
   LegalInt (Linear ts) l = (0 < l) × LegalTerms ts (l - 1)
   LegalInt (If i c t f) l = (0 < l) × Legal c (l - 1) × LegalInt t (l - 1) × LegalInt f (l - 1)
 
@@ -75,7 +75,7 @@ mutual
 
 -- ---- its integers are declared, and it is plain
 
-module _ (N Q : ℕ → Type 0) (q : (v : ℕ) → v < 256 → Q v) where
+module _ (N Q : ℕ → Type 0) (q : (v : ℕ) → v < max-ints → Q v) where
   mutual
     unfolding Legal EveryIntOf
 
@@ -105,8 +105,8 @@ module _ (N Q : ℕ → Type 0) (q : (v : ℕ) → v < 256 → Q v) where
     every-term tnil l h = tt
     every-term (tmore k e ts) l h = (every-int e l (h .0), every-term ts l (h .1))
 
-pub legal-int : (e : IntExpr) (l : ℕ) → LegalInt e l → EveryInt (λ v. v < 256) e
-legal-int = every-int Any (λ v. v < 256) (λ v h. h)
+pub legal-int : (e : IntExpr) (l : ℕ) → LegalInt e l → EveryInt (λ v. v < max-ints) e
+legal-int = every-int Any (λ v. v < max-ints) (λ v h. h)
 
 pub legal-plain : (e : BoolExpr) (l : ℕ) → Legal e l → Plain e
 legal-plain = every-bool None Any (λ v h. tt)

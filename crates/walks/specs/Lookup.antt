@@ -16,7 +16,7 @@ use Rattle.laws.specs.Ints.{is-zero}
 use Rattle.memory.specs.Places.{folded, folded-end, bool-map, int-map, maps-end, cells, limit}
 use Rattle.memory.specs.Number.{nat}
 use Rattle.syntax.specs.Syntax.{Domain, lower-bound, upper-bound, IntExpr, encode-int}
-use Rattle.syntax.specs.Words.{max-bools}
+use Rattle.syntax.specs.Words.{max-bools, max-ints}
 use Rattle.clauses.specs.Log.{Log, next-int, get-if}
 use Rattle.clauses.specs.Emitted.{domain-at}
 use Rattle.walk.specs.Item.{bool-at, int-entry}
@@ -93,7 +93,7 @@ module _ (ds : List Domain) (F : List ℤ) (Plain : IntExpr → Type 0) (parted 
   unfolding bool-at int-entry
   good-cells n st s w l h r o c g =
       let i = blanks-same is-zero (st .work) bool-map w max-bools (λ v m. h (bool-map + v) (omega arith)) in
-      let j = blanks-same no-int (st .work) int-map w 256 (λ v m. h (int-map + v) (omega arith)) in
+      let j = blanks-same no-int (st .work) int-map w max-ints (λ v m. h (int-map + v) (omega arith)) in
       record {
         map = λ v m. h (bool-map + v) (omega arith) ∙ g .map v m;
         map-int = λ v m. ap nat (h (int-map + v) (omega arith)) ∙ g .map-int v m;

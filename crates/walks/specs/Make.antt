@@ -20,7 +20,7 @@ use Rattle.clauses.specs.Emitted.{domain-at}
 use Rattle.laws.specs.Ints.{is-zero}
 use Rattle.memory.specs.Places.{folded-end, bool-map, int-map, maps-end, cells, limit}
 use Rattle.memory.specs.Number.{nat}
-use Rattle.syntax.specs.Words.{max-bools}
+use Rattle.syntax.specs.Words.{max-bools, max-ints}
 use Rattle.walk.specs.Item.{bump, fresh, bool-at, int-entry}
 use Rattle.walk.specs.Decode.{read-part}
 use Rattle.walks.specs.Tree.{Place}
@@ -115,7 +115,7 @@ module _ (ds : List Domain) (F : List ℤ) (Plain : IntExpr → Type 0) (parted 
       unfolding get-bool-var get-int-var made-ints records-of bool-at int-entry
       known-log =
           let i = blanks-same is-zero w bool-map w' max-bools (λ x m. kept-below (bool-map + x) (omega arith)) in
-          let j = blanks-same no-int w int-map w' 256 (λ x m. kept-below (int-map + x) (omega arith)) in
+          let j = blanks-same no-int w int-map w' max-ints (λ x m. kept-below (int-map + x) (omega arith)) in
           record {
             map = λ x m. kept-below (bool-map + x) (omega arith) ∙ g .map x m;
             map-int = λ x m. ap nat (kept-below (int-map + x) (omega arith)) ∙ g .map-int x m;

@@ -13,7 +13,7 @@ use lib.Seq.{getD-set-other}
 use Rattle.laws.specs.Ints.{is-zero}
 use Rattle.memory.specs.Places.{folded, bool-map, int-map, maps-end, cells, limit}
 use Rattle.syntax.specs.Syntax.{Domain, lower-bound, upper-bound, IntExpr, IConst, IVar, Linear, If, Terms, tnil, tmore, BoolExpr, Const, Var, NVar, And, Or, Not, Xor, Iff, Imp, Cmp, Members, mnil, more, encode-bool, encode-members, encode-int, encode-terms}
-use Rattle.syntax.specs.Words.{max-bools}
+use Rattle.syntax.specs.Words.{max-bools, max-ints}
 use Rattle.sums.specs.LinearSum.{is-constant}
 use Rattle.walk.specs.Item.{is-none, bool-at, int-entry}
 use Rattle.walks.specs.Tree.{Place, Tree, Trees, IntTree, TermTrees, Splitting, below, here, inner, own-splits, splits, splits-int, split-int, resolve-int}
@@ -59,7 +59,7 @@ module _ (a b : ℕ) where
 
     pub WithinInt : IntForm → Type 0
     WithinInt (const c) = Unit {0}
-    WithinInt (ivar v) = v < 256
+    WithinInt (ivar v) = v < max-ints
     WithinInt (sum ts) = WithinTerms ts
     WithinInt (choice p o c d t f) = InPlace a b p × LowOwn o × WithinForm c × WithinForm d × WithinInt t × WithinInt f
 
@@ -95,7 +95,7 @@ module _ (q : ℕ) where
   bool-near l v h st = either-cell (is-zero (bool-at (st .work) v)) (st .work) _ st (map-cell (st .work) (bool-map + v) (pos (st .bools + 1)) (omega arith) l) refl
 
 module _ (ds : List Domain) (rec cap : ℕ) (a b q : ℕ) (out : Outside a b q) where
-  int-near : (v : ℕ) → v < 256 → (st : State) → cell (meet-int-var ds rec cap v st .work) q ≡ cell (st .work) q
+  int-near : (v : ℕ) → v < max-ints → (st : State) → cell (meet-int-var ds rec cap v st .work) q ≡ cell (st .work) q
   unfolding meet-int-var new-int
   int-near v h st = either-cell q (is-none (int-entry (st .work) v)) (st .work) _ st (map-cell q (st .work) (int-map + v) (pos (st .ints + 1)) (omega arith) (out .0)) refl
 

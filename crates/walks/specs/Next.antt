@@ -16,7 +16,7 @@ use Rattle.laws.specs.Same.{same-refl}
 use Rattle.memory.specs.Places.{folded, folded-end, bool-map, int-map, maps-end}
 use Rattle.memory.specs.Number.{nat}
 use Rattle.syntax.specs.Syntax.{Domain, IntExpr, encode-int}
-use Rattle.syntax.specs.Words.{max-bools}
+use Rattle.syntax.specs.Words.{max-bools, max-ints}
 use Rattle.clauses.specs.Log.{Log, get-if}
 use Rattle.walk.specs.Item.{bool-at, int-entry}
 use Rattle.walk.specs.Decode.{read-part}
@@ -117,7 +117,7 @@ module _ (ds : List Domain) (F : List ℤ) (Plain : IntExpr → Type 0) (parted 
   unfolding bool-at int-entry
   good-reset rec cap with-ifs before Named n st w s m r u g =
       let b : blanks is-zero w bool-map max-bools ≡ blanks is-zero (st .work) bool-map max-bools = blanks-same is-zero (st .work) bool-map w max-bools (λ v l. m .low (bool-map + v) (omega arith)) in
-      let c : blanks no-int w int-map 256 ≡ blanks no-int (st .work) int-map 256 = blanks-same no-int (st .work) int-map w 256 (λ v l. m .low (int-map + v) (omega arith)) in
+      let c : blanks no-int w int-map max-ints ≡ blanks no-int (st .work) int-map max-ints = blanks-same no-int (st .work) int-map w max-ints (λ v l. m .low (int-map + v) (omega arith)) in
       record {
         map = λ v l. m .low (bool-map + v) (omega arith) ∙ g .map v l;
         map-int = λ v l. ap nat (m .low (int-map + v) (omega arith)) ∙ g .map-int v l;

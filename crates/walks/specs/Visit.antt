@@ -14,7 +14,7 @@ use borrow.Author.Tests.{ltb-true, lt-ltb}
 use Rattle.laws.specs.Ints.{is-zero}
 use Rattle.memory.specs.Places.{bool-map, int-map, maps-end, cells, limit}
 use Rattle.syntax.specs.Syntax.{Domain, IntExpr}
-use Rattle.syntax.specs.Words.{max-bools}
+use Rattle.syntax.specs.Words.{max-bools, max-ints}
 use Rattle.clauses.specs.Clause.{BoolLit, lit}
 use Rattle.clauses.specs.Log.{aux, bool, Log, next-bool, next-int, get-bool-var, get-int-var, get-if, made-ints}
 use Rattle.clauses.specs.Disjunction.{Outs, normalize-disjunction, finish-sorted}
@@ -137,7 +137,7 @@ module _ (ds : List Domain) (F : List ℤ) (Plain : IntExpr → Type 0) (parted 
   unfolding meet-bool
   bool-later v h st = either-later (is-zero (bool-at (st .work) v)) (st .work) _ st (map-later (st .work) (bool-map + v) (pos (st .bools + 1)) (omega arith)) (same-later (st .work))
 
-  pub int-later : (ds' : List Domain) (rec cap v : ℕ) → v < 256 → (st : State) → Later (st .work) (meet-int-var ds' rec cap v st .work)
+  pub int-later : (ds' : List Domain) (rec cap v : ℕ) → v < max-ints → (st : State) → Later (st .work) (meet-int-var ds' rec cap v st .work)
   unfolding meet-int-var new-int
   int-later ds' rec cap v h st = either-later (is-none (int-entry (st .work) v)) (st .work) _ st (map-later (st .work) (int-map + v) (pos (st .ints + 1)) (omega arith)) (same-later (st .work))
 

@@ -13,7 +13,7 @@ use borrow.Author.Tests.{eq-eqb}
 use Rattle.laws.specs.Ints.{eqZ}
 use Rattle.memory.specs.Places.{limit}
 use Rattle.syntax.specs.Syntax.{IfIsRead, Domain, Range, CmpOp, IntExpr, IConst, IVar, Linear, If, BoolExpr, Const, Var, NVar, And, Or, Not, Xor, Iff, Imp, Cmp}
-use Rattle.syntax.specs.Words.{max-bools}
+use Rattle.syntax.specs.Words.{max-bools, max-ints}
 use Rattle.sums.specs.LinearSum.{LinearSum, constant, is-constant, add-sum, mul-sum}
 use Rattle.sums.specs.Rising.{constant-of}
 use Rattle.clauses.specs.Clause.{BoolLit, lit, Clause}
@@ -526,7 +526,7 @@ module _ (ds : List Domain) (F : List ℤ) (parted : ℕ → Bool) (K : ℕ → 
       (good-bool ds F PlainInt parted K (fixed ds) rec cap with-ifs before (Named ds) (names ds) P v h n st s (good-less ds F PlainInt parted K (fixed ds) rec cap with-ifs before (Named ds) (0 + n) n st s (omega arith) gd))
       (omega (arith, u, bool-spends ds rec cap v st, grows-words (bool-var-grows v s))) (bool-later ds F PlainInt parted K (fixed ds) v h st) (λ w l. tt)
 
-  ivar-visit : (v : ℕ) → v < 256 → VisitsInt (ivar v)
+  ivar-visit : (v : ℕ) → v < max-ints → VisitsInt (ivar v)
   unfolding form-meet form run-int PlacedInt normalize-int-var
   ivar-visit v h k n st s gd u = good (good-int ds F PlainInt parted K (fixed ds) rec cap with-ifs before (Named ds) (names ds) P v h n st s gd) (omega (arith, u, int-spends ds rec cap v st, grows-words (int-var-grows v s))) (int-later ds F PlainInt parted K (fixed ds) ds rec cap v h st) (λ w l. tt)
 

@@ -1,6 +1,7 @@
 use Prim.Native.Nat.{ℕ, _<_}
 use borrow.Fn.Kinds.{In}
 use borrow.Fn.PlainCycle.{Measures, is, falls, and}
+use Rattle.syntax.specs.Words.{max-ints}
 use Rattle.accept.proofs.mark_head.Reads as mark-head
 use Rattle.accept.proofs.mark_head.Kinds as mark-head-kinds
 use Rattle.accept.proofs.+mark_head+mark_written.Lts-mark_head as mark-head-lts
@@ -95,7 +96,7 @@ mark-head-returns-4 : (t : ℕ) → mark-head-lts.Need-returns-4 (mark-head-clai
 mark-head-returns-4 t c = head-sum (c .before .before .before .before .before .args .set .now) (c .before .before .before .before .before .args .at) (c .before .before .before .before .before .args .n) (c .before .before .before .before .before .args .marks .now) _ (c .before .before .before .before .number .ensures .0) _ (c .before .number2 .ensures .0) (c .before .before .before .before .before .pre .1 .2) (c .before .before .before .if1 .left) (c .if3 .left) (c .before .before .if2 .left)
 
 abbrev mark-written-Inv-loop : mark-written-lts.InvT-loop
-mark-written-Inv-loop set at n marks₀ next₀ rest₀ count₀ marks next rest count = (at ≤ next + 1) × Pending set next rest n × (length marks ≡ 256) × Counted marks₀ marks n count at next × ((m : List Bool) (y r : ℕ) → Pending-post set next rest n marks m y r → Written-post set at n marks₀ m y (count + r))
+mark-written-Inv-loop set at n marks₀ next₀ rest₀ count₀ marks next rest count = (at ≤ next + 1) × Pending set next rest n × (length marks ≡ max-ints) × Counted marks₀ marks n count at next × ((m : List Bool) (y r : ℕ) → Pending-post set next rest n marks m y r → Written-post set at n marks₀ m y (count + r))
 
 abbrev mark-written-μ-loop : mark-written-lts.MeasureT-loop
 mark-written-μ-loop set at n marks₀ next₀ rest₀ count₀ marks next rest count = length set - next

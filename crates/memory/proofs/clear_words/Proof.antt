@@ -4,15 +4,14 @@ use native.Mathlib.Omega.{arith}
 use mathlib.Core.Path.{_≡_, refl, sym, _∙_}
 use lib.IntN.{pos}
 use lib.ListN.{length, length-set}
-use lib.Seq.{sets}
-use Rattle.laws.specs.Slices.{zeros}
+use Rattle.memory.specs.Cleared.{cleared}
 use Rattle.memory.proofs.Laws.{clear-next, clear-none}
 use borrow.Author.Needs.{needs}
 use Rattle.memory.proofs.clear_words.Statement.{statement}
 use Rattle.memory.proofs.clear_words.Tie as tie
 
 abbrev Inv-loop : tie.InvT-loop
-Inv-loop work₀ from to i₀ work i = (length work ≡ length work₀) × (sets work i (zeros (to - i)) ≡ sets work₀ from (zeros (to - from)))
+Inv-loop work₀ from to i₀ work i = (length work ≡ length work₀) × (cleared work i to ≡ cleared work₀ from to)
 
 abbrev μ-loop : tie.MeasureT-loop
 μ-loop work₀ from to i₀ work i = to - i

@@ -2,7 +2,7 @@ use borrow.Author.Needs.{needs}
 use Prim.Native.Nat.{ℕ, _<_}
 use borrow.Fn.Kinds.{In}
 use borrow.Fn.PlainCycle.{Measures, is, falls, and}
-use Rattle.syntax.specs.Words.{max-bools}
+use Rattle.syntax.specs.Words.{max-bools, max-ints}
 use Rattle.scan.proofs.make_if.Reads as make-if
 use Rattle.scan.proofs.make_if.Kinds as make-if-kinds
 use Rattle.scan.proofs.+make_if+survey+survey_int+survey_terms+surveys.Lts-make_if as make-if-lts
@@ -338,7 +338,7 @@ survey-int-below-requires : (t : ℕ) → survey-int-lts.Need-below-requires (su
 survey-int-below-requires t c κs = search needs
 
 survey-int-met-int-requires : (t : ℕ) → survey-int-lts.Need-met-int-requires (survey-int-claims t) (survey-int-at t) survey-int.Post
-survey-int-met-int-requires t c κs = (rw (c .below .ensures) (below-lt 256 (c .before .before .before .before .before .word .result) (omega arith)), ((c .before .before .before .before .before .before .before .before .before) .pre .1 .1 .1 .1) .1)
+survey-int-met-int-requires t c κs = (rw (c .below .ensures) (below-lt max-ints (c .before .before .before .before .before .word .result) (omega arith)), ((c .before .before .before .before .before .before .before .before .before) .pre .1 .1 .1 .1) .1)
 
 survey-int-behind-of-requires-3 : (t : ℕ) → survey-int-lts.Need-behind-of-requires-3 (survey-int-claims t) (survey-int-at t) survey-int.Post
 survey-int-behind-of-requires-3 t c κs = search needs

@@ -2,6 +2,7 @@
 use native.Mathlib.Omega.{arith}
 use mathlib.Core.Path.{refl}
 use Prim.Native.Nat.{_<_, _+_, min}
+use Rattle.syntax.specs.Words.{max-ints}
 use Rattle.memory.specs.Places.{folded-end}
 use Rattle.scan.specs.Skip.{split-by}
 use Rattle.walk.specs.Steps.{below-lt}
@@ -29,13 +30,13 @@ below-requires : tie.Need-below-requires
 below-requires c κs = search needs
 
 number-at-requires : tie.Need-number-at-requires
-number-at-requires c κs = rw (c .below .ensures) (below-lt 256 (c .before .word2 .result) (omega arith))
+number-at-requires c κs = rw (c .below .ensures) (below-lt max-ints (c .before .word2 .result) (omega arith))
 
 declared-requires : tie.Need-declared-requires
-declared-requires c κs = rw (c .before .before .below .ensures) (below-lt 256 (c .before .before .before .word2 .result) (omega arith))
+declared-requires c κs = rw (c .before .before .below .ensures) (below-lt max-ints (c .before .before .before .word2 .result) (omega arith))
 
 returns-2 : tie.Need-returns-2
-returns-2 c = let i : c .before .before .before .below .result < 256 = rw (c .before .before .before .below .ensures) (below-lt 256 (c .before .before .before .before .word2 .result) (omega arith)) in
+returns-2 c = let i : c .before .before .before .below .result < max-ints = rw (c .before .before .before .below .ensures) (below-lt max-ints (c .before .before .before .before .word2 .result) (omega arith)) in
     variable-hit (c .before .before .before .before .before .before .before .before .args .work .now) (c .before .before .before .before .before .before .before .before .pre .0) (c .before .before .before .before .before .before .before .before .args .left) (split-by (c .before .before .before .before .before .before .before .before .args .m)) (c .before .before .before .before .before .before .before .before .args .at) (c .before .before .before .before .before .before .before .before .args .base) (c .before .before .before .before .before .before .before .before .args .n) (c .before .before .before .before .before .before .before .if1 .left) (c .before .before .before .before .before .before .word .result) (c .before .before .before .before .before .before .word .ensures) (c .before .before .before .before .before .before .before .before .args .x) (c .before .before .before .before .word2 .result) (c .before .before .before .below .result) (c .before .before .number-at .result) (c .before .before .before .before .before .match .keys1) (c .before .before .before .before .word2 .ensures) (c .before .before .before .below .ensures) (c .before .before .number-at .ensures .0) i (c .before .if2 .taken) (c .declared .result) (c .declared .ensures)
 
 miss-requires-2 : tie.Need-miss-requires-2

@@ -4,6 +4,7 @@ use mathlib.Core.Path.{_∙_}
 use mir.Syntax.{w32}
 use mir.Val.{SFits}
 use mir.Facts.{toZ-ofZ}
+use Rattle.syntax.specs.Words.{max-ints}
 use Rattle.walk.specs.Steps.{below-lt}
 use Rattle.totals.proofs.Numbers.{lone-none, lone-variable, lone-if, lone-constant}
 use borrow.Author.Needs.{needs}
@@ -26,7 +27,7 @@ below-requires : tie.Need-below-requires
 below-requires c κs = search needs
 
 number-at-requires : tie.Need-number-at-requires
-number-at-requires c κs = rw (c .below .ensures) (below-lt 256 (c .before .word2 .result) (omega arith))
+number-at-requires c κs = rw (c .below .ensures) (below-lt max-ints (c .before .word2 .result) (omega arith))
 
 if-number-requires : tie.Need-if-number-requires
 if-number-requires c κs = search needs
