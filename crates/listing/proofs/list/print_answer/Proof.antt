@@ -1,8 +1,8 @@
--- `textcall::print_answer` meets its contract. Assumes nothing.
+-- `listing::list::print_answer` meets its contract. Assumes nothing.
 use borrow.Author.Needs.{needs}
-use Rattle.textcall.proofs.Laws.{answered-fits, prints-compiled, prints-contradiction, prints-refused}
-use Rattle.textcall.proofs.print_answer.Statement.{statement}
-use Rattle.textcall.proofs.print_answer.Tie as tie
+use Rattle.listing.proofs.Laws.{answered-fits, prints-compiled, prints-contradiction, prints-refused}
+use Rattle.listing.proofs.list.print_answer.Statement.{statement}
+use Rattle.listing.proofs.list.print_answer.Tie as tie
 
 count-at-requires : tie.Need-count-at-requires
 count-at-requires c κs = search needs

@@ -28,7 +28,7 @@ use Rattle.decimal.specs.Widths.{fitting}
 use Rattle.planner.specs.declared.Answer.{Answer}
 use Rattle.planner.specs.declared.Answer.the-variants as planned
 use Rattle.planner.specs.Contract.{answer-of, Compiles}
-use Rattle.textcall.specs.Lists.{Answered, SomeAnswered, Bytes, Inside, Prints, output-left, work-left, Lists}
+use Rattle.listing.specs.Lists.{Answered, SomeAnswered, Bytes, Inside, Prints, output-left, work-left, Lists}
 
 -- ---- the listing of an answer
 

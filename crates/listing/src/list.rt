@@ -6,7 +6,7 @@ use text::Answer;
 use text::text_of_answer;
 ghost use Prim.Native.Nat.{_≤_};
 ghost use lib.ListN.{length};
-ghost use Rattle.textcall.specs.Lists.{SomeAnswered, Prints, Lists};
+ghost use Rattle.listing.specs.Lists.{SomeAnswered, Prints, Lists};
 
 // The listing of an answer, from the set's words and the output that the call left.
 fn print_answer(answer: planner::Answer, set: &[i32], output: &[i32], out: &mut [u8]) -> usize

@@ -1,7 +1,7 @@
--- `textcall::list_text` meets its contract. Assumes nothing.
+-- `listing::list::list_text` meets its contract. Assumes nothing.
 use borrow.Author.Needs.{needs}
-use Rattle.textcall.proofs.list_text.Statement.{statement}
-use Rattle.textcall.proofs.list_text.Tie as tie
+use Rattle.listing.proofs.list.list_text.Statement.{statement}
+use Rattle.listing.proofs.list.list_text.Tie as tie
 
 slice-aggregate-list-with-room : tie.Need-slice-aggregate-list-with-room
 slice-aggregate-list-with-room c = search needs

@@ -1,9 +1,9 @@
--- `textcall::list_with_room` meets its contract. Assumes nothing.
+-- `listing::list::list_with_room` meets its contract. Assumes nothing.
 use mathlib.Core.List.{[]}
 use borrow.Author.Needs.{needs}
-use Rattle.textcall.proofs.Laws.{set-fits, set-length, set-is, some-answer, lists-unread, lists-answer}
-use Rattle.textcall.proofs.list_with_room.Statement.{statement}
-use Rattle.textcall.proofs.list_with_room.Tie as tie
+use Rattle.listing.proofs.Laws.{set-fits, set-length, set-is, some-answer, lists-unread, lists-answer}
+use Rattle.listing.proofs.list.list_with_room.Statement.{statement}
+use Rattle.listing.proofs.list.list_with_room.Tie as tie
 
 words-of-text-requires : tie.Need-words-of-text-requires
 words-of-text-requires c κs = search needs
