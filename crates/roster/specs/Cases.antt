@@ -2,7 +2,7 @@
 use mathlib.Core.Path.{_≡_, refl}
 use mathlib.Core.List.{[], _∷_}
 use mathlib.Core.Option.{none, some}
-use Rattle.rostertext.specs.RosterText.{last-feed, values-of}
+use Rattle.roster.specs.RosterText.{last-feed, values-of}
 
 -- none; the whole line; behind the second of two
 no-feed : last-feed (65 ∷ 66 ∷ []) ≡ 0

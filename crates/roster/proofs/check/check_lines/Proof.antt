@@ -1,10 +1,10 @@
 -- `check_lines` meets its contract.
 use borrow.Author.Needs.{needs}
-use Rattle.rostertext.proofs.check_lines.Statement.{statement}
-use Rattle.rostertext.proofs.check_lines.Tie as tie
+use Rattle.roster.proofs.check.check_lines.Statement.{statement}
+use Rattle.roster.proofs.check.check_lines.Tie as tie
 use Prim.Native.Nat.{_-_}
 use lib.ListN.{length, take, drop}
-use Rattle.rostertext.proofs.Laws.{start-inside, part-length, part-short, set-unread, set-fits, set-is, values-unread, values-fit, values-are, tells-unread-set, tells-unread-values, tells-checked}
+use Rattle.roster.proofs.Laws.{start-inside, part-length, part-short, set-unread, set-fits, set-is, values-unread, values-fit, values-are, tells-unread-set, tells-unread-values, tells-checked}
 
 line-start-requires : tie.Need-line-start-requires
 line-start-requires c κs = search needs

@@ -22,8 +22,8 @@ use Rattle.input.specs.declared.Words.{Words}
 use Rattle.input.specs.declared.Words.the-variants as read
 use Rattle.evaluate.specs.Contracts.{Checks}
 use Rattle.evaluate.specs.declared.Checked.{Checked}
-use Rattle.rostertext.specs.RosterText.{values-key, unread-line, print-numbered, print-checked, feed-step, last-feed, values-of, print-read, check-lines, check-text}
-use Rattle.rostertext.specs.Contracts.{Prints, Room, Tells, Told}
+use Rattle.roster.specs.RosterText.{values-key, unread-line, print-numbered, print-checked, feed-step, last-feed, values-of, print-read, check-lines, check-text}
+use Rattle.roster.specs.Contracts.{Prints, Room, Tells, Told}
 
 -- ---- printing
 

@@ -1,8 +1,8 @@
 -- `put_numbered` meets its contract.
 use borrow.Author.Needs.{needs}
-use Rattle.rostertext.proofs.put_numbered.Statement.{statement}
-use Rattle.rostertext.proofs.put_numbered.Tie as tie
-use Rattle.rostertext.proofs.Laws.{numbered-shown}
+use Rattle.roster.proofs.check.put_numbered.Statement.{statement}
+use Rattle.roster.proofs.check.put_numbered.Tie as tie
+use Rattle.roster.proofs.Laws.{numbered-shown}
 
 put-bytes-requires : tie.Need-put-bytes-requires
 put-bytes-requires c κs = search needs

@@ -7,8 +7,8 @@ ghost use lib.ListN.{length};
 ghost use Rattle.decimal.specs.Puts.{Puts};
 ghost use Rattle.input.specs.ReadText.{after};
 ghost use Rattle.input.specs.Input.{Filled};
-ghost use Rattle.rostertext.specs.RosterText.{values-key, print-numbered, print-checked, last-feed, values-of};
-ghost use Rattle.rostertext.specs.Contracts.{Room, Tells, Told};
+ghost use Rattle.roster.specs.RosterText.{values-key, print-numbered, print-checked, last-feed, values-of};
+ghost use Rattle.roster.specs.Contracts.{Room, Tells, Told};
 
 const VALUES: [u8; 7] = *b"values=";
 

@@ -1,9 +1,9 @@
 -- `put_checked` meets its contract.
 use borrow.Author.Needs.{needs}
-use Rattle.rostertext.proofs.put_checked.Statement.{statement}
-use Rattle.rostertext.proofs.put_checked.Tie as tie
-use Rattle.rostertext.specs.RosterText.{print-checked}
-use Rattle.rostertext.proofs.Laws.{checked-shown}
+use Rattle.roster.proofs.check.put_checked.Statement.{statement}
+use Rattle.roster.proofs.check.put_checked.Tie as tie
+use Rattle.roster.specs.RosterText.{print-checked}
+use Rattle.roster.proofs.Laws.{checked-shown}
 
 enum-told : tie.Need-enum-told
 enum-told c = search needs

@@ -7,7 +7,7 @@ use lib.ListN.{length, take}
 use lib.Seq.{sets}
 use Rattle.laws.specs.Slices.{zeros}
 use Rattle.decimal.specs.Puts.{Puts}
-use Rattle.rostertext.specs.RosterText.{check-lines, check-text}
+use Rattle.roster.specs.RosterText.{check-lines, check-text}
 
 -- the bytes of a text, as many as there is room for, and how many these are
 pub record Prints (text out out' : List ℕ) (r : ℕ) : Type 0 where

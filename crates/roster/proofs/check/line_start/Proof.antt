@@ -1,12 +1,12 @@
 -- `line_start` meets its contract.
-use Rattle.rostertext.proofs.line_start.Statement.{statement}
-use Rattle.rostertext.proofs.line_start.Tie as tie
+use Rattle.roster.proofs.check.line_start.Statement.{statement}
+use Rattle.roster.proofs.check.line_start.Tie as tie
 use native.Mathlib.Omega.{arith}
 use Prim.Native.Nat.{_≤_}
 use mathlib.Core.Path.{_≡_}
 use lib.ListN.{length, take}
-use Rattle.rostertext.specs.RosterText.{last-feed}
-use Rattle.rostertext.proofs.Laws.{start-found, start-next, start-none, start-begin}
+use Rattle.roster.specs.RosterText.{last-feed}
+use Rattle.roster.proofs.Laws.{start-found, start-next, start-none, start-begin}
 use borrow.Author.Needs.{needs}
 
 abbrev Inv-loop : tie.InvT-loop

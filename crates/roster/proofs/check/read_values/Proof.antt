@@ -1,9 +1,9 @@
 -- `read_values` meets its contract.
 use borrow.Author.Needs.{needs}
-use Rattle.rostertext.proofs.read_values.Statement.{statement}
-use Rattle.rostertext.proofs.read_values.Tie as tie
+use Rattle.roster.proofs.check.read_values.Statement.{statement}
+use Rattle.roster.proofs.check.read_values.Tie as tie
 use Rattle.evaluate.proofs.BoolLaws.{not-true, not-false}
-use Rattle.rostertext.proofs.Laws.{no-key, key-fits, no-values, some-values}
+use Rattle.roster.proofs.Laws.{no-key, key-fits, no-values, some-values}
 
 slice-aggregate-has-key : tie.Need-slice-aggregate-has-key
 slice-aggregate-has-key c = search needs

@@ -1,11 +1,11 @@
 -- `check_with_room` meets its contract.
 use borrow.Author.Needs.{needs}
-use Rattle.rostertext.proofs.check_with_room.Statement.{statement}
-use Rattle.rostertext.proofs.check_with_room.Tie as tie
+use Rattle.roster.proofs.check.check_with_room.Statement.{statement}
+use Rattle.roster.proofs.check.check_with_room.Tie as tie
 use native.Mathlib.Omega.{arith}
 use Prim.Native.Nat.{_-_}
 use lib.ListN.{length}
-use Rattle.rostertext.proofs.Laws.{part-length, told-long, told-empty, told-other, told-lines, lines-room}
+use Rattle.roster.proofs.Laws.{part-length, told-long, told-empty, told-other, told-lines, lines-room}
 
 clear-requires : tie.Need-clear-requires
 clear-requires c κs = search needs
