@@ -2,4 +2,5 @@ pub mod Small
 pub mod Returned
 pub mod Joined
 pub mod Rosters
+pub mod SheetCall
 pub mod Sheets

@@ -1,11 +1,12 @@
 // What a station links: every entry for C, over the proved calls. A slice is a pointer and a length in C (tools/station/planner.h).
+pub mod sheets; // sheets.rt: the call with a sheet
+
 use call::Choices;
 use evaluate::Checked;
 use join::Joined;
 use planner::Answer;
-use sheetcall::Sheeted;
+use sheets::Sheeted;
 ghost use mathlib.Core.Path.{_≡_};
-ghost use Prim.Native.Nat.{_<_};
 ghost use lib.ListN.{set};
 ghost use Rattle.call.specs.Call.{unchosen};
 ghost use Rattle.station.specs.Returned.{choices-of, Returns};
@@ -122,7 +123,7 @@ pub extern "C" fn compile_sheet(
 ) -> i64
     ensures { λ r. ⌜ Sheet-returns (now (words .entry)) (now (output .entry)) (now (work .entry)) (now (output .exit)) (now (work .exit)) (now (sheet .entry)) (now (sheet .exit)) (now (bytes .entry)) (now (bytes .exit)) r ⌝ }
 {
-    match sheetcall::compile_sheet(words, output, work, sheet) {
+    match sheets::compile_sheet(words, output, work, sheet) {
         Sheeted::Compiled(n, m) => {
             put_count(bytes, m);
             n as i64

@@ -1,12 +1,8 @@
+-- `main` meets its contract.
 use Rattle.sheet.proofs.Laws.{part-length}
 use borrow.Author.Needs.{needs}
 use Rattle.sheet.proofs.main.Statement.{statement}
 use Rattle.sheet.proofs.main.Tie as tie
-use Rattle.sheet.proofs.main.Reads as reads
-use Rattle.sheet.proofs.main.Lts as lts
-use Rattle.io.proofs.read_full.Reads as read-full-reads
-use Rattle.io.proofs.write_all.Reads as write-all-reads
-use Rattle.sheet.proofs.sheet_of_text.Reads as sheet-of-text-reads
 
 slice-aggregate-read-full : tie.Need-slice-aggregate-read-full
 slice-aggregate-read-full c = search needs

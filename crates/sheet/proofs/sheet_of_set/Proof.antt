@@ -1,11 +1,8 @@
+-- `sheet_of_set` meets its contract.
 use Rattle.sheet.proofs.Laws.{sheet-inside}
 use borrow.Author.Needs.{needs}
 use Rattle.sheet.proofs.sheet_of_set.Statement.{statement}
 use Rattle.sheet.proofs.sheet_of_set.Tie as tie
-use Rattle.sheet.proofs.sheet_of_set.Reads as reads
-use Rattle.sheet.proofs.sheet_of_set.Lts as lts
-use Rattle.sheetcall.proofs.compile_sheet.Reads as compile-sheet-reads
-use Rattle.text.proofs.text_of_answer.Reads as text-of-answer-reads
 
 compile-sheet-requires : tie.Need-compile-sheet-requires
 compile-sheet-requires c κs = search needs

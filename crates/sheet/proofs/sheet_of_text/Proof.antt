@@ -1,12 +1,8 @@
+-- `sheet_of_text` meets its contract.
 use Rattle.sheet.proofs.Laws.{set-fits, set-length}
 use borrow.Author.Needs.{needs}
 use Rattle.sheet.proofs.sheet_of_text.Statement.{statement}
 use Rattle.sheet.proofs.sheet_of_text.Tie as tie
-use Rattle.sheet.proofs.sheet_of_text.Reads as reads
-use Rattle.sheet.proofs.sheet_of_text.Lts as lts
-use Rattle.input.proofs.words_of_text.Reads as words-of-text-reads
-use Rattle.sheet.proofs.sheet_of_set.Reads as sheet-of-set-reads
-use Rattle.text.proofs.text_of_answer.Reads as text-of-answer-reads
 
 words-of-text-requires : tie.Need-words-of-text-requires
 words-of-text-requires c κs = search needs

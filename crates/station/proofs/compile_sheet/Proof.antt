@@ -7,10 +7,6 @@ use Rattle.station.proofs.SheetNumbers.{sheet-words-small, sheet-refusa
 use borrow.Author.Needs.{needs}
 use Rattle.station.proofs.compile_sheet.Statement.{statement}
 use Rattle.station.proofs.compile_sheet.Tie as tie
-use Rattle.station.proofs.compile_sheet.Reads as reads
-use Rattle.station.proofs.compile_sheet.Lts as lts
-use Rattle.sheetcall.proofs.compile_sheet.Reads as compile-sheet-reads
-use Rattle.station.proofs.put_count.Reads as put-count-reads
 
 compile-sheet-requires : tie.Need-compile-sheet-requires
 compile-sheet-requires c κs = search needs

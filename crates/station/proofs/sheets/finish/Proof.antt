@@ -1,12 +1,8 @@
-use Rattle.sheetcall.proofs.Laws.{some-fits, finish-fits, finish-over}
+-- `sheets::finish` meets its contract.
+use Rattle.station.proofs.SheetLaws.{some-fits, finish-fits, finish-over}
 use borrow.Author.Needs.{needs}
-use Rattle.sheetcall.proofs.finish.Statement.{statement}
-use Rattle.sheetcall.proofs.finish.Tie as tie
-use Rattle.sheetcall.proofs.finish.Reads as reads
-use Rattle.sheetcall.proofs.finish.Lts as lts
-use Rattle.memory.proofs.clear.Reads as clear-reads
-use Rattle.sheetcall.proofs.clear_bytes.Reads as clear-bytes-reads
-use Rattle.sheetcall.proofs.write_sheet.Reads as write-sheet-reads
+use Rattle.station.proofs.sheets.finish.Statement.{statement}
+use Rattle.station.proofs.sheets.finish.Tie as tie
 
 slice-reshare-prefix-write-sheet : tie.Need-slice-reshare-prefix-write-sheet
 slice-reshare-prefix-write-sheet c = some-fits (c .before .pre) .1

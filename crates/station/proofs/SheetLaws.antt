@@ -18,8 +18,8 @@ use Rattle.lines.specs.Output.{Stops}
 use Rattle.page.specs.Sheet.{print-sheet}
 use Rattle.page.specs.Writes.{Wrote}
 use Rattle.sheetback.specs.Sheeted.{from-clauses, clauses-part, sheet-text, with-sheet, no-bytes, sheet-after}
-use Rattle.sheetcall.specs.Contract.{sheeted-of, Answered, SomeAnswered, Finishes}
-use Rattle.sheetcall.specs.declared.Sheeted.the-variants.{Compiled, Refused}
+use Rattle.station.specs.SheetCall.{sheeted-of, Answered, SomeAnswered, Finishes}
+use Rattle.station.specs.declared.sheets.Sheeted.the-variants.{Compiled, Refused}
 
 -- ---- bytes cleared: those below i are 0
 

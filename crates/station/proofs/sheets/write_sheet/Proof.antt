@@ -1,12 +1,8 @@
-use Rattle.sheetcall.proofs.Laws.{sheet-of-words}
+-- `sheets::write_sheet` meets its contract.
+use Rattle.station.proofs.SheetLaws.{sheet-of-words}
 use borrow.Author.Needs.{needs}
-use Rattle.sheetcall.proofs.write_sheet.Statement.{statement}
-use Rattle.sheetcall.proofs.write_sheet.Tie as tie
-use Rattle.sheetcall.proofs.write_sheet.Reads as reads
-use Rattle.sheetcall.proofs.write_sheet.Lts as lts
-use Rattle.lines.proofs.count_at.Reads as count-at-reads
-use Rattle.page.proofs.put_sheet.Reads as put-sheet-reads
-use Rattle.sheetcall.proofs.clauses_at.Reads as clauses-at-reads
+use Rattle.station.proofs.sheets.write_sheet.Statement.{statement}
+use Rattle.station.proofs.sheets.write_sheet.Tie as tie
 
 count-at-requires : tie.Need-count-at-requires
 count-at-requires c κs = search needs

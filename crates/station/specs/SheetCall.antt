@@ -1,4 +1,4 @@
--- The contract of `compile_sheet`: its answer, every word and every byte are the definition's (sheetback/Sheeted), for all words and lengths;
+-- The contract of `sheets::compile_sheet`: its answer, every word and every byte are the definition's (sheetback/Sheeted), for all words and lengths;
 -- and what the answer says of the set (demand 3), and the sheet of the answer.
 use mathlib.Core.Path.{_≡_}
 use mathlib.Core.Logic.{_↔_}
@@ -18,8 +18,8 @@ use Rattle.call.specs.Claim.{within, satisfied, Passed}
 use Rattle.sheetback.specs.ReadSheet.{read-sheet}
 use Rattle.sheetback.specs.Sheeted.{sheet-text, with-sheet, sheet-call, no-bytes, sheet-after}
 use Rattle.sheetback.specs.CallBack.{answer-clauses}
-use Rattle.sheetcall.specs.declared.Sheeted.{Sheeted}
-use Rattle.sheetcall.specs.declared.Sheeted.the-variants.{Compiled, Contradiction, Refused}
+use Rattle.station.specs.declared.sheets.Sheeted.{Sheeted}
+use Rattle.station.specs.declared.sheets.Sheeted.the-variants.{Compiled, Contradiction, Refused}
 
 -- the result in the code's values: the words of the answer and the bytes of the sheet, a contradiction, or the refusal's number
 unfoldable pub sheeted-of : List ℤ → Result → Sheeted

@@ -7,7 +7,7 @@ ghost use Prim.Native.Nat.{_≤_, _<_};
 ghost use lib.ListN.{length, drop};
 ghost use Rattle.page.specs.Writes.{Wrote, Few};
 ghost use Rattle.sheetback.specs.Sheeted.{from-clauses, sheet-text, no-bytes};
-ghost use Rattle.sheetcall.specs.Contract.{Sheets, SomeAnswered, Finishes};
+ghost use Rattle.station.specs.SheetCall.{Sheets, SomeAnswered, Finishes};
 
 // The words of the answer and the bytes of its sheet, a contradiction, or the refusal's number.
 pub enum Sheeted {

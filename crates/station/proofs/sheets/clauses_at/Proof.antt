@@ -1,11 +1,8 @@
-use Rattle.sheetcall.proofs.Laws.{clauses-found}
+-- `sheets::clauses_at` meets its contract.
+use Rattle.station.proofs.SheetLaws.{clauses-found}
 use borrow.Author.Needs.{needs}
-use Rattle.sheetcall.proofs.clauses_at.Statement.{statement}
-use Rattle.sheetcall.proofs.clauses_at.Tie as tie
-use Rattle.sheetcall.proofs.clauses_at.Reads as reads
-use Rattle.sheetcall.proofs.clauses_at.Lts as lts
-use Rattle.lines.proofs.count_at.Reads as count-at-reads
-use Rattle.lines.proofs.stop.Reads as stop-reads
+use Rattle.station.proofs.sheets.clauses_at.Statement.{statement}
+use Rattle.station.proofs.sheets.clauses_at.Tie as tie
 
 stop-requires : tie.Need-stop-requires
 stop-requires c κs = search needs

@@ -1,12 +1,8 @@
-use Rattle.sheetcall.proofs.Calls.{some-answered, sheets-compiled, sheets-refused, sheets-contradiction}
+-- `sheets::compile_sheet` meets its contract.
+use Rattle.station.proofs.SheetCalls.{some-answered, sheets-compiled, sheets-refused, sheets-contradiction}
 use borrow.Author.Needs.{needs}
-use Rattle.sheetcall.proofs.compile_sheet.Statement.{statement}
-use Rattle.sheetcall.proofs.compile_sheet.Tie as tie
-use Rattle.sheetcall.proofs.compile_sheet.Reads as reads
-use Rattle.sheetcall.proofs.compile_sheet.Lts as lts
-use Rattle.planner.proofs.compile.Reads as compile-reads
-use Rattle.sheetcall.proofs.clear_bytes.Reads as clear-bytes-reads
-use Rattle.sheetcall.proofs.finish.Reads as finish-reads
+use Rattle.station.proofs.sheets.compile_sheet.Statement.{statement}
+use Rattle.station.proofs.sheets.compile_sheet.Tie as tie
 
 clear-bytes-requires : tie.Need-clear-bytes-requires
 clear-bytes-requires c κs = search needs

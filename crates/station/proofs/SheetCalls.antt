@@ -21,10 +21,10 @@ use Rattle.planner.specs.Contract.{answer-of, Compiles}
 use Rattle.sheetback.specs.ReadSheet.{read-sheet}
 use Rattle.sheetback.specs.Sheeted.{sheet-text, with-sheet, sheet-call, no-bytes, sheet-after}
 use Rattle.sheetback.specs.CallBack.{answer-clauses, call-laid, sheet-back}
-use Rattle.sheetcall.specs.Contract.{sheeted-of, Sheets, Answered, SomeAnswered, Finishes}
-use Rattle.sheetcall.specs.declared.Sheeted.{Sheeted}
-use Rattle.sheetcall.specs.declared.Sheeted.the-variants as sheeted
-use Rattle.sheetcall.proofs.Laws.{compiled-words}
+use Rattle.station.specs.SheetCall.{sheeted-of, Sheets, Answered, SomeAnswered, Finishes}
+use Rattle.station.specs.declared.sheets.Sheeted.{Sheeted}
+use Rattle.station.specs.declared.sheets.Sheeted.the-variants as sheeted
+use Rattle.station.proofs.SheetLaws.{compiled-words}
 
 differ : {X : Type 0} → _≡_ {A = ℕ} 0 1 → X
 differ z = absurd (omega arith)
