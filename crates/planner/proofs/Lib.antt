@@ -6,3 +6,4 @@ pub mod Zeros
 pub mod Measured
 pub mod Cases
 pub mod Claims
+pub mod SheetCalls

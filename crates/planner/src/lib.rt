@@ -3,11 +3,13 @@ use call::Choices;
 use numbering::Room;
 use settle::Settling;
 use setwriter::Rewritten;
+use sheets::Sheeted;
 use walk::Counters;
 ghost use mathlib.Core.Path.{_≡_};
 ghost use Prim.Native.Nat.{min};
 ghost use Rattle.syntax.specs.Words.{max-answer-words};
 ghost use Rattle.call.specs.Call.{unchosen};
+ghost use Rattle.sheets.specs.Contract.{Sheets};
 ghost use Rattle.planner.specs.Contract.{Compiles};
 ghost use Rattle.planner.specs.Steps.{SomeHeld, Prepares, SomeNumbered, WritesClauses, SomeWrites, Written-answer, SomeEmits, Emit-post};
 
@@ -156,4 +158,16 @@ pub fn compile(set: &[i32], output: &mut [i32], work: &mut [i32]) -> Answer
     ensures { λ r. ⌜ Compiles unchosen (now (set .entry)) (now (output .entry)) (now (work .entry)) (now (output .exit)) (now (work .exit)) r ⌝ }
 {
     compile_with(set, output, work, Choices { merge: false })
+}
+
+// As `compile`, with the sheet of the answer, zero behind it. After a contradiction or a refusal output and sheet are zero.
+pub fn compile_sheet(set: &[i32], output: &mut [i32], work: &mut [i32], sheet: &mut [u8]) -> Sheeted
+    ensures { λ r. ⌜ Sheets (now (set .entry)) (now (output .entry)) (now (work .entry)) (now (output .exit)) (now (work .exit)) (now (sheet .entry)) (now (sheet .exit)) r ⌝ }
+{
+    sheets::clear_bytes(sheet);
+    match compile(set, output, work) {
+        Answer::Compiled(n) => sheets::finish(set, output, n, sheet),
+        Answer::Contradiction => Sheeted::Contradiction,
+        Answer::Refused(k) => Sheeted::Refused(k),
+    }
 }

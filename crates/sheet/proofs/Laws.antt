@@ -15,9 +15,9 @@ use Rattle.input.specs.Room.{few-words}
 use Rattle.input.specs.declared.Words.{Words}
 use Rattle.input.specs.declared.Words.the-variants as read
 use Rattle.sheetback.specs.Sheeted.{sheet-text, sheet-call, no-bytes, sheet-after}
-use Rattle.station.specs.SheetCall.{sheeted-of, Sheets}
-use Rattle.station.specs.declared.sheets.Sheeted.{Sheeted}
-use Rattle.station.specs.declared.sheets.Sheeted.the-variants as sheeted
+use Rattle.sheets.specs.Contract.{sheeted-of, Sheets}
+use Rattle.sheets.specs.declared.Sheeted.{Sheeted}
+use Rattle.sheets.specs.declared.Sheeted.the-variants as sheeted
 
 differ : {X : Type 0} → _≡_ {A = ℕ} 0 1 → X
 differ z = absurd (omega arith)

@@ -1,7 +1,7 @@
 // Reads a set on standard input and prints the clause sheet of its answer, or the listing's one line where there is none.
 use input::Words;
 use input::words_of_text;
-use station::sheets::Sheeted;
+use sheets::Sheeted;
 use text::Answer;
 use text::text_of_answer;
 ghost use Prim.Native.Nat.{_≤_};
@@ -11,7 +11,7 @@ ghost use lib.ListN.{length};
 fn sheet_of_set(set: &[i32], output: &mut [i32], work: &mut [i32], out: &mut [u8]) -> usize
     ensures { λ r. ⌜ r ≤ length (now (out .exit)) ⌝ }
 {
-    match station::sheets::compile_sheet(set, output, work, out) {
+    match planner::compile_sheet(set, output, work, out) {
         Sheeted::Compiled(_, m) => m,
         Sheeted::Contradiction => text_of_answer(Answer::Contradiction, 0, 0, &set[..0], out),
         Sheeted::Refused(k) => text_of_answer(Answer::Refused(k), 0, 0, &set[..0], out),

@@ -11,9 +11,9 @@ use Rattle.laws.specs.Ints.{apart}
 use Rattle.syntax.specs.Words.{max-answer-words}
 use Rattle.call.specs.Call.{Result, compiled, contradiction, refused, returned}
 use Rattle.sheetback.specs.Sheeted.{sheet-text, sheet-call}
-use Rattle.station.specs.declared.sheets.Sheeted.{Sheeted}
-use Rattle.station.specs.declared.sheets.Sheeted.the-variants.{Compiled, Contradiction, Refused}
-use Rattle.station.specs.SheetCall.{sheeted-of, Sheets}
+use Rattle.sheets.specs.declared.Sheeted.{Sheeted}
+use Rattle.sheets.specs.declared.Sheeted.the-variants.{Compiled, Contradiction, Refused}
+use Rattle.sheets.specs.Contract.{sheeted-of, Sheets}
 use Rattle.station.specs.Sheets.{sheet-bytes, Sheet-returns, Small-sheet, sheet-small}
 use Rattle.station.proofs.Numbers.{number-is}
 use Rattle.station.proofs.JoinNumbers.{minus-small-is}

@@ -2,5 +2,4 @@ pub mod Small
 pub mod Returned
 pub mod Joined
 pub mod Rosters
-pub mod SheetCall
 pub mod Sheets

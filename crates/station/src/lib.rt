@@ -1,6 +1,4 @@
 // What a station links: every entry for C, over the proved calls. A slice is a pointer and a length in C (tools/station/planner.h).
-pub mod sheets; // sheets.rt: the call with a sheet
-
 use call::Choices;
 use evaluate::Checked;
 use join::Joined;
@@ -123,7 +121,7 @@ pub extern "C" fn compile_sheet(
 ) -> i64
     ensures { λ r. ⌜ Sheet-returns (now (words .entry)) (now (output .entry)) (now (work .entry)) (now (output .exit)) (now (work .exit)) (now (sheet .entry)) (now (sheet .exit)) (now (bytes .entry)) (now (bytes .exit)) r ⌝ }
 {
-    match sheets::compile_sheet(words, output, work, sheet) {
+    match planner::compile_sheet(words, output, work, sheet) {
         Sheeted::Compiled(n, m) => {
             put_count(bytes, m);
             n as i64

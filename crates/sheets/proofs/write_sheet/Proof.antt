@@ -1,8 +1,8 @@
--- `sheets::write_sheet` meets its contract.
-use Rattle.station.proofs.SheetLaws.{sheet-of-words}
+-- `write_sheet` meets its contract.
+use Rattle.sheets.proofs.Laws.{sheet-of-words}
 use borrow.Author.Needs.{needs}
-use Rattle.station.proofs.sheets.write_sheet.Statement.{statement}
-use Rattle.station.proofs.sheets.write_sheet.Tie as tie
+use Rattle.sheets.proofs.write_sheet.Statement.{statement}
+use Rattle.sheets.proofs.write_sheet.Tie as tie
 
 count-at-requires : tie.Need-count-at-requires
 count-at-requires c κs = search needs

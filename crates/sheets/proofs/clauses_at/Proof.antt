@@ -1,8 +1,8 @@
--- `sheets::clauses_at` meets its contract.
-use Rattle.station.proofs.SheetLaws.{clauses-found}
+-- `clauses_at` meets its contract.
+use Rattle.sheets.proofs.Laws.{clauses-found}
 use borrow.Author.Needs.{needs}
-use Rattle.station.proofs.sheets.clauses_at.Statement.{statement}
-use Rattle.station.proofs.sheets.clauses_at.Tie as tie
+use Rattle.sheets.proofs.clauses_at.Statement.{statement}
+use Rattle.sheets.proofs.clauses_at.Tie as tie
 
 stop-requires : tie.Need-stop-requires
 stop-requires c κs = search needs

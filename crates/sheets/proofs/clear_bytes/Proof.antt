@@ -1,13 +1,13 @@
--- `sheets::clear_bytes` meets its contract.
+-- `clear_bytes` meets its contract.
 use mathlib.Core.Path.{_≡_, refl, _∙_}
 use Prim.Native.Nat.{_-_, _≤_}
 use native.Mathlib.Omega.{arith}
 use lib.ListN.{length, take, length-set}
 use Rattle.sheetback.specs.Sheeted.{no-bytes}
-use Rattle.station.proofs.SheetLaws.{cleared-next, cleared-all}
+use Rattle.sheets.proofs.Laws.{cleared-next, cleared-all}
 use borrow.Author.Needs.{needs}
-use Rattle.station.proofs.sheets.clear_bytes.Statement.{statement}
-use Rattle.station.proofs.sheets.clear_bytes.Tie as tie
+use Rattle.sheets.proofs.clear_bytes.Statement.{statement}
+use Rattle.sheets.proofs.clear_bytes.Tie as tie
 
 abbrev Inv-loop : tie.InvT-loop
 Inv-loop s₀ i₀ s i = (i ≤ length s) × (length s ≡ length s₀) × (take i s ≡ no-bytes i)

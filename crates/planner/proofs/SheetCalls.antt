@@ -15,16 +15,15 @@ use Rattle.laws.specs.Slices.{zeros}
 use Rattle.answer.specs.Answer.{clause-words}
 use Rattle.call.specs.Call.{Result, compiled, contradiction, refused, unchosen, call, output-after}
 use Rattle.call.specs.Claim.{satisfied, Passed}
 use Rattle.planner.specs.declared.Answer.{Answer}
 use Rattle.planner.specs.declared.Answer.the-variants as planned
 use Rattle.planner.specs.Contract.{answer-of, Compiles}
 use Rattle.sheetback.specs.ReadSheet.{read-sheet}
 use Rattle.sheetback.specs.Sheeted.{sheet-text, with-sheet, sheet-call, no-bytes, sheet-after}
 use Rattle.sheetback.specs.CallBack.{answer-clauses, call-laid, sheet-back}
-use Rattle.station.specs.SheetCall.{sheeted-of, Sheets, Answered, SomeAnswered, Finishes}
-use Rattle.station.specs.declared.sheets.Sheeted.{Sheeted}
-use Rattle.station.specs.declared.sheets.Sheeted.the-variants as sheeted
-use Rattle.station.proofs.SheetLaws.{compiled-words}
+use Rattle.sheets.specs.Contract.{sheeted-of, Sheets, Answered, SomeAnswered, Finishes, compiled-words}
+use Rattle.sheets.specs.declared.Sheeted.{Sheeted}
+use Rattle.sheets.specs.declared.Sheeted.the-variants as sheeted
 
 differ : {X : Type 0} → _≡_ {A = ℕ} 0 1 → X
 differ z = absurd (omega arith)

@@ -1,13 +1,14 @@
--- The contract of `sheets::compile_sheet`: its answer, every word and every byte are the definition's (sheetback/Sheeted), for all words and lengths;
+-- The contract of `planner::compile_sheet`: its answer, every word and every byte are the definition's (sheetback/Sheeted), for all words and lengths;
 -- and what the answer says of the set (demand 3), and the sheet of the answer.
-use mathlib.Core.Path.{_≡_}
+use mathlib.Core.Path.{_≡_, ap, _∙_}
 use mathlib.Core.Logic.{_↔_}
 use mathlib.Core.Bool.{true, false}
 use mathlib.Core.List.{List}
 use mathlib.Core.Option.{some}
-use Prim.Native.Nat.{ℕ, _≤_}
+use Prim.Native.Nat.{ℕ, _-_, _≤_}
 use lib.IntN.{ℤ}
 use lib.ListN.{length, take}
+use lib.Seq.{take-append-seam}
 use Rattle.laws.specs.Lists.{counted}
 use Rattle.laws.specs.Slices.{zeros}
 use Rattle.syntax.specs.Satisfies.{Val, IVal}
@@ -18,8 +19,8 @@ use Rattle.call.specs.Claim.{within, satisfied, Passed}
 use Rattle.sheetback.specs.ReadSheet.{read-sheet}
 use Rattle.sheetback.specs.Sheeted.{sheet-text, with-sheet, sheet-call, no-bytes, sheet-after}
 use Rattle.sheetback.specs.CallBack.{answer-clauses}
-use Rattle.station.specs.declared.sheets.Sheeted.{Sheeted}
-use Rattle.station.specs.declared.sheets.Sheeted.the-variants.{Compiled, Contradiction, Refused}
+use Rattle.sheets.specs.declared.Sheeted.{Sheeted}
+use Rattle.sheets.specs.declared.Sheeted.the-variants.{Compiled, Contradiction, Refused}
 
 -- the result in the code's values: the words of the answer and the bytes of the sheet, a contradiction, or the refusal's number
 unfoldable pub sheeted-of : List ℤ → Result → Sheeted
@@ -53,3 +54,8 @@ pub record SomeAnswered (set output : List ℤ) (n : ℕ) (sheet : List ℕ) : T
 pub record Finishes (set output output' : List ℤ) (n : ℕ) (sheet sheet' : List ℕ) (r : Sheeted) : Type 0 where
   pub finishes : (ws : List ℤ) → Answered set ws output n sheet
       → (r ≡ sheeted-of set (with-sheet set (length sheet) (compiled ws))) × (output' ≡ output-after (with-sheet set (length sheet) (compiled ws)) (length output)) × (sheet' ≡ sheet-after set (with-sheet set (length sheet) (compiled ws)) (length sheet))
+
+-- the answer's words in the output that the call left
+pub compiled-words : (ws output : List ℤ) → output ≡ output-after (compiled ws) (length output) → take (length ws) output ≡ ws
+unfolding output-after
+compiled-words ws output e = ap (take (length ws)) e ∙ take-append-seam ws (zeros (length output - length ws))

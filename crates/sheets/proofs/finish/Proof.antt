@@ -1,8 +1,8 @@
--- `sheets::finish` meets its contract.
-use Rattle.station.proofs.SheetLaws.{some-fits, finish-fits, finish-over}
+-- `finish` meets its contract.
+use Rattle.sheets.proofs.Laws.{some-fits, finish-fits, finish-over}
 use borrow.Author.Needs.{needs}
-use Rattle.station.proofs.sheets.finish.Statement.{statement}
-use Rattle.station.proofs.sheets.finish.Tie as tie
+use Rattle.sheets.proofs.finish.Statement.{statement}
+use Rattle.sheets.proofs.finish.Tie as tie
 
 slice-reshare-prefix-write-sheet : tie.Need-slice-reshare-prefix-write-sheet
 slice-reshare-prefix-write-sheet c = some-fits (c .before .pre) .1

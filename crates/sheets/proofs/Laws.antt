@@ -8,7 +8,7 @@ use native.Mathlib.Numerals.{add-one}
 use lib.IntN.{ℤ, pos}
 use lib.Dec.{ltb}
 use lib.ListN.{length, take, drop, set, length-append, length-replicate, replicate-append-replicate}
-use lib.Seq.{sets, sets-eq, take-suc-set, take-all, drop-nil, drop-drop, take-append-seam}
+use lib.Seq.{sets, sets-eq, take-suc-set, take-all, drop-nil, drop-drop}
 use borrow.Author.Tests.{lt-ltb, le-ltb}
 use Rattle.laws.specs.Slices.{zeros}
 use Rattle.syntax.specs.Words.{max-answer-words}
@@ -18,8 +18,8 @@ use Rattle.lines.specs.Output.{Stops}
 use Rattle.page.specs.Sheet.{print-sheet}
 use Rattle.page.specs.Writes.{Wrote}
 use Rattle.sheetback.specs.Sheeted.{from-clauses, clauses-part, sheet-text, with-sheet, no-bytes, sheet-after}
-use Rattle.station.specs.SheetCall.{sheeted-of, Answered, SomeAnswered, Finishes}
-use Rattle.station.specs.declared.sheets.Sheeted.the-variants.{Compiled, Refused}
+use Rattle.sheets.specs.Contract.{sheeted-of, Answered, SomeAnswered, Finishes, compiled-words}
+use Rattle.sheets.specs.declared.Sheeted.the-variants.{Compiled, Refused}
 
 -- ---- bytes cleared: those below i are 0
 
@@ -65,10 +65,6 @@ zeros-length n = length-replicate n (pos 0)
 compiled-fits : (ws output : List ℤ) → output ≡ output-after (compiled ws) (length output) → length ws ≤ length output
 unfolding output-after
 compiled-fits ws output e = let z : ℕ = length output - length ws in omega (arith, ap length e, length-append ws (zeros z), zeros-length z)
-
-pub compiled-words : (ws output : List ℤ) → output ≡ output-after (compiled ws) (length output) → take (length ws) output ≡ ws
-unfolding output-after
-compiled-words ws output e = ap (take (length ws)) e ∙ take-append-seam ws (zeros (length output - length ws))
 
 pub some-fits : {set output : List ℤ} {n : ℕ} {sheet : List ℕ} → SomeAnswered set output n sheet → (n ≡ length (take n output)) × (n ≤ length output) × (length (take n output) ≤ max-answer-words)
 some-fits {set} {output} {n} s =

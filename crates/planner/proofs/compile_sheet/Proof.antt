@@ -1,8 +1,8 @@
--- `sheets::compile_sheet` meets its contract.
-use Rattle.station.proofs.SheetCalls.{some-answered, sheets-compiled, sheets-refused, sheets-contradiction}
+-- `compile_sheet` meets its contract.
+use Rattle.planner.proofs.SheetCalls.{some-answered, sheets-compiled, sheets-refused, sheets-contradiction}
 use borrow.Author.Needs.{needs}
-use Rattle.station.proofs.sheets.compile_sheet.Statement.{statement}
-use Rattle.station.proofs.sheets.compile_sheet.Tie as tie
+use Rattle.planner.proofs.compile_sheet.Statement.{statement}
+use Rattle.planner.proofs.compile_sheet.Tie as tie
 
 clear-bytes-requires : tie.Need-clear-bytes-requires
 clear-bytes-requires c κs = search needs

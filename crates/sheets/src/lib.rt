@@ -1,13 +1,12 @@
-// The call with a sheet: a set's words are compiled into the output slice, and the clause sheet of the answer is written into the lent bytes.
+// What the call with a sheet does besides compiling: the clause sheet of an answer's words into the lent bytes, or refusal 13. The call is planner's `compile_sheet`.
 use lines::count_at;
 use lines::stop;
-use planner::Answer;
 ghost use mathlib.Core.Path.{_≡_};
 ghost use Prim.Native.Nat.{_≤_, _<_};
 ghost use lib.ListN.{length, drop};
 ghost use Rattle.page.specs.Writes.{Wrote, Few};
 ghost use Rattle.sheetback.specs.Sheeted.{from-clauses, sheet-text, no-bytes};
-ghost use Rattle.station.specs.SheetCall.{Sheets, SomeAnswered, Finishes};
+ghost use Rattle.sheets.specs.Contract.{SomeAnswered, Finishes};
 
 // The words of the answer and the bytes of its sheet, a contradiction, or the refusal's number.
 pub enum Sheeted {
@@ -17,7 +16,7 @@ pub enum Sheeted {
 }
 
 // Every byte becomes 0.
-fn clear_bytes(s: &mut [u8])
+pub fn clear_bytes(s: &mut [u8])
     ensures { λ _. ⌜ now (s .exit) ≡ no-bytes (length (now (s .entry))) ⌝ }
 {
     let mut i = 0;
@@ -53,7 +52,7 @@ fn write_sheet(set: &[i32], words: &[i32], sheet: &mut [u8]) -> usize
 }
 
 // The sheet of an answer of n words, or refusal 13 where it does not fit.
-fn finish(set: &[i32], output: &mut [i32], n: usize, sheet: &mut [u8]) -> Sheeted
+pub fn finish(set: &[i32], output: &mut [i32], n: usize, sheet: &mut [u8]) -> Sheeted
     requires { ⌜ SomeAnswered (now set) (now output) n (now sheet) ⌝ }
     ensures { λ r. ⌜ Finishes (now (set .entry)) (now (output .entry)) (now (output .exit)) n (now (sheet .entry)) (now (sheet .exit)) r ⌝ }
 {
@@ -64,16 +63,4 @@ fn finish(set: &[i32], output: &mut [i32], n: usize, sheet: &mut [u8]) -> Sheete
     memory::clear(output);
     clear_bytes(sheet);
     Sheeted::Refused(13)
-}
-
-// As `compile`, with the sheet of the answer, zero behind it. After a contradiction or a refusal output and sheet are zero.
-pub fn compile_sheet(set: &[i32], output: &mut [i32], work: &mut [i32], sheet: &mut [u8]) -> Sheeted
-    ensures { λ r. ⌜ Sheets (now (set .entry)) (now (output .entry)) (now (work .entry)) (now (output .exit)) (now (work .exit)) (now (sheet .entry)) (now (sheet .exit)) r ⌝ }
-{
-    clear_bytes(sheet);
-    match planner::compile(set, output, work) {
-        Answer::Compiled(n) => finish(set, output, n, sheet),
-        Answer::Contradiction => Sheeted::Contradiction,
-        Answer::Refused(k) => Sheeted::Refused(k),
-    }
 }
