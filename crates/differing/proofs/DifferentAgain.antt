@@ -32,8 +32,8 @@ use Rattle.numbering.specs.declared.Progress.{Progress}
 use Rattle.numbering.specs.declared.Room.{Room}
 use Rattle.numbering.specs.Declares.{declares-kept}
 use Rattle.numbering.specs.Task.{skip, Low, state-of}
-use Rattle.setnumbers.specs.Tasks.{stmt-task}
-use Rattle.setnumbers.proofs.Words.{different-words}
+use Rattle.numbering.specs.Tasks.{stmt-task}
+use Rattle.stmtwords.proofs.Words.{different-words}
 use Rattle.rows.specs.Emit.{clauses-words, Clauses, Behind}
 use Rattle.rows.proofs.Looping.{clauses-to}
 use Rattle.differing.specs.Values.{Over, SomeOver, PutValues}

@@ -19,9 +19,9 @@ use Rattle.walks.specs.Written.{written, written-lines}
 use Rattle.stages.specs.StatementsParts.{again-text, again-lines}
 use Rattle.declared.specs.DomainTable.{Declares}
 use Rattle.numbering.specs.Task.{Low, Ready, Done, Left, left-all, left-next, left-last-at, ready-last, Starts}
-use Rattle.setnumbers.specs.Cleared.{Cleared, pair-ifs}
+use Rattle.stmtwords.specs.Cleared.{Cleared, pair-ifs}
 use Rattle.numbering.specs.Rules.{pair-task}
-use Rattle.setnumbers.specs.Tasks.{clear-task, cleared-task}
+use Rattle.numbering.specs.Tasks.{clear-task, cleared-task}
 use Rattle.rulewriter.specs.Places.{Placed, AllFit}
 use Rattle.rulewriter.specs.Ties.{Blocks}
 use Rattle.rulewriter.specs.Pair.{pair-numbers, blocks-over}

@@ -36,7 +36,7 @@ use Rattle.declared.specs.DomainTable.{Declares}
 use Rattle.numbering.specs.Declares.{declares-kept}
 use Rattle.numbering.specs.Task.{Low, Kept, kept-same, kept-then}
 use Rattle.numbering.specs.Fits.{Unless}
-use Rattle.setnumbers.specs.Tasks.{cleared-task}
+use Rattle.numbering.specs.Tasks.{cleared-task}
 use Rattle.rulewriter.specs.Pair.{pair-numbers}
 
 -- ---- parts one after another

@@ -29,8 +29,8 @@ use Rattle.stages.specs.StatementsParts.{Part, again-text, again-lines, Stage, 
 use Rattle.stages.specs.Pairs.{pair-stage, pair-stage-walks, sides-words, row-stages, pairs-stages, SidesStand, sides-rest}
 use Rattle.numbering.specs.Task.{Task}
 use Rattle.numbering.specs.Fits.{Unless}
-use Rattle.setnumbers.specs.Tasks.{cleared-task, row-task, pairs-task}
-use Rattle.setnumbers.specs.FollowStatements.{pair-follows, side-words, side-end, side-agrees}
+use Rattle.numbering.specs.Tasks.{cleared-task, row-task, pairs-task}
+use Rattle.numbering.specs.FollowStatements.{pair-follows, side-words, side-end, side-agrees}
 use Rattle.differing.specs.Again.{meet-until, until-full, until-more, pair-part, row-parts, pairs-parts, PairAsks, RowAsks, PairsAsk, pair-part-fits, pair-part-text, pair-part-lines}
 
 module _ (ds : List Domain) (F : List ℤ) (parted : ℕ → Bool) (rec cap : ℕ) (with-ifs : Bool) (before : List ℤ) (low : cap < limit) where

@@ -31,7 +31,7 @@ use Rattle.stages.specs.StatementsParts.{Stage, parts, parts-text, parts-lines,
 use Rattle.stages.specs.Pairs.{pair-stage, sides-words, row-stages, pairs-stages}
 use Rattle.stages.specs.Different.{values-stages, different-stages}
 use Rattle.stages.specs.StatementsEach.{parts-behind}
-use Rattle.setnumbers.specs.NoIf.{NoIf, none-int, no-splits, no-ties}
+use Rattle.stmtwords.specs.NoIf.{NoIf, none-int, no-splits, no-ties}
 use Rattle.differing.specs.Standing.{At, Standing}
 use Rattle.differing.specs.Pair.{pair-words, PairFits}
 use Rattle.differing.specs.Rows.{end-at, row-words, RowFits, pairs-words, PairsFit, pair-count}

@@ -21,7 +21,7 @@ use Rattle.stages.specs.StatementsPlaces.{LegalStmt, PartedFrom, Marked}
 use Rattle.numbering.specs.declared.Progress.{Progress}
 use Rattle.numbering.specs.declared.Room.{Room}
 use Rattle.numbering.specs.Task.{skip, state-of}
-use Rattle.setnumbers.specs.Tasks.{stmt-task}
+use Rattle.numbering.specs.Tasks.{stmt-task}
 use Rattle.rows.specs.Emit.{Clauses}
 use Rattle.differing.specs.Values.{Over}
 

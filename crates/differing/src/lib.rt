@@ -465,7 +465,7 @@ fn rewrite_pair(
     requires { ⌜ (c .used ≤ room .cap) × (p ≤ folded-end) × (q ≤ folded-end) × Asked (pair-redo (room .records) (room .cap) (read-part (now work)) p q) (state-of (now work) (now none) c) (room .records) × Ahead (now out) o k ⌝ }
     ensures { λ r. ⌜ Redone (room .cap) (pair-redo (room .records) (room .cap) (read-part (now (work .entry))) p q) (state-of (now (work .entry)) (now (none .entry)) c) (state-of (now (work .exit)) (now (none .exit)) (r .walk)) (now (out .entry)) o k (now (out .exit)) (r .at) (r .clauses) ⌝ }
 {
-    setnumbers::clear_pair(work, p, q);
+    stmtwords::clear_pair(work, p, q);
     let d = numbering::number_pair(work, none, p, q, room, c);
     if room.cap < d.used {
         return Rewritten {

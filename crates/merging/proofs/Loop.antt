@@ -25,9 +25,9 @@ use Rattle.statements.specs.Stages.{stmts-words, settled-short, Folded, Started
 use Rattle.stages.specs.StatementsPlaces.{LegalStmt}
 use Rattle.stages.specs.StartLegal.{settled-legal}
 use Rattle.stages.specs.StartTies.{stmt-tied}
-use Rattle.setnumbers.specs.Stands.{WellRows, Stands, SomeStmt, StmtEnds}
-use Rattle.setnumbers.specs.Rows.{settled-rows}
-use Rattle.setnumbers.proofs.Ends.{some-word}
+use Rattle.stmtwords.specs.Stands.{WellRows, Stands, SomeStmt, StmtEnds}
+use Rattle.stmtwords.specs.Rows.{settled-rows}
+use Rattle.stmtwords.proofs.Ends.{some-word}
 use Rattle.merging.specs.Merging.{Aside, Ties, MergedAll}
 use Rattle.merging.proofs.Laws.{aside-same, aside-then}
 

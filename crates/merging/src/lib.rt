@@ -102,7 +102,7 @@ fn merge_statements(work: &mut [i32], end: usize) -> usize
     let mut q = memory::FOLDED;
     let mut n = 0;
     while q < end {
-        let next = setnumbers::statement_end(work, q);
+        let next = stmtwords::statement_end(work, q);
         n = merge_statement(work, q, n);
         q = next;
     }

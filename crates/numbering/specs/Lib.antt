@@ -19,3 +19,7 @@ pub mod Columns
 pub mod LightKeys
 pub mod FitsVisit
 pub mod FitsParts
+pub mod Tasks
+pub mod Follow
+pub mod StageFits
+pub mod FollowStatements

@@ -27,10 +27,10 @@ use Rattle.stages.specs.StartFits.{StmtWithin, settled-within}
 use Rattle.stages.specs.Whole.{records-from, behind, Walkable, too-long, ended}
 use Rattle.stages.specs.WholeSet.{settled-walkable}
 use Rattle.numbering.specs.Task.{Kept, Low}
-use Rattle.setnumbers.specs.Stands.{WellRows}
-use Rattle.setnumbers.specs.Rows.{settled-rows}
+use Rattle.stmtwords.specs.Stands.{WellRows}
+use Rattle.stmtwords.specs.Rows.{settled-rows}
 use Rattle.setnumbers.specs.Numbered.{StandAll, AsksAll, DoneAll}
-use Rattle.setnumbers.specs.Follow.{Agree, same, full}
+use Rattle.numbering.specs.Follow.{Agree, same, full}
 use Rattle.setnumbers.specs.Begins.{start-asks, start-agrees}
 use Rattle.front.specs.Front.{front-words}
 use Rattle.rows.specs.Emit.{clauses-words, Behind}

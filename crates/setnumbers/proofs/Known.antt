@@ -1,4 +1,4 @@
--- A tie of variables that have literals, as the code finds it.
+-- A tie of variables that have literals, as the code finds it, and where its statement ends.
 use mathlib.Core.Path.{_≡_, sym, ap, _∙_}
 use mathlib.Core.Bool.{false}
 use mathlib.Core.List.{List}
@@ -9,11 +9,14 @@ use lib.IntN.{ℤ}
 use lib.ListN.{length}
 use Rattle.laws.specs.Ints.{is-zero}
 use Rattle.memory.specs.Places.{folded-end}
+use Rattle.syntax.specs.Syntax.{Rule, Table, AllDifferent}
 use Rattle.syntax.specs.Words.{max-bools}
 use Rattle.walk.specs.Item.{bool-at}
 use Rattle.walk.specs.Decode.{word, past, below as index, read-part}
 use Rattle.walk.specs.NumberingSteps.{part-length}
-use Rattle.setnumbers.specs.KnownTie.{KnownSides, KnownTie}
+use Rattle.setnumbers.specs.KnownTie.{KnownSides, KnownTie, known-end}
+use Rattle.stmtwords.specs.Stands.{StmtEnds}
+use Rattle.stmtwords.proofs.Ends.{rule-stop, not-here}
 
 module _ (w : List ℤ) (size : folded-end ≤ length w) where
   past-is : (p q : ℕ) → q ≡ min p folded-end → past (read-part w) p ≡ q
@@ -36,3 +39,9 @@ module _ (w : List ℤ) (size : folded-end ≤ length w) where
 
   pub iff-known : (at k p : ℕ) → k ≡ word (read-part w) at → k ≡ 16 → p ≡ min (at + 1) folded-end → KnownSides w p → KnownTie w at
   iff-known at k p h e hp x = record { code = inr (sym h ∙ e); sides = rw (past-is (at + 1) p hp) x }
+
+  -- k: the statement's first word
+  pub known-ends : (at k : ℕ) → k ≡ word (read-part w) at → (q : ℕ) → k ≡ 1 → KnownTie w (at + 1) → q ≡ min (at + 6) folded-end → StmtEnds w at q
+  known-ends at k hk q z t i (Rule e) h = let x = part-length w size in omega (arith, x, known-end w (at + 1) 0 t, rule-stop w at e h)
+  known-ends at k hk q z t i (Table es rows) h = not-here w at k hk (Table es rows) (λ x. omega (arith, z, x)) h
+  known-ends at k hk q z t i (AllDifferent es) h = not-here w at k hk (AllDifferent es) (λ x. omega (arith, z, x)) h

@@ -1,6 +1,3 @@
-pub mod Clearing
-pub mod Words
-pub mod Ends
 pub mod Numbering
 pub mod Tables
 pub mod Statements

@@ -23,11 +23,11 @@ use Rattle.numbering.specs.Steps.{int-at}
 use Rattle.numbering.specs.TieWalk.{int-skips-as}
 use Rattle.numbering.specs.Rules.{pair-task}
 use Rattle.numbering.specs.Columns.{column-task}
-use Rattle.setnumbers.specs.Cleared.{Cleared, pair-ifs}
-use Rattle.setnumbers.specs.Tasks.{stopping, columns-task, clear-task, cleared-task, row-task, pairs-task, Quits, quits-skip, Before, before-none, row-before, row-quits, pairs-quit}
+use Rattle.stmtwords.specs.Cleared.{Cleared, pair-ifs}
+use Rattle.numbering.specs.Tasks.{stopping, columns-task, clear-task, cleared-task, row-task, pairs-task, Quits, quits-skip, Before, before-none, row-before, row-quits, pairs-quit}
 use Rattle.setnumbers.specs.Once.{each-task, PlainSides, once-meets, once-fits}
 use Rattle.setnumbers.specs.Numbered.{Asks}
-use Rattle.setnumbers.proofs.Words.{columns-more, columns-none}
+use Rattle.stmtwords.proofs.Words.{columns-more, columns-none}
 
 -- ---- stopping
 

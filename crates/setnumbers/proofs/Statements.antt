@@ -20,14 +20,14 @@ use Rattle.stages.specs.StatementsPlaces.{stmts-words}
 use Rattle.numbering.specs.Declares.{upper}
 use Rattle.numbering.specs.Task.{Task, skip, then, Low, kept-same, Done, Left, left-all, left-done, left-next}
 use Rattle.numbering.specs.Rules.{rule-task}
-use Rattle.setnumbers.specs.Stands.{Stands, SomeStmt, StmtEnds}
+use Rattle.stmtwords.specs.Stands.{Stands, SomeStmt, StmtEnds}
 use Rattle.setnumbers.specs.PlainStmt.{PlainStmt}
 use Rattle.setnumbers.specs.Once.{PlainSides}
-use Rattle.setnumbers.specs.Tasks.{stopping, pairs-task, table-task, stmt-task, stmts-task, stmt-before, stmts-quit}
+use Rattle.numbering.specs.Tasks.{stopping, pairs-task, table-task, stmt-task, stmts-task, stmt-before, stmts-quit}
 use Rattle.setnumbers.specs.KnownTie.{KnownTie, known-stays}
 use Rattle.setnumbers.specs.Numbered.{Asks, AsksTable, DoneTable, AsksStmt, DoneStmt, StandAll, AsksAll, DoneAll}
-use Rattle.setnumbers.proofs.Words.{different-words}
-use Rattle.setnumbers.proofs.Ends.{some-word, not-here}
+use Rattle.stmtwords.proofs.Words.{different-words}
+use Rattle.stmtwords.proofs.Ends.{some-word, not-here}
 use Rattle.setnumbers.proofs.Numbering.{left-full, left-before, asks-next}
 
 -- ---- a task where the walk is not full

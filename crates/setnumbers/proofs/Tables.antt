@@ -16,11 +16,11 @@ use Rattle.rows.specs.Stands.{cells-words}
 use Rattle.statements.specs.Table.{table-fresh}
 use Rattle.stages.specs.Columns.{columns-end}
 use Rattle.numbering.specs.Task.{Done, done-bools}
-use Rattle.setnumbers.specs.Fresh.{RowsStand, Freshens}
-use Rattle.setnumbers.specs.Stands.{Stands}
-use Rattle.setnumbers.specs.Tasks.{columns-task}
+use Rattle.stmtwords.specs.Fresh.{RowsStand, Freshens}
+use Rattle.stmtwords.specs.Stands.{Stands}
+use Rattle.numbering.specs.Tasks.{columns-task}
 use Rattle.setnumbers.specs.Numbered.{Asks, AsksTable, DoneTable}
-use Rattle.setnumbers.proofs.Words.{table-words, rows-place}
+use Rattle.stmtwords.proofs.Words.{table-words, rows-place}
 
 module _ (rec cap at : ℕ) (st : State) (n : ℕ) (hn : n ≡ word (read-part (st .work)) (at + 1)) where
   pub columns-asks : AsksTable rec cap at st → Asks (columns-task rec cap (read-part (st .work)) n (at + 3)) st rec

@@ -21,8 +21,8 @@ use Rattle.stages.specs.Start.{start, Begun}
 use Rattle.stages.specs.StartFits.{StmtWithin}
 use Rattle.stages.specs.Whole.{records-from, set-stages, behind, Walkable, cap-low, begins}
 use Rattle.declared.specs.DomainTable.{Declares}
-use Rattle.setnumbers.specs.Stands.{WellRows}
-use Rattle.setnumbers.specs.Follow.{Agree}
+use Rattle.stmtwords.specs.Stands.{WellRows}
+use Rattle.numbering.specs.Follow.{Agree}
 use Rattle.setnumbers.specs.Numbered.{StandAll, AsksAll, DoneAll, all-ask, all-agree}
 
 -- ss: the statements that the passes leave of p, F: the folded words; w, n: the work slice and how many numbers merging gave. m: merging chosen

@@ -24,11 +24,11 @@ use Rattle.stages.specs.Statements.{stmts-stages}
 use Rattle.stages.specs.StartFits.{StmtWithin}
 use Rattle.declared.specs.DomainTable.{Declares}
 use Rattle.numbering.specs.Task.{Task, skip, Low, Ready, Done}
-use Rattle.setnumbers.specs.Stands.{WellRows, Stands, SomeTable}
+use Rattle.stmtwords.specs.Stands.{WellRows, Stands, SomeTable}
 use Rattle.setnumbers.specs.PlainStmt.{PlainStmt, plain-stmts}
-use Rattle.setnumbers.specs.Tasks.{table-task, stmt-task, stmts-task}
-use Rattle.setnumbers.specs.Follow.{Agree, Followed}
-use Rattle.setnumbers.specs.FollowStatements.{stmts-followed}
+use Rattle.numbering.specs.Tasks.{table-task, stmt-task, stmts-task}
+use Rattle.numbering.specs.Follow.{Agree, Followed}
+use Rattle.numbering.specs.FollowStatements.{stmts-followed}
 
 pub record Asks (t : Task) (st : State) (rec : ℕ) : Type 0 where
   pub long : min-work-words ≤ length (st .work)

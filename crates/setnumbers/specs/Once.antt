@@ -28,9 +28,9 @@ use Rattle.numbering.specs.Task.{Task, skip, then}
 use Rattle.numbering.specs.Fits.{form-fits, int-fits, terms-fit}
 use Rattle.numbering.specs.Steps.{int-at}
 use Rattle.numbering.specs.Rules.{pair-task}
-use Rattle.setnumbers.specs.Cleared.{pair-ifs}
-use Rattle.setnumbers.specs.NoIf.{NoIf, NoIfTerms, no-splits, no-ties}
-use Rattle.setnumbers.specs.Tasks.{clear-task, cleared-task, row-task, pairs-task}
+use Rattle.stmtwords.specs.Cleared.{pair-ifs}
+use Rattle.stmtwords.specs.NoIf.{NoIf, NoIfTerms, no-splits, no-ties}
+use Rattle.numbering.specs.Tasks.{clear-task, cleared-task, row-task, pairs-task}
 use Rattle.setnumbers.specs.MeetVars.{HasNumber, Unmarked, meet-vars, vars-append, vars-stay, vars-kept, vars-met, vars-unmarked}
 
 -- so many expressions from p on, each met once; ws: the words that are read

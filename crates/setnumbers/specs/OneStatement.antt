@@ -23,11 +23,11 @@ use Rattle.stages.specs.StatementsEach.{StmtAgain, stmt-pass}
 use Rattle.stages.specs.StartFits.{StmtWithin}
 use Rattle.declared.specs.DomainTable.{Declares}
 use Rattle.numbering.specs.Task.{skip}
-use Rattle.setnumbers.specs.Stands.{WellRows}
+use Rattle.stmtwords.specs.Stands.{WellRows}
 use Rattle.setnumbers.specs.PlainStmt.{plain-stmt}
-use Rattle.setnumbers.specs.Tasks.{stmt-task}
-use Rattle.setnumbers.specs.Follow.{Agree, same, full, Followed}
-use Rattle.setnumbers.specs.FollowStatements.{stmt-followed}
+use Rattle.numbering.specs.Tasks.{stmt-task}
+use Rattle.numbering.specs.Follow.{Agree, same, full, Followed}
+use Rattle.numbering.specs.FollowStatements.{stmt-followed}
 use Rattle.setnumbers.specs.Numbered.{standing-low, standing-plain, AsksStmt, DoneStmt}
 
 -- the statement t at q, ts behind it; end: where the statements end; st: the state before it, of the log s

@@ -12,7 +12,7 @@ use Rattle.walks.specs.Legal.{LegalInt}
 use Rattle.stages.specs.StatementsParts.{NoIfs}
 use Rattle.stages.specs.StatementsPlaces.{stmts-words, LegalStmt}
 use Rattle.stages.specs.Pairs.{sides-words}
-use Rattle.setnumbers.specs.NoIf.{NoIf, none-int}
+use Rattle.stmtwords.specs.NoIf.{NoIf, none-int}
 
 -- no If in an AllDifferent
 abbrev pub PlainStmt : Stmt → Type 0

@@ -26,8 +26,8 @@ use Rattle.stages.specs.StatementsTrees.{splits-within}
 use Rattle.stages.specs.StatementsEach.{parts-behind, stmt-written}
 use Rattle.stages.specs.Statements.{stmt-stages}
 use Rattle.stages.specs.StartFits.{StmtWithin}
-use Rattle.setnumbers.specs.Stands.{Stands as StmtStands, StmtEnds}
-use Rattle.setnumbers.proofs.Words.{DifferentWords}
+use Rattle.stmtwords.specs.Stands.{Stands as StmtStands, StmtEnds}
+use Rattle.stmtwords.proofs.Words.{DifferentWords}
 use Rattle.differing.specs.Rows.{Puts}
 use Rattle.differing.specs.Values.{Over}
 use Rattle.differing.specs.Different.{different-words, different-lines, SomeDifferent, PutDifferent}

@@ -21,7 +21,7 @@ use Rattle.walks.specs.Tree.{below}
 use Rattle.walks.specs.DecodeExact.{rule-at}
 use Rattle.walks.specs.SumsFit.{rule-fits}
 use Rattle.scan.specs.Skip.{Skips}
-use Rattle.setnumbers.proofs.Ends.{some-inside}
+use Rattle.stmtwords.proofs.Ends.{some-inside}
 use Rattle.rulewriter.specs.declared.Tied.{Tied}
 use Rattle.rulewriter.specs.Places.{Placed, AllFit}
 use Rattle.rulewriter.specs.Ties.{Blocks, behind-rule}

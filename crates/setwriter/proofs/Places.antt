@@ -12,9 +12,9 @@ use Rattle.syntax.specs.Syntax.{IntExpr, Stmt, Rule, Table, AllDifferent, encod
 use Rattle.syntax.specs.Written.{Any, EveryStmt, EveryStmts, columns-of}
 use Rattle.accept.specs.Accepted.{domains-stand}
 use Rattle.walk.specs.Decode.{word, read-part}
-use Rattle.setnumbers.specs.Stands.{WellRows, Stands as StmtStands}
-use Rattle.setnumbers.proofs.Words.{DifferentWords, different-words}
-use Rattle.setnumbers.proofs.Ends.{not-here}
+use Rattle.stmtwords.specs.Stands.{WellRows, Stands as StmtStands}
+use Rattle.stmtwords.proofs.Words.{DifferentWords, different-words}
+use Rattle.stmtwords.proofs.Ends.{not-here}
 use Rattle.differing.specs.Values.{Over}
 use Rattle.declared.specs.InSet.{Declared}
 use Rattle.setwriter.specs.Statements.{Folds, DeclaredBool, DeclaredInt, end-inside, first-to, first-words}

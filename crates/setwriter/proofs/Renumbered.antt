@@ -33,8 +33,8 @@ use Rattle.numbering.specs.declared.Progress.{Progress}
 use Rattle.numbering.specs.declared.Room.{Room}
 use Rattle.numbering.specs.Declares.{declares-kept}
 use Rattle.numbering.specs.Task.{state-of, skip, Kept}
-use Rattle.setnumbers.specs.Stands.{Stands as StmtStands, StmtEnds}
-use Rattle.setnumbers.specs.Tasks.{stmt-task}
+use Rattle.stmtwords.specs.Stands.{Stands as StmtStands, StmtEnds}
+use Rattle.numbering.specs.Tasks.{stmt-task}
 use Rattle.setnumbers.specs.Numbered.{AsksStmt, DoneStmt}
 use Rattle.setnumbers.specs.OneStatement.{stmt-fits, stmt-asks, Numbered, stmt-numbered}
 use Rattle.differing.specs.Walked.{Place as PairsPlace, Walked as PairsWalked, SomeWalked as SomePairsWalked, Rewrites}

@@ -17,7 +17,7 @@ use Rattle.walks.specs.Implements.{at, Registers}
 use Rattle.walks.specs.SumsFit.{Within}
 use Rattle.stages.specs.StatementsParts.{Part}
 use Rattle.stages.specs.StatementsRules.{rule-stage}
-use Rattle.setnumbers.specs.Stands.{Stands}
+use Rattle.stmtwords.specs.Stands.{Stands}
 use Rattle.tablewriter.specs.Step.{At as TableAt}
 use Rattle.rows.specs.Emit.{Clauses}
 use Rattle.setwriter.specs.Same.{Same}

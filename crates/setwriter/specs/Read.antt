@@ -9,8 +9,8 @@ use Rattle.syntax.specs.Syntax.{IntExpr, Stmt, Rule, Table, AllDifferent, Probl
 use Rattle.syntax.specs.Codes.{stmt-code}
 use Rattle.read.specs.WellFormed.{WellStmt}
 use Rattle.fold.specs.Fold.{Fixed, constant-folding-int as fold-int, constant-folding-stmt as fold-stmt}
-use Rattle.setnumbers.specs.Stands.{WellRows}
-use Rattle.setnumbers.specs.Rows.{rows-folded}
+use Rattle.stmtwords.specs.Stands.{WellRows}
+use Rattle.stmtwords.specs.Rows.{rows-folded}
 use Rattle.setwriter.specs.Statements.{Folds}
 
 module _ (p : Problem) (f : Fixed) where

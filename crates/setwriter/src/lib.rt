@@ -88,7 +88,7 @@ fn write_different(
     requires { ⌜ SomeMapped (now set) (now work) at n × (word-in (read-part (now work)) at ≡ 3) × Behind (now out) o k ⌝ }
     ensures { λ r. ⌜ ((x : Place) → Mapped x (now (set .entry)) (now (work .entry)) at n → Did x (now (work .entry)) at (now (out .entry)) o k (now (work .entry)) (now (out .exit)) (r .next) (r .n) (r .at) (r .clauses)) ⌝ }
 {
-    let next = setnumbers::statement_end(work, at);
+    let next = stmtwords::statement_end(work, at);
     let count = word(work, at + 1);
     let r = differing::put_different(set, work, n, at + 2, count, out, o, k);
     Step {
@@ -216,7 +216,7 @@ fn rewrite_pairs(
     requires { ⌜ SomeWalked (now set) (now work) at room c × (word-in (read-part (now work)) at ≡ 3) × Behind (now out) o k ⌝ }
     ensures { λ r. ⌜ DoesAgain (now (set .entry)) (now (work .entry)) at room c (now (out .entry)) o k (now (work .exit)) (now (out .exit)) (r .next) (r .c) (r .at) (r .clauses) ⌝ }
 {
-    let next = setnumbers::statement_end(work, at);
+    let next = stmtwords::statement_end(work, at);
     let mut none = [0i32; 0];
     let r = differing::rewrite_different(set, work, &mut none, at, room, c, out, o, k);
     let d = r.walk;

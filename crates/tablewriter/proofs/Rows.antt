@@ -49,7 +49,7 @@ use Rattle.rows.proofs.Whole.{length-vars}
 use Rattle.statements.specs.Star.{any-free, free-table}
 use Rattle.statements.specs.Table.{free-rows, free-is, starred}
 use Rattle.call.specs.WellRead.{rows-wide}
-use Rattle.setnumbers.specs.Fresh.{RowsStand, rows-small, some-of, some-not, free-count, stars-are, counts-are}
+use Rattle.stmtwords.specs.Fresh.{RowsStand, rows-small, some-of, some-not, free-count, stars-are, counts-are}
 use Rattle.stars.specs.Stars.{StarRows, Starred}
 use Rattle.tablewriter.specs.Columns.{Placed, Fits, AllFit}
 use Rattle.tablewriter.specs.Describing.{Near, AllNear, Describable, SomeDescribable, Described}

@@ -33,7 +33,7 @@ use Rattle.statements.specs.Star.{any-free, free-table}
 use Rattle.statements.specs.Table.{star-fresh, free-rows, free-is, starred, table-fresh}
 use Rattle.rows.specs.Emit.{clauses-words, Clauses}
 use Rattle.rows.proofs.Looping.{clauses-then, clauses-to}
-use Rattle.setnumbers.specs.Fresh.{Freshens}
+use Rattle.stmtwords.specs.Fresh.{Freshens}
 use Rattle.tablewriter.specs.declared.Columned.{Columned}
 use Rattle.tablewriter.specs.Columns.{AllFit, ColumnsPut}
 use Rattle.tablewriter.specs.Step.{Place, after, columns-of, At, SomeAt, Did, RowsAt, SomeRowsAt, RowsDid}

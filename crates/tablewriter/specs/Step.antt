@@ -24,7 +24,7 @@ use Rattle.declared.specs.InSet.{Declared}
 use Rattle.stages.specs.Columns.{PlacedColumns, columns-words, ColumnsStand}
 use Rattle.sorting.specs.Columns.{vars-of}
 use Rattle.rows.specs.Emit.{Clauses}
-use Rattle.setnumbers.specs.Fresh.{RowsStand}
+use Rattle.stmtwords.specs.Fresh.{RowsStand}
 use Rattle.tablewriter.specs.declared.Columned.{Columned}
 use Rattle.tablewriter.specs.Describing.{AllTold}
 

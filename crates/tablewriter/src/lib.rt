@@ -357,7 +357,7 @@ pub fn write_table(
     let e = put_columns(work, at + 3, c, n, out, o, k);
     let p = e.next;
     let b = e.n;
-    let f = setnumbers::table_fresh(work, p, c, rows);
+    let f = stmtwords::table_fresh(work, p, c, rows);
     let j = rows::lesser(e.clauses, e.at);
     let r = write_rows(set, work, at, p, c, rows, n, b.bools, out, e.at, j);
     let i = Counters {

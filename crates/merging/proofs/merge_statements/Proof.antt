@@ -6,7 +6,7 @@ use Rattle.merging.proofs.merge_statements.Tie as tie
 use Rattle.merging.proofs.merge_statements.Reads as reads
 use Rattle.merging.proofs.merge_statements.Lts as lts
 use Rattle.merging.proofs.merge_statement.Reads as merge-statement-reads
-use Rattle.setnumbers.proofs.statement_end.Reads as statement-end-reads
+use Rattle.stmtwords.proofs.statement_end.Reads as statement-end-reads
 
 abbrev Inv-loop : tie.InvT-loop
 Inv-loop work₀ end q₀ n₀ work q n = Sofar work₀ end work n q

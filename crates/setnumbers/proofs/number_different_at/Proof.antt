@@ -2,8 +2,8 @@ use mathlib.Core.Path.{refl}
 use native.Mathlib.Omega.{arith}
 use Rattle.walk.specs.Decode.{word, read-part}
 use Rattle.numbering.specs.Task.{state-of}
-use Rattle.setnumbers.proofs.Words.{different-inside}
-use Rattle.setnumbers.proofs.Ends.{some-different, different-ends}
+use Rattle.stmtwords.proofs.Words.{different-inside}
+use Rattle.stmtwords.proofs.Ends.{some-different, different-ends}
 use Rattle.setnumbers.proofs.Statements.{different-asks, different-plain, different-done}
 use borrow.Author.Needs.{needs}
 use Rattle.setnumbers.proofs.number_different_at.Statement.{statement}

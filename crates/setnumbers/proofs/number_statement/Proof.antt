@@ -1,7 +1,8 @@
 use native.Mathlib.Omega.{arith}
 use mathlib.Core.Path.{refl, sym, _∙_}
 use Rattle.scan.specs.Skip.{split-by}
-use Rattle.setnumbers.proofs.Ends.{some-inside, rule-ends, known-ends, table-only}
+use Rattle.stmtwords.proofs.Ends.{some-inside, rule-ends, table-only}
+use Rattle.setnumbers.proofs.Known.{known-ends}
 use Rattle.setnumbers.proofs.Numbering.{starts-of}
 use Rattle.setnumbers.proofs.Statements.{rule-asks, rule-done, known-done, table-asks, table-stmt-done}
 use borrow.Author.Needs.{needs}
@@ -27,7 +28,7 @@ same-length : tie.Need-same-length
 same-length c = search needs
 
 returns : tie.Need-returns
-returns c = (known-done _ _ _ _ _ (c .before .before .before .before .before .word .ensures) (c .before .before .before .before .before .before .before .pre .0) (c .before .before .before .before .if1 .taken) (c .before .before .before .before .before .before .before .pre .1 .asks .low) (c .before .before .known-tie .ensures (c .before .if2 .taken)), (refl, refl), known-ends _ _ _ (c .before .before .before .before .before .word .ensures) _ (omega (arith, c .before .before .before .before .before .before .before .pre .1 .asks .long)) (c .before .before .before .before .if1 .taken) (c .before .before .known-tie .ensures (c .before .if2 .taken)) (c .within .ensures))
+returns c = (known-done _ _ _ _ _ (c .before .before .before .before .before .word .ensures) (c .before .before .before .before .before .before .before .pre .0) (c .before .before .before .before .if1 .taken) (c .before .before .before .before .before .before .before .pre .1 .asks .low) (c .before .before .known-tie .ensures (c .before .if2 .taken)), (refl, refl), known-ends _ (omega (arith, c .before .before .before .before .before .before .before .pre .1 .asks .long)) _ _ (c .before .before .before .before .before .word .ensures) _ (c .before .before .before .before .if1 .taken) (c .before .before .known-tie .ensures (c .before .if2 .taken)) (c .within .ensures))
 
 add-number-rule : tie.Need-add-number-rule
 add-number-rule c = omega (arith, some-inside _ _ (record { stmt = c .before .before .before .before .before .before .before .before .pre .1 .stmt; stands = c .before .before .before .before .before .before .before .before .pre .1 .stands }))

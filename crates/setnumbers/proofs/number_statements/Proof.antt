@@ -1,7 +1,7 @@
 use native.Mathlib.Omega.{arith}
 use Prim.Native.Nat.{_-_}
 use Rattle.memory.specs.Places.{folded}
-use Rattle.setnumbers.proofs.Ends.{ends-later}
+use Rattle.stmtwords.proofs.Ends.{ends-later}
 use Rattle.stages.specs.Start.{start}
 use Rattle.numbering.specs.Task.{state-of}
 use Rattle.setnumbers.proofs.Statements.{Walking, walking-first, stmt-asks, stmt-some, walking-next, walking-full, walking-last}

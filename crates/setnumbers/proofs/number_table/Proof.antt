@@ -1,5 +1,5 @@
 use native.Mathlib.Omega.{arith}
-use Rattle.setnumbers.proofs.Words.{table-inside, table-stop, table-room}
+use Rattle.stmtwords.proofs.Words.{table-inside, table-stop, table-room}
 use Rattle.setnumbers.proofs.Tables.{columns-asks, table-done}
 use borrow.Author.Needs.{needs}
 use Rattle.setnumbers.proofs.number_table.Statement.{statement}

@@ -5,7 +5,7 @@ use Rattle.setwriter.proofs.rewrite_pairs.Statement.{statement}
 use Rattle.setwriter.proofs.rewrite_pairs.Tie as tie
 use Rattle.setwriter.proofs.rewrite_pairs.Reads as reads
 use Rattle.setwriter.proofs.rewrite_pairs.Lts as lts
-use Rattle.setnumbers.proofs.statement_end.Reads as statement-end-reads
+use Rattle.stmtwords.proofs.statement_end.Reads as statement-end-reads
 use Rattle.differing.proofs.rewrite_different.Reads as rewrite-different-reads
 
 statement-end-requires : tie.Need-statement-end-requires

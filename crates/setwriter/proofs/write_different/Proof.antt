@@ -5,7 +5,7 @@ use Rattle.setwriter.proofs.write_different.Statement.{statement}
 use Rattle.setwriter.proofs.write_different.Tie as tie
 use Rattle.setwriter.proofs.write_different.Reads as reads
 use Rattle.setwriter.proofs.write_different.Lts as lts
-use Rattle.setnumbers.proofs.statement_end.Reads as statement-end-reads
+use Rattle.stmtwords.proofs.statement_end.Reads as statement-end-reads
 use Rattle.differing.proofs.put_different.Reads as put-different-reads
 use Rattle.survey.proofs.word.Reads as word-reads
 

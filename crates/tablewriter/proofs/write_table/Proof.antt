@@ -11,7 +11,7 @@ use Rattle.tablewriter.proofs.write_table.Statement.{statement}
 use Rattle.tablewriter.proofs.write_table.Tie as tie
 use Rattle.tablewriter.proofs.write_table.Reads as reads
 use Rattle.tablewriter.proofs.write_table.Lts as lts
-use Rattle.setnumbers.proofs.table_fresh.Reads as table-fresh-reads
+use Rattle.stmtwords.proofs.table_fresh.Reads as table-fresh-reads
 use Rattle.survey.proofs.bump.Reads as bump-reads
 use Rattle.survey.proofs.word.Reads as word-reads
 use Rattle.rows.proofs.lesser.Reads as lesser-reads

@@ -1,15 +1,15 @@
 use borrow.Author.Needs.{needs}
 use native.Mathlib.Omega.{arith}
-use Rattle.setnumbers.specs.Stands.{SomeTable}
-use Rattle.setnumbers.proofs.Words.{table-inside, table-room, different-inside}
-use Rattle.setnumbers.proofs.Ends.{some-inside, second-inside, some-table, some-different, rule-ends, table-ends, different-ends}
+use Rattle.stmtwords.specs.Stands.{SomeTable}
+use Rattle.stmtwords.proofs.Words.{table-inside, table-room, different-inside}
+use Rattle.stmtwords.proofs.Ends.{some-inside, second-inside, some-table, some-different, rule-ends, table-ends, different-ends}
 use Rattle.scan.proofs.skip.Reads as skip-reads
 use Rattle.survey.proofs.word.Reads as word-reads
-use Rattle.setnumbers.proofs.columns_end.Reads as columns-end-reads
-use Rattle.setnumbers.proofs.statement_end.Statement.{statement}
-use Rattle.setnumbers.proofs.statement_end.Tie as tie
-use Rattle.setnumbers.proofs.statement_end.Reads as reads
-use Rattle.setnumbers.proofs.statement_end.Lts as lts
+use Rattle.stmtwords.proofs.columns_end.Reads as columns-end-reads
+use Rattle.stmtwords.proofs.statement_end.Statement.{statement}
+use Rattle.stmtwords.proofs.statement_end.Tie as tie
+use Rattle.stmtwords.proofs.statement_end.Reads as reads
+use Rattle.stmtwords.proofs.statement_end.Lts as lts
 
 word-requires : tie.Need-word-requires
 word-requires c κs = search needs

@@ -47,13 +47,13 @@ use Rattle.stages.specs.StatementsParts.{Stage}
 use Rattle.stages.specs.StatementsRules.{rule-stage}
 use Rattle.stages.specs.TableStage.{table-stage}
 use Rattle.stages.specs.Pairs.{pair-stage, lie}
 use Rattle.numbering.specs.Task.{Task}
 use Rattle.numbering.specs.Rules.{rule-task, pair-task}
 use Rattle.numbering.specs.Columns.{column-task}
 use Rattle.numbering.specs.FitsParts.{column-full, rule-asks, pair-asks, column-asks}
-use Rattle.setnumbers.specs.PairIfs.{pair-are}
-use Rattle.setnumbers.specs.Tasks.{columns-task, clear-task, cleared-task, table-task}
-use Rattle.setnumbers.specs.Follow.{Fitting}
+use Rattle.stmtwords.specs.PairIfs.{pair-are}
+use Rattle.numbering.specs.Tasks.{columns-task, clear-task, cleared-task, table-task}
+use Rattle.numbering.specs.Follow.{Fitting}
 
 -- the numbers that a rule takes
 rule-takes : (ds : List Domain) (e : BoolExpr) (p n : ℕ) → LegalRule e 64 → n + splits e below ≤ limit → splits e below + weights ds (rule-trees e p n) ≤ rule-room e

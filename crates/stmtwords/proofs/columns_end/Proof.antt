@@ -5,11 +5,11 @@ use Prim.Native.Nat.{_≤_}
 use Rattle.memory.specs.Places.{folded-end}
 use Rattle.walk.specs.Decode.{read-part}
 use Rattle.stages.specs.Columns.{columns-end}
-use Rattle.setnumbers.proofs.Words.{columns-more, columns-none}
-use Rattle.setnumbers.proofs.columns_end.Statement.{statement}
-use Rattle.setnumbers.proofs.columns_end.Tie as tie
-use Rattle.setnumbers.proofs.columns_end.Reads as reads
-use Rattle.setnumbers.proofs.columns_end.Lts as lts
+use Rattle.stmtwords.proofs.Words.{columns-more, columns-none}
+use Rattle.stmtwords.proofs.columns_end.Statement.{statement}
+use Rattle.stmtwords.proofs.columns_end.Tie as tie
+use Rattle.stmtwords.proofs.columns_end.Reads as reads
+use Rattle.stmtwords.proofs.columns_end.Lts as lts
 use Rattle.scan.proofs.skip_int.Reads as skip-int-reads
 
 abbrev Inv-loop : tie.InvT-loop

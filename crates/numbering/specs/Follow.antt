@@ -14,8 +14,8 @@ use Rattle.clauses.specs.Log.{Log}
 use Rattle.walks.specs.Meet.{State}
 use Rattle.walks.specs.Leaves.{words-of}
 use Rattle.stages.specs.StatementsParts.{meet-parts, Stage, parts, rooms, Chained, AllKnown, Standing, Passed, full as passed-full, good as passed-good, Again, AllWalk, parts-spend, standing-less}
 use Rattle.numbering.specs.Task.{Task, skip}
-use Rattle.setnumbers.specs.Tasks.{stopping, Quits, quits-skip, quits-stopping}
+use Rattle.numbering.specs.Tasks.{stopping, Quits, quits-skip, quits-stopping}
 
 -- the same state, or full with as many words
 pub data Agree (cap : ℕ) (a b : State) : Type 0 where

@@ -1,11 +1,11 @@
-use Rattle.setnumbers.proofs.Clearing.{pair-none, pair-done}
+use Rattle.stmtwords.proofs.Clearing.{pair-none, pair-done}
 use borrow.Author.Needs.{needs}
-use Rattle.setnumbers.proofs.clear_pair.Statement.{statement}
-use Rattle.setnumbers.proofs.clear_pair.Tie as tie
-use Rattle.setnumbers.proofs.clear_pair.Reads as reads
-use Rattle.setnumbers.proofs.clear_pair.Lts as lts
+use Rattle.stmtwords.proofs.clear_pair.Statement.{statement}
+use Rattle.stmtwords.proofs.clear_pair.Tie as tie
+use Rattle.stmtwords.proofs.clear_pair.Reads as reads
+use Rattle.stmtwords.proofs.clear_pair.Lts as lts
 use Rattle.scan.proofs.has_ifs.Reads as has-ifs-reads
-use Rattle.setnumbers.proofs.clear_int.Reads as clear-int-reads
+use Rattle.stmtwords.proofs.clear_int.Reads as clear-int-reads
 
 has-ifs-requires : tie.Need-has-ifs-requires
 has-ifs-requires c κs = search needs

@@ -1,10 +1,10 @@
 use borrow.Author.Needs.{needs}
 use mathlib.Core.Path.{sym, _∙_}
-use Rattle.setnumbers.specs.Fresh.{fresh-plain, fresh-free, fresh-starred}
-use Rattle.setnumbers.proofs.table_fresh.Statement.{statement}
-use Rattle.setnumbers.proofs.table_fresh.Tie as tie
-use Rattle.setnumbers.proofs.table_fresh.Reads as reads
-use Rattle.setnumbers.proofs.table_fresh.Lts as lts
+use Rattle.stmtwords.specs.Fresh.{fresh-plain, fresh-free, fresh-starred}
+use Rattle.stmtwords.proofs.table_fresh.Statement.{statement}
+use Rattle.stmtwords.proofs.table_fresh.Tie as tie
+use Rattle.stmtwords.proofs.table_fresh.Reads as reads
+use Rattle.stmtwords.proofs.table_fresh.Lts as lts
 use Rattle.survey.proofs.fresh.Reads as fresh-reads
 use Rattle.rows.proofs.count_stars.Reads as count-stars-reads
 use Rattle.rows.proofs.has_star.Reads as has-star-reads

@@ -21,8 +21,8 @@ use Rattle.walks.specs.KeyAt.{places, SamePlaces, same-none, same-more, same-pl
 use Rattle.walks.specs.Clear.{clear-places}
 use Rattle.stages.specs.Room.{splits-int-low}
 use Rattle.stages.specs.Pairs.{clear-pair}
-use Rattle.setnumbers.specs.Ifs.{ifs-int-at, places-append, ifs-int-are}
-use Rattle.setnumbers.specs.Cleared.{Cleared, pair-ifs}
+use Rattle.stmtwords.specs.Ifs.{ifs-int-at, places-append, ifs-int-are}
+use Rattle.stmtwords.specs.Cleared.{Cleared, pair-ifs}
 
 same-are : {xs ys : List Key} → SamePlaces xs ys → places xs ≡ places ys
 same-are same-none = refl

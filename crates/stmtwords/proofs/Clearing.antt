@@ -21,8 +21,8 @@ use Rattle.walks.specs.Item.{has-ifs}
 use Rattle.walks.specs.Decode.{node-of, decode, decode-int}
 use Rattle.walks.specs.Clear.{clear-place, clear-places}
 use Rattle.scan.specs.Skip.{split-by, Skips, IntSkips, skips-none, skips-var, skips-cmp, skips-not, skips-join, skips-cross, int-none, int-leaf, int-sum, int-if, Skipping, skipping-first, skipping-next, skipping-last, TermSkipping, terms-first, terms-next, terms-last}
-use Rattle.setnumbers.specs.Ifs.{many-ifs, node-ifs, terms-ifs, if-ifs, int-node-ifs, ifs-at, ifs-int-at, ifs-level, int-ifs-level, place-at}
-use Rattle.setnumbers.specs.Cleared.{Cleared, Clears, ClearsAll, IntClears, TermClears, pair-ifs}
+use Rattle.stmtwords.specs.Ifs.{many-ifs, node-ifs, terms-ifs, if-ifs, int-node-ifs, ifs-at, ifs-int-at, ifs-level, int-ifs-level, place-at}
+use Rattle.stmtwords.specs.Cleared.{Cleared, Clears, ClearsAll, IntClears, TermClears, pair-ifs}
 
 -- ---- cells cleared one after another
 

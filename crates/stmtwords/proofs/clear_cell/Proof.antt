@@ -2,12 +2,12 @@ use native.Mathlib.Omega.{arith}
 use mathlib.Core.Path.{refl}
 use lib.IntN.{pos}
 use lib.ListN.{length-set}
-use Rattle.setnumbers.proofs.Clearing.{cell-cleared, cell-stays}
+use Rattle.stmtwords.proofs.Clearing.{cell-cleared, cell-stays}
 use borrow.Author.Needs.{needs}
-use Rattle.setnumbers.proofs.clear_cell.Statement.{statement}
-use Rattle.setnumbers.proofs.clear_cell.Tie as tie
-use Rattle.setnumbers.proofs.clear_cell.Reads as reads
-use Rattle.setnumbers.proofs.clear_cell.Lts as lts
+use Rattle.stmtwords.proofs.clear_cell.Statement.{statement}
+use Rattle.stmtwords.proofs.clear_cell.Tie as tie
+use Rattle.stmtwords.proofs.clear_cell.Reads as reads
+use Rattle.stmtwords.proofs.clear_cell.Lts as lts
 
 add-p : tie.Need-add-p
 add-p c = search needs

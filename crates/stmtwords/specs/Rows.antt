@@ -10,7 +10,7 @@ use Rattle.fold.specs.Fold.{Fixed, constant-folding-int as fold-int, constant-f
 use Rattle.fold.specs.Optimize.{settled, optimize}
 use Rattle.fold.specs.Ends.{optimize-rests}
 use Rattle.call.specs.WellRead.{well-declared}
-use Rattle.setnumbers.specs.Stands.{WellRows}
+use Rattle.stmtwords.specs.Stands.{WellRows}
 
 -- one statement as read
 pub rows-folded : (ds : List Domain) (f : Fixed) (nb ni : ℕ) (t : Stmt) → WellStmt nb ni t → WellRows (fold-stmt ds f t)

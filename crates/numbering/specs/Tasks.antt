@@ -12,11 +12,11 @@ use Rattle.walks.specs.Meet.{State, with-work}
 use Rattle.walks.specs.Clear.{clear-places}
 use Rattle.statements.specs.Table.{table-fresh}
 use Rattle.stages.specs.Columns.{column-at}
 use Rattle.numbering.specs.Task.{Task, skip, then, with-bools}
 use Rattle.numbering.specs.Fits.{Unless}
 use Rattle.numbering.specs.Rules.{rule-task, pair-task}
 use Rattle.numbering.specs.Columns.{column-task}
-use Rattle.setnumbers.specs.Cleared.{pair-ifs}
+use Rattle.stmtwords.specs.Cleared.{pair-ifs}
 
 -- ---- a walk that is full stops
 

@@ -2,7 +2,7 @@
 use mathlib.Core.Path.{_≡_, refl, ap, _∙_, sym}
 use mathlib.Core.Bool.{false}
 use mathlib.Core.List.{List}
-use Prim.Native.Nat.{ℕ, suc, _+_, _*_, _≤_, _<_, min}
+use Prim.Native.Nat.{ℕ, suc, _+_, _*_, _≤_, _<_}
 use native.Mathlib.Omega.{arith}
 use lib.IntN.{ℤ, pos}
 use lib.ListN.{length}
@@ -12,7 +12,7 @@ use Rattle.memory.specs.Number.{nat}
 use Rattle.syntax.specs.Syntax.{BoolExpr, encode-bool, Stmt, Rule, Table, AllDifferent, encode-stmt}
 use Rattle.syntax.specs.Codes.{stmt-code, stmt-code-word}
 use Rattle.walk.specs.Decode.{word, read-part}
-use Rattle.walk.specs.NumberingSteps.{part-length, part-short}
+use Rattle.walk.specs.NumberingSteps.{part-short}
 use Rattle.walks.specs.Tree.{below, splits}
 use Rattle.walks.specs.Decode.{decode}
 use Rattle.walks.specs.DecodeExact.{rule-stands}
@@ -20,9 +20,8 @@ use Rattle.walks.specs.Ends.{decode-end}
 use Rattle.stages.specs.Columns.{columns-end}
 use Rattle.stages.specs.Room.{splits-low}
 use Rattle.scan.specs.Skip.{split-by, Skips}
-use Rattle.setnumbers.specs.Stands.{Stands, SomeStmt, SomeTable, SomeDifferent, StmtEnds, TableEnds}
-use Rattle.setnumbers.specs.KnownTie.{KnownTie, known-end}
-use Rattle.setnumbers.proofs.Words.{columns-stop, table-words, table-stop, different-words}
+use Rattle.stmtwords.specs.Stands.{Stands, SomeStmt, SomeTable, SomeDifferent, StmtEnds, TableEnds}
+use Rattle.stmtwords.proofs.Words.{columns-stop, table-words, table-stop, different-words}
 
 pub some-word : (t : Stmt) → 0 < length (encode-stmt t)
 unfolding encode-stmt
@@ -49,7 +48,7 @@ module _ (w : List ℤ) (at : ℕ) where
   ends-later q e s = omega (arith, e (s .stmt) (s .stands), some-word (s .stmt))
 
   -- a rule is read to its end
-  rule-stop : (e : BoolExpr) → Stands w at (Rule e) → decode (read-part w) 64 below false (at + 1) 0 .end ≡ at + length (encode-stmt (Rule e))
+  pub rule-stop : (e : BoolExpr) → Stands w at (Rule e) → decode (read-part w) 64 below false (at + 1) 0 .end ≡ at + length (encode-stmt (Rule e))
   rule-stop e h =
       let l : length (encode-stmt (Rule e)) ≡ suc (length (encode-bool e)) = unfold encode-stmt in refl in
       let i : 0 + splits e below ≤ limit = omega (arith, splits-low e below, stmt-inside (Rule e) h, l) in
@@ -95,12 +94,6 @@ module _ (w : List ℤ) (at : ℕ) where
     rule-ends n q b z s (Rule e) h = s .end false ∙ decode-end (read-part w) 64 below false (at + 1) n ∙ sym (decode-end (read-part w) 64 below false (at + 1) 0) ∙ rule-stop e h
     rule-ends n q b z s (Table es rows) h = not-here (Table es rows) (λ x. omega (arith, z, x)) h
     rule-ends n q b z s (AllDifferent es) h = not-here (AllDifferent es) (λ x. omega (arith, z, x)) h
-
-    -- a tie of two variables that have literals
-    pub known-ends : (q : ℕ) → folded-end ≤ length w → k ≡ 1 → KnownTie w (at + 1) → q ≡ min (at + 6) folded-end → StmtEnds w at q
-    known-ends q size z t i (Rule e) h = let x = part-length w size in omega (arith, x, known-end w (at + 1) 0 t, rule-stop e h)
-    known-ends q size z t i (Table es rows) h = not-here (Table es rows) (λ x. omega (arith, z, x)) h
-    known-ends q size z t i (AllDifferent es) h = not-here (AllDifferent es) (λ x. omega (arith, z, x)) h
 
     pub different-ends : (n p : ℕ) → k ≡ 3 → n ≡ word (read-part w) (at + 1) → p ≡ columns-end (read-part w) n (at + 2) → StmtEnds w at p
     different-ends n p z hn hp (Rule e) h = not-here (Rule e) (λ q. omega (arith, z, q)) h

@@ -40,14 +40,14 @@ use Rattle.stages.specs.Pairs.{clear-pair, pair-stage, sides-words, row-stages,
 use Rattle.stages.specs.Different.{value-stage, values-stages, different-stages}
 use Rattle.stages.specs.Statements.{stmt-stages, stmts-stages, stmt-known, stmts-known, stmt-chains, stmts-chains, stmt-walk, stmts-walk}
 use Rattle.stages.specs.StartFits.{StmtWithin}
 use Rattle.numbering.specs.Task.{Task, skip}
 use Rattle.numbering.specs.Rules.{rule-task, pair-task}
 use Rattle.numbering.specs.Columns.{column-task}
-use Rattle.setnumbers.specs.Cleared.{pair-ifs}
-use Rattle.setnumbers.specs.PairIfs.{pair-are}
-use Rattle.setnumbers.specs.Tasks.{columns-task, clear-task, cleared-task, row-task, pairs-task, table-task, stmt-task, stmts-task}
-use Rattle.setnumbers.specs.StageFits.{rule-fitting, pair-fitting, table-fitting}
-use Rattle.setnumbers.specs.Follow.{Meeting, Follow, none, one, still, Followed, follow}
+use Rattle.stmtwords.specs.Cleared.{pair-ifs}
+use Rattle.stmtwords.specs.PairIfs.{pair-are}
+use Rattle.numbering.specs.Tasks.{columns-task, clear-task, cleared-task, row-task, pairs-task, table-task, stmt-task, stmts-task}
+use Rattle.numbering.specs.StageFits.{rule-fitting, pair-fitting, table-fitting}
+use Rattle.numbering.specs.Follow.{Meeting, Follow, none, one, still, Followed, follow}
 
 -- the numbers taken behind n
 taken : (e n k : ℕ) → e ≡ n + k → e - n ≡ k

@@ -12,7 +12,7 @@ use Rattle.walks.specs.Item.{has-ifs}
 use Rattle.walks.specs.Decode.{decode, decode-int}
 use Rattle.walks.specs.Clear.{clear-places}
 use Rattle.scan.specs.Skip.{Skips, SkipsAll, IntSkips, TermSkips}
-use Rattle.setnumbers.specs.Ifs.{many-ifs, terms-ifs, ifs-at, ifs-int-at}
+use Rattle.stmtwords.specs.Ifs.{many-ifs, terms-ifs, ifs-at, ifs-int-at}
 
 pub record Cleared (ps : List Place) (w w' : List ℤ) : Type 0 where
   pub cells : w' ≡ clear-places ps w

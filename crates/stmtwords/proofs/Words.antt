@@ -22,7 +22,7 @@ use Rattle.walks.specs.DecodeExact.{column-stands}
 use Rattle.rows.specs.Stands.{cells-words}
 use Rattle.stages.specs.Columns.{columns-end}
 use Rattle.scan.specs.Skip.{split-by, IntSkips}
-use Rattle.setnumbers.specs.Stands.{Stands, SomeTable, SomeDifferent}
+use Rattle.stmtwords.specs.Stands.{Stands, SomeTable, SomeDifferent}
 
 -- at most
 

@@ -2,32 +2,32 @@ use borrow.Author.Needs.{needs}
 use Prim.Native.Nat.{ℕ, _<_}
 use borrow.Fn.Kinds.{In}
 use borrow.Fn.PlainCycle.{Measures, is, falls, and}
-use Rattle.setnumbers.proofs.clear_bool.Reads as clear-bool
-use Rattle.setnumbers.proofs.clear_bool.Kinds as clear-bool-kinds
-use Rattle.setnumbers.proofs.+clear_bool+clear_int+clear_members+clear_terms.Lts-clear_bool as clear-bool-lts
-use Rattle.setnumbers.proofs.clear_int.Reads as clear-int
-use Rattle.setnumbers.proofs.clear_int.Kinds as clear-int-kinds
-use Rattle.setnumbers.proofs.+clear_bool+clear_int+clear_members+clear_terms.Lts-clear_int as clear-int-lts
-use Rattle.setnumbers.proofs.clear_members.Reads as clear-members
-use Rattle.setnumbers.proofs.clear_members.Kinds as clear-members-kinds
-use Rattle.setnumbers.proofs.+clear_bool+clear_int+clear_members+clear_terms.Lts-clear_members as clear-members-lts
-use Rattle.setnumbers.proofs.clear_terms.Reads as clear-terms
-use Rattle.setnumbers.proofs.clear_terms.Kinds as clear-terms-kinds
-use Rattle.setnumbers.proofs.+clear_bool+clear_int+clear_members+clear_terms.Lts-clear_terms as clear-terms-lts
+use Rattle.stmtwords.proofs.clear_bool.Reads as clear-bool
+use Rattle.stmtwords.proofs.clear_bool.Kinds as clear-bool-kinds
+use Rattle.stmtwords.proofs.+clear_bool+clear_int+clear_members+clear_terms.Lts-clear_bool as clear-bool-lts
+use Rattle.stmtwords.proofs.clear_int.Reads as clear-int
+use Rattle.stmtwords.proofs.clear_int.Kinds as clear-int-kinds
+use Rattle.stmtwords.proofs.+clear_bool+clear_int+clear_members+clear_terms.Lts-clear_int as clear-int-lts
+use Rattle.stmtwords.proofs.clear_members.Reads as clear-members
+use Rattle.stmtwords.proofs.clear_members.Kinds as clear-members-kinds
+use Rattle.stmtwords.proofs.+clear_bool+clear_int+clear_members+clear_terms.Lts-clear_members as clear-members-lts
+use Rattle.stmtwords.proofs.clear_terms.Reads as clear-terms
+use Rattle.stmtwords.proofs.clear_terms.Kinds as clear-terms-kinds
+use Rattle.stmtwords.proofs.+clear_bool+clear_int+clear_members+clear_terms.Lts-clear_terms as clear-terms-lts
 use Rattle.scan.proofs.node_at.Reads as node-at-reads
-use Rattle.setnumbers.proofs.clear_cell.Reads as clear-cell-reads
+use Rattle.stmtwords.proofs.clear_cell.Reads as clear-cell-reads
 use Rattle.survey.proofs.bump.Reads as bump-reads
 use Rattle.survey.proofs.within.Reads as within-reads
 use Rattle.survey.proofs.word.Reads as word-reads
-use Rattle.setnumbers.proofs.+clear_bool+clear_int+clear_members+clear_terms.{statement}
-use Rattle.setnumbers.proofs.+clear_bool+clear_int+clear_members+clear_terms.Tie.{close}
+use Rattle.stmtwords.proofs.+clear_bool+clear_int+clear_members+clear_terms.{statement}
+use Rattle.stmtwords.proofs.+clear_bool+clear_int+clear_members+clear_terms.Tie.{close}
 use Prim.Native.Nat.{ℕ, _<_, _+_, _*_}
 use mathlib.Core.Path.{refl, sym, _∙_}
 use mathlib.Core.Bool.{false}
 use native.Mathlib.Omega.{arith}
 use Rattle.scan.specs.Nodes.{okay-at}
 use Rattle.walk.specs.NumberingSteps.{part-length}
-use Rattle.setnumbers.proofs.Clearing.{clears-none, clears-var, clears-cmp, clears-not, clears-join, clears-cross, int-clears-none, int-clears-leaf, int-clears-sum, int-clears-if, Clearing, clearing-first, clearing-next, clearing-last, TermClearing, term-clearing-first, term-clearing-next, term-clearing-last}
+use Rattle.stmtwords.proofs.Clearing.{clears-none, clears-var, clears-cmp, clears-not, clears-join, clears-cross, int-clears-none, int-clears-leaf, int-clears-sum, int-clears-if, Clearing, clearing-first, clearing-next, clearing-last, TermClearing, term-clearing-first, term-clearing-next, term-clearing-last}
 
 abbrev μ-clear-bool : Measures 1 clear-bool-kinds.ps ℕ
 μ-clear-bool κs a = 2 * a .1 .1 .0
