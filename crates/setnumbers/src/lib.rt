@@ -1,7 +1,7 @@
 // The first walk over all folded statements of the work slice with Ifs: numbers at first meeting and creation, and the records of the emitted integers.
 ghost use mathlib.Core.Path.{_≡_};
 ghost use mathlib.Core.Bool.{true, false};
-ghost use Prim.Native.Nat.{_+_, _≤_};
+ghost use Prim.Native.Nat.{_≤_};
 ghost use lib.ListN.{length};
 ghost use Rattle.memory.specs.Places.{folded, folded-end};
 ghost use Rattle.walk.specs.Decode.{word as word-in, read-part};
