@@ -1,1 +1,2 @@
 // The answer and passing: definitions and theorems in specs/; no code here yet.
+#![tactic(auto)]

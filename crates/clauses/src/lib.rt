@@ -1,1 +1,2 @@
 // Splitting and clauses: definitions and theorems in specs/; no code here yet.
+#![tactic(auto)]

@@ -1,1 +1,2 @@
 // AllDifferent: definitions and theorems in specs/; no code here.
+#![tactic(auto)]

@@ -1,4 +1,5 @@
 // Reads a set on standard input and prints the listing of its answer.
+#![tactic(auto)]
 mod list; // list.rt: from text to listing
 
 fn main() {

@@ -1,4 +1,5 @@
 // The first walk with Ifs: numbers at first meeting and creation, and the records of the emitted integers, over the folded words.
+#![tactic(auto)]
 ghost use Rattle.std.specs.Prelude.{◌≡◌, true, false, ◌||◌, List, [], ◌∷◌, ◌+◌, ◌-◌, ◌*◌, ◌≤◌, ◌<◌, ℤ, pos, nat_abs, ◌+ℤ◌, length, ltb};
 ghost use Rattle.std.proofs.lemmas.List.Edits.{sets};
 ghost use Rattle.laws.specs.Ints.{lower as lower_of, higher as higher-of};

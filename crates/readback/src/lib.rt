@@ -1,1 +1,2 @@
 // Definitions and theorems only: a listing is read back.
+#![tactic(auto)]

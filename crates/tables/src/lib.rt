@@ -1,1 +1,2 @@
 // Tables: definitions and theorems in specs/; no code here yet.
+#![tactic(auto)]

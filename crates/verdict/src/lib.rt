@@ -1,1 +1,2 @@
 // The check of a roster: definition and theorems in specs/; the code is in evaluate.
+#![tactic(auto)]

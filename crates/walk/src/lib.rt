@@ -1,4 +1,5 @@
 // Numbers and clauses by two walks over the folded words: the types of the code that walks.
+#![tactic(auto)]
 
 // How a disjunction is written: the pool alone; one longer member with the pool's literal; two longer members and no pool; else.
 #[derive(Drop)]
