@@ -1,0 +1,473 @@
+#!/usr/bin/env python3
+"""Writes Invariants.antt and Answers.antt from the Proof.antt files of an older kit, in one crate.
+
+usage: answers.py [--keep] [--only WORD] CRATE    at the top of the repository, after port.py and respell.py
+
+It asks the check for the crate's names (`rt check --generated DIR --old-names`), reads each Proof.antt below proofs/,
+and gives each answer its goal's new name and each citation of an earlier step its new path. Answers by `search rules` alone are left out.
+What it can't turn it prints. A Proof.antt that was turned goes (with --keep it stays, and nothing is written over).
+"""
+import json
+import os
+import re
+import subprocess
+import sys
+
+N = r"[^\s(){}.;,@\"«»]+"
+
+
+def norm(name):
+    name = name.replace("-", "_")
+    for old, new in (("loop_holds", "loop_init"), ("loop_again", "loop_preserved"), ("loop_less", "loop_smaller")):
+        name = re.sub(rf"^{old}", new, name)
+        name = re.sub(rf"^(.*_?)loop(\d*)_{old[5:]}", rf"\1loop\2_{new[5:]}", name)
+    return re.sub(r"^overflow_", "", name)
+
+
+class Lts:
+    def __init__(self, raw):
+        self.stem, self.is_cycle = raw["stem"], False
+        self.needs = [(norm(a), b) for a, b in raw["needs"]]
+        self.asked = [a for a, _ in raw["asked_at"]]
+        self.places, self.by_norm = {}, {}
+        names = raw["places_by_name"]
+        for i, (name, parent, step, callee, _) in enumerate(raw["places"]):
+            self.places[name] = (parent, step, raw["arms"][i], names[i])
+            self.by_norm[norm(name)] = name
+        self.loops = {}
+        for (pair, variables), changed in zip(raw["loops"], raw["changed"]):
+            self.loops[norm(pair[0])] = (pair[1], variables, changed)
+
+    def parent(self, place):
+        return self.places[place][0]
+
+
+FLAT = {"args", "requires", "ranges", "lifetimes", "well_formed", "type_inv", "utf8"}
+
+
+class Trouble(Exception):
+    pass
+
+
+def path(lts, place, var, parts, notes):
+    """Returns the new text of var.parts, where var is a record of the place."""
+    here, i = place, 0
+    while i < len(parts) and parts[i] == "before":
+        up = lts.parent(here)
+        if up is None:
+            notes.append(f"no place before {here}: {var}.{'.'.join(parts)}")
+            return f"{var}.{'.'.join(parts)}"
+        here, i = up, i + 1
+    if i == len(parts):
+        return var + ".before" * i
+    field, rest = parts[i], parts[i + 1 :]
+    if lts.is_cycle and field == "requires":
+        if rest[:1] == ["0"]:
+            return ".".join([var, "decreases"] + rest[1:])
+        if rest[:1] == ["1"]:
+            return ".".join([var, "requires"] + rest[1:])
+        return ".".join([var, "requires-raw"] + rest)
+    if norm(field) in {norm(x) for x in FLAT}:
+        return ".".join([var, field] + rest)
+    at = here
+    while at is not None:
+        parent, step, arm, _ = lts.places[at]
+        if step and norm(step[0]) == norm(field):
+            break
+        if step and arm and any(norm(e[1]) == norm(field) for e in arm[2]):
+            break
+        at = parent
+    if at is None:
+        notes.append(f"no step {field} at {here}: {var}.{'.'.join(parts)}")
+        return f"{var}.{'.'.join(parts)}"
+    parent, step, arm, _ = lts.places[at]
+    if arm:
+        best = None
+        for new, old, tail in arm[2]:
+            if norm(old) == norm(field) and rest[: len(tail)] == tail and (best is None or len(tail) > len(best[1])):
+                best = (new, tail)
+        if best:
+            return ".".join([var, arm[0], best[0]] + rest[len(best[1]) :])
+    return ".".join([var, step[1]] + rest)
+
+
+def cite(lts, text, places, notes):
+    """Rewrites each path that begins at a variable of a known place."""
+    if not places:
+        return text
+    for m in re.finditer(rf"\blet ({N}) = ({'|'.join(map(re.escape, places))})((?:\.before)*) in\b", text):
+        here = places[m[2]]
+        for _ in range(m[3].count(".before")):
+            here = lts.parent(here) if here else here
+        if here and m[1] not in places:
+            places = {**places, m[1]: here}
+    names = "|".join(sorted(map(re.escape, places), key=len, reverse=True))
+    turn = re.compile(rf"(?<![^\s(){{}};,«»])({names})((?:\.{N})+)")
+    return turn.sub(lambda m: path(lts, places[m[1]], m[1], m[2][1:].split("."), notes), text)
+
+
+def items(text):
+    """Splits a file into its head (comments and imports) and its items: [name, modifiers, type, lines after]."""
+    lines, head, found, current = text.split("\n"), [], [], None
+    top = re.compile(rf"^((?:pub |abbrev |unfoldable )*)({N}) :(?: (.*))?$")
+    k = 0
+    while k < len(lines):
+        line = lines[k]
+        m = top.match(line)
+        if m and not line.startswith("use "):
+            current = {"mods": m[1], "name": m[2], "type": m[3] or "", "body": [], "lead": []}
+            k += 1
+            # a type that goes on below
+            while k < len(lines) and lines[k].startswith("    ") and not re.match(rf"^{re.escape(current['name'])}\b", lines[k]):
+                current["type"] += ("\n" if current["type"] else "\n") + lines[k]
+                k += 1
+            found.append(current)
+            continue
+        if current is None:
+            head.append(line)
+        else:
+            current["body"].append(line)
+        k += 1
+    for it in found:
+        while it["body"] and not it["body"][-1].strip():
+            it["body"].pop()
+    return head, found
+
+
+def arrows(text):
+    parts, depth, start, i = [], 0, 0, 0
+    flat = text.replace("\n", " ")
+    while i < len(flat):
+        ch = flat[i]
+        if ch in "({":
+            depth += 1
+        elif ch in ")}":
+            depth -= 1
+        elif ch == "→" and depth == 0:
+            parts.append(flat[start:i].strip())
+            start = i + 1
+        i += 1
+    parts.append(flat[start:].strip())
+    return parts
+
+
+def head_args(item):
+    """Returns the arguments of each clause: [(line number, [words])]."""
+    found = []
+    for k, line in enumerate(item["body"]):
+        if re.match(rf"^{re.escape(item['name'])}(?=\s|$)", line) and " =" in line + " ":
+            left = re.split(r"\s=(?:\s|$)", line, maxsplit=1)[0]
+            found.append((k, left[len(item["name"]) :].split()))
+    return found
+
+
+def fn_params(crate_dir):
+    """Returns for each function of the crate its parameters' names and whether each is a reference."""
+    found = {}
+    for folder, _, names in os.walk(os.path.join(crate_dir, "src")):
+        for name in names:
+            if name.endswith(".rt"):
+                text = open(os.path.join(folder, name), encoding="utf-8").read()
+                for m in re.finditer(r"\bfn (\w+)\s*\(([^)]*)\)", text):
+                    each = []
+                    for p in m[2].split(","):
+                        if ":" in p:
+                            a, b = p.split(":", 1)
+                            each.append((a.replace("mut ", "").strip(), b.strip().startswith("&")))
+                    found[m[1]] = each
+    return found
+
+
+def turn_invariant(item, lts, loop, where, notes, skip=0):
+    new, variables, changed = lts.loops[loop]
+    wanted = []
+    for v, c in zip(variables, changed):
+        wanted.append(f"l.initial.{v}" if c else f"l.{v}")
+    wanted += [f"l.{v}" for v, c in zip(variables, changed) if c]
+    body = "\n".join(item["body"])
+    clauses = head_args(item)
+    if len(clauses) != 1:
+        notes.append(f"{where}: {item['name']} has {len(clauses)} clauses")
+    k, args = clauses[0]
+    args = args[skip:]
+    right = re.split(r"\s=(?:\s|$)", item["body"][k], maxsplit=1)[1]
+    tail = "\n".join([right] + item["body"][k + 1 :])
+    lead = [x for x in item["body"][:k]]
+    if len(args) > len(wanted):
+        notes.append(f"{where}: {item['name']} takes {len(args)}, not {len(wanted)}: {args} {wanted}")
+    table = {a: w for a, w in zip(args, wanted) if a != "_"}
+    if len(args) < len(wanted):
+        tail = f"({tail}) " + " ".join(wanted[len(args) :])
+    bound = set(re.findall(rf"λ ({N})\.", tail)) | {x for b in re.findall(r"λ \(([^:)]*):", tail) for x in b.split()} | set(re.findall(rf"\(({N}) :", tail))
+    lets = ""
+    for a in list(table):
+        if a in bound:
+            lets += f"let {a} = {table[a]} in "
+            del table[a]
+    if table:
+        names = "|".join(sorted(map(re.escape, table), key=len, reverse=True))
+        tail = re.sub(rf"(?<![^\s(){{}};,@«»])({names})(?=[\s(){{}}.;,@«»]|$)", lambda m: table[m[1]], tail)
+    return new, lead, lets + tail
+
+
+def convert(crate, proof, names, params, keep):
+    folder = os.path.dirname(proof)
+    module = os.path.relpath(folder, os.path.join("crates", crate, "proofs")).replace(os.sep, ".")
+    text = open(proof, encoding="utf-8").read()
+    head, found = items(text)
+    notes = []
+    is_cycle = os.path.basename(folder).startswith("+")
+    base = f"Rattle-{crate}-proofs.{module}."
+    alias = {}
+    for m in re.finditer(rf"(?m)^use (\S+)\.(Lts-?{N}|Lts|Tie) as ({N})$", text):
+        key = m[2] if m[2] != "Tie" else "Lts"
+        alias[m[3]] = key
+    ltss = {key[len(base) :]: Lts(raw) for key, raw in names.items() if key.startswith(base) and isinstance(raw, dict) and "needs" in raw}
+    for it in ltss.values():
+        it.is_cycle = is_cycle
+    if not ltss:
+        raise Trouble("no names for " + base)
+
+    def lts_of(prefix):
+        key = alias.get(prefix)
+        if key is None:
+            return None
+        if key in ltss:
+            return ltss[key]
+        for k, v in ltss.items():
+            if norm(k) == norm(key):
+                return v
+        return None
+
+    invariants, answers, helpers = [], [], []
+    helper_places = {}
+    used_old = set()
+    order = {}
+    for it in found:
+        flat = it["type"].replace("\n", " ")
+        name = it["name"]
+        m = re.search(rf"(?:^|→ )({N})\.Need-({N})", flat)
+        if m and lts_of(m[1]):
+            lts = lts_of(m[1])
+            old = norm(m[2])
+            hits = [k for k, (a, b) in enumerate(lts.needs) if a == old]
+            if not hits:
+                notes.append(f"need {m[2]} has no goal now")
+                continue
+            k = hits[0]
+            place = lts.asked[k]
+            body = "\n".join(it["body"])
+            bodies = head_args(it)
+            if not bodies:
+                notes.append(f"{name}: no clause")
+                continue
+            _, args = bodies[0]
+            if len(bodies) == 1 and re.fullmatch(rf"{re.escape(name)}(?: \S+)* = \(?(?:λ \S+\. )*search rules\)?", body.strip()):
+                continue
+            new = (lts.stem + lts.needs[k][1]) if lts.stem and not lts.needs[k][1].startswith(lts.stem) else lts.needs[k][1]
+            is_t = flat.startswith("(t :") or bool(re.match(r"^\(\S+ : ℕ\) →", flat))
+            lines = []
+            for j, line in enumerate(it["body"]):
+                if re.match(rf"^{re.escape(name)}(?=\s|$)", line):
+                    left, right = re.split(r"\s=(?=\s|$)", line, maxsplit=1)
+                    words = left[len(name) :].split()
+                    if is_t and words:
+                        words_c = words[1:2]
+                        keep_args = words[:2]
+                        dropped = words[2:]
+                    else:
+                        words_c = words[:1]
+                        keep_args = words[:1]
+                        dropped = words[1:]
+                    for d in dropped:
+                        if re.search(rf"(?<![^\s(){{}}.;,]){re.escape(d)}(?![^\s(){{}}.;,])", "\n".join([right] + it["body"][j + 1 :])):
+                            notes.append(f"{name}: cites {d}")
+                    lines.append(f"{new} {' '.join(keep_args)} ={right}")
+                else:
+                    lines.append(line)
+            var = (args[1] if is_t and len(args) > 1 else args[0]) if args else "c"
+            out = cite(lts, "\n".join(lines), {var: place}, notes)
+            answers.append((new, f"pub {new} : goal.{new}\n{out}"))
+            order.setdefault(id(lts), []).append(k)
+            continue
+        m = re.search(rf"(?:^|→ )({N})\.(?:invariant|decreases|InvT|MeasureT|Inv|μ)-({N})", flat)
+        if m and lts_of(m[1]):
+            lts = lts_of(m[1])
+            loop = norm(m[2])
+            is_measure = "decreases" in flat or "MeasureT" in flat
+            skip = 1 if re.match(r"^\(\S+ : ℕ\) →", flat) else 0
+            if loop not in lts.loops:
+                notes.append(f"no loop {m[2]}: {list(lts.loops)}")
+                continue
+            new, lead, tail = turn_invariant(it, lts, loop, proof, notes, skip)
+            word = ("decreases-" if is_measure else "invariant-") + lts.stem + new
+            lead = "\n".join(lead) + ("\n" if lead else "")
+            invariants.append((word, f"abbrev pub {word} : goal.{word}\n{lead}{word} l = {tail}"))
+            continue
+        if is_cycle and re.match(rf"^Measures ", flat):
+            fn = re.sub(r"^(μ|decreases)-", "", name)
+            each = [f for f in params if norm(f) == norm(fn)]
+            if not each:
+                notes.append(f"measure {name}: no function")
+                continue
+            body = "\n".join(it["body"])
+            left, right = re.split(r"\s=(?=\s|$)", body, maxsplit=1)
+            var = left.split()[-1]
+
+            def arg(m):
+                steps = m[1].split(".")[1:]
+                at = 0
+                k = 0
+                while k < len(steps) and steps[k] == "1" and at < len(params[each[0]]):
+                    at, k = at + 1, k + 1
+                if k < len(steps) and steps[k] == "0":
+                    k += 1
+                    pname, is_ref = params[each[0]][at]
+                    return ".".join([f"l.{pname}"] + steps[k:])
+                notes.append(f"measure {name}: {m[0]}")
+                return m[0]
+
+            right = re.sub(rf"(?<![^\s(){{}};,]){re.escape(var)}((?:\.{N})+)", arg, right)
+            invariants.append((f"decreases-{each[0]}", f"abbrev pub decreases-{each[0]} : goal.decreases-{each[0]}\ndecreases-{each[0]} l ={right}"))
+            continue
+        if re.search(r"→ statement M$|^statement\b", flat) or re.search(r"(_|-)spec$", name) and "statement" in flat:
+            continue
+        if is_cycle and (re.match(r"^ℕ → In ", flat) or flat.rstrip().endswith(".Claims") or re.search(r"\.Claims\b", flat)):
+            continue
+        # a helper of this file
+        parts = arrows(it["type"])
+        place_re = rf"({N})\.((?:Start|Then|Else|After|In|At|Joined|Met|Join)[^\s(){{}}.;,]*)"
+        vars_at, by_pos = {}, []
+        lts = None
+        for part in parts[:-1]:
+            b = re.match(rf"^\(({N}(?: {N})*) : {place_re}[^()]*\)$", part)
+            u = re.match(rf"^{place_re}(?: [^()]*)?$", part)
+            if b and lts_of(b[2]):
+                lts = lts_of(b[2])
+                pl = lts.by_norm.get(norm(b[3]))
+                if pl is None:
+                    notes.append(f"{name}: no place {b[3]}")
+                for v in b[1].split():
+                    vars_at[v] = pl
+                    by_pos.append(pl)
+            elif u and lts_of(u[1]):
+                lts = lts_of(u[1])
+                pl = lts.by_norm.get(norm(u[2]))
+                if pl is None:
+                    notes.append(f"{name}: no place {u[2]}")
+                by_pos.append(pl)
+            else:
+                mm = re.match(rf"^\(({N}(?: {N})*) : .*\)$", part)
+                by_pos += [None] * (len(mm[1].split()) if mm else 1)
+        res = re.match(rf"^{place_re}(?: [^()]*)?$", parts[-1])
+        typ, out = it["type"], list(it["body"])
+        def place_name(m):
+            l = lts_of(m[1])
+            if not l:
+                return m[0]
+            pl = l.by_norm.get(norm(m[2]))
+            return f"goal.{l.places[pl][3]}" if pl else m[0]
+        typ = re.sub(rf"{place_re}((?: (?:invariant|decreases|Inv|μ)-{N})*)", place_name, typ)
+        if lts:
+            typ = cite(lts, typ, {v: p for v, p in vars_at.items() if p}, notes)
+            text_out = []
+            clauses = head_args(it)
+            for ci, (k, args) in enumerate(clauses):
+                end = clauses[ci + 1][0] if ci + 1 < len(clauses) else len(out)
+                local = {a: p for a, p in zip(args, by_pos) if p and re.fullmatch(N, a)}
+                block = "\n".join(out[k:end])
+                text_out.append(cite(lts, block, local, notes))
+            lead = "\n".join(out[: clauses[0][0]]) if clauses else ""
+            body = (lead + "\n" if lead else "") + "\n".join(text_out)
+            if res and lts_of(res[1]):
+                helper_places[name] = (lts, lts.by_norm.get(norm(res[2])))
+        else:
+            body = "\n".join(out)
+        helpers.append((name, f"{it['mods']}{name} : {typ}\n{body}".replace("pub ", "", 1) if it["mods"].startswith("pub ") else f"{it['mods']}{name} : {typ}\n{body}"))
+
+    def through(textual):
+        for h, (lts, pl) in helper_places.items():
+            if not pl:
+                continue
+            turn = re.compile(rf"\(({re.escape(h)}(?: \([^()]*\)| {N}(?:\.{N})*)+)\)((?:\.{N})+)")
+            def sub(m):
+                new = path(lts, pl, "(" + m[1] + ")", m[2][1:].split("."), notes)
+                return new
+            textual = turn.sub(sub, textual)
+        return textual
+
+    helpers = [(n, through(t)) for n, t in helpers]
+    answers = [(n, through(t)) for n, t in answers]
+    for ks in order.values():
+        if ks != sorted(ks):
+            notes.append("the order of the goals differs: look at goals with a count")
+    uses, comments = [], []
+    for line in head:
+        if line.startswith("use "):
+            if re.search(rf"\.(Statement|Tie|Reads|Kinds|Lts[^\s.]*)(\.\{{| as |$)", line) or re.search(rf"proofs\.\+\S*\.\{{statement\}}", line):
+                continue
+            if re.search(r"\bborrow\.Fn\.(Kinds|PlainCycle)\b", line):
+                continue
+            uses.append(line)
+        elif line.strip():
+            comments.append(line)
+    where = f"Rattle.{crate}.proofs.{module}"
+    wrote = []
+    inv_text = "\n\n".join(t for _, t in invariants)
+    helper_text = "\n\n".join(t for _, t in helpers)
+    pre = [n for n, _ in helpers if re.search(rf"(?<![^\s(){{}}.;,]){re.escape(n)}(?![^\s(){{}}.;,])", inv_text)]
+    if invariants:
+        first = "\n\n".join(t for n, t in helpers if n in pre)
+        body = "\n".join(comments + uses + [f"use {where}.Given as goal", ""]) + "\n" + (first + "\n\n" if first else "") + inv_text + "\n"
+        wrote.append(("Invariants.antt", body))
+    if answers:
+        body = "\n".join(comments + uses + [f"use {where}.Goals as goal", ""]) + "\n"
+        body += "\n\n".join([t for _, t in helpers] + [t for _, t in answers]) + "\n"
+        wrote.append(("Answers.antt", body))
+    if keep and any(os.path.exists(os.path.join(folder, n)) for n, _ in wrote):
+        raise Trouble("files are there already")
+    for n, t in wrote:
+        with open(os.path.join(folder, n), "w", encoding="utf-8") as f:
+            f.write(t)
+    if not keep:
+        os.remove(proof)
+        if not wrote and not os.listdir(folder):
+            os.rmdir(folder)
+    return notes
+
+
+def main(argv):
+    keep = "--keep" in argv
+    argv = [a for a in argv if a != "--keep"]
+    only = None
+    if "--only" in argv:
+        k = argv.index("--only")
+        only = argv[k + 1]
+        del argv[k : k + 2]
+    for crate in argv:
+        out = f"/tmp/names/{crate}"
+        os.makedirs(out, exist_ok=True)
+        there = os.path.join("crates", crate)
+        said = subprocess.run(["rt", "check", "--generated", out, "--old-names"], cwd=there, capture_output=True, text=True)
+        table = os.path.join(out, "names.json")
+        if not os.path.exists(table):
+            print(said.stdout[-3000:] + said.stderr[-2000:])
+            return 1
+        names = json.load(open(table))
+        params = fn_params(there)
+        count = 0
+        for folder, _, files in sorted(os.walk(os.path.join(there, "proofs"))):
+            if "Proof.antt" in files and (only is None or only in folder):
+                try:
+                    notes = convert(crate, os.path.join(folder, "Proof.antt"), names, params, keep)
+                    count += 1
+                except Trouble as e:
+                    notes = [str(e)]
+                for n in notes:
+                    print(f"{folder}: {n}")
+        print(f"{crate}: {count} proofs turned")
+    return 0
+
+
+if __name__ == "__main__":
+    sys.exit(main(sys.argv[1:]))
