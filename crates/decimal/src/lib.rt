@@ -1,5 +1,6 @@
 // Decimal numbers, read from bytes and printed; and the fixed bytes of the text.
 #![tactic(auto)]
+
 pub mod keys; // keys.rt: the fixed bytes
 
 ghost use Rattle.std.specs.Prelude.{◌≡◌, true, [], ◌∷◌, ◌≤◌, length, drop};

@@ -1,6 +1,7 @@
 // The declared domains in a set's words: where each stands, its lowest and highest value, its one value, how many values it has; and a table of all bounds.
 // `d` is the place of the set's first domain.
 #![tactic(auto)]
+
 ghost use Rattle.std.specs.Prelude.{◌≡◌, ◌+◌, ◌*◌, ◌<◌, ◌^◌, pos, nat_abs, length, get_or};
 ghost use Rattle.laws.specs.Ints.{times_low};
 ghost use Rattle.laws.specs.Slices.{Has};

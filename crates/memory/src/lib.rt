@@ -1,5 +1,6 @@
 // The work slice: its places, and the functions that read, store, clear and copy words.
 #![tactic(auto)]
+
 ghost use Rattle.std.specs.Prelude.{◌≡◌, ◌+◌, ◌≤◌, ◌<◌, pos, length, take, drop, get_or, set};
 ghost use Rattle.laws.specs.Slices.{Stored, zeros};
 ghost use Rattle.memory.specs.Number.{nat};

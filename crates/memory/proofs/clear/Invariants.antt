@@ -1,0 +1,14 @@
+-- `clear` meets its contract: the words passed are 0.
+use borrow.Author.Rules.{rules}
+use Prim.Native.Nat.{◌-◌}
+use native.Mathlib.Omega.{arith}
+use lib.IntN.{pos}
+use lib.ListN.{length, length-set}
+use Rattle.memory.proofs.Laws.{Cleared, cleared_none, cleared_next, cleared_all}
+use Rattle.memory.proofs.clear.Given as goal
+
+abbrev pub invariant-loop-i : goal.invariant-loop-i
+invariant-loop-i l = Cleared l.initial.s l.s l.i
+
+abbrev pub decreases-loop-i : goal.decreases-loop-i
+decreases-loop-i l = length l.s - l.i

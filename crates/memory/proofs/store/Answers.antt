@@ -1,0 +1,7 @@
+use mathlib.Core.Path.{refl, sym}
+use lib.Seq.{set_out}
+use borrow.Author.Rules.{rules}
+use Rattle.memory.proofs.store.Goals as goal
+
+pub returns-else-i-slice : goal.returns-else-i-slice
+returns-else-i-slice c = (sym (set_out c.args.slice.now _ _ c.if-i-slice.false), refl)
