@@ -207,6 +207,8 @@ def turn_invariant(item, lts, loop, where, notes, skip=0):
     if table:
         names = "|".join(sorted(map(re.escape, table), key=len, reverse=True))
         tail = re.sub(rf"(?<![^\s(){{}};,@«»])({names})(?=[\s(){{}}.;,@«»]|$)", lambda m: table[m[1]], tail)
+    tail = re.sub(r"\(to_z w\d+ (l\.[\w.]+)\)", r"\1", tail)
+    tail = re.sub(r"\bto_z w\d+ (l\.[\w.]+)", r"\1", tail)
     return new, lead, lets + tail
 
 
