@@ -68,7 +68,7 @@ def path(lts, place, var, parts, notes):
             return ".".join([var, "requires"] + rest[1:])
         return ".".join([var, "requires-raw"] + rest)
     if norm(field) in {norm(x) for x in FLAT}:
-        return ".".join([var, field] + rest)
+        return ".".join([var, norm(field)] + rest)
     at = here
     while at is not None:
         parent, step, arm, _ = lts.places[at]
