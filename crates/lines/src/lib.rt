@@ -1,5 +1,6 @@
 // The lines of a listing, printed from the words of an answer: numbers parted by commas, domains, clauses. Where the words end early, what is there is printed.
 #![tactic(auto)]
+
 ghost use Rattle.std.specs.Prelude.{◌≡◌, ◌+◌, ◌≤◌, ◌<◌, length, drop};
 ghost use Rattle.decimal.specs.Puts.{Puts};
 ghost use Rattle.lines.specs.Lines.{count_word, print_numbers, times, print_domain, print_comparison, print_comparisons, comparisons_in, members, print_clause, total};

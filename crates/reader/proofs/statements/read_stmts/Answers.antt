@@ -1,0 +1,21 @@
+-- `reader::statements::read_stmts` meets its contract. Assumes nothing.
+use mathlib.Core.Path.{◌≡◌, refl, sym, ◌∙◌}
+use Rattle.words.specs.Parse.{times}
+use Rattle.read.specs.Read.{read_stmt as stmt-of}
+use Rattle.read.specs.Exact.{stmt_exact}
+use Rattle.reader.specs.Position.{reads}
+use Rattle.reader.proofs.Laws.{times_none, times_refused, times_more}
+use borrow.Author.Rules.{rules}
+use Rattle.reader.proofs.statements.read_stmts.Goals as goal
+
+pub loop-rest-init : goal.loop-rest-init
+loop-rest-init c = refl
+
+pub returns-in-Refused : goal.returns-in-Refused
+returns-in-Refused c = times_refused _ _ _ _ _ c.loop-rest-test.true (sym c.read_stmt.ensures ∙ c.in-Refused.is) ∙ c.loop-rest.invariant
+
+pub loop-rest-preserved : goal.loop-rest-preserved
+loop-rest-preserved c = times_more _ (stmt_exact _ _) _ _ _ _ c.loop-rest-test.true (sym c.read_stmt.ensures ∙ c.in-Ok.is) ∙ c.loop-rest.invariant
+
+pub returns : goal.returns
+returns c = times_none _ _ _ _ c.loop-rest-test.false ∙ c.loop-rest.invariant
