@@ -34,6 +34,10 @@ class Lts:
         for i, (name, parent, step, callee, _) in enumerate(raw["places"]):
             self.places[name] = (parent, step, raw["arms"][i], names[i])
             self.by_norm[norm(name)] = name
+        self.fields = {pl[0]: (cl or {}).get("fields") for pl, cl in zip(raw["places"], raw.get("clauses") or [None] * len(raw["places"]))}
+        self.callee = {pl[0]: pl[3] for pl in raw["places"]}
+        self.params = raw.get("params") or {}
+        self.pre = (raw.get("pre") or {}).get("fields") or []
         self.loops = {}
         for (pair, variables), changed in zip(raw["loops"], raw["changed"]):
             self.loops[norm(pair[0])] = (pair[1], variables, changed)
@@ -49,34 +53,53 @@ class Trouble(Exception):
     pass
 
 
+def clause(fields, rest):
+    """Turns the numbers of a pair of clauses into the clause's name."""
+    if len(fields) < 2 or not rest or rest[0] not in ("0", "1"):
+        return rest
+    k, i = 0, 0
+    while i < len(rest) and rest[i] == "1" and k < len(fields) - 1:
+        k, i = k + 1, i + 1
+    if k < len(fields) - 1:
+        if i == len(rest) or rest[i] != "0":
+            return rest
+        i += 1
+    return [fields[k]] + rest[i:]
+
+
 def path(lts, place, var, parts, notes):
     """Returns the new text of var.parts, where var is a record of the place."""
     here, i = place, 0
     while i < len(parts) and parts[i] == "before":
-        up = lts.parent(here)
-        if up is None:
-            notes.append(f"no place before {here}: {var}.{'.'.join(parts)}")
-            return f"{var}.{'.'.join(parts)}"
-        here, i = up, i + 1
+        here, i = lts.parent(here) or here, i + 1
     if i == len(parts):
-        return var + ".before" * i
+        count, at = 0, place
+        while at != here:
+            count, at = count + 1, lts.parent(at)
+        return var + ".before" * count
     field, rest = parts[i], parts[i + 1 :]
     if lts.is_cycle and field == "requires":
         if rest[:1] == ["0"]:
             return ".".join([var, "decreases"] + rest[1:])
         if rest[:1] == ["1"]:
-            return ".".join([var, "requires"] + rest[1:])
+            return ".".join([var, "requires"] + clause(lts.pre, rest[1:]))
         return ".".join([var, "requires-raw"] + rest)
     if norm(field) in {norm(x) for x in FLAT}:
+        if field == "requires":
+            rest = clause(lts.pre, rest)
         return ".".join([var, norm(field)] + rest)
-    at = here
-    while at is not None:
-        parent, step, arm, _ = lts.places[at]
-        if step and norm(step[0]) == norm(field):
-            break
-        if step and arm and any(norm(e[1]) == norm(field) for e in arm[2]):
-            break
-        at = parent
+
+    def seek(at):
+        while at is not None:
+            parent, step, arm, _ = lts.places[at]
+            if step and norm(step[0]) == norm(field):
+                return at
+            if step and arm and any(norm(e[1]) == norm(field) for e in arm[2]):
+                return at
+            at = parent
+        return None
+
+    at = seek(here) or seek(place)
     if at is None:
         notes.append(f"no step {field} at {here}: {var}.{'.'.join(parts)}")
         return f"{var}.{'.'.join(parts)}"
@@ -88,6 +111,15 @@ def path(lts, place, var, parts, notes):
                 best = (new, tail)
         if best:
             return ".".join([var, arm[0], best[0]] + rest[len(best[1]) :])
+    if rest[:1] == ["auto"] and lts.callee.get(at) in lts.params:
+        k = 1
+        while k < len(rest) and rest[k] == "1":
+            k += 1
+        here_params = lts.params[lts.callee[at]]
+        if k < len(rest) and rest[k] == "0" and k - 1 < len(here_params):
+            rest = ["auto", here_params[k - 1]] + rest[k + 1 :]
+    if rest[:1] == ["ensures"]:
+        rest = ["ensures"] + clause(lts.fields.get(at) or [], rest[1:])
     return ".".join([var, step[1]] + rest)
 
 
@@ -178,6 +210,65 @@ def fn_params(crate_dir):
     return found
 
 
+def asked_clauses(crate):
+    """Returns the names of the clauses that each function requires, this crate's functions first."""
+    found = {}
+    for name in [crate] + sorted(os.listdir("crates")):
+        for folder, _, files in os.walk(os.path.join("crates", name, "src")):
+            for file in files:
+                if file.endswith(".rt"):
+                    text = open(os.path.join(folder, file), encoding="utf-8").read()
+                    for m in re.finditer(r"\bfn (\w+)[^{};]*?\([^)]*\)[^{}]*?((?:\n    (?:ghost|requires|ensures)\b[^\n]*)+)", text):
+                        found.setdefault(norm(m[1]), re.findall(r"\n    requires (\w+) \{", m[2]))
+    return found
+
+
+def as_record(text, fields):
+    """Turns the tuple that ends an answer into a record of the clauses, or returns None."""
+    text = text.rstrip()
+    if not text.endswith(")"):
+        return None
+    depth, k = 0, len(text) - 1
+    while k >= 0:
+        depth += {")": 1, "(": -1}.get(text[k], 0)
+        if depth == 0:
+            break
+        k -= 1
+    head, inner = text[:k], text[k + 1 : -1]
+    if not re.search(r"(^|=|\bin|\.|\s)\s*$", head) or not re.search(r"(=|\bin|λ [^.]*\.)\s*$", head):
+        return None
+
+    def cut(t):
+        parts, depth, start = [], 0, 0
+        for i, ch in enumerate(t):
+            depth += {"(": 1, "{": 1, ")": -1, "}": -1}.get(ch, 0)
+            if ch == "," and depth == 0:
+                parts.append(t[start:i].strip())
+                start = i + 1
+        return parts + [t[start:].strip()]
+
+    def whole(t):
+        if not (t.startswith("(") and t.endswith(")")):
+            return False
+        depth = 0
+        for i, ch in enumerate(t):
+            depth += {"(": 1, ")": -1}.get(ch, 0)
+            if depth == 0:
+                return i == len(t) - 1
+        return False
+
+    parts = cut(inner)
+    while len(parts) < len(fields) and parts and whole(parts[-1]) and len(cut(parts[-1][1:-1])) > 1:
+        parts = parts[:-1] + cut(parts[-1][1:-1])
+    n = len(fields)
+    if len(parts) < n:
+        return None
+    if len(parts) > n:
+        parts = parts[: n - 1] + ["(" + ", ".join(parts[n - 1 :]) + ")"]
+    record = "record { " + "; ".join(f"{f} = {p}" for f, p in zip(fields, parts)) + " }"
+    return head + record
+
+
 def turn_invariant(item, lts, loop, where, notes, skip=0):
     new, variables, changed = lts.loops[loop]
     wanted = []
@@ -212,7 +303,7 @@ def turn_invariant(item, lts, loop, where, notes, skip=0):
     return new, lead, lets + tail
 
 
-def convert(crate, proof, names, params, keep):
+def convert(crate, proof, names, params, asked, keep):
     folder = os.path.dirname(proof)
     module = os.path.relpath(folder, os.path.join("crates", crate, "proofs")).replace(os.sep, ".")
     text = open(proof, encoding="utf-8").read()
@@ -266,7 +357,7 @@ def convert(crate, proof, names, params, keep):
             _, args = bodies[0]
             if len(bodies) == 1 and re.fullmatch(rf"{re.escape(name)}(?: \S+)* = \(?(?:λ \S+\. )*search rules\)?", body.strip()):
                 continue
-            new = (lts.stem + lts.needs[k][1]) if lts.stem and not lts.needs[k][1].startswith(lts.stem) else lts.needs[k][1]
+            new = lts.stem + lts.needs[k][1]
             is_t = flat.startswith("(t :") or bool(re.match(r"^\(\S+ : ℕ\) →", flat))
             lines = []
             for j, line in enumerate(it["body"]):
@@ -289,6 +380,14 @@ def convert(crate, proof, names, params, keep):
                     lines.append(line)
             var = (args[1] if is_t and len(args) > 1 else args[0]) if args else "c"
             out = cite(lts, "\n".join(lines), {var: place}, notes)
+            asks = re.match(r"^(.+?)_requires(?:_\d+)?$", old)
+            fields = asked.get(asks[1], []) if asks else []
+            if len(fields) > 1 and not (is_cycle and any(norm(k) == "Lts_" + asks[1] for k in ltss)):
+                record = as_record(out, fields)
+                if record is None:
+                    notes.append(f"{new}: write it as a record of {', '.join(fields)}")
+                else:
+                    out = record
             answers.append((new, f"pub {new} : goal.{new}\n{out}"))
             order.setdefault(id(lts), []).append(k)
             continue
@@ -457,11 +556,12 @@ def main(argv):
             return 1
         names = json.load(open(table))
         params = fn_params(there)
+        asked = asked_clauses(crate)
         count = 0
         for folder, _, files in sorted(os.walk(os.path.join(there, "proofs"))):
             if "Proof.antt" in files and (only is None or only in folder):
                 try:
-                    notes = convert(crate, os.path.join(folder, "Proof.antt"), names, params, keep)
+                    notes = convert(crate, os.path.join(folder, "Proof.antt"), names, params, asked, keep)
                     count += 1
                 except Trouble as e:
                     notes = [str(e)]

@@ -1,5 +1,6 @@
 // The words of the input text: lines with fixed keys, numbers parted by commas.
 #![tactic(auto)]
+
 ghost use Rattle.std.specs.Prelude.{◌≡◌, cond, ◌+◌, ◌≤◌, ◌<◌, length, drop};
 ghost use Rattle.std.proofs.Math.Option.{none, some};
 ghost use Rattle.input.specs.ReadText.{split, after, single, read_numbers as numbers, count_line as one_count, lines as all_lines, read_text};

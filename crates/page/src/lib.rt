@@ -1,5 +1,6 @@
 // The clause sheet, written from the words of an answer straight into the lent bytes. Bytes past the end are dropped, and counted.
 #![tactic(auto)]
+
 ghost use Rattle.std.specs.Prelude.{◌≡◌, true, [], ◌∷◌, ◌++◌, map, ◌+◌, ◌*◌, ◌-◌, ◌≤◌, ◌<◌, min, length, drop};
 ghost use Rattle.decimal.specs.Decimal.{print_natural, print_number};
 ghost use Rattle.laws.specs.Lists.{all, flat};

@@ -1,5 +1,6 @@
 // For tests: the sheet of clause words, from their count on, exported to C.
 #![tactic(auto)]
+
 ghost use Rattle.std.specs.Prelude.{◌≤◌, length};
 ghost use Rattle.syntax.specs.Words.{max_answer_words};
 ghost use Rattle.page.specs.Sheet.{print_sheet};

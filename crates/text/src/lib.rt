@@ -1,5 +1,6 @@
 // The listing of an answer: bytes written from the answer's words. Where the words end early, what is there is printed.
 #![tactic(auto)]
+
 ghost use Rattle.std.specs.Prelude.{◌≡◌, [], ◌≤◌, min, length, drop};
 ghost use Rattle.std.proofs.lemmas.List.Edits.{sets};
 ghost use Rattle.text.specs.Listing.{print_clauses, print_emitted, print_compiled, print_answer};

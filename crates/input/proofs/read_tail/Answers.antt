@@ -1,0 +1,14 @@
+-- `input::read_tail` meets its contract. Assumes nothing.
+use native.Mathlib.Omega.{arith}
+use Rattle.input.proofs.Whole.{inside_next, tail_one, tail_two}
+use borrow.Author.Rules.{rules}
+use Rattle.input.proofs.read_tail.Goals as goal
+
+pub returns-in_default : goal.returns-in_default
+returns-in_default c = tail_one _ _ _ _ _ _ c.count_line.ensures c.in_default.is
+
+pub lines-requires : goal.lines-requires
+lines-requires c = record { inside = inside_next _ _ _ _ c.requires.short c.count_line.ensures.inside c.in-At.is; key_nonzero = omega arith }
+
+pub returns : goal.returns
+returns c = tail_two _ _ _ _ _ _ c.count_line.ensures _ _ c.in-At.is _ _ c.lines.ensures

@@ -1,0 +1,14 @@
+use mathlib.Core.Path.{◌≡◌, refl, ◌∙◌}
+use Prim.Native.Nat.{◌+◌, ◌-◌, ◌*◌, ◌≤◌}
+use native.Mathlib.Omega.{arith}
+use lib.ListN.{length}
+use Rattle.page.specs.Writes.{Line}
+use Rattle.page.proofs.Pages.{stop_two, Pairs, pairs_start, pairs_next, pairs_end}
+use borrow.Author.Rules.{rules}
+use Rattle.page.proofs.place_pairs.Given as goal
+
+abbrev pub invariant-loop-i : goal.invariant-loop-i
+invariant-loop-i l = (l.i ≤ length l.part) × (Line l.p) × (l.p.line ≤ l.initial.p.line + 81 * l.i) × (length l.out ≡ length l.initial.out) × Pairs l.part l.initial.out l.initial.p l.i l.out l.p
+
+abbrev pub decreases-loop-i : goal.decreases-loop-i
+decreases-loop-i l = length l.part - l.i

@@ -1,0 +1,14 @@
+use mathlib.Core.Path.{◌≡◌, refl, ◌∙◌}
+use Prim.Native.Nat.{◌+◌, ◌*◌, ◌≤◌}
+use native.Mathlib.Omega.{arith}
+use lib.ListN.{length, drop}
+use Rattle.page.proofs.Bytes.{wrote_length}
+use Rattle.page.proofs.Clauses.{text_of, Clausing, clausing_start, clauses_next, clauses_done, clauses_out}
+use borrow.Author.Rules.{rules}
+use Rattle.page.proofs.put_clauses.Given as goal
+
+abbrev pub invariant-loop-left : goal.invariant-loop-left
+invariant-loop-left l = (l.o ≤ 81 * l.i) × (l.i ≤ length l.words) × (l.k ≤ l.i + 1) × (length l.out ≡ length l.initial.out) × Clausing l.words l.initial.out (text_of 1 l.n (drop l.from l.words)) l.k l.left l.i l.out l.o
+
+abbrev pub decreases-loop-left : goal.decreases-loop-left
+decreases-loop-left l = l.left

@@ -1,0 +1,15 @@
+use mathlib.Core.Path.{◌≡◌, refl}
+use Prim.Native.Nat.{◌+◌, ◌-◌, ◌≤◌}
+use native.Mathlib.Omega.{arith}
+use lib.ListN.{length}
+use lib.Seq.{sets}
+use Rattle.page.specs.Sheet.{spaces}
+use Rattle.page.proofs.Bytes.{spaces_start, spaces_next, spaces_end}
+use borrow.Author.Rules.{rules}
+use Rattle.page.proofs.put_spaces.Given as goal
+
+abbrev pub invariant-loop-o : goal.invariant-loop-o
+invariant-loop-o l = (l.at ≤ l.o) × (l.o ≤ l.at + l.n) × (length l.out ≡ length l.initial.out) × (l.out ≡ sets l.initial.out l.at (spaces (l.o - l.at)))
+
+abbrev pub decreases-loop-o : goal.decreases-loop-o
+decreases-loop-o l = l.end - l.o
