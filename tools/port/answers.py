@@ -24,22 +24,85 @@ def norm(name):
     return re.sub(r"^overflow_", "", name)
 
 
+def is_new(place):
+    """Says whether the older kit had no such step."""
+    return place.startswith("After-way_told")
+
+
 class Lts:
     def __init__(self, raw):
         self.stem, self.is_cycle = raw["stem"], False
         self.needs = [(norm(a), b) for a, b in raw["needs"]]
         self.asked = [a for a, _ in raw["asked_at"]]
-        self.places, self.by_norm = {}, {}
+        self.places, self.by_norm, self.callee = {}, {}, {}
         names = raw["places_by_name"]
+        self.pre, self.claims = (raw.get("pre") or {}).get("fields"), bool(raw.get("params"))
+        self.record_goals = {norm(a): b for a, b in (raw.get("asked") or {}).items()}
+        self.fields_at = {}
+        self.typed = set()
+        for i, (name, *_) in enumerate(raw["places"]):
+            if raw["typed"][i]:
+                self.typed.add(name)
+            said = raw["clauses"][i]
+            if said and not said["told"] and not said["utf8"] and not said["text"]:
+                self.fields_at[name] = said["fields"]
         for i, (name, parent, step, callee, _) in enumerate(raw["places"]):
             self.places[name] = (parent, step, raw["arms"][i], names[i])
+            self.callee[name] = callee
             self.by_norm[norm(name)] = name
         self.loops = {}
         for (pair, variables), changed in zip(raw["loops"], raw["changed"]):
             self.loops[norm(pair[0])] = (pair[1], variables, changed)
 
+    def up(self, place):
+        while is_new(place):
+            place = self.parent(place)
+        place = self.parent(place)
+        while place and is_new(place):
+            place = self.parent(place)
+        return place
+
     def parent(self, place):
         return self.places[place][0]
+
+
+class View(str):
+    """The place of an answer's argument, whose record has one more `before` where the place says types."""
+
+
+MUTS = {}
+
+
+def muts(callee):
+    """Returns the names of a function's parameters that are &mut."""
+    crate, _, rest = callee.partition("::")
+    if crate not in MUTS:
+        MUTS[crate] = {}
+        for folder, _, names in os.walk(os.path.join("crates", crate, "src")):
+            for name in names:
+                if name.endswith(".rt"):
+                    text = open(os.path.join(folder, name), encoding="utf-8").read()
+                    for m in re.finditer(r"\bfn (\w+)\s*(?:<[^>]*>)?\s*\(([^)]*)\)", text):
+                        each = []
+                        for a in m[2].split(","):
+                            if "&mut self" in a:
+                                each.append("self")
+                            elif re.search(r":\s*&(?:'\w+ )?mut\b", a):
+                                each.append(a.split(":", 1)[0].replace("mut ", "").strip())
+                        MUTS[crate][m[1]] = each
+    return MUTS[crate].get(rest.split("::")[-1])
+
+
+def named(fields, rest):
+    """Turns a path into a tuple of clauses to a path by the clauses' names."""
+    k = 0
+    while k < len(fields) - 1 and rest[:1] == ["1"]:
+        k, rest = k + 1, rest[1:]
+    if k < len(fields) - 1:
+        if rest[:1] != ["0"]:
+            return None
+        rest = rest[1:]
+    return [fields[k]] + rest
 
 
 FLAT = {"args", "requires", "ranges", "lifetimes", "well_formed", "type_inv", "utf8"}
@@ -52,21 +115,34 @@ class Trouble(Exception):
 def path(lts, place, var, parts, notes):
     """Returns the new text of var.parts, where var is a record of the place."""
     here, i = place, 0
+    new_steps = 0
     while i < len(parts) and parts[i] == "before":
         up = lts.parent(here)
+        while is_new(here) and up:
+            here, up, new_steps = up, lts.parent(up), new_steps + 1
         if up is None:
             notes.append(f"no place before {here}: {var}.{'.'.join(parts)}")
             return f"{var}.{'.'.join(parts)}"
         here, i = up, i + 1
     if i == len(parts):
-        return var + ".before" * i
+        while is_new(here):
+            here, new_steps = lts.parent(here), new_steps + 1
+        return var + ".before" * (i + new_steps + (isinstance(place, View) and place in lts.typed))
     field, rest = parts[i], parts[i + 1 :]
+    if field == "pre":
+        field = "requires"
     if lts.is_cycle and field == "requires":
         if rest[:1] == ["0"]:
             return ".".join([var, "decreases"] + rest[1:])
         if rest[:1] == ["1"]:
-            return ".".join([var, "requires"] + rest[1:])
+            rest = rest[1:]
+            if lts.pre and named(lts.pre, rest):
+                rest = named(lts.pre, rest)
+            return ".".join([var, "requires"] + rest)
         return ".".join([var, "requires-raw"] + rest)
+    if lts.pre and field == "requires":
+        by = named(lts.pre, rest)
+        return ".".join([var, "requires"] + by) if by else ".".join([var, "requires-raw"] + rest)
     if norm(field) in {norm(x) for x in FLAT}:
         return ".".join([var, field] + rest)
     at = here
@@ -81,6 +157,16 @@ def path(lts, place, var, parts, notes):
         notes.append(f"no step {field} at {here}: {var}.{'.'.join(parts)}")
         return f"{var}.{'.'.join(parts)}"
     parent, step, arm, _ = lts.places[at]
+    if rest[:1] == ["new"] and lts.callee.get(at):
+        k, m = 1, muts(lts.callee[at])
+        while rest[k : k + 1] == ["1"]:
+            k += 1
+        if m and rest[k : k + 1] == ["0"] and k - 1 < len(m):
+            rest = ["new", m[k - 1]] + rest[k + 1 :]
+    if rest[:1] == ["ensures"] and at in lts.fields_at and len(lts.fields_at[at]) > 1:
+        by = named(lts.fields_at[at], rest[1:])
+        if by:
+            rest = ["ensures"] + by
     if arm:
         best = None
         for new, old, tail in arm[2]:
@@ -91,19 +177,49 @@ def path(lts, place, var, parts, notes):
     return ".".join([var, step[1]] + rest)
 
 
-def cite(lts, text, places, notes):
+def cite(lts, text, places, notes, helpers=None):
     """Rewrites each path that begins at a variable of a known place."""
     if not places:
         return text
-    for m in re.finditer(rf"\blet ({N}) = ({'|'.join(map(re.escape, places))})((?:\.before)*) in\b", text):
-        here = places[m[2]]
-        for _ in range(m[3].count(".before")):
-            here = lts.parent(here) if here else here
-        if here and m[1] not in places:
-            places = {**places, m[1]: here}
+    helpers = helpers or {}
+    more = True
+    while more:
+        more = False
+        for m in re.finditer(rf"\blet ({N}) = ({'|'.join(map(re.escape, places))})((?:\.before)*) in\b", text):
+            here = places[m[2]]
+            for _ in range(m[3].count(".before")):
+                here = lts.up(here) if here else here
+            if here and m[1] not in places:
+                places, more = {**places, m[1]: str(here)}, True
+        for h, (its, pl) in helpers.items():
+            if its is not lts or not pl:
+                continue
+            for m in re.finditer(rf"\blet ({N}) = {re.escape(h)}(?: \([^()]*\)| {N}(?:\.{N})*)+ in\b", text):
+                if m[1] not in places:
+                    places, more = {**places, m[1]: str(pl)}, True
     names = "|".join(sorted(map(re.escape, places), key=len, reverse=True))
     turn = re.compile(rf"(?<![^\s(){{}};,«»])({names})((?:\.{N})+)")
-    return turn.sub(lambda m: path(lts, places[m[1]], m[1], m[2][1:].split("."), notes), text)
+    text = turn.sub(lambda m: path(lts, places[m[1]], m[1], m[2][1:].split("."), notes), text)
+    for v, pl in places.items():
+        if isinstance(pl, View) and pl in lts.typed:
+            alone = re.compile(rf"(?<![^\s(){{}};,]){re.escape(v)}(?=[\s(){{}};,]|$)")
+            lines = text.split("\n")
+            for k, line in enumerate(lines):
+                left = ""
+                if k == 0 and " =" in line:
+                    left, line = re.split(r"(?<=\s=)", line, maxsplit=1)
+                lines[k] = left + alone.sub(f"{v}.before", line)
+            text = "\n".join(lines)
+    steps = {}
+    for _, step, _, _ in lts.places.values():
+        if step:
+            steps.setdefault(norm(step[0]), set()).add(step[1])
+
+    def of_record(m):
+        new = steps.get(norm(m[2]), set())
+        return f"{m[1]}{next(iter(new))} =" if len(new) == 1 else m[0]
+
+    return re.sub(rf"(record \{{ before = [^;{{}}]*; )({N}) =", of_record, text)
 
 
 def items(text):
@@ -149,6 +265,42 @@ def arrows(text):
         i += 1
     parts.append(flat[start:].strip())
     return parts
+
+
+def as_record(text, fields, notes, name):
+    """Turns an answer's tuple to a record by the clauses' names."""
+    end = text.rstrip()
+    if not end.endswith(")") or len(fields) < 2:
+        return text
+    depth, k = 0, len(end)
+    while k > 0:
+        k -= 1
+        depth += (end[k] in ")}") - (end[k] in "({")
+        if depth == 0:
+            break
+    before = end[:k].rstrip()
+    last = re.split(r"(?:\s=|\sin)(?=\s|$)", before)[-1].strip()
+    if last and not re.match(r"(?:rw|simp) \S", last):
+        notes.append(f"{name}: wants a record of {fields}")
+        return text
+    inner, parts, depth, start = end[k + 1 : -1], [], 0, 0
+    for i, ch in enumerate(inner):
+        depth += (ch in "({") - (ch in ")}")
+        if ch == "," and depth == 0 and len(parts) < len(fields) - 1:
+            parts.append(inner[start:i].strip())
+            start = i + 1
+    parts.append(inner[start:].strip().rstrip(","))
+    if len(parts) != len(fields):
+        notes.append(f"{name}: wants a record of {fields}")
+        return text
+    last = parts[-1]
+    depth = 0
+    for ch in last:
+        depth += (ch in "({") - (ch in ")}")
+        if ch == "," and depth == 0:
+            parts[-1] = f"({last})"
+            break
+    return end[:k] + "record { " + "; ".join(f"{f} = {p}" for f, p in zip(fields, parts)) + " }"
 
 
 def head_args(item):
@@ -241,6 +393,18 @@ def convert(crate, proof, names, params, keep):
                 return v
         return None
 
+    aliases = {}
+
+    def local_alias(lts, pl):
+        name = "".join([pl])
+        args = (["Tie.the-claims"] if lts.claims else []) + ["Reads.Pre", "Reads.Post"]
+        for new, _, _ in lts.loops.values():
+            args += [f"goal.the-invariant-{new}", f"goal.the-decreases-{new}"]
+        if lts.pre:
+            args.append("Tie.handed_clauses")
+        aliases[name] = f"abbrev {name} : Type 0\n{name} = Lts.{pl} {' '.join(args)}"
+        return name
+
     invariants, answers, helpers = [], [], []
     helper_places = {}
     used_old = set()
@@ -288,7 +452,9 @@ def convert(crate, proof, names, params, keep):
                 else:
                     lines.append(line)
             var = (args[1] if is_t and len(args) > 1 else args[0]) if args else "c"
-            out = cite(lts, "\n".join(lines), {var: place}, notes)
+            out = cite(lts, "\n".join(lines), {var: View(place)}, notes, helper_places)
+            if lts.needs[k][0] in lts.record_goals:
+                out = as_record(out, lts.record_goals[lts.needs[k][0]], notes, new)
             answers.append((new, f"pub {new} : goal.{new}\n{out}"))
             order.setdefault(id(lts), []).append(k)
             continue
@@ -368,6 +534,8 @@ def convert(crate, proof, names, params, keep):
             if not l:
                 return m[0]
             pl = l.by_norm.get(norm(m[2]))
+            if pl and not is_cycle:
+                return local_alias(l, pl)
             return f"goal.{l.places[pl][3]}" if pl else m[0]
         typ = re.sub(rf"{place_re}((?: (?:invariant|decreases|Inv|μ)-{N})*)", place_name, typ)
         if lts:
@@ -378,7 +546,7 @@ def convert(crate, proof, names, params, keep):
                 end = clauses[ci + 1][0] if ci + 1 < len(clauses) else len(out)
                 local = {a: p for a, p in zip(args, by_pos) if p and re.fullmatch(N, a)}
                 block = "\n".join(out[k:end])
-                text_out.append(cite(lts, block, local, notes))
+                text_out.append(cite(lts, block, local, notes, helper_places))
             lead = "\n".join(out[: clauses[0][0]]) if clauses else ""
             body = (lead + "\n" if lead else "") + "\n".join(text_out)
             if res and lts_of(res[1]):
@@ -423,8 +591,9 @@ def convert(crate, proof, names, params, keep):
         body = "\n".join(comments + uses + [f"use {where}.Given as goal", ""]) + "\n" + (first + "\n\n" if first else "") + inv_text + "\n"
         wrote.append(("Invariants.antt", body))
     if answers:
-        body = "\n".join(comments + uses + [f"use {where}.Goals as goal", ""]) + "\n"
-        body += "\n\n".join([t for _, t in helpers] + [t for _, t in answers]) + "\n"
+        more = [f"use {where}.{x}" for x in ("Lts", "Tie", "Reads") if any(f"{x}." in t for t in aliases.values())]
+        body = "\n".join(comments + uses + more + [f"use {where}.Goals as goal", ""]) + "\n"
+        body += "\n\n".join(list(aliases.values()) + [t for _, t in helpers] + [t for _, t in answers]) + "\n"
         wrote.append(("Answers.antt", body))
     if keep and any(os.path.exists(os.path.join(folder, n)) for n, _ in wrote):
         raise Trouble("files are there already")
