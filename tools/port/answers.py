@@ -34,22 +34,21 @@ class Lts:
         self.stem, self.is_cycle = raw["stem"], False
         self.needs = [(norm(a), b) for a, b in raw["needs"]]
         self.asked = [a for a, _ in raw["asked_at"]]
-        self.places, self.by_norm, self.callee = {}, {}, {}
+        self.places, self.by_norm = {}, {}
         names = raw["places_by_name"]
-        self.pre, self.claims = (raw.get("pre") or {}).get("fields"), bool(raw.get("params"))
+        self.claims = bool(raw.get("params"))
         self.record_goals = {norm(a): b for a, b in (raw.get("asked") or {}).items()}
-        self.fields_at = {}
         self.typed = set()
         for i, (name, *_) in enumerate(raw["places"]):
             if raw["typed"][i]:
                 self.typed.add(name)
-            said = raw["clauses"][i]
-            if said and not said["told"] and not said["utf8"] and not said["text"]:
-                self.fields_at[name] = said["fields"]
         for i, (name, parent, step, callee, _) in enumerate(raw["places"]):
             self.places[name] = (parent, step, raw["arms"][i], names[i])
-            self.callee[name] = callee
             self.by_norm[norm(name)] = name
+        self.fields = {pl[0]: (cl or {}).get("fields") for pl, cl in zip(raw["places"], raw.get("clauses") or [None] * len(raw["places"]))}
+        self.callee = {pl[0]: pl[3] for pl in raw["places"]}
+        self.params = raw.get("params") or {}
+        self.pre = (raw.get("pre") or {}).get("fields") or []
         self.loops = {}
         for (pair, variables), changed in zip(raw["loops"], raw["changed"]):
             self.loops[norm(pair[0])] = (pair[1], variables, changed)
@@ -93,18 +92,6 @@ def muts(callee):
     return MUTS[crate].get(rest.split("::")[-1])
 
 
-def named(fields, rest):
-    """Turns a path into a tuple of clauses to a path by the clauses' names."""
-    k = 0
-    while k < len(fields) - 1 and rest[:1] == ["1"]:
-        k, rest = k + 1, rest[1:]
-    if k < len(fields) - 1:
-        if rest[:1] != ["0"]:
-            return None
-        rest = rest[1:]
-    return [fields[k]] + rest
-
-
 FLAT = {"args", "requires", "ranges", "lifetimes", "well_formed", "type_inv", "utf8"}
 
 
@@ -112,22 +99,30 @@ class Trouble(Exception):
     pass
 
 
+def clause(fields, rest):
+    """Turns the numbers of a pair of clauses into the clause's name."""
+    if len(fields) < 2 or not rest or rest[0] not in ("0", "1"):
+        return rest
+    k, i = 0, 0
+    while i < len(rest) and rest[i] == "1" and k < len(fields) - 1:
+        k, i = k + 1, i + 1
+    if k < len(fields) - 1:
+        if i == len(rest) or rest[i] != "0":
+            return rest
+        i += 1
+    return [fields[k]] + rest[i:]
+
+
 def path(lts, place, var, parts, notes):
     """Returns the new text of var.parts, where var is a record of the place."""
     here, i = place, 0
-    new_steps = 0
     while i < len(parts) and parts[i] == "before":
-        up = lts.parent(here)
-        while is_new(here) and up:
-            here, up, new_steps = up, lts.parent(up), new_steps + 1
-        if up is None:
-            notes.append(f"no place before {here}: {var}.{'.'.join(parts)}")
-            return f"{var}.{'.'.join(parts)}"
-        here, i = up, i + 1
+        here, i = lts.up(here) or here, i + 1
     if i == len(parts):
-        while is_new(here):
-            here, new_steps = lts.parent(here), new_steps + 1
-        return var + ".before" * (i + new_steps + (isinstance(place, View) and place in lts.typed))
+        count, at = 0, place
+        while at != here:
+            count, at = count + 1, lts.parent(at)
+        return var + ".before" * (count + (isinstance(place, View) and place in lts.typed))
     field, rest = parts[i], parts[i + 1 :]
     if field == "pre":
         field = "requires"
@@ -135,24 +130,27 @@ def path(lts, place, var, parts, notes):
         if rest[:1] == ["0"]:
             return ".".join([var, "decreases"] + rest[1:])
         if rest[:1] == ["1"]:
-            rest = rest[1:]
-            if lts.pre and named(lts.pre, rest):
-                rest = named(lts.pre, rest)
-            return ".".join([var, "requires"] + rest)
+            return ".".join([var, "requires"] + clause(lts.pre, rest[1:]))
         return ".".join([var, "requires-raw"] + rest)
-    if lts.pre and field == "requires":
-        by = named(lts.pre, rest)
-        return ".".join([var, "requires"] + by) if by else ".".join([var, "requires-raw"] + rest)
+    if len(lts.pre) > 1 and field == "requires":
+        by = clause(lts.pre, rest)
+        return ".".join([var, "requires"] + by) if by[:1] and by[0] in lts.pre else ".".join([var, "requires-raw"] + rest)
     if norm(field) in {norm(x) for x in FLAT}:
-        return ".".join([var, field] + rest)
-    at = here
-    while at is not None:
-        parent, step, arm, _ = lts.places[at]
-        if step and norm(step[0]) == norm(field):
-            break
-        if step and arm and any(norm(e[1]) == norm(field) for e in arm[2]):
-            break
-        at = parent
+        if field == "requires":
+            rest = clause(lts.pre, rest)
+        return ".".join([var, norm(field)] + rest)
+
+    def seek(at):
+        while at is not None:
+            parent, step, arm, _ = lts.places[at]
+            if step and norm(step[0]) == norm(field):
+                return at
+            if step and arm and any(norm(e[1]) == norm(field) for e in arm[2]):
+                return at
+            at = parent
+        return None
+
+    at = seek(here) or seek(place)
     if at is None:
         notes.append(f"no step {field} at {here}: {var}.{'.'.join(parts)}")
         return f"{var}.{'.'.join(parts)}"
@@ -163,10 +161,6 @@ def path(lts, place, var, parts, notes):
             k += 1
         if m and rest[k : k + 1] == ["0"] and k - 1 < len(m):
             rest = ["new", m[k - 1]] + rest[k + 1 :]
-    if rest[:1] == ["ensures"] and at in lts.fields_at and len(lts.fields_at[at]) > 1:
-        by = named(lts.fields_at[at], rest[1:])
-        if by:
-            rest = ["ensures"] + by
     if arm:
         best = None
         for new, old, tail in arm[2]:
@@ -174,6 +168,15 @@ def path(lts, place, var, parts, notes):
                 best = (new, tail)
         if best:
             return ".".join([var, arm[0], best[0]] + rest[len(best[1]) :])
+    if rest[:1] == ["auto"] and lts.callee.get(at) in lts.params:
+        k = 1
+        while k < len(rest) and rest[k] == "1":
+            k += 1
+        here_params = lts.params[lts.callee[at]]
+        if k < len(rest) and rest[k] == "0" and k - 1 < len(here_params):
+            rest = ["auto", here_params[k - 1]] + rest[k + 1 :]
+    if rest[:1] == ["ensures"]:
+        rest = ["ensures"] + clause(lts.fields.get(at) or [], rest[1:])
     return ".".join([var, step[1]] + rest)
 
 
@@ -201,14 +204,17 @@ def cite(lts, text, places, notes, helpers=None):
     turn = re.compile(rf"(?<![^\s(){{}};,«»])({names})((?:\.{N})+)")
     text = turn.sub(lambda m: path(lts, places[m[1]], m[1], m[2][1:].split("."), notes), text)
     for v, pl in places.items():
-        if isinstance(pl, View) and pl in lts.typed:
+        up, at = int(pl in lts.typed), pl
+        while is_new(at):
+            up, at = up + 1, lts.parent(at)
+        if isinstance(pl, View) and up:
             alone = re.compile(rf"(?<![^\s(){{}};,]){re.escape(v)}(?=[\s(){{}};,]|$)")
             lines = text.split("\n")
             for k, line in enumerate(lines):
                 left = ""
                 if k == 0 and " =" in line:
                     left, line = re.split(r"(?<=\s=)", line, maxsplit=1)
-                lines[k] = left + alone.sub(f"{v}.before", line)
+                lines[k] = left + alone.sub(v + ".before" * up, line)
             text = "\n".join(lines)
     steps = {}
     for _, step, _, _ in lts.places.values():
@@ -267,42 +273,6 @@ def arrows(text):
     return parts
 
 
-def as_record(text, fields, notes, name):
-    """Turns an answer's tuple to a record by the clauses' names."""
-    end = text.rstrip()
-    if not end.endswith(")") or len(fields) < 2:
-        return text
-    depth, k = 0, len(end)
-    while k > 0:
-        k -= 1
-        depth += (end[k] in ")}") - (end[k] in "({")
-        if depth == 0:
-            break
-    before = end[:k].rstrip()
-    last = re.split(r"(?:\s=|\sin)(?=\s|$)", before)[-1].strip()
-    if last and not re.match(r"(?:rw|simp) \S", last):
-        notes.append(f"{name}: wants a record of {fields}")
-        return text
-    inner, parts, depth, start = end[k + 1 : -1], [], 0, 0
-    for i, ch in enumerate(inner):
-        depth += (ch in "({") - (ch in ")}")
-        if ch == "," and depth == 0 and len(parts) < len(fields) - 1:
-            parts.append(inner[start:i].strip())
-            start = i + 1
-    parts.append(inner[start:].strip().rstrip(","))
-    if len(parts) != len(fields):
-        notes.append(f"{name}: wants a record of {fields}")
-        return text
-    last = parts[-1]
-    depth = 0
-    for ch in last:
-        depth += (ch in "({") - (ch in ")}")
-        if ch == "," and depth == 0:
-            parts[-1] = f"({last})"
-            break
-    return end[:k] + "record { " + "; ".join(f"{f} = {p}" for f, p in zip(fields, parts)) + " }"
-
-
 def head_args(item):
     """Returns the arguments of each clause: [(line number, [words])]."""
     found = []
@@ -328,6 +298,66 @@ def fn_params(crate_dir):
                             each.append((a.replace("mut ", "").strip(), b.strip().startswith("&")))
                     found[m[1]] = each
     return found
+
+
+def asked_clauses(crate):
+    """Returns the names of the clauses that each function requires, this crate's functions first."""
+    found = {}
+    for name in [crate] + sorted(os.listdir("crates")):
+        for folder, _, files in os.walk(os.path.join("crates", name, "src")):
+            for file in files:
+                if file.endswith(".rt"):
+                    text = open(os.path.join(folder, file), encoding="utf-8").read()
+                    for m in re.finditer(r"\bfn (\w+)[^{};]*?\([^)]*\)[^{}]*?((?:\n    (?:ghost|requires|ensures)\b[^\n]*)+)", text):
+                        found.setdefault(norm(m[1]), re.findall(r"\n    requires (\w+) \{", m[2]))
+    return found
+
+
+def as_record(text, fields):
+    """Turns the tuple that ends an answer into a record of the clauses, or returns None."""
+    text = text.rstrip()
+    if not text.endswith(")"):
+        return None
+    depth, k = 0, len(text) - 1
+    while k >= 0:
+        depth += {")": 1, "(": -1}.get(text[k], 0)
+        if depth == 0:
+            break
+        k -= 1
+    head, inner = text[:k], text[k + 1 : -1]
+    last = re.split(r"(?:\s=|\sin|λ [^.=]*\.)(?=\s|$)", head)[-1].strip()
+    if last and not re.match(r"(?:rw|simp) \S", last):
+        return None
+
+    def cut(t):
+        parts, depth, start = [], 0, 0
+        for i, ch in enumerate(t):
+            depth += {"(": 1, "{": 1, ")": -1, "}": -1}.get(ch, 0)
+            if ch == "," and depth == 0:
+                parts.append(t[start:i].strip())
+                start = i + 1
+        return parts + [t[start:].strip()]
+
+    def whole(t):
+        if not (t.startswith("(") and t.endswith(")")):
+            return False
+        depth = 0
+        for i, ch in enumerate(t):
+            depth += {"(": 1, ")": -1}.get(ch, 0)
+            if depth == 0:
+                return i == len(t) - 1
+        return False
+
+    parts = cut(inner)
+    while len(parts) < len(fields) and parts and whole(parts[-1]) and len(cut(parts[-1][1:-1])) > 1:
+        parts = parts[:-1] + cut(parts[-1][1:-1])
+    n = len(fields)
+    if len(parts) < n:
+        return None
+    if len(parts) > n:
+        parts = parts[: n - 1] + ["(" + ", ".join(parts[n - 1 :]) + ")"]
+    record = "record { " + "; ".join(f"{f} = {p}" for f, p in zip(fields, parts)) + " }"
+    return head + record
 
 
 def turn_invariant(item, lts, loop, where, notes, skip=0):
@@ -364,7 +394,7 @@ def turn_invariant(item, lts, loop, where, notes, skip=0):
     return new, lead, lets + tail
 
 
-def convert(crate, proof, names, params, keep):
+def convert(crate, proof, names, params, asked, keep):
     folder = os.path.dirname(proof)
     module = os.path.relpath(folder, os.path.join("crates", crate, "proofs")).replace(os.sep, ".")
     text = open(proof, encoding="utf-8").read()
@@ -430,7 +460,7 @@ def convert(crate, proof, names, params, keep):
             _, args = bodies[0]
             if len(bodies) == 1 and re.fullmatch(rf"{re.escape(name)}(?: \S+)* = \(?(?:λ \S+\. )*search rules\)?", body.strip()):
                 continue
-            new = (lts.stem + lts.needs[k][1]) if lts.stem and not lts.needs[k][1].startswith(lts.stem) else lts.needs[k][1]
+            new = lts.stem + lts.needs[k][1]
             is_t = flat.startswith("(t :") or bool(re.match(r"^\(\S+ : ℕ\) →", flat))
             lines = []
             for j, line in enumerate(it["body"]):
@@ -445,16 +475,25 @@ def convert(crate, proof, names, params, keep):
                         words_c = words[:1]
                         keep_args = words[:1]
                         dropped = words[1:]
-                    for d in dropped:
-                        if re.search(rf"(?<![^\s(){{}}.;,]){re.escape(d)}(?![^\s(){{}}.;,])", "\n".join([right] + it["body"][j + 1 :])):
-                            notes.append(f"{name}: cites {d}")
+                    rest_text = "\n".join([right] + it["body"][j + 1 :])
+                    cited = [d for d in dropped if re.search(rf"(?<![^\s(){{}}.;,]){re.escape(d)}(?![^\s(){{}}.;,])", rest_text)]
+                    if cited and not re.search(r"_requires(_\d+)?$", old):
+                        right = f" λ {' '.join(dropped)}.{right}"
+                    else:
+                        notes += [f"{name}: cites {d}" for d in cited]
                     lines.append(f"{new} {' '.join(keep_args)} ={right}")
                 else:
                     lines.append(line)
             var = (args[1] if is_t and len(args) > 1 else args[0]) if args else "c"
             out = cite(lts, "\n".join(lines), {var: View(place)}, notes, helper_places)
-            if lts.needs[k][0] in lts.record_goals:
-                out = as_record(out, lts.record_goals[lts.needs[k][0]], notes, new)
+            asks = re.match(r"^(.+?)_requires(?:_\d+)?$", old)
+            fields = lts.record_goals.get(old) or (asked.get(asks[1], []) if asks else [])
+            if len(fields) > 1 and (old in lts.record_goals or not (is_cycle and any(norm(k) == "Lts_" + asks[1] for k in ltss))):
+                record = as_record(out, fields)
+                if record is None:
+                    notes.append(f"{new}: write it as a record of {', '.join(fields)}")
+                else:
+                    out = record
             answers.append((new, f"pub {new} : goal.{new}\n{out}"))
             order.setdefault(id(lts), []).append(k)
             continue
@@ -626,11 +665,12 @@ def main(argv):
             return 1
         names = json.load(open(table))
         params = fn_params(there)
+        asked = asked_clauses(crate)
         count = 0
         for folder, _, files in sorted(os.walk(os.path.join(there, "proofs"))):
             if "Proof.antt" in files and (only is None or only in folder):
                 try:
-                    notes = convert(crate, os.path.join(folder, "Proof.antt"), names, params, keep)
+                    notes = convert(crate, os.path.join(folder, "Proof.antt"), names, params, asked, keep)
                     count += 1
                 except Trouble as e:
                     notes = [str(e)]
