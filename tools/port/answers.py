@@ -426,7 +426,7 @@ def convert(crate, proof, names, params, asked, keep):
     aliases = {}
 
     def local_alias(lts, pl):
-        name = "".join([pl])
+        name = pl
         args = (["Tie.the-claims"] if lts.claims else []) + ["Reads.Pre", "Reads.Post"]
         for new, _, _ in lts.loops.values():
             args += [f"goal.the-invariant-{new}", f"goal.the-decreases-{new}"]
@@ -436,6 +436,33 @@ def convert(crate, proof, names, params, asked, keep):
         return name
 
     invariants, answers, helpers = [], [], []
+    placed, inlined = {}, {}
+
+    def at_helpers(text, var, place, lts):
+        """Gives each call of a helper of this file the place that it takes, or writes its body out where Goals has no such place."""
+        for h, (its, pl) in placed.items():
+            if its is not lts or not pl:
+                continue
+
+            def there(m):
+                count, at = 0, place
+                while at is not None and at != pl:
+                    count, at = count + 1, lts.parent(at)
+                if at is None:
+                    notes.append(f"{h}: no way from {place} to {pl}")
+                    return m[0]
+                if h in inlined:
+                    v, body = inlined[h]
+                    body = re.sub(rf"(?<![^\s(){{}};,]){re.escape(v)}(?=\.)", var, body)
+                    return "(" + body + ")"
+                return h + " " + var + ".before" * (count + (count > 0 and isinstance(place, View) and place in lts.typed))
+
+            turn = rf"(?<![^\s(){{}}.;,]){re.escape(h)} {re.escape(var)}(?:\.before)*(?![^\s(){{}};,])"
+            if h in inlined:
+                text = re.sub(r"\(" + turn + r"\)", there, text)
+            text = re.sub(turn, there, text)
+        return text
+
     helper_places = {}
     used_old = set()
     order = {}
@@ -485,7 +512,7 @@ def convert(crate, proof, names, params, asked, keep):
                 else:
                     lines.append(line)
             var = (args[1] if is_t and len(args) > 1 else args[0]) if args else "c"
-            out = cite(lts, "\n".join(lines), {var: View(place)}, notes, helper_places)
+            out = at_helpers(cite(lts, "\n".join(lines), {var: View(place)}, notes, helper_places), var, View(place), lts)
             asks = re.match(r"^(.+?)_requires(?:_\d+)?$", old)
             fields = lts.record_goals.get(old) or (asked.get(asks[1], []) if asks else [])
             if len(fields) > 1 and (old in lts.record_goals or not (is_cycle and any(norm(k) == "Lts_" + asks[1] for k in ltss))):
@@ -575,7 +602,7 @@ def convert(crate, proof, names, params, asked, keep):
             pl = l.by_norm.get(norm(m[2]))
             if pl and not is_cycle:
                 return local_alias(l, pl)
-            return f"goal.{l.places[pl][3]}" if pl else m[0]
+            return f"goal.{l.stem}{l.places[pl][3]}" if pl else m[0]
         typ = re.sub(rf"{place_re}((?: (?:invariant|decreases|Inv|μ)-{N})*)", place_name, typ)
         if lts:
             typ = cite(lts, typ, {v: p for v, p in vars_at.items() if p}, notes)
@@ -584,10 +611,23 @@ def convert(crate, proof, names, params, asked, keep):
             for ci, (k, args) in enumerate(clauses):
                 end = clauses[ci + 1][0] if ci + 1 < len(clauses) else len(out)
                 local = {a: p for a, p in zip(args, by_pos) if p and re.fullmatch(N, a)}
-                block = "\n".join(out[k:end])
-                text_out.append(cite(lts, block, local, notes, helper_places))
+                block = cite(lts, "\n".join(out[k:end]), local, notes, helper_places)
+                for v, pl in local.items():
+                    block = at_helpers(block, v, pl, lts)
+                text_out.append(block)
             lead = "\n".join(out[: clauses[0][0]]) if clauses else ""
             body = (lead + "\n" if lead else "") + "\n".join(text_out)
+            if is_cycle and len(clauses) == 1 and len(clauses[0][1]) == 1 and by_pos[:1] and by_pos[0]:
+                placed[name] = (lts, by_pos[0])
+                if by_pos[0] not in lts.asked and by_pos[0] != "Start":
+                    v = clauses[0][1][0]
+                    said = re.split(r"\s=(?:\s|$)", body[body.index(f"\n{name} ") if f"\n{name} " in body else 0 :], maxsplit=1)[1].strip()
+                    bound = re.match(rf"^\(({N}) :", parts[0])
+                    claim = arrows(typ)[-1]
+                    if bound:
+                        claim = re.sub(rf"(?<![^\s(){{}};,]){re.escape(bound[1])}(?=\.)", v, claim)
+                    inlined[name] = (v, f"let {name} : {claim} = {said} in {name}")
+                    continue
             if res and lts_of(res[1]):
                 helper_places[name] = (lts, lts.by_norm.get(norm(res[2])))
         else:
