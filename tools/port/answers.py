@@ -24,6 +24,11 @@ def norm(name):
     return re.sub(r"^overflow_", "", name)
 
 
+def is_new(place):
+    """Says whether the older kit had no such step."""
+    return place.startswith("After-way_told")
+
+
 class Lts:
     def __init__(self, raw):
         self.stem, self.is_cycle = raw["stem"], False
@@ -31,6 +36,12 @@ class Lts:
         self.asked = [a for a, _ in raw["asked_at"]]
         self.places, self.by_norm = {}, {}
         names = raw["places_by_name"]
+        self.claims = bool(raw.get("params"))
+        self.record_goals = {norm(a): b for a, b in (raw.get("asked") or {}).items()}
+        self.typed = set()
+        for i, (name, *_) in enumerate(raw["places"]):
+            if raw["typed"][i]:
+                self.typed.add(name)
         for i, (name, parent, step, callee, _) in enumerate(raw["places"]):
             self.places[name] = (parent, step, raw["arms"][i], names[i])
             self.by_norm[norm(name)] = name
@@ -42,8 +53,43 @@ class Lts:
         for (pair, variables), changed in zip(raw["loops"], raw["changed"]):
             self.loops[norm(pair[0])] = (pair[1], variables, changed)
 
+    def up(self, place):
+        while is_new(place):
+            place = self.parent(place)
+        place = self.parent(place)
+        while place and is_new(place):
+            place = self.parent(place)
+        return place
+
     def parent(self, place):
         return self.places[place][0]
+
+
+class View(str):
+    """The place of an answer's argument, whose record has one more `before` where the place says types."""
+
+
+MUTS = {}
+
+
+def muts(callee):
+    """Returns the names of a function's parameters that are &mut."""
+    crate, _, rest = callee.partition("::")
+    if crate not in MUTS:
+        MUTS[crate] = {}
+        for folder, _, names in os.walk(os.path.join("crates", crate, "src")):
+            for name in names:
+                if name.endswith(".rt"):
+                    text = open(os.path.join(folder, name), encoding="utf-8").read()
+                    for m in re.finditer(r"\bfn (\w+)\s*(?:<[^>]*>)?\s*\(([^)]*)\)", text):
+                        each = []
+                        for a in m[2].split(","):
+                            if "&mut self" in a:
+                                each.append("self")
+                            elif re.search(r":\s*&(?:'\w+ )?mut\b", a):
+                                each.append(a.split(":", 1)[0].replace("mut ", "").strip())
+                        MUTS[crate][m[1]] = each
+    return MUTS[crate].get(rest.split("::")[-1])
 
 
 FLAT = {"args", "requires", "ranges", "lifetimes", "well_formed", "type_inv", "utf8"}
@@ -71,19 +117,24 @@ def path(lts, place, var, parts, notes):
     """Returns the new text of var.parts, where var is a record of the place."""
     here, i = place, 0
     while i < len(parts) and parts[i] == "before":
-        here, i = lts.parent(here) or here, i + 1
+        here, i = lts.up(here) or here, i + 1
     if i == len(parts):
         count, at = 0, place
         while at != here:
             count, at = count + 1, lts.parent(at)
-        return var + ".before" * count
+        return var + ".before" * (count + (isinstance(place, View) and place in lts.typed))
     field, rest = parts[i], parts[i + 1 :]
+    if field == "pre":
+        field = "requires"
     if lts.is_cycle and field == "requires":
         if rest[:1] == ["0"]:
             return ".".join([var, "decreases"] + rest[1:])
         if rest[:1] == ["1"]:
             return ".".join([var, "requires"] + clause(lts.pre, rest[1:]))
         return ".".join([var, "requires-raw"] + rest)
+    if len(lts.pre) > 1 and field == "requires":
+        by = clause(lts.pre, rest)
+        return ".".join([var, "requires"] + by) if by[:1] and by[0] in lts.pre else ".".join([var, "requires-raw"] + rest)
     if norm(field) in {norm(x) for x in FLAT}:
         if field == "requires":
             rest = clause(lts.pre, rest)
@@ -104,6 +155,12 @@ def path(lts, place, var, parts, notes):
         notes.append(f"no step {field} at {here}: {var}.{'.'.join(parts)}")
         return f"{var}.{'.'.join(parts)}"
     parent, step, arm, _ = lts.places[at]
+    if rest[:1] == ["new"] and lts.callee.get(at):
+        k, m = 1, muts(lts.callee[at])
+        while rest[k : k + 1] == ["1"]:
+            k += 1
+        if m and rest[k : k + 1] == ["0"] and k - 1 < len(m):
+            rest = ["new", m[k - 1]] + rest[k + 1 :]
     if arm:
         best = None
         for new, old, tail in arm[2]:
@@ -123,19 +180,52 @@ def path(lts, place, var, parts, notes):
     return ".".join([var, step[1]] + rest)
 
 
-def cite(lts, text, places, notes):
+def cite(lts, text, places, notes, helpers=None):
     """Rewrites each path that begins at a variable of a known place."""
     if not places:
         return text
-    for m in re.finditer(rf"\blet ({N}) = ({'|'.join(map(re.escape, places))})((?:\.before)*) in\b", text):
-        here = places[m[2]]
-        for _ in range(m[3].count(".before")):
-            here = lts.parent(here) if here else here
-        if here and m[1] not in places:
-            places = {**places, m[1]: here}
+    helpers = helpers or {}
+    more = True
+    while more:
+        more = False
+        for m in re.finditer(rf"\blet ({N}) = ({'|'.join(map(re.escape, places))})((?:\.before)*) in\b", text):
+            here = places[m[2]]
+            for _ in range(m[3].count(".before")):
+                here = lts.up(here) if here else here
+            if here and m[1] not in places:
+                places, more = {**places, m[1]: str(here)}, True
+        for h, (its, pl) in helpers.items():
+            if its is not lts or not pl:
+                continue
+            for m in re.finditer(rf"\blet ({N}) = {re.escape(h)}(?: \([^()]*\)| {N}(?:\.{N})*)+ in\b", text):
+                if m[1] not in places:
+                    places, more = {**places, m[1]: str(pl)}, True
     names = "|".join(sorted(map(re.escape, places), key=len, reverse=True))
     turn = re.compile(rf"(?<![^\s(){{}};,«»])({names})((?:\.{N})+)")
-    return turn.sub(lambda m: path(lts, places[m[1]], m[1], m[2][1:].split("."), notes), text)
+    text = turn.sub(lambda m: path(lts, places[m[1]], m[1], m[2][1:].split("."), notes), text)
+    for v, pl in places.items():
+        up, at = int(pl in lts.typed), pl
+        while is_new(at):
+            up, at = up + 1, lts.parent(at)
+        if isinstance(pl, View) and up:
+            alone = re.compile(rf"(?<![^\s(){{}};,]){re.escape(v)}(?=[\s(){{}};,]|$)")
+            lines = text.split("\n")
+            for k, line in enumerate(lines):
+                left = ""
+                if k == 0 and " =" in line:
+                    left, line = re.split(r"(?<=\s=)", line, maxsplit=1)
+                lines[k] = left + alone.sub(v + ".before" * up, line)
+            text = "\n".join(lines)
+    steps = {}
+    for _, step, _, _ in lts.places.values():
+        if step:
+            steps.setdefault(norm(step[0]), set()).add(step[1])
+
+    def of_record(m):
+        new = steps.get(norm(m[2]), set())
+        return f"{m[1]}{next(iter(new))} =" if len(new) == 1 else m[0]
+
+    return re.sub(rf"(record \{{ before = [^;{{}}]*; )({N}) =", of_record, text)
 
 
 def items(text):
@@ -235,7 +325,8 @@ def as_record(text, fields):
             break
         k -= 1
     head, inner = text[:k], text[k + 1 : -1]
-    if not re.search(r"(^|=|\bin|\.|\s)\s*$", head) or not re.search(r"(=|\bin|λ [^.]*\.)\s*$", head):
+    last = re.split(r"(?:\s=|\sin|λ [^.=]*\.)(?=\s|$)", head)[-1].strip()
+    if last and not re.match(r"(?:rw|simp) \S", last):
         return None
 
     def cut(t):
@@ -332,6 +423,18 @@ def convert(crate, proof, names, params, asked, keep):
                 return v
         return None
 
+    aliases = {}
+
+    def local_alias(lts, pl):
+        name = pl
+        args = (["Tie.the-claims"] if lts.claims else []) + ["Reads.Pre", "Reads.Post"]
+        for new, _, _ in lts.loops.values():
+            args += [f"goal.the-invariant-{new}", f"goal.the-decreases-{new}"]
+        if lts.pre:
+            args.append("Tie.handed_clauses")
+        aliases[name] = f"abbrev {name} : Type 0\n{name} = Lts.{pl} {' '.join(args)}"
+        return name
+
     invariants, answers, helpers = [], [], []
     placed, inlined = {}, {}
 
@@ -352,7 +455,7 @@ def convert(crate, proof, names, params, asked, keep):
                     v, body = inlined[h]
                     body = re.sub(rf"(?<![^\s(){{}};,]){re.escape(v)}(?=\.)", var, body)
                     return "(" + body + ")"
-                return h + " " + var + ".before" * count
+                return h + " " + var + ".before" * (count + (count > 0 and isinstance(place, View) and place in lts.typed))
 
             turn = rf"(?<![^\s(){{}}.;,]){re.escape(h)} {re.escape(var)}(?:\.before)*(?![^\s(){{}};,])"
             if h in inlined:
@@ -399,18 +502,21 @@ def convert(crate, proof, names, params, asked, keep):
                         words_c = words[:1]
                         keep_args = words[:1]
                         dropped = words[1:]
-                    for d in dropped:
-                        if re.search(rf"(?<![^\s(){{}}.;,]){re.escape(d)}(?![^\s(){{}}.;,])", "\n".join([right] + it["body"][j + 1 :])):
-                            notes.append(f"{name}: cites {d}")
+                    rest_text = "\n".join([right] + it["body"][j + 1 :])
+                    cited = [d for d in dropped if re.search(rf"(?<![^\s(){{}}.;,]){re.escape(d)}(?![^\s(){{}}.;,])", rest_text)]
+                    if cited and not re.search(r"_requires(_\d+)?$", old):
+                        right = f" λ {' '.join(dropped)}.{right}"
+                    else:
+                        notes += [f"{name}: cites {d}" for d in cited]
                     lines.append(f"{new} {' '.join(keep_args)} ={right}")
                 else:
                     lines.append(line)
             var = (args[1] if is_t and len(args) > 1 else args[0]) if args else "c"
-            out = at_helpers(cite(lts, "\n".join(lines), {var: place}, notes), var, place, lts)
+            out = at_helpers(cite(lts, "\n".join(lines), {var: View(place)}, notes, helper_places), var, View(place), lts)
             out = re.sub(rf"\b(to_z w\d+ {re.escape(var)}\.loop-[\w-]+\.\w+)(?=[\s)])", r"\1-bits", out)
             asks = re.match(r"^(.+?)_requires(?:_\d+)?$", old)
-            fields = asked.get(asks[1], []) if asks else []
-            if len(fields) > 1 and not (is_cycle and any(norm(k) == "Lts_" + asks[1] for k in ltss)):
+            fields = lts.record_goals.get(old) or (asked.get(asks[1], []) if asks else [])
+            if len(fields) > 1 and (old in lts.record_goals or not (is_cycle and any(norm(k) == "Lts_" + asks[1] for k in ltss))):
                 record = as_record(out, fields)
                 if record is None:
                     notes.append(f"{new}: write it as a record of {', '.join(fields)}")
@@ -495,6 +601,8 @@ def convert(crate, proof, names, params, asked, keep):
             if not l:
                 return m[0]
             pl = l.by_norm.get(norm(m[2]))
+            if pl and not is_cycle:
+                return local_alias(l, pl)
             return f"goal.{l.stem}{l.places[pl][3]}" if pl else m[0]
         typ = re.sub(rf"{place_re}((?: (?:invariant|decreases|Inv|μ)-{N})*)", place_name, typ)
         if lts:
@@ -504,13 +612,13 @@ def convert(crate, proof, names, params, asked, keep):
             for ci, (k, args) in enumerate(clauses):
                 end = clauses[ci + 1][0] if ci + 1 < len(clauses) else len(out)
                 local = {a: p for a, p in zip(args, by_pos) if p and re.fullmatch(N, a)}
-                block = cite(lts, "\n".join(out[k:end]), local, notes)
+                block = cite(lts, "\n".join(out[k:end]), local, notes, helper_places)
                 for v, pl in local.items():
                     block = at_helpers(block, v, pl, lts)
                 text_out.append(block)
             lead = "\n".join(out[: clauses[0][0]]) if clauses else ""
             body = (lead + "\n" if lead else "") + "\n".join(text_out)
-            if len(clauses) == 1 and len(clauses[0][1]) == 1 and by_pos[:1] and by_pos[0]:
+            if is_cycle and len(clauses) == 1 and len(clauses[0][1]) == 1 and by_pos[:1] and by_pos[0]:
                 placed[name] = (lts, by_pos[0])
                 if by_pos[0] not in lts.asked and by_pos[0] != "Start":
                     v = clauses[0][1][0]
@@ -563,8 +671,9 @@ def convert(crate, proof, names, params, asked, keep):
         body = "\n".join(comments + uses + [f"use {where}.Given as goal", ""]) + "\n" + (first + "\n\n" if first else "") + inv_text + "\n"
         wrote.append(("Invariants.antt", body))
     if answers:
-        body = "\n".join(comments + uses + [f"use {where}.Goals as goal", ""]) + "\n"
-        body += "\n\n".join([t for _, t in helpers] + [t for _, t in answers]) + "\n"
+        more = [f"use {where}.{x}" for x in ("Lts", "Tie", "Reads") if any(f"{x}." in t for t in aliases.values())]
+        body = "\n".join(comments + uses + more + [f"use {where}.Goals as goal", ""]) + "\n"
+        body += "\n\n".join(list(aliases.values()) + [t for _, t in helpers] + [t for _, t in answers]) + "\n"
         wrote.append(("Answers.antt", body))
     if keep and any(os.path.exists(os.path.join(folder, n)) for n, _ in wrote):
         raise Trouble("files are there already")
