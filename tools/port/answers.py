@@ -24,6 +24,11 @@ def norm(name):
     return re.sub(r"^overflow_", "", name)
 
 
+def is_new(place):
+    """Says whether the older kit had no such step."""
+    return place.startswith("After-way_told")
+
+
 class Lts:
     def __init__(self, raw):
         self.stem, self.is_cycle = raw["stem"], False
@@ -31,15 +36,60 @@ class Lts:
         self.asked = [a for a, _ in raw["asked_at"]]
         self.places, self.by_norm = {}, {}
         names = raw["places_by_name"]
+        self.claims = bool(raw.get("params"))
+        self.record_goals = {norm(a): b for a, b in (raw.get("asked") or {}).items()}
+        self.typed = set()
+        for i, (name, *_) in enumerate(raw["places"]):
+            if raw["typed"][i]:
+                self.typed.add(name)
         for i, (name, parent, step, callee, _) in enumerate(raw["places"]):
             self.places[name] = (parent, step, raw["arms"][i], names[i])
             self.by_norm[norm(name)] = name
+        self.fields = {pl[0]: (cl or {}).get("fields") for pl, cl in zip(raw["places"], raw.get("clauses") or [None] * len(raw["places"]))}
+        self.callee = {pl[0]: pl[3] for pl in raw["places"]}
+        self.params = raw.get("params") or {}
+        self.pre = (raw.get("pre") or {}).get("fields") or []
         self.loops = {}
         for (pair, variables), changed in zip(raw["loops"], raw["changed"]):
             self.loops[norm(pair[0])] = (pair[1], variables, changed)
 
+    def up(self, place):
+        while is_new(place):
+            place = self.parent(place)
+        place = self.parent(place)
+        while place and is_new(place):
+            place = self.parent(place)
+        return place
+
     def parent(self, place):
         return self.places[place][0]
+
+
+class View(str):
+    """The place of an answer's argument, whose record has one more `before` where the place says types."""
+
+
+MUTS = {}
+
+
+def muts(callee):
+    """Returns the names of a function's parameters that are &mut."""
+    crate, _, rest = callee.partition("::")
+    if crate not in MUTS:
+        MUTS[crate] = {}
+        for folder, _, names in os.walk(os.path.join("crates", crate, "src")):
+            for name in names:
+                if name.endswith(".rt"):
+                    text = open(os.path.join(folder, name), encoding="utf-8").read()
+                    for m in re.finditer(r"\bfn (\w+)\s*(?:<[^>]*>)?\s*\(([^)]*)\)", text):
+                        each = []
+                        for a in m[2].split(","):
+                            if "&mut self" in a:
+                                each.append("self")
+                            elif re.search(r":\s*&(?:'\w+ )?mut\b", a):
+                                each.append(a.split(":", 1)[0].replace("mut ", "").strip())
+                        MUTS[crate][m[1]] = each
+    return MUTS[crate].get(rest.split("::")[-1])
 
 
 FLAT = {"args", "requires", "ranges", "lifetimes", "well_formed", "type_inv", "utf8"}
@@ -49,38 +99,68 @@ class Trouble(Exception):
     pass
 
 
+def clause(fields, rest):
+    """Turns the numbers of a pair of clauses into the clause's name."""
+    if len(fields) < 2 or not rest or rest[0] not in ("0", "1"):
+        return rest
+    k, i = 0, 0
+    while i < len(rest) and rest[i] == "1" and k < len(fields) - 1:
+        k, i = k + 1, i + 1
+    if k < len(fields) - 1:
+        if i == len(rest) or rest[i] != "0":
+            return rest
+        i += 1
+    return [fields[k]] + rest[i:]
+
+
 def path(lts, place, var, parts, notes):
     """Returns the new text of var.parts, where var is a record of the place."""
     here, i = place, 0
     while i < len(parts) and parts[i] == "before":
-        up = lts.parent(here)
-        if up is None:
-            notes.append(f"no place before {here}: {var}.{'.'.join(parts)}")
-            return f"{var}.{'.'.join(parts)}"
-        here, i = up, i + 1
+        here, i = lts.up(here) or here, i + 1
     if i == len(parts):
-        return var + ".before" * i
+        count, at = 0, place
+        while at != here:
+            count, at = count + 1, lts.parent(at)
+        return var + ".before" * (count + (isinstance(place, View) and place in lts.typed))
     field, rest = parts[i], parts[i + 1 :]
+    if field == "pre":
+        field = "requires"
     if lts.is_cycle and field == "requires":
         if rest[:1] == ["0"]:
             return ".".join([var, "decreases"] + rest[1:])
         if rest[:1] == ["1"]:
-            return ".".join([var, "requires"] + rest[1:])
+            return ".".join([var, "requires"] + clause(lts.pre, rest[1:]))
         return ".".join([var, "requires-raw"] + rest)
+    if len(lts.pre) > 1 and field == "requires":
+        by = clause(lts.pre, rest)
+        return ".".join([var, "requires"] + by) if by[:1] and by[0] in lts.pre else ".".join([var, "requires-raw"] + rest)
     if norm(field) in {norm(x) for x in FLAT}:
-        return ".".join([var, field] + rest)
-    at = here
-    while at is not None:
-        parent, step, arm, _ = lts.places[at]
-        if step and norm(step[0]) == norm(field):
-            break
-        if step and arm and any(norm(e[1]) == norm(field) for e in arm[2]):
-            break
-        at = parent
+        if field == "requires":
+            rest = clause(lts.pre, rest)
+        return ".".join([var, norm(field)] + rest)
+
+    def seek(at):
+        while at is not None:
+            parent, step, arm, _ = lts.places[at]
+            if step and norm(step[0]) == norm(field):
+                return at
+            if step and arm and any(norm(e[1]) == norm(field) for e in arm[2]):
+                return at
+            at = parent
+        return None
+
+    at = seek(here) or seek(place)
     if at is None:
         notes.append(f"no step {field} at {here}: {var}.{'.'.join(parts)}")
         return f"{var}.{'.'.join(parts)}"
     parent, step, arm, _ = lts.places[at]
+    if rest[:1] == ["new"] and lts.callee.get(at):
+        k, m = 1, muts(lts.callee[at])
+        while rest[k : k + 1] == ["1"]:
+            k += 1
+        if m and rest[k : k + 1] == ["0"] and k - 1 < len(m):
+            rest = ["new", m[k - 1]] + rest[k + 1 :]
     if arm:
         best = None
         for new, old, tail in arm[2]:
@@ -88,22 +168,64 @@ def path(lts, place, var, parts, notes):
                 best = (new, tail)
         if best:
             return ".".join([var, arm[0], best[0]] + rest[len(best[1]) :])
+    if rest[:1] == ["auto"] and lts.callee.get(at) in lts.params:
+        k = 1
+        while k < len(rest) and rest[k] == "1":
+            k += 1
+        here_params = lts.params[lts.callee[at]]
+        if k < len(rest) and rest[k] == "0" and k - 1 < len(here_params):
+            rest = ["auto", here_params[k - 1]] + rest[k + 1 :]
+    if rest[:1] == ["ensures"]:
+        rest = ["ensures"] + clause(lts.fields.get(at) or [], rest[1:])
     return ".".join([var, step[1]] + rest)
 
 
-def cite(lts, text, places, notes):
+def cite(lts, text, places, notes, helpers=None):
     """Rewrites each path that begins at a variable of a known place."""
     if not places:
         return text
-    for m in re.finditer(rf"\blet ({N}) = ({'|'.join(map(re.escape, places))})((?:\.before)*) in\b", text):
-        here = places[m[2]]
-        for _ in range(m[3].count(".before")):
-            here = lts.parent(here) if here else here
-        if here and m[1] not in places:
-            places = {**places, m[1]: here}
+    helpers = helpers or {}
+    more = True
+    while more:
+        more = False
+        for m in re.finditer(rf"\blet ({N}) = ({'|'.join(map(re.escape, places))})((?:\.before)*) in\b", text):
+            here = places[m[2]]
+            for _ in range(m[3].count(".before")):
+                here = lts.up(here) if here else here
+            if here and m[1] not in places:
+                places, more = {**places, m[1]: str(here)}, True
+        for h, (its, pl) in helpers.items():
+            if its is not lts or not pl:
+                continue
+            for m in re.finditer(rf"\blet ({N}) = {re.escape(h)}(?: \([^()]*\)| {N}(?:\.{N})*)+ in\b", text):
+                if m[1] not in places:
+                    places, more = {**places, m[1]: str(pl)}, True
     names = "|".join(sorted(map(re.escape, places), key=len, reverse=True))
     turn = re.compile(rf"(?<![^\s(){{}};,«»])({names})((?:\.{N})+)")
-    return turn.sub(lambda m: path(lts, places[m[1]], m[1], m[2][1:].split("."), notes), text)
+    text = turn.sub(lambda m: path(lts, places[m[1]], m[1], m[2][1:].split("."), notes), text)
+    for v, pl in places.items():
+        up, at = int(pl in lts.typed), pl
+        while is_new(at):
+            up, at = up + 1, lts.parent(at)
+        if isinstance(pl, View) and up:
+            alone = re.compile(rf"(?<![^\s(){{}};,]){re.escape(v)}(?=[\s(){{}};,]|$)")
+            lines = text.split("\n")
+            for k, line in enumerate(lines):
+                left = ""
+                if k == 0 and " =" in line:
+                    left, line = re.split(r"(?<=\s=)", line, maxsplit=1)
+                lines[k] = left + alone.sub(v + ".before" * up, line)
+            text = "\n".join(lines)
+    steps = {}
+    for _, step, _, _ in lts.places.values():
+        if step:
+            steps.setdefault(norm(step[0]), set()).add(step[1])
+
+    def of_record(m):
+        new = steps.get(norm(m[2]), set())
+        return f"{m[1]}{next(iter(new))} =" if len(new) == 1 else m[0]
+
+    return re.sub(rf"(record \{{ before = [^;{{}}]*; )({N}) =", of_record, text)
 
 
 def items(text):
@@ -178,6 +300,66 @@ def fn_params(crate_dir):
     return found
 
 
+def asked_clauses(crate):
+    """Returns the names of the clauses that each function requires, this crate's functions first."""
+    found = {}
+    for name in [crate] + sorted(os.listdir("crates")):
+        for folder, _, files in os.walk(os.path.join("crates", name, "src")):
+            for file in files:
+                if file.endswith(".rt"):
+                    text = open(os.path.join(folder, file), encoding="utf-8").read()
+                    for m in re.finditer(r"\bfn (\w+)[^{};]*?\([^)]*\)[^{}]*?((?:\n    (?:ghost|requires|ensures)\b[^\n]*)+)", text):
+                        found.setdefault(norm(m[1]), re.findall(r"\n    requires (\w+) \{", m[2]))
+    return found
+
+
+def as_record(text, fields):
+    """Turns the tuple that ends an answer into a record of the clauses, or returns None."""
+    text = text.rstrip()
+    if not text.endswith(")"):
+        return None
+    depth, k = 0, len(text) - 1
+    while k >= 0:
+        depth += {")": 1, "(": -1}.get(text[k], 0)
+        if depth == 0:
+            break
+        k -= 1
+    head, inner = text[:k], text[k + 1 : -1]
+    last = re.split(r"(?:\s=|\sin|λ [^.=]*\.)(?=\s|$)", head)[-1].strip()
+    if last and not re.match(r"(?:rw|simp) \S", last):
+        return None
+
+    def cut(t):
+        parts, depth, start = [], 0, 0
+        for i, ch in enumerate(t):
+            depth += {"(": 1, "{": 1, ")": -1, "}": -1}.get(ch, 0)
+            if ch == "," and depth == 0:
+                parts.append(t[start:i].strip())
+                start = i + 1
+        return parts + [t[start:].strip()]
+
+    def whole(t):
+        if not (t.startswith("(") and t.endswith(")")):
+            return False
+        depth = 0
+        for i, ch in enumerate(t):
+            depth += {"(": 1, ")": -1}.get(ch, 0)
+            if depth == 0:
+                return i == len(t) - 1
+        return False
+
+    parts = cut(inner)
+    while len(parts) < len(fields) and parts and whole(parts[-1]) and len(cut(parts[-1][1:-1])) > 1:
+        parts = parts[:-1] + cut(parts[-1][1:-1])
+    n = len(fields)
+    if len(parts) < n:
+        return None
+    if len(parts) > n:
+        parts = parts[: n - 1] + ["(" + ", ".join(parts[n - 1 :]) + ")"]
+    record = "record { " + "; ".join(f"{f} = {p}" for f, p in zip(fields, parts)) + " }"
+    return head + record
+
+
 def turn_invariant(item, lts, loop, where, notes, skip=0):
     new, variables, changed = lts.loops[loop]
     wanted = []
@@ -212,7 +394,7 @@ def turn_invariant(item, lts, loop, where, notes, skip=0):
     return new, lead, lets + tail
 
 
-def convert(crate, proof, names, params, keep):
+def convert(crate, proof, names, params, asked, keep):
     folder = os.path.dirname(proof)
     module = os.path.relpath(folder, os.path.join("crates", crate, "proofs")).replace(os.sep, ".")
     text = open(proof, encoding="utf-8").read()
@@ -241,7 +423,46 @@ def convert(crate, proof, names, params, keep):
                 return v
         return None
 
+    aliases = {}
+
+    def local_alias(lts, pl):
+        name = pl
+        args = (["Tie.the-claims"] if lts.claims else []) + ["Reads.Pre", "Reads.Post"]
+        for new, _, _ in lts.loops.values():
+            args += [f"goal.the-invariant-{new}", f"goal.the-decreases-{new}"]
+        if lts.pre:
+            args.append("Tie.handed_clauses")
+        aliases[name] = f"abbrev {name} : Type 0\n{name} = Lts.{pl} {' '.join(args)}"
+        return name
+
     invariants, answers, helpers = [], [], []
+    placed, inlined = {}, {}
+
+    def at_helpers(text, var, place, lts):
+        """Gives each call of a helper of this file the place that it takes, or writes its body out where Goals has no such place."""
+        for h, (its, pl) in placed.items():
+            if its is not lts or not pl:
+                continue
+
+            def there(m):
+                count, at = 0, place
+                while at is not None and at != pl:
+                    count, at = count + 1, lts.parent(at)
+                if at is None:
+                    notes.append(f"{h}: no way from {place} to {pl}")
+                    return m[0]
+                if h in inlined:
+                    v, body = inlined[h]
+                    body = re.sub(rf"(?<![^\s(){{}};,]){re.escape(v)}(?=\.)", var, body)
+                    return "(" + body + ")"
+                return h + " " + var + ".before" * (count + (count > 0 and isinstance(place, View) and place in lts.typed))
+
+            turn = rf"(?<![^\s(){{}}.;,]){re.escape(h)} {re.escape(var)}(?:\.before)*(?![^\s(){{}};,])"
+            if h in inlined:
+                text = re.sub(r"\(" + turn + r"\)", there, text)
+            text = re.sub(turn, there, text)
+        return text
+
     helper_places = {}
     used_old = set()
     order = {}
@@ -266,7 +487,7 @@ def convert(crate, proof, names, params, keep):
             _, args = bodies[0]
             if len(bodies) == 1 and re.fullmatch(rf"{re.escape(name)}(?: \S+)* = \(?(?:λ \S+\. )*search rules\)?", body.strip()):
                 continue
-            new = (lts.stem + lts.needs[k][1]) if lts.stem and not lts.needs[k][1].startswith(lts.stem) else lts.needs[k][1]
+            new = lts.stem + lts.needs[k][1]
             is_t = flat.startswith("(t :") or bool(re.match(r"^\(\S+ : ℕ\) →", flat))
             lines = []
             for j, line in enumerate(it["body"]):
@@ -281,14 +502,26 @@ def convert(crate, proof, names, params, keep):
                         words_c = words[:1]
                         keep_args = words[:1]
                         dropped = words[1:]
-                    for d in dropped:
-                        if re.search(rf"(?<![^\s(){{}}.;,]){re.escape(d)}(?![^\s(){{}}.;,])", "\n".join([right] + it["body"][j + 1 :])):
-                            notes.append(f"{name}: cites {d}")
+                    rest_text = "\n".join([right] + it["body"][j + 1 :])
+                    cited = [d for d in dropped if re.search(rf"(?<![^\s(){{}}.;,]){re.escape(d)}(?![^\s(){{}}.;,])", rest_text)]
+                    if cited and not re.search(r"_requires(_\d+)?$", old):
+                        right = f" λ {' '.join(dropped)}.{right}"
+                    else:
+                        notes += [f"{name}: cites {d}" for d in cited]
                     lines.append(f"{new} {' '.join(keep_args)} ={right}")
                 else:
                     lines.append(line)
             var = (args[1] if is_t and len(args) > 1 else args[0]) if args else "c"
-            out = cite(lts, "\n".join(lines), {var: place}, notes)
+            out = at_helpers(cite(lts, "\n".join(lines), {var: View(place)}, notes, helper_places), var, View(place), lts)
+            out = re.sub(rf"\b(to_z w\d+ {re.escape(var)}\.loop-[\w-]+\.\w+)(?=[\s)])", r"\1-bits", out)
+            asks = re.match(r"^(.+?)_requires(?:_\d+)?$", old)
+            fields = lts.record_goals.get(old) or (asked.get(asks[1], []) if asks else [])
+            if len(fields) > 1 and (old in lts.record_goals or not (is_cycle and any(norm(k) == "Lts_" + asks[1] for k in ltss))):
+                record = as_record(out, fields)
+                if record is None:
+                    notes.append(f"{new}: write it as a record of {', '.join(fields)}")
+                else:
+                    out = record
             answers.append((new, f"pub {new} : goal.{new}\n{out}"))
             order.setdefault(id(lts), []).append(k)
             continue
@@ -368,7 +601,9 @@ def convert(crate, proof, names, params, keep):
             if not l:
                 return m[0]
             pl = l.by_norm.get(norm(m[2]))
-            return f"goal.{l.places[pl][3]}" if pl else m[0]
+            if pl and not is_cycle:
+                return local_alias(l, pl)
+            return f"goal.{l.stem}{l.places[pl][3]}" if pl else m[0]
         typ = re.sub(rf"{place_re}((?: (?:invariant|decreases|Inv|μ)-{N})*)", place_name, typ)
         if lts:
             typ = cite(lts, typ, {v: p for v, p in vars_at.items() if p}, notes)
@@ -377,10 +612,23 @@ def convert(crate, proof, names, params, keep):
             for ci, (k, args) in enumerate(clauses):
                 end = clauses[ci + 1][0] if ci + 1 < len(clauses) else len(out)
                 local = {a: p for a, p in zip(args, by_pos) if p and re.fullmatch(N, a)}
-                block = "\n".join(out[k:end])
-                text_out.append(cite(lts, block, local, notes))
+                block = cite(lts, "\n".join(out[k:end]), local, notes, helper_places)
+                for v, pl in local.items():
+                    block = at_helpers(block, v, pl, lts)
+                text_out.append(block)
             lead = "\n".join(out[: clauses[0][0]]) if clauses else ""
             body = (lead + "\n" if lead else "") + "\n".join(text_out)
+            if is_cycle and len(clauses) == 1 and len(clauses[0][1]) == 1 and by_pos[:1] and by_pos[0]:
+                placed[name] = (lts, by_pos[0])
+                if by_pos[0] not in lts.asked and by_pos[0] != "Start":
+                    v = clauses[0][1][0]
+                    said = re.split(r"\s=(?:\s|$)", body[body.index(f"\n{name} ") if f"\n{name} " in body else 0 :], maxsplit=1)[1].strip()
+                    bound = re.match(rf"^\(({N}) :", parts[0])
+                    claim = arrows(typ)[-1]
+                    if bound:
+                        claim = re.sub(rf"(?<![^\s(){{}};,]){re.escape(bound[1])}(?=\.)", v, claim)
+                    inlined[name] = (v, f"let {name} : {claim} = {said} in {name}")
+                    continue
             if res and lts_of(res[1]):
                 helper_places[name] = (lts, lts.by_norm.get(norm(res[2])))
         else:
@@ -423,8 +671,9 @@ def convert(crate, proof, names, params, keep):
         body = "\n".join(comments + uses + [f"use {where}.Given as goal", ""]) + "\n" + (first + "\n\n" if first else "") + inv_text + "\n"
         wrote.append(("Invariants.antt", body))
     if answers:
-        body = "\n".join(comments + uses + [f"use {where}.Goals as goal", ""]) + "\n"
-        body += "\n\n".join([t for _, t in helpers] + [t for _, t in answers]) + "\n"
+        more = [f"use {where}.{x}" for x in ("Lts", "Tie", "Reads") if any(f"{x}." in t for t in aliases.values())]
+        body = "\n".join(comments + uses + more + [f"use {where}.Goals as goal", ""]) + "\n"
+        body += "\n\n".join(list(aliases.values()) + [t for _, t in helpers] + [t for _, t in answers]) + "\n"
         wrote.append(("Answers.antt", body))
     if keep and any(os.path.exists(os.path.join(folder, n)) for n, _ in wrote):
         raise Trouble("files are there already")
@@ -457,11 +706,12 @@ def main(argv):
             return 1
         names = json.load(open(table))
         params = fn_params(there)
+        asked = asked_clauses(crate)
         count = 0
         for folder, _, files in sorted(os.walk(os.path.join(there, "proofs"))):
             if "Proof.antt" in files and (only is None or only in folder):
                 try:
-                    notes = convert(crate, os.path.join(folder, "Proof.antt"), names, params, keep)
+                    notes = convert(crate, os.path.join(folder, "Proof.antt"), names, params, asked, keep)
                     count += 1
                 except Trouble as e:
                     notes = [str(e)]

@@ -1,6 +1,7 @@
 // Folding (constant_folding_int, constant_folding_bool): the words of the set are read, the folded words are written from a place of the work slice on.
 // The fixed values are the first words of the work slice: 0 false, 1 true, else open. `d` is the place of the set's first domain.
 #![tactic(auto)]
+
 ghost use Rattle.std.specs.Prelude.{◌≡◌, Bool, cond, ◌||◌, [], ◌∷◌, ◌+◌, ◌*◌, ◌-◌, ◌≤◌, ◌<◌, pos, eqb, length, get_or, set};
 ghost use Rattle.std.proofs.Math.Option.{Option};
 ghost use Rattle.std.proofs.Math.Seq.{slice};

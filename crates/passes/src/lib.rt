@@ -1,6 +1,7 @@
 // Folding statements and requiring (constant_prop_bool): the folded statements stand in the work slice above the fixed values.
 // `want` is 0, 1, or 2 for nothing; a status is 0 (nothing changed), 1 (a variable was fixed) or 2 (unsatisfiable).
 #![tactic(auto)]
+
 ghost use Rattle.std.specs.Prelude.{◌≡◌, ◌+◌, ◌*◌, ◌-◌, ◌<◌, pos, length, get_or};
 ghost use Rattle.fold.specs.Table.{state_num};
 ghost use Rattle.folding.specs.Steps.{state_of};

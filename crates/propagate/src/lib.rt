@@ -1,6 +1,7 @@
 // The passes (optimize): folding and requiring all statements until nothing changes. Where a set takes many passes, single statements are
 // folded and required in between, in the order in which their variables get fixed: the end is the same (fold/specs/Ahead.antt).
 #![tactic(auto)]
+
 ghost use Rattle.std.specs.Prelude.{◌≡◌, ◌≤◌, ◌<◌, pos, length, get_or};
 ghost use Rattle.syntax.specs.Words.{max_bools};
 ghost use Rattle.propagate.specs.Optimized.{SomeDomains, DomainsEndPost, Opened, ReadyPasses, PassesPost, Accepted, OptimizePost};

@@ -1,0 +1,6 @@
+use borrow.Author.Rules.{rules}
+use Rattle.fold.specs.Table.{packed_right}
+use Rattle.folding.proofs.action.Goals as goal
+
+pub returns : goal.returns
+returns c = λ o x y p q r. rw (p, q, r) (packed_right o x y)

@@ -1,0 +1,25 @@
+use Prim.Native.Nat.{◌-◌, ◌≤◌}
+use native.Mathlib.Omega.{arith}
+use lib.IntN.{pos}
+use mir.Facts.{to_z-of_z}
+use mir.Syntax.{w32}
+use mir.Val.{SFits}
+use lib.ListN.{get_or}
+use borrow.Author.Rules.{rules, sfits_of}
+use Rattle.laws.specs.Slices.{Moving, moving_none, moving_next, moving_end}
+use Rattle.folding.proofs.shift.Goals as goal
+
+pub loop-i-init : goal.loop-i-init
+loop-i-init c = (omega arith, moving_none _ _ _)
+
+pub loop-i-preserved : goal.loop-i-preserved
+loop-i-preserved c =
+    let l = c.loop-i in
+    let f : SFits w32 (get_or l.work l.i (pos 0)) = sfits_of c.w-1.given in
+    rw (to_z-of_z f) (omega arith, moving_next _ _ _ _ _ _ _ c.requires.0 (omega arith) l.invariant.1)
+
+pub shape_of-work : goal.shape_of-work
+shape_of-work c = c.loop-i.invariant.1.size
+
+pub returns : goal.returns
+returns c = moving_end _ _ _ _ _ _ _ (omega arith) c.requires.2 c.loop-i.invariant.1

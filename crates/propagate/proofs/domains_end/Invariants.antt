@@ -1,0 +1,11 @@
+use borrow.Author.Rules.{rules}
+use Prim.Native.Nat.{ℕ}
+use Rattle.propagate.specs.Optimized.{SomeDomains, DomainsEndPost}
+use Rattle.propagate.proofs.PassLaws.{domains_none, domain_stands, domains_stand, domains_more}
+use Rattle.propagate.proofs.domains_end.Given as goal
+
+abbrev pub invariant-loop-rest : goal.invariant-loop-rest
+invariant-loop-rest l = SomeDomains l.words l.at l.rest × ((r : ℕ) → DomainsEndPost l.words l.at l.rest r → DomainsEndPost l.words l.d l.n r)
+
+abbrev pub decreases-loop-rest : goal.decreases-loop-rest
+decreases-loop-rest l = l.rest

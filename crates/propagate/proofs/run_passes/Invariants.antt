@@ -1,0 +1,15 @@
+use borrow.Author.Rules.{rules}
+use mathlib.Core.Bool.{cond}
+use Prim.Native.Nat.{◌+◌}
+use lib.Dec.{eqb}
+use Rattle.folding.specs.Steps.{fixed_in}
+use Rattle.propagate.specs.Passes.{open_count}
+use Rattle.propagate.proofs.PassLaws.{Between, between_first, between_next, stand_folded, values_now, falls, less}
+use Rattle.propagate.proofs.WorklistLaws.{falls_after, between_after}
+use Rattle.propagate.proofs.run_passes.Given as goal
+
+abbrev pub invariant-loop-status : goal.invariant-loop-status
+invariant-loop-status l = Between l.words l.at l.count l.initial.work l.work l.status l.end
+
+abbrev pub decreases-loop-status : goal.decreases-loop-status
+decreases-loop-status l = cond (eqb l.status 1) (open_count (fixed_in l.work) + 1) 0

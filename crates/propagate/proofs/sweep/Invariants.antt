@@ -1,0 +1,13 @@
+use borrow.Author.Rules.{rules}
+use mathlib.Core.Path.{◌≡◌, refl, ◌∙◌}
+use native.Mathlib.Omega.{arith}
+use Prim.Native.Nat.{◌-◌}
+use lib.ListN.{length}
+use Rattle.propagate.proofs.WorklistLaws.{Sweeping, sweep_first, sweep_ready, sweep_stop, sweep_fits, sweep_next}
+use Rattle.propagate.proofs.sweep.Given as goal
+
+abbrev pub invariant-loop-i : goal.invariant-loop-i
+invariant-loop-i l = Sweeping l.words l.at l.statements l.initial.work l.work l.places l.next l.i l.count × (length l.places ≡ length l.initial.places) × (length l.watches ≡ length l.initial.watches)
+
+abbrev pub decreases-loop-i : goal.decreases-loop-i
+decreases-loop-i l = l.statements - l.i
