@@ -513,6 +513,7 @@ def convert(crate, proof, names, params, asked, keep):
                     lines.append(line)
             var = (args[1] if is_t and len(args) > 1 else args[0]) if args else "c"
             out = at_helpers(cite(lts, "\n".join(lines), {var: View(place)}, notes, helper_places), var, View(place), lts)
+            out = re.sub(rf"\b(to_z w\d+ {re.escape(var)}\.loop-[\w-]+\.\w+)(?=[\s)])", r"\1-bits", out)
             asks = re.match(r"^(.+?)_requires(?:_\d+)?$", old)
             fields = lts.record_goals.get(old) or (asked.get(asks[1], []) if asks else [])
             if len(fields) > 1 and (old in lts.record_goals or not (is_cycle and any(norm(k) == "Lts_" + asks[1] for k in ltss))):

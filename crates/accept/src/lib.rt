@@ -1,6 +1,7 @@
 // Refusals 1 to 11 over a set's words. `work` holds the table of bounds from 7936 on.
 // A walk that tests what it passes answers with the place behind, and with the first of 9, 10 and 11 that hits, or 12.
 #![tactic(auto)]
+
 ghost use Rattle.std.specs.Prelude.{◌≡◌, false, ◌||◌, ◌<◌, ◌≤◌, min, max, eqb, pos, nat_abs, ◌-ℤ◌, length};
 ghost use Rattle.laws.specs.Ints.{lower, higher};
 ghost use Rattle.syntax.specs.Words.{max_ints};

@@ -2,12 +2,15 @@
 #![tactic(auto)]
 mod list; // list.rt: from text to listing
 
-fn main() {
+use std::io;
+use std::io::Write;
+
+fn main(rt: HostRuntime) -> io::Result<()> {
     let mut text = [0u8; 65537];
-    let got = io::read_full(0, &mut text);
+    let got = streams::read_full(&mut rt.stdin(), &mut text)?;
     let mut output = [0i32; 16384];
     let mut work = [0i32; 16384];
     let mut out = [0u8; 262144];
     let n = list::list_text(&text[..got], &mut output, &mut work, &mut out);
-    io::write_all(1, &out[..n]);
+    rt.stdout().write_all(&out[..n])
 }

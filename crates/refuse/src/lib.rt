@@ -1,5 +1,6 @@
 // For stations and tests: refusals 1 to 11 of a set, by number, with the work slice zeroed.
 #![tactic(auto)]
+
 ghost use Rattle.std.specs.Prelude.{◌≡◌, length};
 ghost use Rattle.laws.specs.Slices.{zeros};
 ghost use Rattle.accept.specs.Accepted.{accepted};

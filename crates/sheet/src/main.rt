@@ -4,6 +4,8 @@ ghost use Rattle.std.specs.Prelude.{◌≤◌, length};
 
 use input::{Words, words_of_text};
 use sheets::Sheeted;
+use std::io;
+use std::io::Write;
 use text::{Answer, text_of_answer};
 
 // The sheet of a set's words; with 16384 output words 663552 bytes have room for any.
@@ -33,13 +35,13 @@ fn sheet_of_text(
     sheet_of_set(&words[..n], output, work, out)
 }
 
-fn main() {
+fn main(rt: HostRuntime) -> io::Result<()> {
     let mut text = [0u8; 65537];
-    let got = io::read_full(0, &mut text);
+    let got = streams::read_full(&mut rt.stdin(), &mut text)?;
     let mut words = [0i32; 32768];
     let mut output = [0i32; 16384];
     let mut work = [0i32; 16384];
     let mut out = [0u8; 663552];
     let n = sheet_of_text(&text[..got], &mut words, &mut output, &mut work, &mut out);
-    io::write_all(1, &out[..n]);
+    rt.stdout().write_all(&out[..n])
 }

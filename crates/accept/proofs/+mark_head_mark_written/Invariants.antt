@@ -1,0 +1,24 @@
+use Prim.Native.Nat.{ℕ, ◌<◌}
+use Rattle.syntax.specs.Words.{max_ints}
+use borrow.Author.Rules.{rules}
+use Prim.Native.Nat.{◌+◌, ◌-◌, ◌*◌, ◌≤◌}
+use mathlib.Core.Path.{◌≡◌, subst}
+use mathlib.Core.Bool.{Bool}
+use mathlib.Core.List.{List}
+use native.Mathlib.Omega.{arith}
+use lib.ListN.{length}
+use Rattle.accept.specs.Walk.{WrittenPost}
+use Rattle.accept.proofs.CountLaws.{head_plain, head_inside, head_const, head_second, head_var, head_sum, head_condition, head_left, head_right, head_room, head_if, Pending, PendingPost, start_pending, start_post, none_pending, pending_behind, pending_inside, pending_next, pending_rest, pending_room, Counted, none_counted, counted_next, counted_room}
+use Rattle.accept.proofs.+mark_head_mark_written.Given as goal
+
+abbrev pub decreases-mark_head : goal.decreases-mark_head
+decreases-mark_head l = 2 * (length l.set.now - l.at)
+
+abbrev pub decreases-mark_written : goal.decreases-mark_written
+decreases-mark_written l = 2 * (length l.set.now - l.at) + 1
+
+abbrev pub invariant-mark_written-loop-rest : goal.invariant-mark_written-loop-rest
+invariant-mark_written-loop-rest l = (l.at ≤ l.next + 1) × Pending l.set l.next l.rest l.n × (length l.marks ≡ max_ints) × Counted l.initial.marks l.marks l.n l.count l.at l.next × ((m : List Bool) (y r : ℕ) → PendingPost l.set l.next l.rest l.n l.marks m y r → WrittenPost l.set l.at l.n l.initial.marks m y (l.count + r))
+
+abbrev pub decreases-mark_written-loop-rest : goal.decreases-mark_written-loop-rest
+decreases-mark_written-loop-rest l = length l.set - l.next

@@ -1,0 +1,12 @@
+use native.Mathlib.Omega.{arith}
+use Prim.Native.Nat.{ℕ, ◌≤◌}
+use Rattle.accept.specs.Walk.{ReadyColumns, ColumnsPost}
+use Rattle.accept.proofs.TestLaws.{columns_none, column_first, columns_ready, columns_rest}
+use borrow.Author.Rules.{rules}
+use Rattle.accept.proofs.columns.Given as goal
+
+abbrev pub invariant-loop-rest : goal.invariant-loop-rest
+invariant-loop-rest l = ReadyColumns l.set l.work l.next l.rest l.ni × (l.refusal ≤ 12) × ((y r : ℕ) → ColumnsPost l.set l.work l.next l.rest l.ni l.refusal y r → ColumnsPost l.set l.work l.at l.n l.ni 12 y r)
+
+abbrev pub decreases-loop-rest : goal.decreases-loop-rest
+decreases-loop-rest l = l.rest

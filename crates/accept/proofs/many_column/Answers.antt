@@ -1,0 +1,10 @@
+use Rattle.accept.proofs.TestLaws.{one_few}
+use Rattle.accept.proofs.CountLaws.{blank_of, one_of}
+use borrow.Author.Rules.{rules}
+use Rattle.accept.proofs.many_column.Goals as goal
+
+pub returns-then-words-lt128 : goal.returns-then-words-lt128
+returns-then-words-lt128 c = one_few c.args.set.now c.args.at c.args.words c.args.ni c.if-words-lt128.true
+
+pub returns : goal.returns
+returns c = one_of c.args.set.now c.args.at c.args.ni _ (blank_of c.args.ni c.requires.1) _ _ _ c.mark_written-x.ensures c.args.words
