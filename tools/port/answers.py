@@ -21,6 +21,7 @@ def norm(name):
     for old, new in (("loop_holds", "loop_init"), ("loop_again", "loop_preserved"), ("loop_less", "loop_smaller")):
         name = re.sub(rf"^{old}", new, name)
         name = re.sub(rf"^(.*_?)loop(\d*)_{old[5:]}", rf"\1loop\2_{new[5:]}", name)
+    name = re.sub(r"^slice_bounds_(.*_(?:start|end)(?:_\d+)?)$", r"part_\1", name)
     return re.sub(r"^overflow_", "", name)
 
 
