@@ -21,6 +21,7 @@ def norm(name):
     for old, new in (("loop_holds", "loop_init"), ("loop_again", "loop_preserved"), ("loop_less", "loop_smaller")):
         name = re.sub(rf"^{old}", new, name)
         name = re.sub(rf"^(.*_?)loop(\d*)_{old[5:]}", rf"\1loop\2_{new[5:]}", name)
+    name = re.sub(r"^slice_bounds_(.*_(?:start|end)(?:_\d+)?)$", r"part_\1", name)
     return re.sub(r"^overflow_", "", name)
 
 
@@ -677,6 +678,12 @@ def convert(crate, proof, names, params, asked, keep):
         wrote.append(("Answers.antt", body))
     if keep and any(os.path.exists(os.path.join(folder, n)) for n, _ in wrote):
         raise Trouble("files are there already")
+    # a width that no goal tells any more; every signed number here is an i32
+    for k, (n, t) in enumerate(wrote):
+        turned = re.sub(r"to_z-of_z (?=\((?:sfits_of|record))", "to_z-of_z {w = w32} ", t)
+        if turned != t and not re.search(r"(?m)^use mir\.Syntax\.\{[^}]*\bw32\b", turned):
+            turned = re.sub(r"(?m)^use ", "use mir.Syntax.{w32}\nuse ", turned, count=1)
+        wrote[k] = (n, turned)
     for n, t in wrote:
         with open(os.path.join(folder, n), "w", encoding="utf-8") as f:
             f.write(t)

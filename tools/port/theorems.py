@@ -74,10 +74,15 @@ def kind(block):
 
 
 def names_of(block):
-    found = set()
+    found, field = set(), -1
     for line in block[1]:
+        # what is indented below a record is its fields
+        inner = len(line) - len(line.lstrip())
+        if field >= 0 and line.strip() and inner > field:
+            continue
+        field = inner if re.match(r"^ *(pub )?record ", line) else -1
         m = re.match(rf"^ *((?:pub |abbrev |unfoldable |record |data )*)({N})(?: .*)? :(?: |$)", line)
-        if m:
+        if m and m[2] not in ("module", "mutual"):
             found.add(m[2])
     m = re.match(rf"^((?:pub )?(?:record|data|ruleset|unfoldable|abbrev) (?:pub )?)({N})", block[2])
     if m:
@@ -193,6 +198,13 @@ def move(crate, edited, moved):
             if b[0] in wanted and not re.search(r"\bpub\b", b[2]):
                 k = b[1].index(b[2])
                 b[1][k] = re.sub(r"^(abbrev |unfoldable )", r"\1pub ", b[2]) if b[2].startswith(("abbrev", "unfoldable")) else "pub " + b[2]
+            for k, line in enumerate(b[1]):
+                n = re.match(rf"^( +)(abbrev |unfoldable |record |data |)({N})(?: .*)? :(?: |$)", line)
+                if n and n[3] in wanted and n[2] and b[2] is not line:
+                    word = "pub " if n[2].startswith(("record", "data")) else ""
+                    b[1][k] = n[1] + word + n[2] + ("" if word else "pub ") + line[len(n[1] + n[2]) :]
+                elif n and n[3] in wanted and not n[2] and re.search(r"\bmutual\b", "\n".join(b[1][:k])):
+                    b[1][k] = n[1] + "pub " + line[len(n[1]) :]
             out.append("\n".join(b[1]).rstrip("\n") + "\n")
         if any(k == "M" for k in kinds[m]):
             print(f"{crate}/{m}: a module block with definitions goes to proofs/: {[b[2][:60] for b, k in zip(found, kinds[m]) if k == 'M']}")

@@ -20,7 +20,7 @@ use Rattle.syntax.specs.Lengths.{int_long, int_fits, terms_long}
 use Rattle.domains.specs.Declared.{Plain}
 use Rattle.passes.specs.Skip.{SomeMembers, SkipMembersPost, own_int, body}
 use Rattle.limits.specs.Limits.{written, written_terms, ifs, ifs_terms}
-use Rattle.limits.specs.Count.{among, either, marked, marked_cong, ifs_few, many_comparison_marked, many_column_marked}
+use Rattle.limits.proofs.Count.{among, either, marked, marked_cong, ifs_few, many_comparison_marked, many_column_marked}
 use Rattle.accept.specs.Walk.{UsableInt, UsableTerms, IntAt, TermsAt, BoolAt, Behind, own_written, own_ifs, has_mark, Marks, HeadPost, WrittenPost, ManyOnePost, ManyPost}
 use Rattle.accept.proofs.Laws.{int_plain, const_inv, if_inv, second_plain, var_inv, sum_inv, if_parts, if_length}
 use Rattle.accept.proofs.SkipLaws.{some_condition, condition_skipped}

@@ -16,7 +16,8 @@ use Rattle.syntax.specs.Written.{EveryColumnOf}
 use Rattle.syntax.specs.Lengths.{int_long, int_fits}
 use Rattle.passes.specs.Skip.{SomeInt, SkipPost}
 use Rattle.limits.specs.Limits.{any_pair, heavy, heavy_comparison, many_comparison}
-use Rattle.limits.specs.Total.{total, cap, total_cap}
+use Rattle.limits.specs.Total.{total, cap}
+use Rattle.limits.proofs.TotalLaws.{total_cap}
 use Rattle.accept.specs.Walk.{UsableColumns, IntAt, ColumnsAt, first_of, test_comparison, test_one, inside, ReadyInt, IntPost, Behind, ManyPost, ReadyColumns, over, OverPost, ReadyAmong, AmongPost, crowds, ReadyBeside, BesidePost, crowded, ReadySplit, CrowdedPost, DifferPost, DifferentPost}
 use Rattle.accept.proofs.FirstLaws.{none_before, first_cong, first_join, first_both}
 use Rattle.accept.proofs.SkipLaws.{some_int, int_skipped}

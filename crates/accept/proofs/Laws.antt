@@ -14,7 +14,8 @@ use Rattle.syntax.specs.Written.{EveryIntOf}
 use Rattle.syntax.specs.Lengths.{int_tag, int_tag_word, int_long, int_fits}
 use Rattle.domains.specs.Declared.{Plain, bound_inside, low_at, high_at}
 use Rattle.limits.specs.Limits.{any_comparison}
-use Rattle.limits.specs.Total.{total, terms_total, joined, product, constant_total, bounds_total, joined_assoc, joined_none, joined_cap, terms_total_cap, total_cap, cap}
+use Rattle.limits.specs.Total.{total, terms_total, joined, product, constant_total, bounds_total, cap}
+use Rattle.limits.proofs.TotalLaws.{joined_assoc, joined_none, joined_cap, terms_total_cap, total_cap}
 use Rattle.accept.specs.Walk.{Bounds, UsableAll, IntAt, TermsAt, BoolAt, BoolsAt, first_of, test_branch, inside, inside_terms, test_bool, Totals, ReadyVar, VarPost, ReadyInt, ReadyTerms, ReadyIf, ReadyLeaf, ReadyDeep, IntPost, LeafPost, IfPost, TermsPost, ReadyBranches, BranchesPost, ReadyBools, BoolsPost}
 use Rattle.accept.proofs.FirstLaws.{none_before, first_cong, first_join, first_if}
 

@@ -12,8 +12,9 @@ use Rattle.laws.specs.Lists.{any, any_append, any_cong}
 use Rattle.syntax.specs.Syntax.{Domain, IntExpr, encode_int}
 use Rattle.syntax.specs.Written.{EveryColumnOf, Any, None, ints_of}
 use Rattle.limits.specs.Limits.{any_pair, heavy, heavy_comparison, written, ifs, many_comparison}
-use Rattle.limits.specs.Total.{Bounded, total, heavy_total, heavy_comparison_total}
-use Rattle.limits.specs.Count.{among, either, marked, marked_cong, many_comparison_marked, few_comparison}
+use Rattle.limits.specs.Total.{Bounded, total}
+use Rattle.limits.proofs.TotalLaws.{heavy_total, heavy_comparison_total}
+use Rattle.limits.proofs.Count.{among, either, marked, marked_cong, many_comparison_marked, few_comparison}
 use Rattle.accept.specs.Walk.{UsableInt, UsableColumns, over, crowds, crowded}
 
 pub any_none : {A : Type 0} (f : A → Bool) (xs : List A) → ((x : A) → f x ≡ false) → any f xs ≡ false

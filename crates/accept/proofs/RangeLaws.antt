@@ -21,7 +21,7 @@ use Rattle.syntax.specs.Lengths.{int_long, int_fits}
 use Rattle.domains.specs.Declared.{Plain, low_at, high_at}
 use Rattle.passes.specs.Skip.{SomeMembers, SkipMembersPost}
 use Rattle.limits.specs.Limits.{weight, terms_weight, heavy, heavy_terms, interval, terms_interval}
-use Rattle.limits.specs.Total.{interval_small}
+use Rattle.limits.proofs.TotalLaws.{interval_small}
 use Rattle.accept.specs.Walk.{Bounds, IntAt, TermsAt, ReadyVar, ReadyRange, RangePost, ReadyIfRange, IfRangePost, ReadyRanges, RangesPost}
 use Rattle.accept.proofs.Laws.{int_plain, const_inv, if_inv, second_plain, var_inv, sum_inv, if_parts, if_length, more_inv}
 use Rattle.accept.proofs.SkipLaws.{some_condition, condition_skipped}

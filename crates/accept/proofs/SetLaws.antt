@@ -16,7 +16,7 @@ use Rattle.accept.specs.Walk.{Bounds, StmtsAt, ReadyStmts, CheckPost}
 use Rattle.syntax.specs.Words.{min_work_words, max_set_words, max_ints}
 use Rattle.words.specs.Parse.{Parsed, ok, refuse}
 use Rattle.read.specs.Read.{read_set}
-use Rattle.read.specs.Exact.{set_sound}
+use Rattle.read.proofs.Exact.{set_sound}
 use Rattle.reader.specs.Position.{set_at}
 use Rattle.reader.specs.declared.Declared as declared-declared
 use Rattle.reader.specs.declared.Set as declared-set

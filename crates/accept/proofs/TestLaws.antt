@@ -14,8 +14,9 @@ use Rattle.syntax.specs.Syntax.{Domain, IntExpr, encode_int}
 use Rattle.syntax.specs.Written.{EveryColumnOf}
 use Rattle.syntax.specs.Lengths.{int_long, int_fits}
 use Rattle.limits.specs.Limits.{heavy, heavy_comparison, many_comparison, many_column, interval, span, wide_column}
-use Rattle.limits.specs.Total.{Bounded, total, cap, total_cap, heavy_total, heavy_comparison_total}
-use Rattle.limits.specs.Count.{few_comparison, few_column}
+use Rattle.limits.specs.Total.{Bounded, total, cap}
+use Rattle.limits.proofs.TotalLaws.{total_cap, heavy_total, heavy_comparison_total}
+use Rattle.limits.proofs.Count.{few_comparison, few_column}
 use Rattle.accept.specs.Walk.{Bounds, IntAt, ColumnsAt, first_of, test_comparison, test_branch, test_column, inside, Totals, ReadyInt, IntPost, ReadyRange, RangePost, Behind, ManyOnePost, ManyPost, ReadyBranches, BranchesPost, ComparedPost, ReadyPair, PairPost, ReadyColumn, ReadyRoot, RootPost, ColumnPost, ReadyColumns, ColumnsPost}
 use Rattle.accept.proofs.FirstLaws.{first_join, first_both}
 

@@ -20,7 +20,7 @@ use Rattle.reader.specs.Position.{set_at}
 use Rattle.reader.specs.declared.Set as declared-set
 use Rattle.reader.specs.declared.Set.TheVariants as set
 use Rattle.read.specs.WellFormed.{RisingFrom, WellDomain, WellStmt, WellFormed}
-use Rattle.read.specs.Vars.{columns_vars, bool_vars, rows_wide}
+use Rattle.read.proofs.Vars.{columns_vars, bool_vars, rows_wide}
 use Rattle.domains.specs.Declared.{Domains, bounds_words, bounds_length}
 use Rattle.limits.specs.Limits.{largest, domain_weight, check}
 use Rattle.limits.specs.Total.{Bounded}

@@ -15,7 +15,7 @@ use Rattle.syntax.specs.Words.{min_work_words, max_set_words}
 use Rattle.syntax.specs.Syntax.{Problem, encode_domain}
 use Rattle.words.specs.Parse.{Parsed, ok, refuse}
 use Rattle.read.specs.Read.{read_set}
-use Rattle.read.specs.Exact.{set_sound}
+use Rattle.read.proofs.Exact.{set_sound}
 use Rattle.reader.specs.Position.{set_at}
 use Rattle.reader.specs.declared.Declared.{Declared}
 use Rattle.reader.specs.declared.Set as declared-set

@@ -12,7 +12,7 @@ use Rattle.domains.specs.Declared.{bounds_words}
 use Rattle.passes.specs.Skip.{own_int, body}
 use Rattle.limits.specs.Limits.{any_comparison, any_inside, any_inside_terms, any_pair, any_part, terms_weight, heavy, heavy_terms, heavy_comparison, written, ifs, many_comparison, many_column, interval, terms_interval, wide_column}
 use Rattle.limits.specs.Total.{Bounded, total, terms_total, joined, bounds_total}
-use Rattle.limits.specs.Count.{among, marked}
+use Rattle.limits.proofs.Count.{among, marked}
 
 -- the table of the declared domains, whose bounds are in order
 pub record Bounds (work : List ℤ) (ds : List Domain) : Type 0 where

@@ -8,8 +8,8 @@ use Rattle.syntax.specs.Syntax.{Domain, Stmt, Problem}
 use Rattle.syntax.specs.Written.{EveryStmts}
 use Rattle.fold.specs.Fold.{Fixed, constant_folding_stmt as fold-stmt}
 use Rattle.fold.specs.Optimize.{Status, unsatisfiable, updated, fix, constant_prop_stmts as prop-stmts, Outcome, inconsistent, settled, next_pass, passes, optimize}
-use Rattle.fold.specs.Kept.{fold_stmts_every}
-use Rattle.fold.specs.Ends.{Steps, After, prop_stmts_after}
+use Rattle.fold.proofs.Kept.{fold_stmts_every}
+use Rattle.fold.proofs.Ends.{Steps, After, prop_stmts_after}
 
 module _ (b : ℕ) (Q : ℕ → Type 0) where
   abbrev Known : Fixed → Type 0

@@ -1,8 +1,5 @@
 pub mod Call
 pub mod Claim
 pub mod Compute
-pub mod Cases
-pub mod Consequences
 pub mod WellRead
 pub mod Known
-pub mod Demand

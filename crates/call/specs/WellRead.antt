@@ -10,11 +10,11 @@ use Rattle.syntax.specs.Syntax.{Domain, IntExpr, IConst, IVar, Linear, If, Terms
 use Rattle.syntax.specs.Written.{EveryStmt, EveryStmts, EveryOf, EveryIntOf, EveryTermOf, EveryColumnOf, Any, None, EveryMemberOf}
 use Rattle.words.specs.Exact.{Each}
 use Rattle.read.specs.WellFormed.{WellInt, WellRow, WellStmt, WellFormed}
-use Rattle.read.specs.Vars.{columns_vars, bool_vars}
+use Rattle.read.proofs.Vars.{columns_vars, bool_vars}
 use Rattle.fold.specs.Fold.{Fixed, constant_folding_int as fold-int, constant_folding_bool as fold, constant_folding_stmt as fold-stmt}
-use Rattle.fold.specs.Kept.{fold_columns_every, fold_every}
-use Rattle.clauses.specs.Bounds.{expr_bound, members_bound, int_bound, terms_numbers, NoNumbers}
-use Rattle.tables.specs.Agree.{wide}
+use Rattle.fold.proofs.Kept.{fold_columns_every, fold_every}
+use Rattle.clauses.proofs.Bounds.{expr_bound, members_bound, int_bound, terms_numbers, NoNumbers}
+use Rattle.tables.proofs.Agree.{wide}
 
 -- ---- declared variables
 

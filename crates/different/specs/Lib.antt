@@ -1,3 +1,1 @@
 pub mod Different
-pub mod Taken
-pub mod Meaning

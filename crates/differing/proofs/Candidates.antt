@@ -19,7 +19,7 @@ use Rattle.laws.specs.Slices.{Has, has_fits, has_word, has_nth}
 use Rattle.syntax.specs.Words.{max_count, max_value}
 use Rattle.syntax.specs.Syntax.{Domain, Range, Enumerative, lower_bound, num_candidates, rising, enumerate, encode_domain}
 use Rattle.words.specs.Exact.{Value, Each}
-use Rattle.tables.specs.Values.{length_range}
+use Rattle.tables.proofs.ValuesLaws.{length_range}
 use Rattle.survey.proofs.Leaves.{pos_is}
 use Rattle.domains.specs.Declared.{DomainAt}
 use Rattle.differing.specs.Values.{Sized, SomeSized, HasValue, PlainValue, ValueOf, SameOf}

@@ -12,10 +12,10 @@ use Rattle.laws.specs.Writes.{cap as last-place, wrote_length, wrote_then, wrote
 use Rattle.memory.specs.Places.{folded_end, limit}
 use Rattle.syntax.specs.Syntax.{Domain, IntExpr, encode_int, encode_stmt}
 use Rattle.clauses.specs.Log.{Log}
-use Rattle.clauses.specs.Since.{clauses_since, since_is}
+use Rattle.clauses.proofs.Since.{clauses_since, since_is}
 use Rattle.different.specs.Different.{values_used_up}
 use Rattle.walk.specs.Item.{bump}
-use Rattle.walk.specs.Texts.{layout_words}
+use Rattle.walk.proofs.Texts.{layout_words}
 use Rattle.walk.specs.Decode.{word, read_part}
 use Rattle.walks.specs.Meet.{State}
 use Rattle.walks.specs.Implements.{Registers}

@@ -18,7 +18,7 @@ use Rattle.words.specs.Exact.{Each}
 use Rattle.read.specs.WellFormed.{WellDomain}
 use Rattle.domains.specs.Declared.{DomainAt, DomainSizedAt, DomainBelow, DomainPost}
 use Rattle.walk.specs.Decode.{word, read_part}
-use Rattle.walk.specs.NumberingSteps.{part_short}
+use Rattle.walk.proofs.NumberingSteps.{part_short}
 use Rattle.walks.specs.Legal.{LegalInt}
 use Rattle.declared.specs.InSet.{Declared, SomeDeclared}
 use Rattle.differing.specs.Standing.{At, Standing}

@@ -5,7 +5,7 @@ use Rattle.memory.specs.Places.{folded, folded_end, limit}
 use Rattle.syntax.specs.Syntax.{Domain, IntExpr, Stmt, AllDifferent, encode_stmt}
 use Rattle.words.specs.Exact.{Each}
 use Rattle.clauses.specs.Log.{Log}
-use Rattle.clauses.specs.Since.{clauses_since}
+use Rattle.clauses.proofs.Since.{clauses_since}
 use Rattle.answer.specs.Answer.{normalize_stmt}
 use Rattle.walk.specs.Decode.{read_part}
 use Rattle.walks.specs.Leaves.{words_of}

@@ -20,7 +20,7 @@ use Rattle.syntax.specs.Satisfies.{compare, holds}
 use Rattle.syntax.specs.Written.{EveryOf}
 use Rattle.fold.specs.Fold.{Op, op_xor, op_iff, op_imp, expr_of}
 use Rattle.fold.specs.Table.{op_num, bit}
-use Rattle.fold.specs.Forms.{list_of, list_words, binary_words, op_word, declared_list, declared_binary, bool_long}
+use Rattle.fold.proofs.Forms.{list_of, list_words, binary_words, op_word, declared_list, declared_binary, bool_long}
 use Rattle.folding.proofs.BoolLaws.{not_inv, binary_inv, second, code_low}
 use Rattle.limits.specs.Limits.{any_comparison, heavy, heavy_comparison}
 use Rattle.passes.specs.Skip.{BoolAt as Bool-stands, SomeBool, SomeMembers, SkipMembersPost}

@@ -15,13 +15,14 @@ use Rattle.syntax.specs.Written.{in_domains_within}
 use Rattle.words.specs.Exact.{Each}
 use Rattle.read.specs.WellFormed.{WellStmt}
 use Rattle.limits.specs.Limits.{domain_weight}
-use Rattle.limits.specs.Light.{value_light, unrefused_light}
+use Rattle.limits.proofs.Light.{value_light, unrefused_light}
 use Rattle.limits.specs.Admitted.{admitted, limited}
 use Rattle.reader.specs.declared.Declared.{Declared}
 use Rattle.reader.specs.declared.Set.TheVariants as set
 use Rattle.accept.specs.Accepted.{accepted}
 use Rattle.accept.specs.Taken.{Taken, accepted_ok, accepted_refused, taken_set, declared_is, taken_domains, taken_stmts}
-use Rattle.verdict.specs.Roster.{int_of, is_bit, right_count, all_inside, truth, first_broken, stops_same, judged, rostered, when_admitted, check_roster}
+use Rattle.verdict.specs.Roster.{int_of, is_bit, right_count, all_inside, truth, first_broken, judged, rostered, when_admitted, check_roster}
+use Rattle.verdict.proofs.RosterLaws.{stops_same}
 use Rattle.evaluate.specs.Contract.{Roster, each_inside, ReadyDomains, InsidePost, StmtsAt, ReadyStmts, checked_of, BrokenPost}
 use Rattle.evaluate.specs.declared.Checked.{Checked}
 use Rattle.evaluate.specs.declared.Checked.TheVariants.{Refused}

@@ -16,7 +16,7 @@ use Rattle.syntax.specs.Satisfies.{permits, row_holds, stmt_holds}
 use Rattle.syntax.specs.Written.{None}
 use Rattle.syntax.specs.Lengths.{int_long, stmt_some, TableWords, table_words, DifferentWords, different_words}
 use Rattle.syntax.specs.Codes.{stmt_code, stmt_code_word}
-use Rattle.read.specs.Vars.{columns_vars, bool_vars, rows_wide}
+use Rattle.read.proofs.Vars.{columns_vars, bool_vars, rows_wide}
 use Rattle.domains.specs.Declared.{Plain}
 use Rattle.limits.specs.Limits.{heavy, any_part, heavy_stmt}
 use Rattle.verdict.specs.Roster.{bool_of, int_of, truth, first_broken}

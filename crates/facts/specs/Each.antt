@@ -11,17 +11,18 @@ use Rattle.words.specs.Exact.{Each}
 use Rattle.clauses.specs.Clause.{Clause, clause_true}
 use Rattle.clauses.specs.Log.{Log, clauses_of}
 use Rattle.clauses.specs.Valuation.{Agrees, Fits, fits_agrees}
-use Rattle.clauses.specs.Grow.{Extends, same, Lawful, lawful_over, agrees_back, fits_back}
-use Rattle.clauses.specs.Since.{clauses_since, top_adds, since_added, added_since}
-use Rattle.clauses.specs.Merge.{WellMerged, merged_lawful, merged_made}
-use Rattle.clauses.specs.Exist.{TiesHold, values_of, fitting_exists}
-use Rattle.tables.specs.ColumnMeaning.{WithinDomain}
-use Rattle.clauses.specs.Entries.{WellMade}
-use Rattle.clauses.specs.Ranges.{Inside}
+use Rattle.clauses.proofs.Grow.{Extends, same, Lawful, lawful_over, agrees_back, fits_back}
+use Rattle.clauses.proofs.Since.{clauses_since, top_adds, since_added, added_since}
+use Rattle.clauses.specs.Merge.{WellMerged}
+use Rattle.clauses.proofs.MergeLaws.{merged_lawful, merged_made}
+use Rattle.clauses.proofs.Exist.{TiesHold, values_of, fitting_exists}
+use Rattle.tables.proofs.ColumnMeaning.{WithinDomain}
+use Rattle.clauses.proofs.Entries.{WellMade}
+use Rattle.clauses.proofs.Ranges.{Inside}
 use Rattle.answer.specs.Answer.{normalize_stmt, normalize_stmts}
-use Rattle.answer.specs.Declared.{stmt_well}
+use Rattle.answer.proofs.Declared.{stmt_well}
 use Rattle.call.specs.WellRead.{Plain}
-use Rattle.call.specs.Demand.{stmt_inside, stmt_means, stmts_mean}
+use Rattle.call.proofs.Demand.{stmt_inside, stmt_means, stmts_mean}
 use Rattle.facts.specs.Proper.{proper_top, stmt_proper}
 
 -- the clauses made for each statement, from the log s on: its own, and those of its Ifs that are met first in it

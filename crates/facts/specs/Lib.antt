@@ -2,7 +2,5 @@ pub mod Sums
 pub mod Proper
 pub mod Sound
 pub mod Loads
-pub mod Cases
-pub mod Loaded
 pub mod Each
 pub mod DifferentCases

@@ -7,13 +7,14 @@ use Prim.Native.Nat.{ℕ, zero, suc, zero-le}
 use Rattle.laws.specs.Lists.{any, all, select, keep_if, flat}
 use Rattle.syntax.specs.Syntax.{IfIsRead, Domain, domain_of, enumerate, CmpOp, IntExpr, IConst, IVar, Linear, If, Terms, tnil, tmore, BoolExpr, Const, Var, NVar, And, Or, Not, Xor, Iff, Imp, Cmp, Members, mnil, more, Cell, star, value, Stmt, Rule, Table, AllDifferent}
 use Rattle.sums.specs.LinearSum.{LinearSum, linear_sum, term, constant, is_constant, add_sum, mul_sum, singleton}
-use Rattle.sums.specs.Rising.{constant_of, Rises, Proper, constant_proper, singleton_proper, add_sum_proper, sub_sum_proper}
+use Rattle.sums.specs.Rising.{constant_of, Rises, Proper}
+use Rattle.sums.proofs.RisingLaws.{constant_proper, singleton_proper, add_sum_proper, sub_sum_proper}
 use Rattle.clauses.specs.Clause.{BoolLit, lit, LinearLit, linear, Clause, clause, negate_if}
 use Rattle.clauses.specs.Log.{declared, aux, side, declared_int, column, chosen, Made, bool, merged, int, added, defined, known, Log, next_bool, next_int, get_bool_var, bool_var_at, convert_bool_var, get_int_var, int_var_at, convert_int_var, get_if, emitted_domains, clauses_of}
 use Rattle.clauses.specs.Disjunction.{add_bool_each, Sorted, satisfied, pool, pooled, with_longer, sorted, Out, each_longer, finish_disjunction, finish_sorted, normalize_disjunction}
 use Rattle.clauses.specs.Normalize.{IntOut, IntRun, Run, Runs, register, define, no_run, run_then, two, normalize_conjunction, disjunction_of, cross, const_clauses, normalize_num, normalize_var, normalize_comparison, normalize_int_var, normalize_term, equals, own_literal, condition_literal, two_valued, hull, domain_of_sum, if_constant, if_open, normalize_if, normalize_int_expr, normalize_terms, normalize_bool_expr, normalize_members}
 use Rattle.clauses.specs.Split.{Split, Splitter, unsplit, split_one, split_two, split_three, split_sides, tseitin_transformation_bool, tseitin_transformation_members, tseitin_transformation_int, tseitin_transformation_terms, register_each, normalize_and_register_expr}
-use Rattle.clauses.specs.Since.{OnTop, here, over}
+use Rattle.clauses.proofs.Since.{OnTop, here, over}
 use Rattle.tables.specs.Tables.{Columns, new_column, old_column, equivalent_int_var, equivalent_int_vars, linear_eq, is_star, star_row, star_table, Row, cell_value, cell_at, sort_rows, within, groups, takes, variable, differs, column_clause, column_clauses, prefixes, plain_clauses, plain_table, normalize_extension_supports, normalize_table}
 use Rattle.different.specs.Different.{different_rules, normalize_rules}
 use Rattle.answer.specs.Answer.{normalize_stmt, normalize_stmts}

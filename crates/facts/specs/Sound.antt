@@ -8,17 +8,17 @@ use Rattle.laws.specs.Order.{leZ_trans}
 use Rattle.laws.specs.Lists.{all, all_append}
 use Rattle.syntax.specs.Syntax.{Domain, lower_bound, upper_bound, domain_of}
 use Rattle.syntax.specs.Satisfies.{Val, IVal}
-use Rattle.sums.specs.Domain.{between}
+use Rattle.sums.proofs.Domain.{between}
 use Rattle.clauses.specs.Clause.{lit}
 use Rattle.clauses.specs.Log.{declared, aux, side, MadeInt, declared_int, column, chosen, binary, bool, merged, int, added, defined, known, Log, next_bool, next_int, made_ints, domain_made, emitted_domains}
-use Rattle.clauses.specs.Grow.{Legal, Extends, same, grow}
-use Rattle.clauses.specs.Emitted.{new_domain}
+use Rattle.clauses.proofs.Grow.{Legal, Extends, same, grow}
+use Rattle.clauses.proofs.Emitted.{new_domain}
 use Rattle.clauses.specs.Merge.{WellMerged}
-use Rattle.clauses.specs.Entries.{MadeWell, WellMade}
-use Rattle.clauses.specs.Ranges.{Within}
+use Rattle.clauses.proofs.Entries.{MadeWell, WellMade}
+use Rattle.clauses.proofs.Ranges.{Within}
 use Rattle.answer.specs.Answer.{Emitted, ranging, following, emitted_of, emitted}
 use Rattle.answer.specs.Passes.{lit_emitted}
-use Rattle.answer.specs.Records.{emitted_more, within_before}
+use Rattle.answer.proofs.Records.{emitted_more, within_before}
 
 -- lowest is not above highest
 abbrev pub sound_bounds : Domain → Bool

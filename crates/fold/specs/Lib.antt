@@ -1,13 +1,3 @@
 pub mod Fold
 pub mod Optimize
-pub mod AsWritten
-pub mod Refold
-pub mod FoldMeaning
-pub mod ConstantProp
-pub mod Kept
-pub mod Ends
-pub mod Ahead
-pub mod Shape
-pub mod Meaning
 pub mod Table
-pub mod Forms

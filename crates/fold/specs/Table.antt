@@ -30,20 +30,6 @@ state_num (some false) = 0
 state_num (some true) = 1
 state_num none = 2
 
-pub op_small : (o : Op) → op_num o < 3
-op_small op_xor = omega arith
-op_small op_iff = omega arith
-op_small op_imp = omega arith
-
-pub bit_small : (b : Bool) → bit b < 2
-bit_small false = omega arith
-bit_small true = omega arith
-
-pub state_small : (k : Option Bool) → state_num k < 3
-state_small none = omega arith
-state_small (some false) = omega arith
-state_small (some true) = omega arith
-
 -- Xor, Iff, Imp; left false, true, unknown; right false, true, unknown
 abbrev pub actions : List ℕ
 actions =
@@ -61,42 +47,18 @@ abbrev pub unpacked : ℕ → ℕ → ℕ → ℕ
 unpacked o x y = get_or packed o 0 / 2 ^ (9 * x + 3 * y) % 8
 
 -- a test at every operator and at every state of a side
-abbrev ∀op : (Op → Bool) → Bool
+abbrev pub ∀op : (Op → Bool) → Bool
 ∀op f = f op_xor && (f op_iff && f op_imp)
 
-at_op : (f : Op → Bool) → ∀op f ≡ true → (o : Op) → f o ≡ true
-at_op f h op_xor = and_l _ _ h
-at_op f h op_iff = and_l _ _ (and_r (f op_xor) _ h)
-at_op f h op_imp = and_r (f op_iff) _ (and_r (f op_xor) _ h)
-
-abbrev ∀side : (Option Bool → Bool) → Bool
+abbrev pub ∀side : (Option Bool → Bool) → Bool
 ∀side f = f none && (f (some false) && f (some true))
 
-at_side : (f : Option Bool → Bool) → ∀side f ≡ true → (k : Option Bool) → f k ≡ true
-at_side f h none = and_l _ _ h
-at_side f h (some false) = and_l _ _ (and_r (f none) _ h)
-at_side f h (some true) = and_r (f (some false)) _ (and_r (f none) _ h)
-
 -- a test at all 27 pairs of an operator and its sides' states
-abbrev ∀pair : (Op → Option Bool → Option Bool → Bool) → Bool
+abbrev pub ∀pair : (Op → Option Bool → Option Bool → Bool) → Bool
 ∀pair f = ∀op (λ o. ∀side (λ x. ∀side (f o x)))
 
-at_pair : (f : Op → Option Bool → Option Bool → Bool) → ∀pair f ≡ true → (o : Op) (x y : Option Bool) → f o x y ≡ true
-at_pair f h o x y = at_side (f o x) (at_side (λ x. ∀side (f o x)) (at_op (λ o. ∀side (λ x. ∀side (f o x))) h o) x) y
-
-abbrev entry_right : Op → Option Bool → Option Bool → Bool
+abbrev pub entry_right : Op → Option Bool → Option Bool → Bool
 entry_right o x y = eqb (get_or actions (op_num o * 9 + state_num x * 3 + state_num y) 0) (action_num (action o x y))
 
--- the rule of the listed form, over its 27 entries at once
-pub table_right : (o : Op) (x y : Option Bool) → get_or actions (op_num o * 9 + state_num x * 3 + state_num y) 0 ≡ action_num (action o x y)
-table_right o x y = eqb-true _ _ (at_pair entry_right refl o x y)
-
-abbrev entry_listed : Op → Option Bool → Option Bool → Bool
+abbrev pub entry_listed : Op → Option Bool → Option Bool → Bool
 entry_listed o x y = eqb (unpacked (op_num o) (state_num x) (state_num y)) (get_or actions (op_num o * 9 + state_num x * 3 + state_num y) 0)
-
--- the packed and the listed form are equal, over all 27 pairs at once
-pub packed_listed : (o : Op) (x y : Option Bool) → unpacked (op_num o) (state_num x) (state_num y) ≡ get_or actions (op_num o * 9 + state_num x * 3 + state_num y) 0
-packed_listed o x y = eqb-true _ _ (at_pair entry_listed refl o x y)
-
-pub packed_right : (o : Op) (x y : Option Bool) → unpacked (op_num o) (state_num x) (state_num y) ≡ action_num (action o x y)
-packed_right o x y = packed_listed o x y ∙ table_right o x y

@@ -5,7 +5,7 @@ use Rattle.std.proofs.Common.{arith, ltb-false, le-ltb}
 use Rattle.laws.specs.Lists.{different}
 use Rattle.syntax.specs.Syntax.{IntExpr, IConst, IVar, Linear, If, Terms, tnil, tmore, BoolExpr, Const, Var, NVar, And, Or, Not, Xor, Iff, Imp, Cmp, Members, mnil, more}
 use Rattle.limits.specs.Limits.{any_comparison, any_comparison_members, any_inside, any_inside_terms, written, written_terms, ifs, ifs_terms, many_comparison, many_column}
-use Rattle.sums.specs.Rising.{among_left, among_right, different_part}
+use Rattle.sums.proofs.RisingLaws.{among_left, among_right, different_part}
 
 -- a part of a list has no more different numbers
 first_few : (xs ys : List ℕ) → different xs ≤ different (xs ++ ys)

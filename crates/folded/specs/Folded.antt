@@ -18,8 +18,9 @@ use Rattle.syntax.specs.Words.{max_weight, max_comparison_vars, max_column_vars}
 use Rattle.syntax.specs.Syntax.{Domain, Range, Enumerative, as_constant, domain_of, IfIsRead, IntExpr, IConst, IVar, Linear, If, Terms, tnil, tmore, BoolExpr, Const, Var, NVar, And, Or, Not, Xor, Iff, Imp, Cmp, Members, mnil, more, Stmt, Rule, Table, AllDifferent}
 use Rattle.limits.specs.Limits.{any_comparison, any_comparison_members, any_inside, any_inside_terms, any_pair, any_part, domain_weight, weight, terms_weight, heavy, heavy_terms, heavy_comparison, written, written_terms, ifs, ifs_terms, many_comparison, many_column, heavy_stmt, many_stmt}
 use Rattle.fold.specs.Fold.{Fixed, is_const, has_const, keep_member, kept, join_and, join_or, fold_and, fold_or, not_of, fold_not, fold_var, fold_binary, act, action, Op, op_xor, op_iff, op_imp, Action, be_false, be_true, left, not_left, right, not_right, keep, fold_int_var, fold_sum, fold_if, constant_folding_int, constant_folding_terms, constant_folding_bool, constant_folding_members, constant_folding_stmt}
-use Rattle.sums.specs.Rising.{Among, among_left, among_right, different_part}
-use Rattle.sums.specs.Bounds.{heavy_weight}
+use Rattle.sums.specs.Rising.{Among}
+use Rattle.sums.proofs.RisingLaws.{among_left, among_right, different_part}
+use Rattle.sums.proofs.BoundsLaws.{heavy_weight}
 
 -- ---- 9: weights
 

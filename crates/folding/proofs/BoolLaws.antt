@@ -16,9 +16,10 @@ use Rattle.syntax.specs.Syntax.{CmpOp, encode_op, IntExpr, BoolExpr, Const, Var,
 use Rattle.syntax.specs.Written.{EveryOf, None}
 use Rattle.syntax.specs.Codes.{bool_code}
 use Rattle.fold.specs.Fold.{is_const, Op, op_xor, op_iff, op_imp, expr_of, action, act, fold_binary, has_const, keep_member, kept, fold_not, not_of, fold_var, constant_folding_int, constant_folding_bool, constant_folding_members}
-use Rattle.fold.specs.Table.{op_num, action_num, bit, state_num, op_small, bit_small, state_small}
-use Rattle.fold.specs.Forms.{list_of, fold_list, list_folding, binary_folding, list_words, binary_words, bit_word, op_word, op_word_is, Declared, declared_list, declared_binary, bool_long, members_long}
-use Rattle.fold.specs.Kept.{fold_int_size, fold_size, fold_members_size, fold_every, kept_size, fold_list_size, not_size, binary_size}
+use Rattle.fold.specs.Table.{op_num, action_num, bit, state_num}
+use Rattle.fold.proofs.TableLaws.{op_small, bit_small, state_small}
+use Rattle.fold.proofs.Forms.{list_of, fold_list, list_folding, binary_folding, list_words, binary_words, bit_word, op_word, op_word_is, Declared, declared_list, declared_binary, bool_long, members_long}
+use Rattle.fold.proofs.Kept.{fold_int_size, fold_size, fold_members_size, fold_every, kept_size, fold_list_size, not_size, binary_size}
 use Rattle.domains.specs.Declared.{Plain}
 use Rattle.folding.specs.Steps.{state_of, fixed_of, fixed_in, same_fixed, var_step, not_step, not_state, list_step, list_state, binary_step, binary_state, ReadsInt, ReadyInt, IntPost, Reads, ReadsMembers, Ready, ReadyMembers, FoldPost, MembersPost, var_words, not_words, not_state_is, bit_state, fold_list_words, fold_list_state, act_words, fold_binary_state, hit_one, count_one, kept_fewer, members_count}
 

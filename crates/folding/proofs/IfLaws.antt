@@ -15,7 +15,7 @@ use Rattle.syntax.specs.Lengths.{int_long}
 use Rattle.syntax.specs.Written.{EveryIntOf}
 use Rattle.fold.specs.Fold.{is_const, fold_if, constant_folding_int, constant_folding_bool}
 use Rattle.fold.specs.Table.{state_num}
-use Rattle.fold.specs.Kept.{if_length, fold_int_size, fold_size}
+use Rattle.fold.proofs.Kept.{if_length, fold_int_size, fold_size}
 use Rattle.folding.specs.Steps.{fixed_in, same_fixed, ReadsInt, ReadyInt, IntPost, Reads, Ready, FoldPost}
 use Rattle.folding.proofs.IntLaws.{stored_one, if_inv, int_inside, code_is}
 use Rattle.folding.proofs.BoolLaws.{reads_long}

@@ -17,7 +17,7 @@ use Rattle.syntax.specs.Syntax.{Domain, as_constant, domain_of, IfIsRead, IntExp
 use Rattle.syntax.specs.Lengths.{int_tag, int_tag_word, int_long, int_fits}
 use Rattle.syntax.specs.Written.{EveryIntOf}
 use Rattle.fold.specs.Fold.{fold_int_var, fold_sum, constant_folding_int, constant_folding_terms}
-use Rattle.fold.specs.Kept.{fold_int_size}
+use Rattle.fold.proofs.Kept.{fold_int_size}
 use Rattle.domains.specs.Declared.{Plain, DomainBelow}
 use Rattle.folding.specs.Steps.{fixed_in, same_fixed, single_of, IntVarPost, ReadsInt, TermsRead, ReadyInt, ReadyTerms, FoldsInt, IntPost, TermsPost}
 

@@ -8,9 +8,9 @@ use Rattle.syntax.specs.Words.{max_bools}
 use Rattle.syntax.specs.Syntax.{Domain, as_constant, domain_of, IntExpr, Terms, BoolExpr, Const, Members, mnil, more, count_terms, count_members, encode_int, encode_terms, encode_bool, encode_members}
 use Rattle.domains.specs.Declared.{Domains}
 use Rattle.fold.specs.Fold.{Fixed, is_const, Op, op_xor, op_iff, op_imp, Action, be_false, be_true, left, not_left, right, not_right, keep, action, act, fold_binary, is_value, has_const, keep_member, kept, not_of, fold_var, fold_int_var, constant_folding_int, constant_folding_terms, constant_folding_bool, constant_folding_members}
-use Rattle.fold.specs.Refold.{const_or}
+use Rattle.fold.proofs.Refold.{const_or}
 use Rattle.fold.specs.Table.{op_num, action_num, bit, state_num}
-use Rattle.fold.specs.Forms.{list_of, join, fold_list, list_words, binary_words, bit_word, IntIsDeclared, DeclaredTerms, Declared, DeclaredMembers}
+use Rattle.fold.proofs.Forms.{list_of, join, fold_list, list_words, binary_words, bit_word, IntIsDeclared, DeclaredTerms, Declared, DeclaredMembers}
 
 -- ---- the fixed values: 0 false, 1 true, else open
 

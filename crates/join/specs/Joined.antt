@@ -10,7 +10,7 @@ use Rattle.words.specs.Parse.{Parsed, ok, refuse, parse_then}
 use Rattle.words.specs.Exact.{Each}
 use Rattle.read.specs.Read.{read_set}
 use Rattle.read.specs.WellFormed.{WellStmt, WellFormed}
-use Rattle.read.specs.Exact.{set_sound, set_complete, set_unique}
+use Rattle.read.proofs.Exact.{set_sound, set_complete, set_unique}
 use Rattle.limits.specs.Limits.{heavy, check, heavy_stmt, many_stmt, wide_stmt}
 use Rattle.limits.specs.Admitted.{limited, admitted}
 use Rattle.join.specs.Join.{declaration_words, both, Agreement, agreed, refusal, compared, agree_read, agreement, joined, refused, sized, join}

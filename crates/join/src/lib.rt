@@ -1,5 +1,6 @@
 // Two sets with identical declarations as one, written into a lent buffer; and a joined statement by its number, as a part of the set it came from.
 #![tactic(auto)]
+
 ghost use Rattle.std.specs.Prelude.{◌≡◌, ◌+◌, ◌-◌, ◌≤◌, length, take, drop};
 ghost use Rattle.std.proofs.lemmas.List.Edits.{sets};
 ghost use Rattle.laws.specs.Slices.{zeros};

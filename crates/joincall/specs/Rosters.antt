@@ -8,7 +8,7 @@ use Rattle.read.specs.Read.{read_set}
 use Rattle.call.specs.Call.{call_with}
 use Rattle.call.specs.declared.Choices.{Choices}
 use Rattle.call.specs.Claim.{within, Passed, NotRefused, Called}
-use Rattle.call.specs.Demand.{demand_3_consequences}
+use Rattle.call.proofs.Demand.{demand_3_consequences}
 use Rattle.join.specs.Join.{both, joined, join}
 use Rattle.join.specs.Joined.{admitted_is, join_is}
 

@@ -23,7 +23,8 @@ use Rattle.lines.specs.Lines.{count_word}
 use Rattle.text.specs.Listing.{print_answer}
 use Rattle.text.specs.declared.Answer.TheVariants as said
 use Rattle.readback.specs.Listed.{print_result, list_words, list_text}
-use Rattle.readback.specs.Room.{Typed, listing_room}
+use Rattle.readback.specs.Room.{Typed}
+use Rattle.readback.proofs.RoomLaws.{listing_room}
 use Rattle.decimal.specs.Widths.{fitting}
 use Rattle.planner.specs.declared.Answer.{Answer}
 use Rattle.planner.specs.declared.Answer.TheVariants as planned

@@ -13,7 +13,7 @@ use Rattle.memory.specs.Places.{bool_map, limit}
 use Rattle.syntax.specs.Words.{max_bools}
 use Rattle.walk.specs.Item.{bump, bool_at, signed, State}
 use Rattle.walk.specs.Decode.{word}
-use Rattle.walk.specs.NumberingSteps.{part_set}
+use Rattle.walk.proofs.NumberingSteps.{part_set}
 use Rattle.statements.specs.Whole.{start}
 use Rattle.statements.specs.Ties.{give, tie_words, meet_tie, meet_sides, meet_ties_at}
 use Rattle.merging.specs.Merging.{Aside, Ties}

@@ -16,8 +16,8 @@ use Rattle.clauses.specs.Merge.{merge_stmt, merge_stmts}
 use Rattle.answer.specs.Answer.{start_log}
 use Rattle.walk.specs.Item.{State}
 use Rattle.walk.specs.Decode.{read_part}
-use Rattle.walk.specs.Num.{Numbered}
-use Rattle.walk.specs.NumberingSteps.{part_short, part_word}
+use Rattle.walk.proofs.Num.{Numbered}
+use Rattle.walk.proofs.NumberingSteps.{part_short, part_word}
 use Rattle.statements.specs.Bounds.{merge_grows, start_low}
 use Rattle.statements.specs.Whole.{start, start_numbered}
 use Rattle.statements.specs.Ties.{meet_ties_at}

@@ -15,7 +15,7 @@ use Rattle.memory.proofs.Laws.{number_is}
 use Rattle.syntax.specs.Syntax.{Range}
 use Rattle.walk.specs.Item.{bump, bool_at}
 use Rattle.walk.specs.Decode.{below}
-use Rattle.walk.specs.Steps.{below_lt}
+use Rattle.walk.proofs.Steps.{below_lt}
 use Rattle.walks.specs.Item.{cell, seen_in, known_in}
 use Rattle.walks.specs.Meet.{set_cells, range_record, two_record}
 use Rattle.numbering.specs.Task.{state_of, Ready, Done}

@@ -13,7 +13,7 @@ use Rattle.laws.specs.Order.{eqZ_refl}
 use Rattle.laws.specs.Same.{same_words, same_is}
 use Rattle.memory.specs.Places.{folded, folded_end}
 use Rattle.walk.specs.Decode.{read_part}
-use Rattle.walk.specs.NumberingSteps.{part_length}
+use Rattle.walk.proofs.NumberingSteps.{part_length}
 use Rattle.walks.specs.Tree.{Place}
 use Rattle.walks.specs.Item.{cell, seen_in, seen}
 use Rattle.walks.specs.Meet.{is_unseen, is_shared, words_at, equal_from, find_equal}

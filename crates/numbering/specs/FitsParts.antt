@@ -11,7 +11,7 @@ use Rattle.memory.specs.Places.{folded, folded_end, limit}
 use Rattle.syntax.specs.Syntax.{Domain, Ne, IntExpr, BoolExpr, Const, Cmp, encode_int, encode_bool}
 use Rattle.clauses.specs.Log.{aux, bool, Log, next_bool}
 use Rattle.walk.specs.declared.Counters.{Counters}
-use Rattle.walk.specs.Texts.{Auxed, here as no-aux, above}
+use Rattle.walk.proofs.Texts.{Auxed, here as no-aux, above}
 use Rattle.walks.specs.Tree.{IntTree, never, below, here, splits, splits_int, resolve, resolve_int, ties, run_int}
 use Rattle.walks.specs.Form.{Forms, form, forms, int_form}
 use Rattle.walks.specs.Resolve.{rule_trees, pair_trees}

@@ -11,12 +11,12 @@ use Rattle.memory.specs.Places.{limit}
 use Rattle.syntax.specs.Syntax.{Domain, IntExpr}
 use Rattle.sums.specs.LinearSum.{LinearSum, constant, is_constant}
 use Rattle.clauses.specs.Clause.{BoolLit, lit}
-use Rattle.clauses.specs.Grow.{get_bool_below}
+use Rattle.clauses.proofs.Grow.{get_bool_below}
 use Rattle.clauses.specs.Log.{number_of, aux, column, bool, int, Log, next_bool, get_bool_var, get_if, convert_bool_var}
 use Rattle.answer.specs.Answer.{bool_word}
 use Rattle.walk.specs.Item.{bump, bool_at}
 use Rattle.walk.specs.declared.Counters.{Counters}
-use Rattle.walk.specs.Texts.{here as no-aux, above}
+use Rattle.walk.proofs.Texts.{here as no-aux, above}
 use Rattle.walks.specs.Tree.{Place, own_var, condition_of, Tree, var, num, cmp, conj, disj, cross, tied, Trees, nil, cons, IntTree, const, ivar, sum, choice, TermTrees, none as no_terms, term, run, run_int}
 use Rattle.walks.specs.Form.{form, forms, int_form, term_forms}
 use Rattle.walks.specs.Item.{known_in, seen, int_item}

@@ -9,7 +9,7 @@ use Rattle.memory.specs.Places.{folded_end, cells, ifs_word}
 use Rattle.syntax.specs.Syntax.{Domain}
 use Rattle.walk.specs.Item.{is_none}
 use Rattle.walk.specs.Decode.{read_part}
-use Rattle.walk.specs.NumberingSteps.{part_set}
+use Rattle.walk.proofs.NumberingSteps.{part_set}
 use Rattle.walks.specs.Tree.{Place, Splitting}
 use Rattle.walks.specs.Form.{Form, IntForm, choice}
 use Rattle.walks.specs.Item.{cell, seen_in, seen, known_in}

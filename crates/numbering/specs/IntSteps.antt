@@ -9,7 +9,7 @@ use borrow.Author.Tests.{ne_eqb}
 use Rattle.syntax.specs.Words.{max_ints}
 use Rattle.memory.specs.Places.{folded_end, limit}
 use Rattle.walk.specs.Decode.{word, past, below, read_part}
-use Rattle.walk.specs.NumberingSteps.{part_length}
+use Rattle.walk.proofs.NumberingSteps.{part_length}
 use Rattle.walks.specs.Tree.{Splitting}
 use Rattle.walks.specs.Form.{IntForm, const, ivar}
 use Rattle.walks.specs.Decode.{IntRead, own_at, many_terms, if_step, int_step, decode, decode_int}

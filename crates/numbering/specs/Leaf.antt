@@ -12,7 +12,7 @@ use Rattle.memory.specs.Number.{nat}
 use Rattle.syntax.specs.Syntax.{domain_of}
 use Rattle.syntax.specs.Words.{max_bools, max_ints}
 use Rattle.walk.specs.Item.{bump, bool_at, int_entry}
-use Rattle.walk.specs.NumberingSteps.{part_set}
+use Rattle.walk.proofs.NumberingSteps.{part_set}
 use Rattle.walks.specs.Meet.{State, range_record, meet_bool, new_int, meet_int_var}
 use Rattle.declared.specs.DomainTable.{word_at}
 use Rattle.numbering.specs.Declares.{upper, declares_kept}

@@ -10,7 +10,7 @@ use Rattle.sums.specs.LinearSum.{is_constant}
 use Rattle.sums.specs.Rising.{constant_of}
 use Rattle.walk.specs.Item.{bump}
 use Rattle.walk.specs.Decode.{read_part}
-use Rattle.walk.specs.NumberingSteps.{part_set}
+use Rattle.walk.proofs.NumberingSteps.{part_set}
 use Rattle.walk.specs.declared.Counters.{Counters}
 use Rattle.walks.specs.Tree.{Splitting}
 use Rattle.walks.specs.Form.{IntForm}

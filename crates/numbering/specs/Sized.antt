@@ -12,7 +12,7 @@ use Rattle.walk.specs.Item.{bump, Tally, mode_in, fresh_in, closed}
 use Rattle.walk.specs.Decode.{word, read_part}
 use Rattle.walk.specs.declared.Node.{Node}
 use Rattle.walk.specs.declared.Node.TheVariants.{Var, Cmp, Not, Join, Cross}
-use Rattle.walk.specs.NumberingSteps.{part_length}
+use Rattle.walk.proofs.NumberingSteps.{part_length}
 use Rattle.walks.specs.Tree.{Splitting, never, below, here, inner}
 use Rattle.walks.specs.Item.{tallies, var_item, cmp_item, conj_item, disj_item, cross_item, form_item, form_items}
 use Rattle.walks.specs.Decode.{node_of, Read, many, cross_step, step, decode, decode_int}

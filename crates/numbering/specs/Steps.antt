@@ -11,7 +11,7 @@ use Rattle.walk.specs.Item.{bump, fresh}
 use Rattle.walk.specs.Decode.{word, read_part}
 use Rattle.walk.specs.declared.Node.{Node}
 use Rattle.walk.specs.declared.Node.TheVariants.{Var, Cmp, Not, Join, Cross}
-use Rattle.walk.specs.NumberingSteps.{part_length}
+use Rattle.walk.proofs.NumberingSteps.{part_length}
 use Rattle.walks.specs.Tree.{Splitting, never, below, here, inner}
 use Rattle.walks.specs.Item.{tallies, num_item, form_items, form_item}
 use Rattle.walks.specs.Decode.{node_of, Read, many, cross_step, step, decode, decode_int}

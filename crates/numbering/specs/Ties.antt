@@ -12,7 +12,7 @@ use Rattle.walk.specs.Item.{bump}
 use Rattle.walk.specs.Decode.{word, past, read_part}
 use Rattle.walk.specs.declared.Node.{Node}
 use Rattle.walk.specs.declared.Node.TheVariants.{Var, Cmp, Not, Join, Cross}
-use Rattle.walk.specs.NumberingSteps.{part_length}
+use Rattle.walk.proofs.NumberingSteps.{part_length}
 use Rattle.walks.specs.Tree.{Splitting, never, below, here, inner}
 use Rattle.walks.specs.Form.{Form, Forms, nil, cons, append}
 use Rattle.walks.specs.Decode.{node_of, decode, decode_int, many_ties, tie_at, cross_ties, ties_step, terms_ties, if_ties, int_ties_step, ties_at, ties_int_at}

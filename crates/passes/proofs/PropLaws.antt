@@ -19,7 +19,7 @@ use Rattle.syntax.specs.Codes.{bool_code}
 use Rattle.fold.specs.Fold.{Fixed, Op, expr_of}
 use Rattle.fold.specs.Optimize.{Status, unsatisfiable, updated, fix, worst, and_then, constant_prop_bool, constant_prop_members}
 use Rattle.fold.specs.Table.{op_num, bit, state_num}
-use Rattle.fold.specs.Forms.{list_of, list_words, binary_words}
+use Rattle.fold.proofs.Forms.{list_of, list_words, binary_words}
 use Rattle.domains.specs.Declared.{Plain}
 use Rattle.folding.specs.Steps.{state_of, Reads, ReadsMembers}
 use Rattle.folding.proofs.BoolLaws.{const_inv, var_inv, cmp_inv, not_inv, list_inv, binary_inv, first_word, second, second_word, code_low, inside, reads_long, reads_not, reads_list, reads_left, reads_right, reads_first, reads_rest, reads_sides}

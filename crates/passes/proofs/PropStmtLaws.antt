@@ -16,7 +16,7 @@ use Rattle.domains.specs.Declared.{Plain}
 use Rattle.passes.specs.Want.{worst_num}
 use Rattle.passes.specs.Skip.{SomeInt, SkipPost}
 use Rattle.passes.specs.Contract.{Stands, PropPost}
-use Rattle.fold.specs.Ahead.{prop_stmt, prop_stmts_more}
+use Rattle.fold.proofs.Ahead.{prop_stmt, prop_stmts_more}
 use Rattle.passes.specs.Statements.{ReadsStmt, ReadsStmts, StandsStmt, StandStmts, PropStmtPost, PropStmtsPost, SomeColumns, SkipColumnsPost, SkipStmtPost}
 use Rattle.passes.proofs.StmtLaws.{columns_inv, stmt_inside, stmt_length, stmt_plain, code_word, rule_inv, not_two, table_inv, table_inside, different_inv, stmts_inv}
 use Rattle.passes.proofs.PropLaws.{still, then_props, as_status, worst_assoc, worst_none, worst_zero, has_up}

@@ -16,7 +16,7 @@ use Rattle.syntax.specs.Codes.{bool_code}
 use Rattle.domains.specs.Declared.{Plain}
 use Rattle.fold.specs.Fold.{Op, op_xor, op_iff, op_imp, expr_of}
 use Rattle.fold.specs.Table.{bit}
-use Rattle.fold.specs.Forms.{list_of, DeclaredTerms, Declared, DeclaredMembers, bool_long, members_long}
+use Rattle.fold.proofs.Forms.{list_of, DeclaredTerms, Declared, DeclaredMembers, bool_long, members_long}
 use Rattle.folding.proofs.IntLaws.{if_inv}
 use Rattle.folding.proofs.BoolLaws.{cmp_inv, not_inv, list_inv, binary_inv, first_word, second, second_word, code_low}
 use Rattle.passes.specs.Skip.{IntAt, TermsAt, BoolAt, MembersAt, SomeInt, SomeTerms, SomeBool, SomeMembers, own_int, body, IntStepPost, SkipPost, SkipTermsPost, own_bool, inner, BoolStepPost, SkipMembersPost}

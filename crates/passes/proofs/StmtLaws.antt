@@ -15,8 +15,8 @@ use Rattle.syntax.specs.Lengths.{rows_length, table_words, different_words}
 use Rattle.syntax.specs.Written.{EveryColumnOf}
 use Rattle.syntax.specs.Codes.{stmt_code}
 use Rattle.fold.specs.Fold.{Fixed, constant_folding_int, constant_folding_bool, constant_folding_stmt}
-use Rattle.fold.specs.Forms.{bool_long}
-use Rattle.fold.specs.Kept.{fold_columns_size, fold_stmt_size, fold_int_size}
+use Rattle.fold.proofs.Forms.{bool_long}
+use Rattle.fold.proofs.Kept.{fold_columns_size, fold_stmt_size, fold_int_size}
 use Rattle.domains.specs.Declared.{Plain}
 use Rattle.folding.specs.Steps.{fixed_in, same_fixed, ReadsInt, ReadyInt, IntPost, Reads, Ready, FoldPost}
 use Rattle.folding.proofs.IntLaws.{stored_one}

@@ -2,7 +2,7 @@
 use Rattle.std.specs.Prelude.{ℕ, ◌+◌, ◌≡◌, List, ℤ, length}
 use Rattle.laws.specs.Slices.{Has}
 use Rattle.syntax.specs.Syntax.{IntExpr, IConst, IVar, Linear, If, Terms, tnil, BoolExpr, Const, Var, NVar, And, Or, Not, Xor, Iff, Imp, Cmp, Members, mnil, more, count_terms, count_members, encode_int, encode_terms, encode_bool, encode_members}
-use Rattle.fold.specs.Forms.{IntIsDeclared, DeclaredTerms, Declared, DeclaredMembers}
+use Rattle.fold.proofs.Forms.{IntIsDeclared, DeclaredTerms, Declared, DeclaredMembers}
 
 pub record IntAt (nb ni : ℕ) (ws : List ℤ) (at : ℕ) (e : IntExpr) : Type 0 where
   pub words : Has ws at (encode_int e)

@@ -8,8 +8,8 @@ use Rattle.syntax.specs.Lengths.{Wide}
 use Rattle.syntax.specs.Written.{EveryColumnOf, None}
 use Rattle.fold.specs.Fold.{Fixed, constant_folding_int, constant_folding_stmt}
 use Rattle.fold.specs.Optimize.{constant_prop_stmts}
-use Rattle.fold.specs.Ahead.{prop_stmt}
-use Rattle.fold.specs.Forms.{Declared}
+use Rattle.fold.proofs.Ahead.{prop_stmt}
+use Rattle.fold.proofs.Forms.{Declared}
 use Rattle.domains.specs.Declared.{Domains}
 use Rattle.folding.specs.Steps.{fixed_in}
 use Rattle.passes.specs.Want.{Values, Propagates}

@@ -9,7 +9,7 @@ use Rattle.syntax.specs.Syntax.{BoolExpr, Not, Members, more}
 use Rattle.fold.specs.Fold.{Fixed, Op, op_xor, op_iff, op_imp, expr_of}
 use Rattle.fold.specs.Optimize.{Status, unsatisfiable, updated, worst, and_then, constant_prop_bool, constant_prop_members}
 use Rattle.fold.specs.Table.{op_num, bit, state_num}
-use Rattle.fold.specs.Forms.{list_of}
+use Rattle.fold.proofs.Forms.{list_of}
 
 -- ---- what is required, or nothing
 

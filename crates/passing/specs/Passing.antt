@@ -20,8 +20,9 @@ use Rattle.limits.specs.Admitted.{admitted, limited}
 use Rattle.call.specs.Call.{Result, contradiction, refused, checked, when_read, call_with}
 use Rattle.call.specs.declared.Choices.{Choices}
 use Rattle.call.specs.Claim.{of_set, within, satisfied as meets, Passed, NotRefused}
-use Rattle.call.specs.Demand.{demand_3}
-use Rattle.verdict.specs.Roster.{bool_of, int_of, is_bit, right_count, all_inside, satisfied, refused as refuses, judged, rostered, when_admitted, check_roster, judged_satisfied, satisfied_judged, Breaks, judged_breaks}
+use Rattle.call.proofs.Demand.{demand_3}
+use Rattle.verdict.specs.Roster.{bool_of, int_of, is_bit, right_count, all_inside, satisfied, refused as refuses, judged, rostered, when_admitted, check_roster, Breaks}
+use Rattle.verdict.proofs.RosterLaws.{judged_satisfied, satisfied_judged, judged_breaks}
 
 -- how many Booleans the set declares, and the integers' values behind theirs
 abbrev pub declared_bools : List ℤ → ℕ

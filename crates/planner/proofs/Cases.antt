@@ -11,7 +11,7 @@ use Rattle.syntax.specs.Words.{max_set_words, min_work_words}
 use Rattle.syntax.specs.Syntax.{Stmt, Problem, encode}
 use Rattle.words.specs.Parse.{Parsed, ok, refuse}
 use Rattle.read.specs.Read.{read_set}
-use Rattle.read.specs.Exact.{set_sound}
+use Rattle.read.proofs.Exact.{set_sound}
 use Rattle.limits.specs.Limits.{check}
 use Rattle.fold.specs.Fold.{Fixed}
 use Rattle.fold.specs.Optimize.{Outcome, inconsistent, settled, optimize}

@@ -13,7 +13,7 @@ use Rattle.syntax.specs.Satisfies.{Val, IVal}
 use Rattle.call.specs.Call.{Result, compiled, contradiction, refused, call_with, output_after}
 use Rattle.call.specs.declared.Choices.{Choices}
 use Rattle.call.specs.Claim.{within, satisfied, Passed, NotRefused}
-use Rattle.call.specs.Demand.{demand_3, demand_3_consequences}
+use Rattle.call.proofs.Demand.{demand_3, demand_3_consequences}
 use Rattle.planner.specs.declared.Answer.{Answer}
 use Rattle.planner.specs.declared.Answer.TheVariants.{Compiled, Contradiction}
 use Rattle.planner.specs.Contract.{answer_of, Compiles}

@@ -17,7 +17,7 @@ use Rattle.fold.specs.Fold.{Fixed}
 use Rattle.accept.specs.Accepted.{domains_stand}
 use Rattle.answer.specs.Answer.{start_log}
 use Rattle.walk.specs.Decode.{read_part}
-use Rattle.walk.specs.NumberingSteps.{part_word}
+use Rattle.walk.proofs.NumberingSteps.{part_word}
 use Rattle.walks.specs.Item.{has_ifs}
 use Rattle.walks.specs.Meet.{State}
 use Rattle.declared.specs.DomainTable.{domain_table, TableRoom, TablePost, word_at, Declares, declares, sizes_fit}

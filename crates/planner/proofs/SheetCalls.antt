@@ -20,7 +20,7 @@ use Rattle.planner.specs.declared.Answer.TheVariants as planned
 use Rattle.planner.specs.Contract.{answer_of, Compiles}
 use Rattle.sheetback.specs.ReadSheet.{read_sheet}
 use Rattle.sheetback.specs.Sheeted.{sheet_text, with_sheet, sheet_call, no_bytes, sheet_after}
-use Rattle.sheetback.specs.CallBack.{answer_clauses, call_laid, sheet_back}
+use Rattle.sheetback.proofs.CallBack.{answer_clauses, call_laid, sheet_back}
 use Rattle.sheets.specs.Contract.{sheeted_of, Sheets, Answered, SomeAnswered, Finishes, compiled_words}
 use Rattle.sheets.specs.declared.Sheeted.{Sheeted}
 use Rattle.sheets.specs.declared.Sheeted.TheVariants as sheeted

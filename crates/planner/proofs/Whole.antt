@@ -17,7 +17,7 @@ use Rattle.clauses.specs.Clause.{Clause}
 use Rattle.clauses.specs.Log.{Log, clauses_of}
 use Rattle.answer.specs.Answer.{start_log, layout, normalize}
 use Rattle.walk.specs.Decode.{read_part}
-use Rattle.walk.specs.Texts.{layout_words}
+use Rattle.walk.proofs.Texts.{layout_words}
 use Rattle.walks.specs.Item.{counters, has_ifs}
 use Rattle.walks.specs.Meet.{State}
 use Rattle.walks.specs.Good.{records_of, records_length}
@@ -28,7 +28,8 @@ use Rattle.stages.specs.Whole.{records_from, records_place}
 use Rattle.numbering.specs.declared.Room.{Room}
 use Rattle.numbering.specs.Task.{Low}
 use Rattle.setnumbers.specs.Numbered.{AsksAll, DoneAll}
-use Rattle.front.specs.Front.{front_words, front_is}
+use Rattle.front.specs.Front.{front_words}
+use Rattle.front.proofs.FrontLaws.{front_is}
 use Rattle.rows.specs.Emit.{Clauses, clauses_words, Behind}
 use Rattle.setwriter.specs.Begin.{SomeSettles, Begins}
 use Rattle.setwriter.specs.Whole.{assembled}

@@ -18,8 +18,8 @@ use Rattle.syntax.specs.Syntax.{Domain, Stmt, Problem, encode_domain, encode_stm
 use Rattle.read.specs.WellFormed.{WellFormed}
 use Rattle.fold.specs.Fold.{Fixed, constant_folding_stmt}
 use Rattle.fold.specs.Optimize.{Status, unsatisfiable, updated, constant_prop_stmts, Outcome, passes, optimize}
-use Rattle.fold.specs.Ends.{optimize_more}
-use Rattle.fold.specs.Kept.{fold_stmts_size}
+use Rattle.fold.proofs.Ends.{optimize_more}
+use Rattle.fold.proofs.Kept.{fold_stmts_size}
 use Rattle.domains.specs.Declared.{Plain, Domains, DomainAt}
 use Rattle.folding.specs.Steps.{state_of, fixed_of, fixed_in}
 use Rattle.folding.proofs.BoolLaws.{fixed_at}

@@ -18,10 +18,10 @@ use Rattle.syntax.specs.Words.{max_bools}
 use Rattle.syntax.specs.Syntax.{Domain, Stmt, encode_stmt}
 use Rattle.fold.specs.Fold.{Fixed, constant_folding_stmt}
 use Rattle.fold.specs.Optimize.{Status, unsatisfiable, updated, Outcome, inconsistent, passes}
-use Rattle.fold.specs.Refold.{Extends}
-use Rattle.fold.specs.Ahead.{prop_stmt, Below, NoRest, step_below, step_none, passes_ahead, passes_none}
-use Rattle.fold.specs.Ends.{opens_extends}
-use Rattle.fold.specs.Kept.{fold_stmt_size}
+use Rattle.fold.proofs.Refold.{Extends}
+use Rattle.fold.proofs.Ahead.{prop_stmt, Below, NoRest, step_below, step_none, passes_ahead, passes_none}
+use Rattle.fold.proofs.Ends.{opens_extends}
+use Rattle.fold.proofs.Kept.{fold_stmt_size}
 use Rattle.folding.specs.Steps.{fixed_in}
 use Rattle.domains.specs.Declared.{Domains}
 use Rattle.passes.specs.Want.{status_num, Values, Propagates}

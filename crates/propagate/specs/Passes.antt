@@ -8,8 +8,8 @@ use Rattle.syntax.specs.Syntax.{Domain, IntExpr, Stmt, Rule, Table, AllDifferent
 use Rattle.syntax.specs.Written.{EveryStmt, EveryStmts, EveryColumnOf, every_map, every_column_map, Any, None}
 use Rattle.fold.specs.Fold.{Fixed, constant_folding_int, constant_folding_stmt}
 use Rattle.fold.specs.Optimize.{unsatisfiable, updated, constant_prop_stmts, inconsistent, settled, passes}
-use Rattle.fold.specs.Ends.{prop_stmts_after, prop_extends, passes_original, opens, opens_most, Fewer, fewer_steps}
-use Rattle.fold.specs.Kept.{fold_columns_every, fold_every}
+use Rattle.fold.proofs.Ends.{prop_stmts_after, prop_extends, passes_original, opens, opens_most, Fewer, fewer_steps}
+use Rattle.fold.proofs.Kept.{fold_columns_every, fold_every}
 use Rattle.passes.specs.Statements.{DeclaredColumns, DeclaredStmt, DeclaredStmts}
 
 -- ---- declared, in the words of the theorems on folding

@@ -7,7 +7,7 @@ use Rattle.syntax.specs.Syntax.{Stmt, Rule, Table, AllDifferent, Problem}
 use Rattle.syntax.specs.Written.{None}
 use Rattle.words.specs.Exact.{Each}
 use Rattle.read.specs.WellFormed.{WellStmt, WellFormed}
-use Rattle.read.specs.Vars.{columns_vars, bool_vars, rows_wide}
+use Rattle.read.proofs.Vars.{columns_vars, bool_vars, rows_wide}
 use Rattle.passes.specs.Statements.{DeclaredStmt, DeclaredStmts}
 
 -- m: any number that the Booleans' count does not pass

@@ -4,8 +4,8 @@ use Rattle.laws.specs.Lists.{flat}
 use Rattle.syntax.specs.Words.{max_bools}
 use Rattle.syntax.specs.Syntax.{Domain, Stmt, encode_stmt}
 use Rattle.fold.specs.Fold.{Fixed, constant_folding_stmt}
-use Rattle.fold.specs.Refold.{Extends}
-use Rattle.fold.specs.Ahead.{prop_stmt, Below, NoRest}
+use Rattle.fold.proofs.Refold.{Extends}
+use Rattle.fold.proofs.Ahead.{prop_stmt, Below, NoRest}
 use Rattle.domains.specs.Declared.{Domains}
 use Rattle.passes.specs.Want.{Values, Propagates}
 use Rattle.passes.specs.Statements.{ReadsStmt, ReadsStmts, ReadyStmt}

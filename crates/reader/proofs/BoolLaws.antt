@@ -16,7 +16,7 @@ use Rattle.words.specs.declared.Counted.TheVariants as counted
 use Rattle.reader.specs.declared.Read.{Read}
 use Rattle.reader.specs.declared.Read.TheVariants as read
 use Rattle.read.specs.Read.{BoolKind, k_const, k_var, k_and, k_or, k_not, k_xor, k_iff, k_imp, k_cmp, k_unknown, kind_bool, too_deep_bool, bit_at, read_members, step_bool, read_int, read_bool}
-use Rattle.read.specs.ExactExpr.{int_exact, members_exact, bool_exact}
+use Rattle.read.proofs.ExactExpr.{int_exact, members_exact, bool_exact}
 use Rattle.reader.specs.Position.{read_at, reads, list_of, pair_of, comparison_of}
 use Rattle.reader.proofs.Tails.{Shortens, exact_shortens, ok_shortens, refuse_shortens, parse_then_shortens}
 use Rattle.reader.proofs.Laws.{reads_refused, parse_then_refused, reads_then, number_refused, number_then, word_refused, word_then, map_same, seq_same}

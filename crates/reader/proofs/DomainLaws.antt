@@ -22,7 +22,7 @@ use Rattle.words.specs.declared.Counted.TheVariants as counted
 use Rattle.reader.specs.declared.Read.{Read}
 use Rattle.reader.specs.declared.Read.TheVariants as read
 use Rattle.read.specs.Read.{read_range, size_at, size_of, read_rising, read_enumerative, read_domain}
-use Rattle.read.specs.Exact.{size_exact}
+use Rattle.read.proofs.Exact.{size_exact}
 use Rattle.reader.specs.Position.{read_at, reads}
 use Rattle.reader.proofs.Tails.{Shortens, exact_shortens, ok_shortens, refuse_shortens, parse_then_shortens, cond_shortens}
 use Rattle.reader.proofs.Laws.{number_refused, number_then, word_refused, word_then, map_same, value_front}

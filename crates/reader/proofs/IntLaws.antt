@@ -16,7 +16,7 @@ use Rattle.words.specs.declared.Counted.TheVariants as counted
 use Rattle.reader.specs.declared.Read.{Read}
 use Rattle.reader.specs.declared.Read.TheVariants as read
 use Rattle.read.specs.Read.{IntKind, i_const, i_var, i_sum, i_if, i_unknown, kind_int, too_deep_int, read_terms, step_int, read_int, read_bool}
-use Rattle.read.specs.ExactExpr.{terms_exact, int_exact, bool_exact}
+use Rattle.read.proofs.ExactExpr.{terms_exact, int_exact, bool_exact}
 use Rattle.reader.specs.Position.{read_at, reads, if_of}
 use Rattle.reader.proofs.Tails.{Shortens, exact_shortens, ok_shortens, refuse_shortens, parse_then_shortens}
 use Rattle.reader.proofs.Laws.{reads_refused, parse_then_refused, reads_then, number_refused, number_then, word_refused, word_then, map_same, seq_same, value_front}

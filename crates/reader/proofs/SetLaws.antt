@@ -19,7 +19,7 @@ use Rattle.reader.specs.declared.Set.{Set}
 use Rattle.reader.specs.declared.Set.TheVariants as set
 use Rattle.read.specs.Read.{read_domain, read_stmt, at_end, read_set}
 use Rattle.read.specs.WellFormed.{WellDomain, WellStmt}
-use Rattle.read.specs.Exact.{domain_exact, stmt_exact}
+use Rattle.read.proofs.Exact.{domain_exact, stmt_exact}
 use Rattle.reader.specs.Position.{reads, stmts_of, stmts_at, set_at}
 use Rattle.reader.proofs.Tails.{exact_shortens}
 use Rattle.reader.proofs.Laws.{reads_refused, reads_ok, number_falls}

@@ -21,8 +21,8 @@ use Rattle.words.specs.declared.Counted.TheVariants as counted
 use Rattle.reader.specs.declared.Read.{Read}
 use Rattle.reader.specs.declared.Read.TheVariants as read
 use Rattle.read.specs.Read.{read_cell, read_int, read_bool, read_table, read_different, read_stmt}
-use Rattle.read.specs.ExactExpr.{bool_exact}
-use Rattle.read.specs.Exact.{columns_exact, rows_exact}
+use Rattle.read.proofs.ExactExpr.{bool_exact}
+use Rattle.read.proofs.Exact.{columns_exact, rows_exact}
 use Rattle.reader.specs.Position.{read_at, reads}
 use Rattle.reader.proofs.Tails.{Shortens, exact_shortens, ok_shortens, refuse_shortens, parse_then_shortens, cond_shortens}
 use Rattle.reader.proofs.Laws.{reads_refused, parse_then_refused, reads_then, number_refused, number_then, word_refused, word_then, map_same, seq_same}

@@ -17,13 +17,13 @@ use Rattle.syntax.specs.Words.{max_set_words, min_work_words, max_bools}
 use Rattle.syntax.specs.Syntax.{Stmt, Problem}
 use Rattle.words.specs.Parse.{Parsed, ok, refuse}
 use Rattle.read.specs.Read.{read_set}
-use Rattle.read.specs.Exact.{set_sound}
+use Rattle.read.proofs.Exact.{set_sound}
 use Rattle.limits.specs.Limits.{check}
 use Rattle.fold.specs.Fold.{Fixed}
 use Rattle.fold.specs.Optimize.{Outcome, inconsistent, settled, optimize}
 use Rattle.answer.specs.Answer.{fixed_word}
 use Rattle.statements.specs.Stages.{stmts_words, Folded, settled_short}
-use Rattle.walk.specs.DecodeExact.{has_part}
+use Rattle.walk.proofs.DecodeExact.{has_part}
 use Rattle.settle.specs.Settle.{settling_of, settling_checked, settling_read, settling, Holds, Left, SettlePost}
 use Rattle.settle.specs.declared.Places.{Places}
 use Rattle.settle.specs.declared.Settling.{Settling}

@@ -20,7 +20,7 @@ use Rattle.syntax.specs.Syntax.{Domain, enumerate, domain_of}
 use Rattle.clauses.specs.Clause.{LinearLit, clause}
 use Rattle.answer.specs.Answer.{linear_words, clause_words}
 use Rattle.tables.specs.Tables.{Row, cell_at, linear_eq, linear_ne, takes, variable, differs, column_clause}
-use Rattle.tables.specs.Values.{after}
+use Rattle.tables.proofs.ValuesLaws.{after}
 use Rattle.rows.specs.declared.Best.TheVariants.{Nothing, Value}
 use Rattle.sorting.specs.Rows.{rows_of}
 use Rattle.sorting.specs.Columns.{word, vars_of}

@@ -13,7 +13,7 @@ use Rattle.syntax.specs.Syntax.{Domain, enumerate, domain_of}
 use Rattle.clauses.specs.Clause.{Clause}
 use Rattle.answer.specs.Answer.{clause_words}
 use Rattle.tables.specs.Tables.{Row, takes, column_clause, column_clauses}
-use Rattle.tables.specs.Values.{whole_yes, whole_no}
+use Rattle.tables.proofs.ValuesLaws.{whole_yes, whole_no}
 use Rattle.rows.specs.Emit.{clauses_words, Clauses, Emits, Behind}
 
 map-append : (as₁ bs : List Clause) → map clause_words (as₁ ++ bs) ≡ map clause_words as₁ ++ map clause_words bs

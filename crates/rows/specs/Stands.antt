@@ -13,7 +13,7 @@ use Rattle.syntax.specs.Words.{max_value, star_word}
 use Rattle.syntax.specs.Syntax.{Cell, star, value, encode_cell}
 use Rattle.syntax.specs.Lengths.{Wide}
 use Rattle.tables.specs.Tables.{is_star, cell_value}
-use Rattle.tables.specs.Agree.{wide, wide_is}
+use Rattle.tables.proofs.Agree.{wide, wide_is}
 use Rattle.sorting.specs.Rows.{rows_of}
 use Rattle.rows.specs.Emit.{Starless}
 use Rattle.rows.specs.Stars.{values_in}

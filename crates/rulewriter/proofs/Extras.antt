@@ -17,7 +17,7 @@ use Rattle.walk.specs.Decode.{word, past, read_part}
 use Rattle.walk.specs.declared.Counters.{Counters}
 use Rattle.walk.specs.declared.Node.{Node}
 use Rattle.walk.specs.declared.Node.TheVariants.{Var, Cmp, Not, Join, Cross}
-use Rattle.walk.specs.NumberingSteps.{part_length}
+use Rattle.walk.proofs.NumberingSteps.{part_length}
 use Rattle.walks.specs.Tree.{Splitting, never, below, here, inner}
 use Rattle.walks.specs.Form.{Forms, nil, cons, append}
 use Rattle.walks.specs.Item.{Item, counts, block_words, form_item, form_items}

@@ -10,7 +10,8 @@ use Rattle.laws.specs.Writes.{Wrote, wrote_none, wrote_then, wrote_low, Open}
 use Rattle.memory.specs.Places.{folded_end, limit}
 use Rattle.syntax.specs.Syntax.{Domain, op_at}
 use Rattle.sums.specs.LinearSum.{LinearSum, singleton, mul_sum, sub_sum}
-use Rattle.sums.specs.Rising.{terms_of, Each, singleton_each, sub_sum_each}
+use Rattle.sums.specs.Rising.{terms_of, Each}
+use Rattle.sums.proofs.RisingLaws.{singleton_each, sub_sum_each}
 use Rattle.sums.specs.Bounds.{size, Room}
 use Rattle.sums.specs.Struct.{terms, sum_of, Stands}
 use Rattle.sums.specs.declared.LinearSum.{LinearSum as Sum}

@@ -17,7 +17,7 @@ use Rattle.walk.specs.Item.{bump, lines_of}
 use Rattle.walk.specs.Decode.{word, past, read_part}
 use Rattle.walk.specs.declared.Counters.{Counters}
 use Rattle.walk.specs.declared.Node.TheVariants.{Var, Cmp, Not, Join, Cross}
-use Rattle.walk.specs.NumberingSteps.{part_length}
+use Rattle.walk.proofs.NumberingSteps.{part_length}
 use Rattle.walks.specs.Tree.{Splitting, here, inner}
 use Rattle.walks.specs.Form.{Form, Forms, TermForms, none as no_terms, term, joined}
 use Rattle.walks.specs.Item.{Item, IntItem, regs, reg_lines, counts, var_item, num_item, cmp_item, conj_item, disj_item, cross_item, const_item, ivar_item, no_terms_item, term_item, sum_item, condition_item, open_item, equal_item, more_bools, more_ints, Seen, unseen, both_constant, numbered, constant_in, number_in, passed, seen, block_words, block_lines, if_making, constant_making, choice_item, form_item, form_items, form_int_item, form_terms_item}

@@ -6,10 +6,10 @@ use Rattle.memory.specs.Places.{folded_end}
 use Rattle.memory.specs.Number.{nat}
 use Rattle.syntax.specs.Words.{max_bools}
 use Rattle.walk.specs.Decode.{word, read_part}
-use Rattle.walk.specs.Steps.{below_lt}
+use Rattle.walk.proofs.Steps.{below_lt}
 use Rattle.walk.specs.declared.Node.{Node}
 use Rattle.walk.specs.declared.Node.TheVariants.{Var, Cmp, Not, Join, Cross}
-use Rattle.walk.specs.NumberingSteps.{part_length}
+use Rattle.walk.proofs.NumberingSteps.{part_length}
 use Rattle.walks.specs.Tree.{Splitting}
 use Rattle.walks.specs.Decode.{node_of, step, int_step, decode, decode_int}
 

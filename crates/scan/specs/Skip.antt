@@ -10,7 +10,7 @@ use Rattle.walk.specs.Item.{bump}
 use Rattle.walk.specs.Decode.{word, past, below as lowered, read_part}
 use Rattle.walk.specs.declared.Node.{Node}
 use Rattle.walk.specs.declared.Node.TheVariants.{Var, Cmp, Not, Join, Cross}
-use Rattle.walk.specs.NumberingSteps.{part_length}
+use Rattle.walk.proofs.NumberingSteps.{part_length}
 use Rattle.walks.specs.Tree.{Splitting, never, below, here, inner}
 use Rattle.walks.specs.Form.{IntForm}
 use Rattle.walks.specs.Decode.{node_of, Read, IntRead, many, cross_step, step, many_terms, if_step, int_step, decode, decode_int}

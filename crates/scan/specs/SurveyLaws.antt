@@ -13,14 +13,14 @@ use Rattle.syntax.specs.Syntax.{Domain}
 use Rattle.syntax.specs.Words.{max_bools, max_ints}
 use Rattle.walk.specs.Item.{bump, is_none, Tally, tally, long, plus, mode_in, fresh, fresh_in, lines_in, disj_lines, closed, lines_of}
 use Rattle.walk.specs.Decode.{word, past, below as index, read_part, surveyed, fresh_of, lines_in_of, closed_disj, closed_cross, added}
-use Rattle.walk.specs.Implements.{tally_eq}
+use Rattle.walk.proofs.Implements.{tally_eq}
 use Rattle.walk.specs.declared.Mode.{Mode}
 use Rattle.walk.specs.declared.Mode.TheVariants.{Pool, One, Two, Each}
 use Rattle.walk.specs.declared.Counters.{Counters}
 use Rattle.walk.specs.declared.Node.{Node}
 use Rattle.walk.specs.declared.Node.TheVariants.{Var, Cmp, Not, Join, Cross}
 use Rattle.walk.specs.declared.Surveyed.{Surveyed}
-use Rattle.walk.specs.NumberingSteps.{part_length}
+use Rattle.walk.proofs.NumberingSteps.{part_length}
 use Rattle.walks.specs.Tree.{Place, Splitting, never, below, here, inner}
 use Rattle.walks.specs.Form.{Form, cross, Forms, IntForm, const}
 use Rattle.walks.specs.Item.{counters, has_ifs, more_bools, more_ints, meets_bool, meets_int, Seen, unseen, both_constant, numbered, constant_in, seen, Item, IntItem, tallies, all_lines, counts, var_item, num_item, cmp_item, equal_item, conj_item, disj_item, cross_item, const_item, ivar_item, no_terms_item, term_item, sum_item, open_item, condition_item, constant_making, open_making, if_making, passed, if_behind, choice_item, form_item, form_items, form_int_item, form_terms_item}

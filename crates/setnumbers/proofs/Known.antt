@@ -13,7 +13,7 @@ use Rattle.syntax.specs.Syntax.{Rule, Table, AllDifferent}
 use Rattle.syntax.specs.Words.{max_bools}
 use Rattle.walk.specs.Item.{bool_at}
 use Rattle.walk.specs.Decode.{word, past, below as index, read_part}
-use Rattle.walk.specs.NumberingSteps.{part_length}
+use Rattle.walk.proofs.NumberingSteps.{part_length}
 use Rattle.setnumbers.specs.KnownTie.{KnownSides, KnownTie, known_end}
 use Rattle.stmtwords.specs.Stands.{StmtEnds}
 use Rattle.stmtwords.proofs.Ends.{rule_stop, not_here}

@@ -10,7 +10,7 @@ use Rattle.words.specs.Exact.{Each}
 use Rattle.read.specs.WellFormed.{WellRow}
 use Rattle.walk.specs.Item.{bump}
 use Rattle.walk.specs.Decode.{word, read_part}
-use Rattle.walk.specs.DecodeExact.{has_part}
+use Rattle.walk.proofs.DecodeExact.{has_part}
 use Rattle.walks.specs.Meet.{State}
 use Rattle.rows.specs.Stands.{cells_words}
 use Rattle.statements.specs.Table.{table_fresh}

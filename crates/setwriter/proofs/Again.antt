@@ -12,7 +12,7 @@ use Rattle.syntax.specs.Syntax.{Domain, Stmt, encode_stmt, Problem}
 use Rattle.fold.specs.Fold.{Fixed}
 use Rattle.clauses.specs.Log.{Log, clauses_of}
 use Rattle.answer.specs.Answer.{start_log}
-use Rattle.answer.specs.Start.{start_well}
+use Rattle.answer.proofs.Start.{start_well}
 use Rattle.walk.specs.Decode.{read_part}
 use Rattle.walks.specs.Leaves.{words_of, grows_words}
 use Rattle.declared.specs.DomainTable.{Declares}

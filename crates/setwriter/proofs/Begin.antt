@@ -16,7 +16,7 @@ use Rattle.syntax.specs.Syntax.{Stmt, Problem}
 use Rattle.syntax.specs.Words.{max_bools, min_work_words}
 use Rattle.fold.specs.Fold.{Fixed}
 use Rattle.answer.specs.Answer.{start_log}
-use Rattle.answer.specs.Start.{start_well}
+use Rattle.answer.proofs.Start.{start_well}
 use Rattle.walk.specs.Item.{bool_at, int_entry}
 use Rattle.walk.specs.Decode.{read_part}
 use Rattle.walks.specs.Item.{has_ifs, cell}

@@ -13,7 +13,7 @@ use Rattle.fold.specs.Fold.{Fixed}
 use Rattle.clauses.specs.Log.{Log, clauses_of}
 use Rattle.answer.specs.Answer.{start_log}
 use Rattle.walk.specs.Decode.{read_part}
-use Rattle.walk.specs.Grow.{Grows}
+use Rattle.walk.proofs.Grow.{Grows}
 use Rattle.walk.specs.declared.Counters.{Counters}
 use Rattle.walks.specs.Item.{counters}
 use Rattle.walks.specs.Implements.{at, ready_back}

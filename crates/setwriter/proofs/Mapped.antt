@@ -11,12 +11,12 @@ use Rattle.laws.specs.Writes.{wrote_to}
 use Rattle.memory.specs.Places.{folded, folded_end}
 use Rattle.syntax.specs.Syntax.{Domain, IntExpr, BoolExpr, Stmt, Rule, Table, AllDifferent, encode_stmt}
 use Rattle.clauses.specs.Log.{Log, next_bool}
-use Rattle.clauses.specs.Since.{clauses_since, since_is}
+use Rattle.clauses.proofs.Since.{clauses_since, since_is}
 use Rattle.answer.specs.Answer.{normalize_stmt}
 use Rattle.walk.specs.Item.{bump}
 use Rattle.walk.specs.Decode.{word, read_part}
 use Rattle.walk.specs.declared.Counters.{Counters}
-use Rattle.walk.specs.Grow.{Grows}
+use Rattle.walk.proofs.Grow.{Grows}
 use Rattle.walks.specs.Tree.{below, splits}
 use Rattle.walks.specs.Implements.{at, Ready, ready_back, Registers, registers_to}
 use Rattle.scan.specs.IfLaws.{Low}

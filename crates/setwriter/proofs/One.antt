@@ -12,7 +12,7 @@ use Rattle.memory.specs.Number.{nat}
 use Rattle.syntax.specs.Syntax.{Domain, IntExpr, BoolExpr, encode_bool, Cell, Stmt, Rule, Table, AllDifferent, encode_stmt}
 use Rattle.syntax.specs.Codes.{stmt_code, stmt_code_word}
 use Rattle.clauses.specs.Log.{Log}
-use Rattle.clauses.specs.Since.{since_is}
+use Rattle.clauses.proofs.Since.{since_is}
 use Rattle.answer.specs.Answer.{normalize_stmt}
 use Rattle.walk.specs.Item.{bump}
 use Rattle.walk.specs.Decode.{word, read_part}

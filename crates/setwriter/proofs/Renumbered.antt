@@ -13,7 +13,7 @@ use Rattle.memory.specs.Places.{folded}
 use Rattle.syntax.specs.Syntax.{Domain, IntExpr, BoolExpr, encode_bool, Stmt, Rule, Table, AllDifferent, encode_stmt}
 use Rattle.words.specs.Exact.{Each}
 use Rattle.clauses.specs.Log.{Log}
-use Rattle.clauses.specs.Since.{clauses_since}
+use Rattle.clauses.proofs.Since.{clauses_since}
 use Rattle.answer.specs.Answer.{normalize_stmt}
 use Rattle.walk.specs.Item.{bump}
 use Rattle.walk.specs.Decode.{word, read_part}

@@ -5,7 +5,7 @@ use Rattle.syntax.specs.Syntax.{Domain, Stmt, encode_stmt, Problem}
 use Rattle.syntax.specs.Words.{max_answer_words}
 use Rattle.fold.specs.Fold.{Fixed}
 use Rattle.clauses.specs.Log.{clauses_of}
-use Rattle.clauses.specs.Since.{clauses_since}
+use Rattle.clauses.proofs.Since.{clauses_since}
 use Rattle.answer.specs.Answer.{start_log}
 use Rattle.walk.specs.Decode.{read_part}
 use Rattle.walks.specs.Leaves.{words_of}

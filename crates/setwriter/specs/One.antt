@@ -4,7 +4,7 @@ use Rattle.std.specs.Prelude.{◌≡◌, List, [], ◌++◌, ℕ, ◌+◌, ◌�
 use Rattle.memory.specs.Places.{folded_end, limit}
 use Rattle.syntax.specs.Syntax.{Domain, BoolExpr, Stmt, Rule, Table, AllDifferent, encode_stmt}
 use Rattle.clauses.specs.Log.{Log}
-use Rattle.clauses.specs.Since.{clauses_since}
+use Rattle.clauses.proofs.Since.{clauses_since}
 use Rattle.answer.specs.Answer.{normalize_stmt}
 use Rattle.walk.specs.Item.{bump}
 use Rattle.walk.specs.declared.Counters.{Counters}

@@ -12,19 +12,19 @@ use Rattle.syntax.specs.Written.{EveryStmts}
 use Rattle.words.specs.Exact.{Each}
 use Rattle.read.specs.WellFormed.{WellStmt}
 use Rattle.fold.specs.Fold.{Fixed, constant_folding_stmt as fold-stmt}
-use Rattle.fold.specs.Ends.{optimize_rests}
-use Rattle.fold.specs.Kept.{fold_stmts_every}
+use Rattle.fold.proofs.Ends.{optimize_rests}
+use Rattle.fold.proofs.Kept.{fold_stmts_every}
 use Rattle.clauses.specs.Log.{Log, clauses_of}
-use Rattle.clauses.specs.Since.{clauses_since, top_adds}
+use Rattle.clauses.proofs.Since.{clauses_since, top_adds}
 use Rattle.clauses.specs.Split.{normalize_and_register_expr}
-use Rattle.clauses.specs.Entries.{WellMade}
-use Rattle.clauses.specs.Merge.{merged_no_ifs}
+use Rattle.clauses.proofs.Entries.{WellMade}
+use Rattle.clauses.proofs.MergeLaws.{merged_no_ifs}
 use Rattle.different.specs.Different.{different_rules, normalize_rules}
 use Rattle.answer.specs.Answer.{start_log, normalize_stmt, normalize_stmts}
-use Rattle.answer.specs.Declared.{stmt_well}
-use Rattle.answer.specs.Start.{start_well, start_made}
+use Rattle.answer.proofs.Declared.{stmt_well}
+use Rattle.answer.proofs.Start.{start_well, start_made}
 use Rattle.call.specs.WellRead.{well_declared}
-use Rattle.walk.specs.Grow.{Grows}
+use Rattle.walk.proofs.Grow.{Grows}
 use Rattle.walks.specs.Reach.{LightIfs, none_light, rule_light, table_light}
 use Rattle.statements.specs.Stages.{Settled, log_of, settled_short}
 use Rattle.stages.specs.StatementsParts.{steps, steps_grow, AllWalk}

@@ -5,7 +5,7 @@ use Rattle.syntax.specs.Syntax.{Stmt, encode_stmt, Problem}
 use Rattle.syntax.specs.Words.{min_work_words}
 use Rattle.fold.specs.Fold.{Fixed}
 use Rattle.clauses.specs.Log.{Log, next_bool, clauses_of}
-use Rattle.clauses.specs.Since.{clauses_since}
+use Rattle.clauses.proofs.Since.{clauses_since}
 use Rattle.answer.specs.Answer.{start_log, normalize_stmt}
 use Rattle.walk.specs.Decode.{read_part}
 use Rattle.walk.specs.declared.Counters.{Counters}

@@ -18,9 +18,9 @@ use Rattle.syntax.specs.Written.{Any, EveryIntOf, EveryColumnOf, EveryStmt, Ever
 use Rattle.words.specs.Exact.{Each}
 use Rattle.read.specs.WellFormed.{WellRow, WellDomain, WellStmt}
 use Rattle.fold.specs.Fold.{Fixed, constant_folding_int as fold-int, constant_folding_stmt as fold-stmt}
-use Rattle.sums.specs.Domain.{ordered, domain_between}
+use Rattle.sums.proofs.Domain.{ordered, domain_between}
 use Rattle.answer.specs.Answer.{normalize_stmt}
-use Rattle.call.specs.Demand.{domains_ordered}
+use Rattle.call.proofs.Demand.{domains_ordered}
 use Rattle.accept.specs.Accepted.{domains_stand}
 use Rattle.tables.specs.Tables.{normalize_table}
 use Rattle.walk.specs.Decode.{read_part}

@@ -15,7 +15,7 @@ use Rattle.clauses.specs.Clause.{Clause}
 use Rattle.clauses.specs.Log.{Log, clauses_of}
 use Rattle.answer.specs.Answer.{fixed_word, start_log, layout, normalize}
 use Rattle.walk.specs.Decode.{read_part}
-use Rattle.walk.specs.Texts.{layout as clauses-layout, layout_words}
+use Rattle.walk.proofs.Texts.{layout as clauses-layout, layout_words}
 use Rattle.walks.specs.Item.{counters}
 use Rattle.walks.specs.Implements.{Registers}
 use Rattle.walks.specs.Plain.{PlainInt}
@@ -31,7 +31,8 @@ use Rattle.stages.specs.StatementsPlaces.{stmts_words, parted_of, Marked}
 use Rattle.stages.specs.Statements.{stmts_stages}
 use Rattle.stages.specs.Start.{start, Begun}
 use Rattle.stages.specs.Whole.{records_from, set_stages, behind, Walkable, cap_low, ended, answer_words}
-use Rattle.front.specs.Front.{front_words, front_is}
+use Rattle.front.specs.Front.{front_words}
+use Rattle.front.proofs.FrontLaws.{front_is}
 use Rattle.rows.specs.Emit.{clauses_words, Behind}
 use Rattle.setwriter.specs.Statements.{Lent}
 use Rattle.setwriter.specs.Step.{AllMapped}

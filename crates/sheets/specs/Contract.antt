@@ -13,7 +13,7 @@ use Rattle.call.specs.Call.{Result, compiled, contradiction, refused, output_aft
 use Rattle.call.specs.Claim.{within, satisfied, Passed}
 use Rattle.sheetback.specs.ReadSheet.{read_sheet}
 use Rattle.sheetback.specs.Sheeted.{sheet_text, with_sheet, sheet_call, no_bytes, sheet_after}
-use Rattle.sheetback.specs.CallBack.{answer_clauses}
+use Rattle.sheetback.proofs.CallBack.{answer_clauses}
 use Rattle.sheets.specs.declared.Sheeted.{Sheeted}
 use Rattle.sheets.specs.declared.Sheeted.TheVariants.{Compiled, Contradiction, Refused}
 

@@ -1,5 +1,6 @@
 // What the call with a sheet does besides compiling: the clause sheet of an answer's words into the lent bytes, or refusal 13. The call is planner's `compile_sheet`.
 #![tactic(auto)]
+
 ghost use Rattle.std.specs.Prelude.{◌≡◌, ◌≤◌, ◌<◌, length, drop};
 ghost use Rattle.page.specs.Writes.{Wrote, Few};
 ghost use Rattle.sheetback.specs.Sheeted.{from_clauses, sheet_text, no_bytes};

@@ -17,7 +17,7 @@ use Rattle.words.specs.Exact.{Each}
 use Rattle.clauses.specs.Log.{column, Log, next_int}
 use Rattle.clauses.specs.Normalize.{normalize_int_expr}
 use Rattle.tables.specs.Tables.{new_column, old_column, equivalent_int_var, equivalent_int_vars}
-use Rattle.walk.specs.Grow.{Grows, same, then, grow_added}
+use Rattle.walk.proofs.Grow.{Grows, same, then, grow_added}
 use Rattle.walks.specs.Tree.{IntTree, const, ivar, sum, choice, never, resolve_int}
 use Rattle.walks.specs.Form.{IntForm, const as const-form, ivar as ivar-form, sum as sum-form, choice as choice-form, int_form}
 use Rattle.walks.specs.Decode.{IntRead, decode_int}

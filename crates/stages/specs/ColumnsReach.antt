@@ -11,10 +11,10 @@ use Rattle.syntax.specs.Written.{Any, EveryIntOf, EveryColumnOf}
 use Rattle.sums.specs.Bounds.{reach}
 use Rattle.clauses.specs.Log.{Log}
 use Rattle.clauses.specs.Normalize.{IntRun, domain_of_sum}
-use Rattle.clauses.specs.Emitted.{domain_at}
-use Rattle.clauses.specs.Entries.{WellMade, int_well}
+use Rattle.clauses.proofs.Emitted.{domain_at}
+use Rattle.clauses.proofs.Entries.{WellMade, int_well}
 use Rattle.tables.specs.Tables.{equivalent_int_var, equivalent_int_vars}
-use Rattle.tables.specs.ColumnEntries.{column_well}
+use Rattle.tables.proofs.ColumnEntries.{column_well}
 use Rattle.walk.specs.declared.Counters.{Counters}
 use Rattle.walks.specs.Tree.{never, resolve_int, run_int}
 use Rattle.walks.specs.Form.{IntForm, int_form}

@@ -9,14 +9,14 @@ use Rattle.memory.specs.Number.{nat}
 use Rattle.syntax.specs.Syntax.{Domain, domain_of, IntExpr, IConst, IVar, Linear, If, encode_int}
 use Rattle.clauses.specs.Log.{column, int, added, Log, next_int, convert_int_var}
 use Rattle.clauses.specs.Normalize.{equals, domain_of_sum, normalize_int_var, normalize_int_expr}
-use Rattle.clauses.specs.Grow.{get_int_below}
-use Rattle.clauses.specs.Emitted.{domain_at, new_domain, domain_step, int_var_domain}
-use Rattle.clauses.specs.Since.{top_domain}
+use Rattle.clauses.proofs.Grow.{get_int_below}
+use Rattle.clauses.proofs.Emitted.{domain_at, new_domain, domain_step, int_var_domain}
+use Rattle.clauses.proofs.Since.{top_domain}
 use Rattle.tables.specs.Tables.{Columns, new_column, old_column, equivalent_int_var, equivalent_int_vars}
 use Rattle.walk.specs.Item.{bump, int_number}
 use Rattle.walk.specs.declared.Counters.{Counters}
-use Rattle.walk.specs.Grow.{grow_added}
-use Rattle.walk.specs.Ints.{var_found}
+use Rattle.walk.proofs.Grow.{grow_added}
+use Rattle.walk.proofs.Ints.{var_found}
 use Rattle.walks.specs.Tree.{never, resolve_int, run_int}
 use Rattle.walks.specs.Form.{IntForm, const, ivar, sum, choice, int_form}
 use Rattle.walks.specs.Resolve.{column_runs}

@@ -20,9 +20,9 @@ use Rattle.clauses.specs.Normalize.{register, normalize_int_expr, normalize_int_
 use Rattle.clauses.specs.Split.{Split, unsplit, split_one, split_two, tseitin_transformation_bool, tseitin_transformation_members, register_each, normalize_and_register_expr}
 use Rattle.answer.specs.Answer.{clause_words}
 use Rattle.different.specs.Different.{pair_rules, each_equals, value_rule, is_like, values_of_first, values_used_up, different_rules, normalize_rules}
-use Rattle.walk.specs.Texts.{layout_words}
-use Rattle.walk.specs.Grow.{Grows, same, then, grow_added, Fit, back}
-use Rattle.walk.specs.Ints.{var_found}
+use Rattle.walk.proofs.Texts.{layout_words}
+use Rattle.walk.proofs.Grow.{Grows, same, then, grow_added, Fit, back}
+use Rattle.walk.proofs.Ints.{var_found}
 use Rattle.walks.specs.Grow.{int_var_grows}
 use Rattle.walks.specs.Meet.{State}
 use Rattle.walks.specs.Implements.{Registers}

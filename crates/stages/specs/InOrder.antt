@@ -10,8 +10,8 @@ use Rattle.syntax.specs.Syntax.{Domain, Range, lower_bound, upper_bound, domain_
 use Rattle.sums.specs.LinearSum.{Term, term, LinearSum, linear_sum, lowest, highest, get_domain_linear_sum}
 use Rattle.clauses.specs.Log.{MadeInt, declared_int, column, chosen, binary, bool, merged, int, added, defined, known, Log, made_ints, domain_made, emitted_domains}
 use Rattle.clauses.specs.Normalize.{hull, domain_of_sum}
-use Rattle.clauses.specs.Emitted.{domain_at}
-use Rattle.clauses.specs.Entries.{MadeWell, WellMade}
+use Rattle.clauses.proofs.Emitted.{domain_at}
+use Rattle.clauses.proofs.Entries.{MadeWell, WellMade}
 
 abbrev pub InOrder : Domain → Type 0
 InOrder d = le_z (lower_bound d) (upper_bound d) ≡ true

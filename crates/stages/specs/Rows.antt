@@ -12,14 +12,14 @@ use Rattle.clauses.specs.Clause.{Clause}
 use Rattle.clauses.specs.Log.{added, Log, get_bool_var, get_int_var, get_if, made_ints, clauses_of}
 use Rattle.clauses.specs.Disjunction.{Out}
 use Rattle.clauses.specs.Normalize.{register}
-use Rattle.clauses.specs.Emitted.{domain_at}
-use Rattle.clauses.specs.Since.{here, over}
+use Rattle.clauses.proofs.Emitted.{domain_at}
+use Rattle.clauses.proofs.Since.{here, over}
 use Rattle.tables.specs.Tables.{star_row, star_table, plain_table, normalize_extension_supports}
 use Rattle.answer.specs.Answer.{clause_words}
 use Rattle.walk.specs.Item.{lines_of}
 use Rattle.walk.specs.declared.Counters.{Counters}
-use Rattle.walk.specs.Grow.{Grows, same}
-use Rattle.walk.specs.Texts.{layout, layout_words, disjunction_auxed, auxed_untouched}
+use Rattle.walk.proofs.Grow.{Grows, same}
+use Rattle.walk.proofs.Texts.{layout, layout_words, disjunction_auxed, auxed_untouched}
 use Rattle.walks.specs.Item.{more_bools, int_count}
 use Rattle.walks.specs.Grow.{disjunction_grows}
 use Rattle.walks.specs.Implements.{counters_eq, at, Ready, Registers, shape_lines}

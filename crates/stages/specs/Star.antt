@@ -15,8 +15,8 @@ use Rattle.clauses.specs.Normalize.{Run, Runs, no_run, run_then, normalize_conju
 use Rattle.tables.specs.Tables.{linear_eq, star_row, star_table}
 use Rattle.answer.specs.Answer.{linear_words}
 use Rattle.walk.specs.Item.{Tally, tally, fresh, clause_text}
-use Rattle.walk.specs.Grow.{Grows, same}
-use Rattle.walk.specs.Texts.{layout, finish_count, disjunction_finish}
+use Rattle.walk.proofs.Grow.{Grows, same}
+use Rattle.walk.proofs.Texts.{layout, finish_count, disjunction_finish}
 use Rattle.walks.specs.Item.{Item, tallies, conj_item, disj_item}
 use Rattle.walks.specs.Implements.{Ready, registers_same, single, ImplementsAt, Implements, Sorts, Goods, goods_nil, more, conj_good, disj_good}
 use Rattle.statements.specs.Star.{no_equality, any_free}

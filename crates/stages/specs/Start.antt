@@ -10,11 +10,12 @@ use Rattle.syntax.specs.Syntax.{Domain, IntExpr}
 use Rattle.syntax.specs.Words.{max_bools, min_work_words, max_ints}
 use Rattle.clauses.specs.Clause.{BoolLit}
 use Rattle.clauses.specs.Log.{declared, aux, side, bool, merged, int, added, defined, known, Log, next_bool, get_bool_var, get_int_var, get_if, made_ints}
-use Rattle.clauses.specs.Merge.{WellMerged, merged_no_ints, merged_no_ifs}
+use Rattle.clauses.specs.Merge.{WellMerged}
+use Rattle.clauses.proofs.MergeLaws.{merged_no_ints, merged_no_ifs}
 use Rattle.answer.specs.Answer.{bool_word}
 use Rattle.walk.specs.Item.{bool_at, int_entry}
 use Rattle.walk.specs.Decode.{read_part}
-use Rattle.walk.specs.Num.{code}
+use Rattle.walk.proofs.Num.{code}
 use Rattle.walks.specs.Item.{has_ifs, cell, unseen, seen_in}
 use Rattle.walks.specs.Meet.{State}
 use Rattle.walks.specs.Plain.{PlainInt}

@@ -17,10 +17,10 @@ use Rattle.words.specs.Exact.{Each}
 use Rattle.read.specs.WellFormed.{WellFormed}
 use Rattle.fold.specs.Fold.{Fixed, is_const, fold_if, constant_folding_int as fold-int, constant_folding_terms as fold-terms, constant_folding_bool as fold, constant_folding_stmt as fold-stmt}
 use Rattle.fold.specs.Optimize.{settled, optimize}
-use Rattle.fold.specs.Ends.{optimize_rests}
-use Rattle.fold.specs.Shape.{Solid, SolidMembers, fold_folded, SettledStmts, settled_shape}
-use Rattle.fold.specs.Kept.{if_length, fold_int_size, fold_int_depth, fold_depth}
-use Rattle.clauses.specs.Bounds.{expr_bound, members_bound, int_bound, terms_numbers, NoNumbers}
+use Rattle.fold.proofs.Ends.{optimize_rests}
+use Rattle.fold.proofs.Shape.{Solid, SolidMembers, fold_folded, SettledStmts, settled_shape}
+use Rattle.fold.proofs.Kept.{if_length, fold_int_size, fold_int_depth, fold_depth}
+use Rattle.clauses.proofs.Bounds.{expr_bound, members_bound, int_bound, terms_numbers, NoNumbers}
 use Rattle.call.specs.WellRead.{well_declared, Plain}
 use Rattle.walks.specs.Thirds.{most_first, most_second, most_third}
 use Rattle.walks.specs.Legal.{LegalInt, LegalTerms, Legal, LegalMembers, LegalRule, true_rule, legal_rule}

@@ -17,7 +17,7 @@ use Rattle.clauses.specs.Log.{Log, next_bool}
 use Rattle.clauses.specs.Merge.{WellMerged, as_var, tie, merge_rule, merge_stmt, merge_stmts}
 use Rattle.walk.specs.Item.{State}
 use Rattle.walk.specs.Decode.{word, read_part}
-use Rattle.walk.specs.Num.{code, Numbered}
+use Rattle.walk.proofs.Num.{code, Numbered}
 use Rattle.walks.specs.Item.{has_ifs, cell}
 use Rattle.walks.specs.Legal.{Legal, LegalRule, legal_rule}
 use Rattle.statements.specs.Bounds.{merge_grows}

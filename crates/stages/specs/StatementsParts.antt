@@ -12,7 +12,7 @@ use Rattle.syntax.specs.Syntax.{Domain, IntExpr, encode_int}
 use Rattle.words.specs.Exact.{Each}
 use Rattle.clauses.specs.Log.{Log, next_bool}
 use Rattle.walk.specs.Item.{bump}
-use Rattle.walk.specs.Grow.{Grows, same, then}
+use Rattle.walk.proofs.Grow.{Grows, same, then}
 use Rattle.walk.specs.declared.Counters.{Counters}
 use Rattle.walks.specs.Item.{has_ifs, cell}
 use Rattle.walks.specs.Meet.{State, counters_of, is_full}

@@ -8,7 +8,7 @@ use Rattle.clauses.specs.Log.{Log, next_bool}
 use Rattle.clauses.specs.Normalize.{register}
 use Rattle.clauses.specs.Split.{tseitin_transformation_bool as cut, normalize_and_register_expr}
 use Rattle.walk.specs.declared.Counters.{Counters}
-use Rattle.walk.specs.Grow.{Grows, then}
+use Rattle.walk.proofs.Grow.{Grows, then}
 use Rattle.walks.specs.Tree.{Place, Tree, var, num, cmp, conj, disj, cross, tied, Trees, nil, cons, IntTree, const, ivar, sum, choice, TermTrees, none as no_terms, term, below, splits, run, run_int, runs}
 use Rattle.walks.specs.Resolve.{split_sided, rule_trees, rule_runs}
 use Rattle.walks.specs.Item.{has_ifs, more_bools as more-counted, items, counts}

@@ -10,11 +10,11 @@ use Rattle.memory.specs.Places.{folded, limit}
 use Rattle.syntax.specs.Syntax.{Domain, IntExpr, IConst, IVar, Linear, If, Cell}
 use Rattle.clauses.specs.Log.{Log}
 use Rattle.clauses.specs.Normalize.{register}
-use Rattle.clauses.specs.Emitted.{domain_at}
+use Rattle.clauses.proofs.Emitted.{domain_at}
 use Rattle.tables.specs.Tables.{Columns, new_column, old_column, equivalent_int_var, equivalent_int_vars, normalize_extension_supports, normalize_table}
 use Rattle.walk.specs.Item.{bump}
 use Rattle.walk.specs.declared.Counters.{Counters}
-use Rattle.walk.specs.Grow.{Grows, then, grow_added}
+use Rattle.walk.proofs.Grow.{Grows, then, grow_added}
 use Rattle.walks.specs.Item.{more_bools as more-counted, cell}
 use Rattle.walks.specs.Meet.{State, more_bools, is_full}
 use Rattle.walks.specs.Implements.{at, Ready, ready_back, Registers, registers_after}

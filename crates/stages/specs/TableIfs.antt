@@ -9,9 +9,9 @@ use Rattle.words.specs.Exact.{Each}
 use Rattle.clauses.specs.Log.{Log, next_bool, get_if}
 use Rattle.clauses.specs.Disjunction.{normalize_disjunction}
 use Rattle.clauses.specs.Normalize.{register}
-use Rattle.clauses.specs.Emitted.{domain_at}
+use Rattle.clauses.proofs.Emitted.{domain_at}
 use Rattle.tables.specs.Tables.{star_row, star_table, plain_table, equivalent_int_var, equivalent_int_vars, normalize_extension_supports, normalize_table}
-use Rattle.walk.specs.Texts.{disjunction_auxed}
+use Rattle.walk.proofs.Texts.{disjunction_auxed}
 use Rattle.walks.specs.Grow.{disjunction_grows}
 use Rattle.walks.specs.Constant.{Named}
 use Rattle.walks.specs.Visit.{auxed_quiet}

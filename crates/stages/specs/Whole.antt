@@ -18,11 +18,11 @@ use Rattle.words.specs.Exact.{Each}
 use Rattle.fold.specs.Fold.{Fixed}
 use Rattle.clauses.specs.Clause.{lit, Clause, clause}
 use Rattle.clauses.specs.Log.{MadeInt, declared_int, column, chosen, binary, Log, next_bool, next_int, get_bool_var, get_int_var, made_ints, emitted_domains, clauses_of}
-use Rattle.clauses.specs.Emitted.{length_emitted}
+use Rattle.clauses.proofs.Emitted.{length_emitted}
 use Rattle.answer.specs.Answer.{emitted_of, emitted, fixed_word, map_word, bool_word, start_log, lit_words, emitted_words, linear_words, clause_words, layout, answer_of, normalize, normalize_stmts}
-use Rattle.answer.specs.Start.{start_well}
+use Rattle.answer.proofs.Start.{start_well}
 use Rattle.walk.specs.Item.{bool_at, int_entry}
-use Rattle.walk.specs.Texts.{layout as clauses-layout, layout_words}
+use Rattle.walk.proofs.Texts.{layout as clauses-layout, layout_words}
 use Rattle.walk.specs.declared.Counters.{Counters}
 use Rattle.walks.specs.Item.{counters}
 use Rattle.walks.specs.Meet.{State}

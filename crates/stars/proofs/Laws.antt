@@ -22,7 +22,7 @@ use Rattle.clauses.specs.Clause.{LinearLit}
 use Rattle.answer.specs.Answer.{linear_words}
 use Rattle.tables.specs.Tables.{linear_eq}
 use Rattle.walk.specs.Item.{is_none, word_of, extra, block}
-use Rattle.walk.specs.Texts.{linears_more}
+use Rattle.walk.proofs.Texts.{linears_more}
 use Rattle.walk.specs.declared.Mode.{Mode}
 use Rattle.walk.specs.declared.Mode.TheVariants.{Pool, One, Two, Each}
 use Rattle.sorting.specs.Rows.{rows_of, row_at}

@@ -21,7 +21,7 @@ use Rattle.clauses.specs.Disjunction.{Out, pool, sorted, finish_disjunction, fin
 use Rattle.answer.specs.Answer.{linear_words, clause_words}
 use Rattle.tables.specs.Tables.{Row, linear_eq, star_row, star_table}
 use Rattle.walk.specs.Item.{clause_text, mode_in, extra, block, pool_text}
-use Rattle.walk.specs.Texts.{layout, layout_words, long_layout, lengths, linears, finish_words, finish_lines, disjunction_finish}
+use Rattle.walk.proofs.Texts.{layout, layout_words, long_layout, lengths, linears, finish_words, finish_lines, disjunction_finish}
 use Rattle.walk.specs.declared.Mode.{Mode}
 use Rattle.walk.specs.declared.Mode.TheVariants.{Pool, One, Two, Each as Every}
 use Rattle.rows.specs.Emit.{clauses_words, Clauses}

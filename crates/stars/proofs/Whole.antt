@@ -11,7 +11,7 @@ use lib.Seq.{get_or-drop}
 use Rattle.laws.specs.Lists.{length_select}
 use Rattle.laws.specs.Writes.{cap, wrote_low}
 use Rattle.syntax.specs.Syntax.{encode_cell}
-use Rattle.read.specs.Vars.{rows_wide}
+use Rattle.read.proofs.Vars.{rows_wide}
 use Rattle.tables.specs.Tables.{Row}
 use Rattle.walk.specs.Item.{mode_in}
 use Rattle.walk.specs.declared.Mode.{Mode}

@@ -10,8 +10,8 @@ use Rattle.read.specs.WellFormed.{WellFormed}
 use Rattle.limits.specs.Limits.{check, heavy_stmt, many_stmt}
 use Rattle.fold.specs.Fold.{Fixed, constant_folding_stmt as fold-stmt}
 use Rattle.fold.specs.Optimize.{settled, optimize}
-use Rattle.fold.specs.Ends.{optimize_rests}
-use Rattle.fold.specs.Kept.{fold_stmts_every}
+use Rattle.fold.proofs.Ends.{optimize_rests}
+use Rattle.fold.proofs.Kept.{fold_stmts_every}
 use Rattle.folded.specs.Folded.{fold_stmt_light, fold_stmt_few}
 use Rattle.call.specs.WellRead.{well_declared, Plain, folded_plain}
 

@@ -12,13 +12,13 @@ use Rattle.read.specs.WellFormed.{WellDomain, WellFormed}
 use Rattle.limits.specs.Limits.{check}
 use Rattle.fold.specs.Fold.{Fixed, constant_folding_stmt as fold-stmt}
 use Rattle.fold.specs.Optimize.{settled, optimize}
-use Rattle.fold.specs.Ends.{optimize_rests}
-use Rattle.fold.specs.Kept.{fold_stmts_size}
+use Rattle.fold.proofs.Ends.{optimize_rests}
+use Rattle.fold.proofs.Kept.{fold_stmts_size}
 use Rattle.clauses.specs.Log.{Log}
 use Rattle.answer.specs.Answer.{fixed_word, start_log, normalize_stmts}
 use Rattle.call.specs.WellRead.{well_declared}
 use Rattle.walk.specs.Decode.{read_part}
-use Rattle.walk.specs.Num.{Numbered}
+use Rattle.walk.proofs.Num.{Numbered}
 use Rattle.statements.specs.Whole.{Empty, start}
 
 abbrev pub stmts_words : List Stmt → List ℤ

@@ -19,8 +19,8 @@ use Rattle.clauses.specs.Merge.{tie_found, tie}
 use Rattle.answer.specs.Answer.{bool_word}
 use Rattle.walk.specs.Item.{bump, bool_at, signed, State, new_bool, meet_bool}
 use Rattle.walk.specs.Decode.{word}
-use Rattle.walk.specs.Grow.{bool_below, bool_here, lit_word, signed_lit}
-use Rattle.walk.specs.Num.{Numbered, word_some, bool_other, int_other, bool_num}
+use Rattle.walk.proofs.Grow.{bool_below, bool_here, lit_word, signed_lit}
+use Rattle.walk.proofs.Num.{Numbered, word_some, bool_other, int_other, bool_num}
 
 -- ---- two variables
 

@@ -7,11 +7,11 @@ use Rattle.syntax.specs.Syntax.{Stmt}
 use Rattle.syntax.specs.Words.{max_bools, min_work_words, max_ints}
 use Rattle.clauses.specs.Clause.{BoolLit}
 use Rattle.clauses.specs.Log.{get_bool_var, get_int_var, clauses_of}
-use Rattle.clauses.specs.Merge.{merged_no_clauses}
+use Rattle.clauses.proofs.MergeLaws.{merged_no_clauses}
 use Rattle.answer.specs.Answer.{map_word, bool_word, start_log}
-use Rattle.answer.specs.Start.{start_well}
+use Rattle.answer.proofs.Start.{start_well}
 use Rattle.walk.specs.Item.{bool_at, int_entry, State}
-use Rattle.walk.specs.Num.{code, Numbered}
+use Rattle.walk.proofs.Num.{code, Numbered}
 
 pub record Empty (w : List ℤ) : Type 0 where
   pub bools : (v : ℕ) → v < max_bools → bool_at w v ≡ pos 0

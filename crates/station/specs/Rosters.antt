@@ -10,7 +10,7 @@ use Rattle.syntax.specs.Syntax.{Problem}
 use Rattle.words.specs.Parse.{Parsed, ok, refuse, parse_then}
 use Rattle.read.specs.Read.{read_set}
 use Rattle.read.specs.WellFormed.{WellFormed}
-use Rattle.read.specs.Exact.{set_sound}
+use Rattle.read.proofs.Exact.{set_sound}
 use Rattle.limits.specs.Limits.{check}
 use Rattle.limits.specs.Admitted.{admitted, limited}
 use Rattle.call.specs.Call.{call_with}

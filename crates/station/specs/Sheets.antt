@@ -12,7 +12,7 @@ use Rattle.call.specs.Call.{Result, compiled, contradiction, refused, returned, 
 use Rattle.call.specs.Claim.{within, satisfied, Passed}
 use Rattle.sheetback.specs.ReadSheet.{read_sheet}
 use Rattle.sheetback.specs.Sheeted.{sheet_text, with_sheet, sheet_call, sheet_after}
-use Rattle.sheetback.specs.CallBack.{answer_clauses}
+use Rattle.sheetback.proofs.CallBack.{answer_clauses}
 use Rattle.station.specs.Small.{Small, call_small}
 
 -- how many bytes the sheet has; 0 without an answer

@@ -15,7 +15,7 @@ use Rattle.walk.specs.Item.{bump}
 use Rattle.walk.specs.Decode.{word, past, read_part}
 use Rattle.walk.specs.declared.Node.{Node}
 use Rattle.walk.specs.declared.Node.TheVariants.{Var, Cmp, Not, Join, Cross}
-use Rattle.walk.specs.NumberingSteps.{part_length}
+use Rattle.walk.proofs.NumberingSteps.{part_length}
 use Rattle.walks.specs.Tree.{Place, here}
 use Rattle.walks.specs.Item.{has_ifs}
 use Rattle.walks.specs.Decode.{node_of, decode, decode_int}

@@ -12,7 +12,7 @@ use Rattle.memory.specs.Number.{nat}
 use Rattle.syntax.specs.Syntax.{BoolExpr, encode_bool, Stmt, Rule, Table, AllDifferent, encode_stmt}
 use Rattle.syntax.specs.Codes.{stmt_code, stmt_code_word}
 use Rattle.walk.specs.Decode.{word, read_part}
-use Rattle.walk.specs.NumberingSteps.{part_short}
+use Rattle.walk.proofs.NumberingSteps.{part_short}
 use Rattle.walks.specs.Tree.{below, splits}
 use Rattle.walks.specs.Decode.{decode}
 use Rattle.walks.specs.DecodeExact.{rule_stands}

@@ -14,9 +14,9 @@ use Rattle.memory.specs.Number.{nat}
 use Rattle.syntax.specs.Syntax.{IntExpr, encode_int, Cell, Table, AllDifferent, encode_stmt}
 use Rattle.syntax.specs.Lengths.{table_words as table-parts, different_words as different-parts}
 use Rattle.words.specs.Exact.{Each}
-use Rattle.read.specs.Vars.{rows_wide}
+use Rattle.read.proofs.Vars.{rows_wide}
 use Rattle.walk.specs.Decode.{word, read_part}
-use Rattle.walk.specs.NumberingSteps.{part_short}
+use Rattle.walk.proofs.NumberingSteps.{part_short}
 use Rattle.walks.specs.Legal.{LegalInt}
 use Rattle.walks.specs.DecodeExact.{column_stands}
 use Rattle.rows.specs.Stands.{cells_words}

@@ -12,7 +12,7 @@ use Rattle.syntax.specs.Words.{max_value, star_word}
 use Rattle.syntax.specs.Syntax.{Cell, star, value, encode_cell}
 use Rattle.words.specs.Exact.{Each}
 use Rattle.read.specs.WellFormed.{WellCell, WellRow}
-use Rattle.read.specs.Vars.{rows_wide as rows-of-width}
+use Rattle.read.proofs.Vars.{rows_wide as rows-of-width}
 use Rattle.tables.specs.Tables.{Row, is_star}
 use Rattle.sorting.specs.Rows.{rows_of, row_at}
 use Rattle.rows.specs.Stars.{values_in, is_free, is_single, is_longer, count_rows}

@@ -6,7 +6,7 @@ use Rattle.words.specs.Exact.{Each}
 use Rattle.read.specs.WellFormed.{WellStmt, WellFormed}
 use Rattle.fold.specs.Fold.{Fixed, constant_folding_int as fold-int, constant_folding_stmt as fold-stmt}
 use Rattle.fold.specs.Optimize.{settled, optimize}
-use Rattle.fold.specs.Ends.{optimize_rests}
+use Rattle.fold.proofs.Ends.{optimize_rests}
 use Rattle.call.specs.WellRead.{well_declared}
 use Rattle.stmtwords.specs.Stands.{WellRows}
 

@@ -1,8 +1,6 @@
 pub mod LinearSum
-pub mod Value
 pub mod Rising
 pub mod Linear
 pub mod Norm
-pub mod Domain
 pub mod Bounds
 pub mod Struct

@@ -1,11 +1,3 @@
 pub mod Tables
-pub mod Cases
-pub mod Sorted
 pub mod Domains
-pub mod Agree
-pub mod PlainMeaning
-pub mod StarMeaning
-pub mod ColumnEntries
-pub mod ColumnMeaning
-pub mod TableMeaning
 pub mod Values

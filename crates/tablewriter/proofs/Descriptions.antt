@@ -19,8 +19,8 @@ use Rattle.words.specs.Exact.{Each}
 use Rattle.read.specs.WellFormed.{WellDomain}
 use Rattle.domains.specs.Declared.{DomainAt, DomainSizedAt, DomainBelow, DomainPost}
 use Rattle.domains.proofs.Laws.{domain_inside}
-use Rattle.sums.specs.Domain.{ordered}
-use Rattle.call.specs.Demand.{domains_ordered}
+use Rattle.sums.proofs.Domain.{ordered}
+use Rattle.call.proofs.Demand.{domains_ordered}
 use Rattle.sorting.specs.Columns.{domain_in}
 use Rattle.rows.specs.Described.{range_described, list_described}
 use Rattle.declared.specs.InSet.{Declared, SomeDeclared}

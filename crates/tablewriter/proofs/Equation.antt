@@ -9,8 +9,9 @@ use lib.ListN.{length}
 use Rattle.laws.specs.Writes.{cap, Wrote, wrote_length, wrote_then, wrote_to}
 use Rattle.syntax.specs.Syntax.{Domain, Eq, op_at}
 use Rattle.sums.specs.LinearSum.{LinearSum, singleton, mul_sum, sub_sum}
-use Rattle.sums.specs.Rising.{terms_of, Each, singleton_each, sub_sum_each}
-use Rattle.sums.specs.Norm.{singleton_load}
+use Rattle.sums.specs.Rising.{terms_of, Each}
+use Rattle.sums.proofs.RisingLaws.{singleton_each, sub_sum_each}
+use Rattle.sums.proofs.NormLaws.{singleton_load}
 use Rattle.sums.specs.Bounds.{size, Room}
 use Rattle.sums.specs.Struct.{terms, sum_of, Stands}
 use Rattle.sums.specs.declared.LinearSum.{LinearSum as Sum}

@@ -20,14 +20,14 @@ use Rattle.words.specs.Exact.{Each}
 use Rattle.read.specs.WellFormed.{WellRow}
 use Rattle.clauses.specs.Clause.{clause}
 use Rattle.clauses.specs.Log.{Log, next_bool}
-use Rattle.clauses.specs.Emitted.{domain_at}
+use Rattle.clauses.proofs.Emitted.{domain_at}
 use Rattle.clauses.specs.Normalize.{register}
 use Rattle.clauses.specs.Disjunction.{Out}
 use Rattle.tables.specs.Tables.{star_table, plain_table, plain_clauses, sort_rows, normalize_extension_supports, normalize_table}
 use Rattle.walk.specs.Decode.{read_part}
-use Rattle.walk.specs.DecodeExact.{has_part}
+use Rattle.walk.proofs.DecodeExact.{has_part}
 use Rattle.walk.specs.declared.Counters.{Counters}
-use Rattle.walk.specs.NumberingSteps.{part_short}
+use Rattle.walk.proofs.NumberingSteps.{part_short}
 use Rattle.walks.specs.Tree.{never, resolve_int}
 use Rattle.walks.specs.Form.{int_form}
 use Rattle.walks.specs.Item.{has_ifs}

@@ -13,15 +13,15 @@ use Rattle.memory.specs.Number.{nat}
 use Rattle.syntax.specs.Syntax.{Domain, IntExpr, Cell, Table, encode_stmt}
 use Rattle.clauses.specs.Clause.{Clause, clause}
 use Rattle.clauses.specs.Log.{Log, next_bool, next_int, clauses_of}
-use Rattle.clauses.specs.Emitted.{domain_at}
-use Rattle.clauses.specs.Since.{Adds, adds_then, clauses_since, since_is}
+use Rattle.clauses.proofs.Emitted.{domain_at}
+use Rattle.clauses.proofs.Since.{Adds, adds_then, clauses_since, since_is}
 use Rattle.clauses.specs.Disjunction.{Out}
 use Rattle.clauses.specs.Normalize.{register}
 use Rattle.tables.specs.Tables.{star_row, star_table, plain_table, normalize_extension_supports, normalize_table}
 use Rattle.answer.specs.Answer.{clause_words}
 use Rattle.walk.specs.Item.{bump}
-use Rattle.walk.specs.Grow.{grow_added}
-use Rattle.walk.specs.Texts.{layout_words, disjunction_auxed, auxed_untouched}
+use Rattle.walk.proofs.Grow.{grow_added}
+use Rattle.walk.proofs.Texts.{layout_words, disjunction_auxed, auxed_untouched}
 use Rattle.walk.specs.Decode.{word, read_part}
 use Rattle.walk.specs.declared.Counters.{Counters}
 use Rattle.walks.specs.Item.{counters, int_count, more_bools}

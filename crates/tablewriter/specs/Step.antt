@@ -8,7 +8,7 @@ use Rattle.syntax.specs.Syntax.{Domain, IntExpr, Cell, Table, encode_stmt}
 use Rattle.words.specs.Exact.{Each}
 use Rattle.read.specs.WellFormed.{WellRow}
 use Rattle.clauses.specs.Log.{Log, next_bool}
-use Rattle.clauses.specs.Since.{clauses_since}
+use Rattle.clauses.proofs.Since.{clauses_since}
 use Rattle.tables.specs.Tables.{Columns, equivalent_int_vars, star_table, normalize_extension_supports, normalize_table}
 use Rattle.walk.specs.Decode.{read_part}
 use Rattle.walk.specs.declared.Counters.{Counters}

@@ -19,7 +19,7 @@ use Rattle.sums.specs.Rising.{constant_of}
 use Rattle.walk.specs.Item.{is_none, int_number}
 use Rattle.walk.specs.Decode.{word, past, below as index, read_part}
 use Rattle.walk.specs.declared.Counters.{Counters}
-use Rattle.walk.specs.NumberingSteps.{part_length}
+use Rattle.walk.proofs.NumberingSteps.{part_length}
 use Rattle.walks.specs.Tree.{Place, Splitting}
 use Rattle.walks.specs.Form.{Form, IntForm, const, ivar, choice}
 use Rattle.walks.specs.Item.{cell, Seen, unseen, both_constant, numbered, seen, constant_in, number_in, or_else, const_item, ivar_item, no_terms_item, term_item, sum_item, if_number, if_domain, choice_item, form_int_item, form_terms_item}

@@ -12,14 +12,15 @@ use Rattle.laws.specs.Bools.{never}
 use Rattle.memory.specs.Places.{folded_end, limit}
 use Rattle.syntax.specs.Syntax.{Domain}
 use Rattle.sums.specs.LinearSum.{LinearSum, constant, add_sum, mul_sum, sub_sum}
-use Rattle.sums.specs.Rising.{terms_of, Each, constant_each, add_sum_each, mul_sum_each, sub_sum_each}
+use Rattle.sums.specs.Rising.{terms_of, Each}
+use Rattle.sums.proofs.RisingLaws.{constant_each, add_sum_each, mul_sum_each, sub_sum_each}
 use Rattle.sums.specs.Bounds.{size, Room}
 use Rattle.sums.specs.Struct.{terms, sum_of, Stands}
 use Rattle.sums.specs.declared.LinearSum.{LinearSum as Sum}
 use Rattle.sums.proofs.Laws.{is_own, stands_sum, stands_to}
 use Rattle.walk.specs.Decode.{word, past, read_part}
 use Rattle.walk.specs.declared.Counters.{Counters}
-use Rattle.walk.specs.NumberingSteps.{part_length}
+use Rattle.walk.proofs.NumberingSteps.{part_length}
 use Rattle.walks.specs.Tree.{Splitting}
 use Rattle.walks.specs.Form.{IntForm, sum}
 use Rattle.walks.specs.Item.{has_ifs, no_terms_item, term_item, sum_item, form_int_item}

@@ -7,7 +7,8 @@ use Rattle.std.proofs.Math.Dec.{eqb}
 use Rattle.syntax.specs.Words.{max_ints}
 use Rattle.syntax.specs.Syntax.{Domain}
 use Rattle.sums.specs.LinearSum.{LinearSum, constant, singleton}
-use Rattle.sums.specs.Rising.{terms_of, Each, constant_each, singleton_each}
+use Rattle.sums.specs.Rising.{terms_of, Each}
+use Rattle.sums.proofs.RisingLaws.{constant_each, singleton_each}
 use Rattle.walk.specs.Item.{int_number}
 use Rattle.walk.specs.Decode.{word, below as index, read_part}
 use Rattle.walk.specs.declared.Counters.{Counters}

@@ -1,10 +1,2 @@
 pub mod Item
-pub mod Grow
-pub mod Texts
-pub mod Ints
-pub mod Implements
-pub mod Num
 pub mod Decode
-pub mod DecodeExact
-pub mod Steps
-pub mod NumberingSteps

@@ -16,8 +16,8 @@ use Rattle.memory.specs.Places.{folded, folded_end, cells, ifs_word}
 use Rattle.syntax.specs.Syntax.{Domain, lower_bound, upper_bound, IntExpr, IConst, IVar, Linear, If, encode_int}
 use Rattle.syntax.specs.Unique.{int_unique, int_unique_words}
 use Rattle.clauses.specs.Log.{Log, known, next_int, get_if, made_ints, emitted_domains}
-use Rattle.clauses.specs.Emitted.{domain_at}
-use Rattle.clauses.specs.Since.{OnTop, top_domain}
+use Rattle.clauses.proofs.Emitted.{domain_at}
+use Rattle.clauses.proofs.Since.{OnTop, top_domain}
 use Rattle.walks.specs.Item.{has_ifs, cell, unseen, both_constant, numbered, seen_in}
 use Rattle.walks.specs.Distinct.{none_some, some_is, unseen_numbered, constant_numbered}
 use Rattle.walks.specs.Meet.{set_cells}

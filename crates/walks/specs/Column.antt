@@ -22,7 +22,7 @@ use Rattle.clauses.specs.Normalize.{IntOut, equals, normalize_int_var, domain_of
 use Rattle.tables.specs.Tables.{new_column, old_column, equivalent_int_var}
 use Rattle.walk.specs.Item.{bool_at, int_entry}
 use Rattle.walk.specs.Decode.{read_part}
-use Rattle.walk.specs.Grow.{grow_added}
+use Rattle.walk.proofs.Grow.{grow_added}
 use Rattle.walks.specs.Tree.{IntTree, never, splits_int, resolve_int, run_int}
 use Rattle.walks.specs.Form.{IntForm, const, ivar, sum, choice, int_form}
 use Rattle.walks.specs.Resolve.{column_runs, never_int}

@@ -10,7 +10,7 @@ use Rattle.clauses.specs.Normalize.{equals, domain_of_sum, normalize_int_var, no
 use Rattle.tables.specs.Tables.{new_column, old_column, equivalent_int_var}
 use Rattle.walk.specs.Item.{bump}
 use Rattle.walk.specs.declared.Counters.{Counters}
-use Rattle.walk.specs.Grow.{grow_added}
+use Rattle.walk.proofs.Grow.{grow_added}
 use Rattle.walks.specs.Tree.{IntTree, never, resolve_int, run_int}
 use Rattle.walks.specs.Form.{IntForm, const, ivar, sum, choice, int_form}
 use Rattle.walks.specs.Resolve.{column_runs}

@@ -10,10 +10,11 @@ use Rattle.laws.specs.Bools.{both_ways}
 use Rattle.syntax.specs.Syntax.{Domain, IntExpr, IConst, IVar, Linear, If, Terms, tnil, tmore, BoolExpr, Const, Var, NVar, And, Or, Not, Xor, Iff, Imp, Cmp, Members, mnil, more}
 use Rattle.syntax.specs.Satisfies.{IVal}
 use Rattle.sums.specs.LinearSum.{LinearSum, constant, singleton, is_constant, add_sum, mul_sum, sum_value}
-use Rattle.sums.specs.Rising.{terms_of, constant_of, Each, each_map, constant_each, singleton_each, add_sum_each, mul_sum_each, Proper, constant_proper, singleton_proper, add_sum_proper}
-use Rattle.sums.specs.Value.{singleton_value, add_sum_value, mul_sum_value}
+use Rattle.sums.specs.Rising.{terms_of, constant_of, Each, Proper}
+use Rattle.sums.proofs.RisingLaws.{each_map, constant_each, singleton_each, add_sum_each, mul_sum_each, constant_proper, singleton_proper, add_sum_proper}
+use Rattle.sums.proofs.Value.{singleton_value, add_sum_value, mul_sum_value}
 use Rattle.clauses.specs.Log.{Log, next_int, get_int_var, get_if, int_var_at, convert_int_var}
-use Rattle.clauses.specs.Grow.{get_int_below}
+use Rattle.clauses.proofs.Grow.{get_int_below}
 use Rattle.clauses.specs.Normalize.{IntOut, normalize_int_var, normalize_term, normalize_int_expr, normalize_terms, no_run, normalize_num, normalize_var, normalize_comparison, normalize_bool_expr, normalize_members}
 use Rattle.walks.specs.Named.{Key, variable, choice, nothing, key_at, top_ints, top_key, variable_is, choice_is, var_key, NamedBy, if_found, var_stays, if_stays}
 use Rattle.walks.specs.Steady.{value_same, constant_steady, steady_constant}

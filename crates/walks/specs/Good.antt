@@ -21,12 +21,12 @@ use Rattle.syntax.specs.Syntax.{Domain, domain_of, IntExpr}
 use Rattle.syntax.specs.Words.{max_bools, min_work_words, max_ints}
 use Rattle.clauses.specs.Clause.{BoolLit, lit, Clause}
 use Rattle.clauses.specs.Log.{MadeBool, MadeInt, declared_int, column, chosen, binary, declared, bool, merged, int, added, defined, known, Log, next_bool, next_int, get_bool_var, get_int_var, get_if, is_declared_int, made_ints, bool_var_at, int_var_at, convert_bool_var, convert_int_var}
-use Rattle.clauses.specs.Since.{OnTop, here, over}
+use Rattle.clauses.proofs.Since.{OnTop, here, over}
 use Rattle.answer.specs.Answer.{bool_word}
 use Rattle.walk.specs.Item.{bump, is_none, bool_at, int_entry}
 use Rattle.walk.specs.Decode.{read_part}
-use Rattle.walk.specs.Grow.{lit_word}
-use Rattle.walk.specs.Num.{code}
+use Rattle.walk.proofs.Grow.{lit_word}
+use Rattle.walk.proofs.Num.{code}
 use Rattle.walks.specs.Item.{has_ifs, cell}
 use Rattle.walks.specs.Meet.{State, with_work, more_bools, spend, meet_bool, range_record, new_int, meet_int_var}
 use Rattle.walks.specs.Cells.{word_kept, Cells, Below, Places, cells_kept}

@@ -13,9 +13,9 @@ use Rattle.clauses.specs.Clause.{Clause, BoolLit}
 use Rattle.clauses.specs.Log.{side, MadeInt, column, chosen, binary, is_declared_int, negate_lit, next_int, bool, int, defined, known, Log, next_bool, get_bool_var, get_int_var, get_if, bool_var_at, int_var_at, convert_bool_var, convert_int_var}
 use Rattle.clauses.specs.Disjunction.{Sorted, satisfied, pool, sorted, finish_sorted, normalize_disjunction}
 use Rattle.clauses.specs.Normalize.{Run, Runs, IntRun, register, define, no_run, run_then, two, normalize_conjunction, disjunction_of, cross as cross-run, normalize_num, normalize_var, normalize_comparison, normalize_int_var, normalize_term, equals, own_literal, condition_literal, two_valued, hull, domain_of_sum, if_constant, if_open, normalize_if}
-use Rattle.clauses.specs.Since.{here, over}
-use Rattle.walk.specs.Grow.{Grows, same, then, grow_added, grow_declared, grow_declared_int}
-use Rattle.walk.specs.Texts.{finish_grows, disjunction_finish}
+use Rattle.clauses.proofs.Since.{here, over}
+use Rattle.walk.proofs.Grow.{Grows, same, then, grow_added, grow_declared, grow_declared_int}
+use Rattle.walk.proofs.Texts.{finish_grows, disjunction_finish}
 use Rattle.walks.specs.Tree.{Tree, var, num, cmp, conj, disj, cross, tied, Trees, nil, cons, IntTree, const, ivar, sum, choice, TermTrees, none as no_terms, term, condition_of, run, runs, run_int, run_terms, registers}
 
 -- ---- entries that are no declared variable's

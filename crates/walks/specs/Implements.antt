@@ -19,12 +19,12 @@ use Rattle.clauses.specs.Clause.{BoolLit, lit, LinearLit, linear, Clause, clause
 use Rattle.clauses.specs.Log.{side, declared_int, bool, int, Log, number_of, negate_lit, next_bool, next_int, get_bool_var, get_int_var, get_if, bool_var_at, int_var_at, convert_bool_var, convert_int_var, clauses_of}
 use Rattle.clauses.specs.Disjunction.{add_bool, add_bool_each, pool, sorted, Out, Outs, each_longer, finish_disjunction, finish_sorted, normalize_disjunction}
 use Rattle.clauses.specs.Normalize.{Run, Runs, IntRun, IntOut, define, no_run, run_then, two, normalize_conjunction, disjunction_of, cross as cross-run, lit_clauses, normalize_num, normalize_var, negate_op_if, normalize_comparison, normalize_int_var, normalize_term, equals, own_literal, condition_literal, two_valued, if_constant, if_open, normalize_if}
-use Rattle.clauses.specs.Grow.{get_int_below}
-use Rattle.clauses.specs.Since.{Adds, adds_same, adds_then}
+use Rattle.clauses.proofs.Grow.{get_int_below}
+use Rattle.clauses.proofs.Since.{Adds, adds_same, adds_then}
 use Rattle.answer.specs.Answer.{linear_words}
 use Rattle.walk.specs.Item.{bump, bool_at, signed, bool_entry, int_entry, word_of, clause_text, tally, long, fresh, disj_lines, closed, lines_of, extra}
-use Rattle.walk.specs.Grow.{Grows, same, then, bool_below, bool_here, int_here, Fit, back, lit_word, word_lit, signed_lit}
-use Rattle.walk.specs.Texts.{words, linears, layout, words_more, linears_more, layout_append, layout_add, long_layout, AllLong, finish_words, finish_count, lengths, finish_lines, finish_long, disjunction_finish, disjunction_auxed, auxed_untouched}
+use Rattle.walk.proofs.Grow.{Grows, same, then, bool_below, bool_here, int_here, Fit, back, lit_word, word_lit, signed_lit}
+use Rattle.walk.proofs.Texts.{words, linears, layout, words_more, linears_more, layout_append, layout_add, long_layout, AllLong, finish_words, finish_count, lengths, finish_lines, finish_long, disjunction_finish, disjunction_auxed, auxed_untouched}
 use Rattle.walk.specs.declared.Mode.{Mode}
 use Rattle.walk.specs.declared.Counters.{Counters}
 use Rattle.walks.specs.Tree.{own_var, Place, Tree, var, num, cmp, conj, disj, cross, tied, Trees, nil, cons, size, IntTree, const, ivar, sum, choice, TermTrees, none as no_terms, term, condition_of, run, runs, run_int, run_terms}

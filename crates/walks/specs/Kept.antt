@@ -14,13 +14,14 @@ use Rattle.laws.specs.Ints.{eqZ}
 use Rattle.laws.specs.Same.{same_refl}
 use Rattle.syntax.specs.Syntax.{IfIsRead, Domain, Range, IntExpr, If, BoolExpr, Const, Var, NVar, And, Or, Not, Xor, Iff, Imp, Cmp, encode_int, encode_bool}
 use Rattle.sums.specs.LinearSum.{LinearSum, constant, singleton, is_constant}
-use Rattle.sums.specs.Rising.{constant_of, terms_of, Each, singleton_each, Proper, singleton_proper}
+use Rattle.sums.specs.Rising.{constant_of, terms_of, Each, Proper}
+use Rattle.sums.proofs.RisingLaws.{singleton_each, singleton_proper}
 use Rattle.clauses.specs.Clause.{BoolLit, LinearLit, Clause}
 use Rattle.clauses.specs.Log.{MadeBool, aux, side, column, chosen, binary, Made, bool, int, known, Log, next_bool, next_int, negate_lit, get_bool_var, get_int_var, get_if, bool_var_at, convert_bool_var, int_var_at, convert_int_var}
 use Rattle.clauses.specs.Disjunction.{Sorted, satisfied, pool, sorted, each_longer, finish_disjunction, finish_sorted, normalize_disjunction}
 use Rattle.clauses.specs.Normalize.{IntOut, normalize_int_expr, Run, Runs, define, no_run, run_then, two, normalize_conjunction, disjunction_of, cross, normalize_num, normalize_bool_expr, own_literal, condition_literal, two_valued, hull, domain_of_sum, if_constant, if_open, normalize_if}
-use Rattle.clauses.specs.Since.{OnTop, here, over, top_then}
-use Rattle.clauses.specs.Once.{int_stays, bool_stays}
+use Rattle.clauses.proofs.Since.{OnTop, here, over, top_then}
+use Rattle.clauses.proofs.Once.{int_stays, bool_stays}
 use Rattle.walks.specs.Named.{choice, nothing, key_of, key_at, key_new, top_ints, top_key, choice_below, NamedMade, NamedBy, if_found}
 
 -- ---- a disjunction makes Booleans only: what each keeps, it keeps

@@ -7,7 +7,7 @@ use Rattle.std.proofs.lemmas.Bool.{eqb-false}
 use Rattle.laws.specs.Bools.{never as no_bool, and_l, and_r}
 use Rattle.laws.specs.Slices.{Has}
 use Rattle.syntax.specs.Syntax.{IntExpr, IConst, IVar, Linear, If, Terms, tnil, tmore, BoolExpr, Const, Var, NVar, And, Or, Not, Xor, Iff, Imp, Cmp, Members, mnil, more, encode_int, encode_bool}
-use Rattle.clauses.specs.Bounds.{int_bound}
+use Rattle.clauses.proofs.Bounds.{int_bound}
 use Rattle.walks.specs.Distinct.{none_some, some_is}
 use Rattle.walks.specs.Tree.{Place, Tree, IntTree, nil, cons, append, Splitting, below, here, inner, own_splits, splits, splits_int, split_int, resolve, ties, ties_int}
 use Rattle.walks.specs.Resolve.{rule_trees, pair_trees}

@@ -8,7 +8,7 @@ use Rattle.laws.specs.Slices.{Has}
 use Rattle.memory.specs.Places.{folded, folded_end}
 use Rattle.syntax.specs.Syntax.{Domain, IntExpr, IConst, IVar, Linear, If, Terms, tnil, tmore, BoolExpr, Const, Var, NVar, And, Or, Not, Xor, Iff, Imp, Cmp, Members, mnil, more, encode_bool, encode_int}
 use Rattle.syntax.specs.Written.{EveryIntOf}
-use Rattle.clauses.specs.Bounds.{expr_bound, members_bound, int_bound, terms_numbers}
+use Rattle.clauses.proofs.Bounds.{expr_bound, members_bound, int_bound, terms_numbers}
 use Rattle.walks.specs.Tree.{Place, Splitting, below, here, inner, own_splits, splits, splits_int}
 use Rattle.walks.specs.Thirds.{most_three}
 use Rattle.walks.specs.Plain.{Plain, PlainMembers, PlainInt, PlainTerms}

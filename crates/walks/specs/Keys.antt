@@ -10,7 +10,7 @@ use Rattle.laws.specs.Same.{same_words, same_is}
 use Rattle.laws.specs.Slices.{Has, has_front, has_back, has_rest}
 use Rattle.syntax.specs.Syntax.{IfIsRead, IntExpr, IConst, IVar, Linear, If, Terms, tnil, tmore, BoolExpr, Const, Var, NVar, And, Or, Not, Xor, Iff, Imp, Cmp, Members, mnil, more, encode_bool, encode_members, encode_int, encode_terms}
 use Rattle.syntax.specs.Unique.{int_unique_words}
-use Rattle.clauses.specs.Bounds.{expr_bound, members_bound, int_bound, terms_numbers}
+use Rattle.clauses.proofs.Bounds.{expr_bound, members_bound, int_bound, terms_numbers}
 use Rattle.clauses.specs.Clause.{negate_if}
 use Rattle.walk.specs.Item.{is_none}
 use Rattle.walks.specs.Tree.{Place, Tree, var, num, cmp, conj, disj, cross, tied, Trees, nil, cons, append, joined, IntTree, const, ivar, sum, choice, TermTrees, none, term, Splitting, never, below, here, inner, own_splits, splits, splits_members, splits_int, splits_terms, rewritten, split_of, split_members, split_int, split_terms, crossed_at, place_of, resolve, resolves, resolve_int, resolve_terms, tie, sides_tied, ties, ties_members, ties_int, ties_terms}

@@ -16,11 +16,11 @@ use Rattle.clauses.specs.Clause.{BoolLit, lit, LinearLit, linear, Clause, clause
 use Rattle.clauses.specs.Log.{MadeInt, chosen, aux, side, bool, int, defined, known, Log, next_bool, next_int, get_if, clauses_of}
 use Rattle.clauses.specs.Disjunction.{Out, add_bool_each, Sorted, satisfied, pool, pooled, with_longer, sorted, each_longer, finish_disjunction, finish_sorted, normalize_disjunction}
 use Rattle.clauses.specs.Normalize.{Run, Runs, IntOut, own_literal, condition_literal, two_valued, hull, domain_of_sum, if_constant, if_open, normalize_if, define, two, equals, no_run, run_then, normalize_conjunction, disjunction_of, cross as cross-run, lit_clauses, normalize_num, normalize_var, normalize_comparison}
-use Rattle.clauses.specs.Since.{clauses_since, top_adds}
+use Rattle.clauses.proofs.Since.{clauses_since, top_adds}
 use Rattle.answer.specs.Answer.{linear_words}
 use Rattle.walk.specs.Item.{bump, clause_text, Tally, tally, mode_in, fresh_in, fresh, closed}
-use Rattle.walk.specs.Grow.{Grows, then, lit_word}
-use Rattle.walk.specs.Texts.{words, linears, layout, layout_append, disjunction_finish, disjunction_auxed, auxed_untouched}
+use Rattle.walk.proofs.Grow.{Grows, then, lit_word}
+use Rattle.walk.proofs.Texts.{words, linears, layout, layout_append, disjunction_finish, disjunction_auxed, auxed_untouched}
 use Rattle.walks.specs.Tree.{own_var, Place, Tree, var, num, cmp, conj, disj, cross, tied, Trees, nil, cons, size, IntTree, const, ivar, sum, choice, TermTrees, none as no_terms, term, condition_of, run, runs, run_int, run_terms}
 use Rattle.walks.specs.Form.{form}
 use Rattle.walks.specs.Item.{form_item, tallies, var_item, num_item, cmp_item, conj_item, disj_item, cross_item, tied_item, item, items}

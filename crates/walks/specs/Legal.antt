@@ -4,7 +4,7 @@ use Rattle.std.proofs.Common.{arith}
 use Rattle.syntax.specs.Syntax.{IntExpr, IConst, IVar, Linear, If, Terms, tnil, tmore, BoolExpr, Const, Var, NVar, And, Or, Not, Xor, Iff, Imp, Cmp, Members, mnil, more, count_members}
 use Rattle.syntax.specs.Written.{Any, None, EveryInt, EveryIntOf, EveryTermOf, EveryOf, EveryMemberOf}
 use Rattle.syntax.specs.Words.{max_bools, max_ints}
-use Rattle.clauses.specs.Bounds.{expr_bound, members_bound, int_bound, terms_numbers}
+use Rattle.clauses.proofs.Bounds.{expr_bound, members_bound, int_bound, terms_numbers}
 use Rattle.walks.specs.Thirds.{most_three}
 use Rattle.walks.specs.Plain.{Plain, PlainInt}
 

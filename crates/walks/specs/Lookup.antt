@@ -16,7 +16,7 @@ use Rattle.memory.specs.Number.{nat}
 use Rattle.syntax.specs.Syntax.{Domain, lower_bound, upper_bound, IntExpr, encode_int}
 use Rattle.syntax.specs.Words.{max_bools, max_ints}
 use Rattle.clauses.specs.Log.{Log, next_int, get_if}
-use Rattle.clauses.specs.Emitted.{domain_at}
+use Rattle.clauses.proofs.Emitted.{domain_at}
 use Rattle.walk.specs.Item.{bool_at, int_entry}
 use Rattle.walk.specs.Decode.{read_part}
 use Rattle.walks.specs.Tree.{Place}

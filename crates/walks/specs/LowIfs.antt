@@ -10,7 +10,7 @@ use Rattle.syntax.specs.Syntax.{IfIsRead, Domain, Ne, IntExpr, IConst, IVar, Lin
 use Rattle.syntax.specs.Unique.{int_unique_words}
 use Rattle.sums.specs.LinearSum.{LinearSum, is_constant, constant}
 use Rattle.sums.specs.Rising.{constant_of}
-use Rattle.clauses.specs.Bounds.{expr_bound, int_bound}
+use Rattle.clauses.proofs.Bounds.{expr_bound, int_bound}
 use Rattle.clauses.specs.Clause.{BoolLit, Clause}
 use Rattle.clauses.specs.Log.{MadeBool, side, MadeInt, bool, int, defined, known, Log, next_bool, get_bool_var, get_int_var, get_if, bool_var_at, int_var_at, convert_bool_var, convert_int_var}
 use Rattle.clauses.specs.Normalize.{Run, Runs, IntOut, IntRun, register, define, no_run, run_then, two, normalize_conjunction, disjunction_of, cross as cross-run, normalize_num, normalize_var, normalize_comparison, normalize_int_var, normalize_term, own_literal, condition_literal, if_constant, if_open, normalize_if, normalize_int_expr}

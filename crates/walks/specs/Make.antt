@@ -14,7 +14,7 @@ use Rattle.laws.specs.Same.{same_words, same_is}
 use Rattle.syntax.specs.Syntax.{Domain, lower_bound, upper_bound, IntExpr, encode_int}
 use Rattle.syntax.specs.Unique.{int_unique_words}
 use Rattle.clauses.specs.Log.{MadeInt, is_declared_int, int, known, Log, next_int, get_bool_var, get_int_var, get_if, made_ints, convert_bool_var}
-use Rattle.clauses.specs.Emitted.{domain_at}
+use Rattle.clauses.proofs.Emitted.{domain_at}
 use Rattle.laws.specs.Ints.{is_zero}
 use Rattle.memory.specs.Places.{folded_end, bool_map, int_map, maps_end, cells, limit}
 use Rattle.memory.specs.Number.{nat}

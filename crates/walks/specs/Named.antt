@@ -13,8 +13,8 @@ use Rattle.laws.specs.Ints.{apart}
 use Rattle.syntax.specs.Syntax.{IntExpr, encode_int}
 use Rattle.syntax.specs.Unique.{int_unique_words}
 use Rattle.clauses.specs.Log.{MadeInt, declared_int, column, chosen, binary, Made, bool, merged, int, added, defined, known, Log, next_int, get_int_var, get_if}
-use Rattle.clauses.specs.Grow.{get_int_below}
-use Rattle.clauses.specs.Since.{OnTop, here, over}
+use Rattle.clauses.proofs.Grow.{get_int_below}
+use Rattle.clauses.proofs.Since.{OnTop, here, over}
 
 -- ---- keys
 

@@ -5,7 +5,7 @@ use Rattle.std.proofs.Math.Option.{Option, none, some}
 use Rattle.syntax.specs.Syntax.{IfIsRead, Domain, lower_bound, upper_bound, IntExpr}
 use Rattle.sums.specs.LinearSum.{LinearSum, is_constant}
 use Rattle.clauses.specs.Log.{side, chosen, bool, int, Log, next_int, get_if}
-use Rattle.clauses.specs.Emitted.{domain_at}
+use Rattle.clauses.proofs.Emitted.{domain_at}
 use Rattle.clauses.specs.Normalize.{hull, domain_of_sum}
 use Rattle.walks.specs.Tree.{own_var, Place, Tree, var, num, cmp, conj, disj, cross, tied, Trees, nil, cons, IntTree, const, ivar, sum, choice, TermTrees, none as no_terms, term, condition_of, run, runs, run_int}
 use Rattle.walks.specs.Item.{has_ifs, cell, Seen, unseen, both_constant, numbered, seen}

@@ -12,16 +12,17 @@ use Rattle.laws.specs.Ints.{eqZ, lower, higher, times_low, times_high}
 use Rattle.laws.specs.Order.{eqZ_is, leZ_lt, leZ_not, leZ_refl, ltZ_tri}
 use Rattle.syntax.specs.Syntax.{IfIsRead, Domain, Range, lower_bound, upper_bound, domain_of, IntExpr}
 use Rattle.sums.specs.LinearSum.{Term, term, LinearSum, linear_sum, constant, singleton, is_constant, add_sum, mul_sum, lowest, highest, get_domain_linear_sum}
-use Rattle.sums.specs.Rising.{terms_of, constant_of, Each, constant_each, singleton_each, add_sum_each, mul_sum_each, each_map}
+use Rattle.sums.specs.Rising.{terms_of, constant_of, Each}
+use Rattle.sums.proofs.RisingLaws.{constant_each, singleton_each, add_sum_each, mul_sum_each, each_map}
 use Rattle.clauses.specs.Clause.{BoolLit}
 use Rattle.clauses.specs.Log.{side, bool, declared_int, column, chosen, binary, int, Log, negate_lit, next_int, get_int_var, get_if, int_var_at, convert_int_var, domain_made}
 use Rattle.clauses.specs.Normalize.{Run, IntRun, IntOut, normalize_int_var, normalize_term, two_valued, own_literal, condition_literal, domain_of_sum, if_constant, if_open, normalize_if}
-use Rattle.clauses.specs.Grow.{get_int_below}
-use Rattle.clauses.specs.Emitted.{domain_at, new_domain, int_var_domain}
-use Rattle.clauses.specs.Since.{OnTop, here, top_domain}
+use Rattle.clauses.proofs.Grow.{get_int_below}
+use Rattle.clauses.proofs.Emitted.{domain_at, new_domain, int_var_domain}
+use Rattle.clauses.proofs.Since.{OnTop, here, top_domain}
 use Rattle.walk.specs.Item.{int_number}
 use Rattle.walk.specs.declared.Counters.{Counters}
-use Rattle.walk.specs.Grow.{Grows, int_here}
+use Rattle.walk.proofs.Grow.{Grows, int_here}
 use Rattle.walks.specs.Tree.{own_var, Place, Tree, IntTree, const, ivar, sum, choice, TermTrees, none as no_terms, term as term-tree, condition_of, run, run_int, run_terms}
 use Rattle.walks.specs.Form.{form}
 use Rattle.walks.specs.Item.{form_item, cell, both_constant, seen, constant_in, IntItem, const_item, or_else, ivar_item, no_terms_item, term_item, sum_item, if_domain, choice_item, int_item, terms_item}

@@ -18,15 +18,17 @@ use Rattle.syntax.specs.Unique.{int_unique_words}
 use Rattle.limits.specs.Limits.{domain_weight, weight, terms_weight}
 use Rattle.sums.specs.LinearSum.{LinearSum, constant, singleton, is_constant, add_sum, mul_sum}
 use Rattle.sums.specs.Rising.{constant_of}
-use Rattle.sums.specs.Norm.{load, constant_load, singleton_load, add_sum_load, mul_sum_load}
-use Rattle.sums.specs.Bounds.{reach, reach_weight}
+use Rattle.sums.proofs.NormLaws.{constant_load, singleton_load, add_sum_load, mul_sum_load}
+use Rattle.sums.specs.Norm.{load}
+use Rattle.sums.specs.Bounds.{reach}
+use Rattle.sums.proofs.BoundsLaws.{reach_weight}
 use Rattle.clauses.specs.Clause.{BoolLit, Clause}
 use Rattle.clauses.specs.Log.{MadeBool, side, MadeInt, declared_int, column, chosen, binary, bool, int, added, defined, known, Log, next_bool, next_int, negate_lit, get_bool_var, get_int_var, get_if, bool_var_at, int_var_at, convert_bool_var, convert_int_var, domain_made}
 use Rattle.clauses.specs.Normalize.{Run, Runs, IntOut, IntRun, register, define, no_run, run_then, two, normalize_conjunction, disjunction_of, cross as cross-run, normalize_num, normalize_var, normalize_comparison, normalize_int_var, normalize_term, own_literal, condition_literal, two_valued, hull, domain_of_sum, if_constant, if_open, normalize_if, normalize_int_expr}
 use Rattle.clauses.specs.Split.{tseitin_transformation_bool as cut, normalize_and_register_expr}
-use Rattle.clauses.specs.Grow.{get_int_below}
-use Rattle.clauses.specs.Emitted.{domain_at, new_domain, domain_step, int_var_domain}
-use Rattle.clauses.specs.Since.{OnTop, here, over, top_then, top_domain}
+use Rattle.clauses.proofs.Grow.{get_int_below}
+use Rattle.clauses.proofs.Emitted.{domain_at, new_domain, domain_step, int_var_domain}
+use Rattle.clauses.proofs.Since.{OnTop, here, over, top_then, top_domain}
 use Rattle.tables.specs.Tables.{Columns, is_star, new_column, old_column, equivalent_int_var, equivalent_int_vars, star_table, plain_table, normalize_extension_supports, normalize_table}
 use Rattle.walk.specs.Item.{int_number}
 use Rattle.walk.specs.declared.Counters.{Counters}

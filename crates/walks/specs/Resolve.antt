@@ -10,7 +10,7 @@ use Rattle.clauses.specs.Log.{side, bool, Log, next_bool, next_int, get_bool_var
 use Rattle.clauses.specs.Disjunction.{normalize_disjunction}
 use Rattle.clauses.specs.Normalize.{Run, IntRun, register, no_run, normalize_conjunction, disjunction_of, normalize_if, normalize_bool_expr, normalize_members, normalize_int_expr, normalize_terms}
 use Rattle.clauses.specs.Split.{unsplit, split_one, split_two, split_three, split_sides, tseitin_transformation_bool as cut, tseitin_transformation_members as Cut-members, tseitin_transformation_int as cut-int, tseitin_transformation_terms as cut-terms, register_each, normalize_and_register_expr}
-use Rattle.clauses.specs.Since.{OnTop, here as on-top, over, top_then}
+use Rattle.clauses.proofs.Since.{OnTop, here as on-top, over, top_then}
 use Rattle.walks.specs.Tree.{Tree, cmp, Trees, nil, cons, append, joined, Splitting, never, below, here, inner, splits, splits_members, splits_int, splits_terms, rewritten, split_of, split_members, split_int, split_terms, crossed_at, resolve, resolves, resolve_int, resolve_terms, tie, ties, ties_members, ties_int, ties_terms, run, runs, run_int, run_terms, registers}
 use Rattle.walks.specs.Thirds.{zero_first, zero_second, zero_third, zero_three}
 

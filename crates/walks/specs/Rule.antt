@@ -14,7 +14,7 @@ use Rattle.clauses.specs.Log.{added, Log, next_bool, made_ints, clauses_of}
 use Rattle.clauses.specs.Normalize.{register, normalize_bool_expr}
 use Rattle.clauses.specs.Split.{unsplit, register_each, tseitin_transformation_bool as cut, normalize_and_register_expr}
 use Rattle.walk.specs.Item.{bump, lines_of}
-use Rattle.walk.specs.Grow.{grow_added}
+use Rattle.walk.proofs.Grow.{grow_added}
 use Rattle.walks.specs.Tree.{Trees, below, here, splits, splits_int, resolve, ties, registers}
 use Rattle.walks.specs.Form.{forms}
 use Rattle.walks.specs.Item.{int_count, cell, unseen, seen_in, more_bools as more-counted, form_items, conj_item, texts, regs, reg_lines, all_lines, items, counts}

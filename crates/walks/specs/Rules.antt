@@ -7,10 +7,10 @@ use Rattle.memory.specs.Places.{limit}
 use Rattle.syntax.specs.Syntax.{Domain, IntExpr}
 use Rattle.clauses.specs.Clause.{Clause}
 use Rattle.clauses.specs.Log.{added, Log, get_bool_var, get_int_var, get_if, made_ints}
-use Rattle.clauses.specs.Since.{here, over}
+use Rattle.clauses.proofs.Since.{here, over}
 use Rattle.clauses.specs.Normalize.{register}
 use Rattle.walk.specs.Item.{bump}
-use Rattle.walk.specs.Grow.{grow_added}
+use Rattle.walk.proofs.Grow.{grow_added}
 use Rattle.walks.specs.Tree.{Trees, nil, cons, run, registers}
 use Rattle.walks.specs.Form.{form}
 use Rattle.walks.specs.Placed.{Placed}

@@ -12,7 +12,8 @@ use Rattle.syntax.specs.Words.{max_weight, max_comparison_vars, max_column_vars}
 use Rattle.syntax.specs.Syntax.{IfIsRead, Domain, CmpOp, Ne, IntExpr, IConst, IVar, Linear, If, Terms, tnil, tmore, BoolExpr, Const, Var, NVar, And, Or, Not, Xor, Iff, Imp, Cmp, Members, mnil, more, encode_int, encode_bool, Cell, Rule, Table, AllDifferent}
 use Rattle.limits.specs.Limits.{any_pair, any_part, heavy_stmt, many_stmt, any_comparison, any_comparison_members, any_inside, any_inside_terms, weight, terms_weight, heavy, heavy_terms, heavy_comparison, written, written_terms, ifs, ifs_terms, many_comparison, many_column}
 use Rattle.sums.specs.Rising.{terms_of}
-use Rattle.sums.specs.Bounds.{size, heavy_weight}
+use Rattle.sums.specs.Bounds.{size}
+use Rattle.sums.proofs.BoundsLaws.{heavy_weight}
 use Rattle.clauses.specs.Clause.{negate_if}
 use Rattle.walk.specs.declared.Counters.{Counters}
 use Rattle.walks.specs.Tree.{Tree, cmp as tree-cmp, Trees, nil as no-trees, cons as more-trees, append, joined, pair, Splitting, never, below, here, inner, own_splits, splits, splits_int, crossed_at, resolve, resolves, resolve_int, resolve_terms, tie, sides_tied, ties, ties_members, ties_int, ties_terms}

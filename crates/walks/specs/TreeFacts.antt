@@ -10,10 +10,10 @@ use Rattle.laws.specs.Slices.{Has}
 use Rattle.memory.specs.Places.{folded, folded_end, limit}
 use Rattle.syntax.specs.Syntax.{Domain, IntExpr, IConst, IVar, Linear, If, Terms, tnil, tmore, BoolExpr, Const, Var, NVar, And, Or, Not, Xor, Iff, Imp, Cmp, Members, mnil, more, encode_bool, encode_int}
 use Rattle.syntax.specs.Words.{max_bools}
-use Rattle.clauses.specs.Bounds.{int_bound}
+use Rattle.clauses.proofs.Bounds.{int_bound}
 use Rattle.clauses.specs.Log.{Log, get_if}
 use Rattle.clauses.specs.Normalize.{Run, IntRun, normalize_bool_expr, normalize_int_expr}
-use Rattle.clauses.specs.Once.{int_stays, bool_stays}
+use Rattle.clauses.proofs.Once.{int_stays, bool_stays}
 use Rattle.walk.specs.Item.{is_none}
 use Rattle.walks.specs.Tree.{own_var, Place, Tree, var, num, cmp, conj, disj, cross, tied, Trees, nil, cons, IntTree, const, ivar, sum, choice, TermTrees, none as no_terms, term, Splitting, never, below, here, inner, own_splits, splits, splits_int, split_of, split_int, condition_of, resolve, resolve_int, run, run_int}
 use Rattle.walks.specs.Distinct.{none_some}

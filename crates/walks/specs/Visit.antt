@@ -13,12 +13,12 @@ use Rattle.syntax.specs.Words.{max_bools, max_ints}
 use Rattle.clauses.specs.Clause.{BoolLit, lit}
 use Rattle.clauses.specs.Log.{aux, bool, Log, next_bool, next_int, get_bool_var, get_int_var, get_if, made_ints}
 use Rattle.clauses.specs.Disjunction.{Outs, normalize_disjunction, finish_sorted}
-use Rattle.clauses.specs.Since.{here, over, top_then}
+use Rattle.clauses.proofs.Since.{here, over, top_then}
 use Rattle.walk.specs.Item.{is_none, bool_at, int_entry, fresh}
 use Rattle.answer.specs.Answer.{bool_word}
-use Rattle.walk.specs.Grow.{lit_word}
-use Rattle.walk.specs.Num.{code}
-use Rattle.walk.specs.Texts.{Auxed, here as no-aux, above, disjunction_auxed, disjunction_finish, finish_count}
+use Rattle.walk.proofs.Grow.{lit_word}
+use Rattle.walk.proofs.Num.{code}
+use Rattle.walk.proofs.Texts.{Auxed, here as no-aux, above, disjunction_auxed, disjunction_finish, finish_count}
 use Rattle.walks.specs.Tree.{Tree, var, num, cmp, conj, disj, cross, tied, Trees, nil, cons, IntTree, const, ivar, sum, choice, TermTrees, none as no_terms, term}
 use Rattle.walks.specs.Form.{form}
 use Rattle.walks.specs.Item.{has_ifs, int_count, cell, unseen, seen_in, Item, tallies}

@@ -16,11 +16,11 @@ use Rattle.clauses.specs.Clause.{BoolLit, lit, Clause}
 use Rattle.clauses.specs.Log.{MadeInt, declared_int, column, chosen, binary, aux, side, bool, int, defined, known, Log, negate_lit, next_bool, next_int, is_declared_int, get_bool_var, get_int_var, get_if, made_ints, bool_var_at, convert_bool_var}
 use Rattle.clauses.specs.Disjunction.{normalize_disjunction, finish_disjunction, finish_sorted, sorted}
 use Rattle.clauses.specs.Normalize.{Run, two, define, no_run, run_then, cross as cross-run, normalize_num, lit_clauses, normalize_var, normalize_comparison, normalize_conjunction, disjunction_of, normalize_int_var, normalize_term, equals, own_literal, condition_literal, two_valued, hull, domain_of_sum, if_constant, if_open, normalize_if}
-use Rattle.clauses.specs.Emitted.{domain_at, new_domain}
-use Rattle.clauses.specs.Since.{OnTop, here, over, top_then, top_domain}
+use Rattle.clauses.proofs.Emitted.{domain_at, new_domain}
+use Rattle.clauses.proofs.Since.{OnTop, here, over, top_then, top_domain}
 use Rattle.walk.specs.Item.{bump, fresh, bool_at}
 use Rattle.answer.specs.Answer.{bool_word}
-use Rattle.walk.specs.Grow.{Grows, same, lit_word, bool_here}
+use Rattle.walk.proofs.Grow.{Grows, same, lit_word, bool_here}
 use Rattle.walks.specs.Tree.{own_var, Place, Tree, var, num, cmp, conj, disj, cross, tied, Trees, nil, cons, IntTree, const, ivar, sum, choice, TermTrees, none as no_terms, term, condition_of, run, runs, run_int, run_terms}
 use Rattle.walks.specs.Form.{form}
 use Rattle.walks.specs.Item.{has_ifs, both_constant, seen, Item, tallies, items, item, int_item, num_item}

@@ -1,5 +1,5 @@
 use borrow.Author.Rules.{rules}
-use Rattle.fold.specs.Table.{packed_right}
+use Rattle.fold.proofs.TableLaws.{packed_right}
 use Rattle.folding.proofs.action.Goals as goal
 
 pub returns : goal.returns

@@ -3,7 +3,7 @@ use native.Mathlib.Omega.{arith}
 use lib.IntN.{pos}
 use lib.ListN.{get_or}
 use Rattle.folding.specs.Steps.{state_of}
-use Rattle.fold.specs.Table.{state_small}
+use Rattle.fold.proofs.TableLaws.{state_small}
 use Rattle.folding.proofs.BoolLaws.{ready_inside, ready_second, const_folds, var_below, var_folds}
 use Rattle.folding.proofs.fold_leaf.Goals as goal
 

@@ -2,7 +2,7 @@
 use mathlib.Core.Path.{◌≡◌, refl, sym, ◌∙◌}
 use Rattle.words.specs.Parse.{times}
 use Rattle.read.specs.Read.{read_domain as domain_of}
-use Rattle.read.specs.Exact.{domain_exact}
+use Rattle.read.proofs.Exact.{domain_exact}
 use Rattle.reader.specs.Position.{reads}
 use Rattle.reader.proofs.Laws.{times_none, times_refused, times_more}
 use borrow.Author.Rules.{rules}

@@ -2,7 +2,7 @@
 use mathlib.Core.Path.{◌≡◌, refl, sym, ◌∙◌}
 use Rattle.words.specs.Parse.{times}
 use Rattle.read.specs.Read.{read_int as int_of}
-use Rattle.read.specs.ExactExpr.{int_exact}
+use Rattle.read.proofs.ExactExpr.{int_exact}
 use Rattle.reader.specs.Position.{reads}
 use Rattle.reader.proofs.Laws.{times_none, times_refused, times_more}
 use borrow.Author.Rules.{rules}

@@ -1,0 +1,15 @@
+pub mod Bounds
+pub mod Cases
+pub mod DisjunctionMeaning
+pub mod Emitted
+pub mod Entries
+pub mod Exist
+pub mod Grow
+pub mod Means
+pub mod NormalizeMeaning
+pub mod Once
+pub mod Ranges
+pub mod RuleMeaning
+pub mod Since
+pub mod SplitMeaning
+pub mod MergeLaws

@@ -1,0 +1,11 @@
+pub mod Ahead
+pub mod AsWritten
+pub mod ConstantProp
+pub mod Ends
+pub mod FoldMeaning
+pub mod Forms
+pub mod Kept
+pub mod Meaning
+pub mod Refold
+pub mod Shape
+pub mod TableLaws

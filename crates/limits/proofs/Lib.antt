@@ -1,0 +1,4 @@
+pub mod Cases
+pub mod Count
+pub mod Light
+pub mod TotalLaws

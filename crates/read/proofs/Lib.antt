@@ -1,0 +1,4 @@
+pub mod Cases
+pub mod Exact
+pub mod ExactExpr
+pub mod Vars

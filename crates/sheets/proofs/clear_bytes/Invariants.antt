@@ -1,0 +1,15 @@
+-- `clear_bytes` meets its contract.
+use mathlib.Core.Path.{◌≡◌, refl, ◌∙◌}
+use Prim.Native.Nat.{◌-◌, ◌≤◌}
+use native.Mathlib.Omega.{arith}
+use lib.ListN.{length, take, length-set}
+use Rattle.sheetback.specs.Sheeted.{no_bytes}
+use Rattle.sheets.proofs.Laws.{cleared_next, cleared_all}
+use borrow.Author.Rules.{rules}
+use Rattle.sheets.proofs.clear_bytes.Given as goal
+
+abbrev pub invariant-loop-i : goal.invariant-loop-i
+invariant-loop-i l = (l.i ≤ length l.s) × (length l.s ≡ length l.initial.s) × (take l.i l.s ≡ no_bytes l.i)
+
+abbrev pub decreases-loop-i : goal.decreases-loop-i
+decreases-loop-i l = length l.s - l.i

@@ -1,0 +1,9 @@
+pub mod Agree
+pub mod Cases
+pub mod ColumnEntries
+pub mod ColumnMeaning
+pub mod PlainMeaning
+pub mod Sorted
+pub mod StarMeaning
+pub mod TableMeaning
+pub mod ValuesLaws
