@@ -169,13 +169,13 @@ def path(lts, place, var, parts, notes):
                 best = (new, tail)
         if best:
             return ".".join([var, arm[0], best[0]] + rest[len(best[1]) :])
-    if rest[:1] == ["auto"] and lts.callee.get(at) in lts.params:
+    if rest[:1] in (["auto"], ["new"]) and lts.callee.get(at) in lts.params:
         k = 1
         while k < len(rest) and rest[k] == "1":
             k += 1
         here_params = lts.params[lts.callee[at]]
         if k < len(rest) and rest[k] == "0" and k - 1 < len(here_params):
-            rest = ["auto", here_params[k - 1]] + rest[k + 1 :]
+            rest = [rest[0], here_params[k - 1]] + rest[k + 1 :]
     if rest[:1] == ["ensures"]:
         rest = ["ensures"] + clause(lts.fields.get(at) or [], rest[1:])
     return ".".join([var, step[1]] + rest)
