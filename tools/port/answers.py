@@ -21,7 +21,14 @@ def norm(name):
     for old, new in (("loop_holds", "loop_init"), ("loop_again", "loop_preserved"), ("loop_less", "loop_smaller")):
         name = re.sub(rf"^{old}", new, name)
         name = re.sub(rf"^(.*_?)loop(\d*)_{old[5:]}", rf"\1loop\2_{new[5:]}", name)
+    name = re.sub(r"^slice_bounds_(.*_(?:start|end)(?:_\d+)?)$", r"part_\1", name)
     return re.sub(r"^overflow_", "", name)
+
+
+def snake(name):
+    """Returns a step's name where respell.py took a function's name for a type's: node_at for Node-at, is_leaf for is_IsLeaf."""
+    name = norm(re.sub(r"(?<=[a-z])(?=[A-Z])", "_", name)).lower()
+    return name[3:] if name.startswith("is_is_") else name
 
 
 def is_new(place):
@@ -140,17 +147,17 @@ def path(lts, place, var, parts, notes):
             rest = clause(lts.pre, rest)
         return ".".join([var, norm(field)] + rest)
 
-    def seek(at):
+    def seek(at, named=norm):
         while at is not None:
             parent, step, arm, _ = lts.places[at]
-            if step and norm(step[0]) == norm(field):
+            if step and norm(step[0]) == named(field):
                 return at
-            if step and arm and any(norm(e[1]) == norm(field) for e in arm[2]):
+            if step and arm and any(norm(e[1]) == named(field) for e in arm[2]):
                 return at
             at = parent
         return None
 
-    at = seek(here) or seek(place)
+    at = seek(here) or seek(place) or seek(here, snake) or seek(place, snake)
     if at is None:
         notes.append(f"no step {field} at {here}: {var}.{'.'.join(parts)}")
         return f"{var}.{'.'.join(parts)}"
@@ -168,13 +175,13 @@ def path(lts, place, var, parts, notes):
                 best = (new, tail)
         if best:
             return ".".join([var, arm[0], best[0]] + rest[len(best[1]) :])
-    if rest[:1] == ["auto"] and lts.callee.get(at) in lts.params:
+    if rest[:1] in (["auto"], ["new"]) and lts.callee.get(at) in lts.params:
         k = 1
         while k < len(rest) and rest[k] == "1":
             k += 1
         here_params = lts.params[lts.callee[at]]
         if k < len(rest) and rest[k] == "0" and k - 1 < len(here_params):
-            rest = ["auto", here_params[k - 1]] + rest[k + 1 :]
+            rest = [rest[0], here_params[k - 1]] + rest[k + 1 :]
     if rest[:1] == ["ensures"]:
         rest = ["ensures"] + clause(lts.fields.get(at) or [], rest[1:])
     return ".".join([var, step[1]] + rest)
