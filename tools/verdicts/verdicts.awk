@@ -5,7 +5,7 @@
 # The kinds of error that say of a fact that it does not hold; any other error shows nothing by itself.
 function is_fact(m) {
     return m ~ /^(as printed|computed as far as they go), the two (types|sides) / || m ~ /^the two (types|sides) / || m ~ /^expected type `/ ||
-        m ~ /^`(omega|grind|simp|decide)`: / || m ~ /^`search`: no proof of / || m ~ /^`rw`: no occurrence of / ||
+        m ~ /^`(omega|grind|simp|decide)`: / || m ~ /^`search`: no proof of / || m ~ /^computed as a goal is, one side reads / || m ~ /^`rw`: no occurrence of / ||
         m ~ /^give a proof of that as the last argument/ || m ~ /^it is not proved that /
 }
 
@@ -51,7 +51,7 @@ function read_log(    line, rest, text, current) {
             continue
         }
         if (!match(line, /^(\.\/)?[^ :]*:[0-9]+:[0-9]+: error: /)) continue
-        if (line ~ /was not admitted|declarations? that depends? on .* not checked/) continue
+        if (line ~ /was not admitted|declarations? that depends? on .*, which was rejected, /) continue
         text = substr(line, RSTART + RLENGTH)
         rest = line; sub(/^\.\//, "", rest)
         error_path[++errors] = rest; sub(/:.*/, "", error_path[errors])
