@@ -39,11 +39,10 @@ function function_at(file, old,    line, found, here, type, fn, indent, at, n, s
 # The log: its errors in order, without those that only say that something else was not admitted; its open goals; and each function's last word.
 function read_log(    line, rest, text, current) {
     while ((getline line < log_file) > 0) {
-        if (line ~ /^logic=/) tried = 1
         if (line ~ /^logic=not-proved/) refused = 1
         if (current && line ~ /^  computed as far as they go, /) error_more[current] = substr(line, 3)
         if (line !~ /^ /) current = 0
-        if (line ~ /^fn /) { text = line; sub(/^fn /, "", text); rest = text; sub(/: .*/, "", rest); word_on[rest] = substr(text, length(rest) + 3) }
+        if (line ~ /^fn /) { tried = 1; text = line; sub(/^fn /, "", text); rest = text; sub(/: .*/, "", rest); word_on[rest] = substr(text, length(rest) + 3) }
         if (match(line, /^note: src\/[^:]*:[0-9]+:[0-9]+: it is not proved that /)) {
             goal_file[++goals] = substr(line, 7); sub(/:.*/, "", goal_file[goals])
             rest = substr(line, 7 + length(goal_file[goals]) + 1); goal_line[goals] = rest + 0
