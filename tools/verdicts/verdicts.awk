@@ -112,6 +112,7 @@ BEGIN {
     }
     for (k = 1; k <= programs; k++) {
         if (only != "" && index(" " only " ", " " name[k] " ") == 0) continue
+        if (k in bad) continue
         if (!(k in has)) fail(name[k], "it changes nothing")
         else if (!tried) { fail(name[k], "it was not tried"); bad[k] = 1 }
         else if (!refused) { fail(name[k], "it was not refused"); bad[k] = 1 }
