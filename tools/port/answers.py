@@ -25,6 +25,12 @@ def norm(name):
     return re.sub(r"^overflow_", "", name)
 
 
+def snake(name):
+    """Returns a step's name where respell.py took a function's name for a type's: node_at for Node-at, is_leaf for is_IsLeaf."""
+    name = norm(re.sub(r"(?<=[a-z])(?=[A-Z])", "_", name)).lower()
+    return name[3:] if name.startswith("is_is_") else name
+
+
 def is_new(place):
     """Says whether the older kit had no such step."""
     return place.startswith("After-way_told")
@@ -141,17 +147,17 @@ def path(lts, place, var, parts, notes):
             rest = clause(lts.pre, rest)
         return ".".join([var, norm(field)] + rest)
 
-    def seek(at):
+    def seek(at, named=norm):
         while at is not None:
             parent, step, arm, _ = lts.places[at]
-            if step and norm(step[0]) == norm(field):
+            if step and norm(step[0]) == named(field):
                 return at
-            if step and arm and any(norm(e[1]) == norm(field) for e in arm[2]):
+            if step and arm and any(norm(e[1]) == named(field) for e in arm[2]):
                 return at
             at = parent
         return None
 
-    at = seek(here) or seek(place)
+    at = seek(here) or seek(place) or seek(here, snake) or seek(place, snake)
     if at is None:
         notes.append(f"no step {field} at {here}: {var}.{'.'.join(parts)}")
         return f"{var}.{'.'.join(parts)}"

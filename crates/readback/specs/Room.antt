@@ -30,6 +30,11 @@ use Rattle.lines.specs.Lines.{count_word, print_more, print_numbers, print_line}
 use Rattle.text.specs.Listing.{print_compiled, print_answer}
 use Rattle.readback.specs.Listed.{print_result}
 
+-- a byte for each number's separator
+unfoldable pub bytes : List ℤ → ℕ
+bytes [] = 0
+bytes (z ∷ zs) = length (print_number z) + 1 + bytes zs
+
 abbrev pub Short : List ℕ → List ℤ → Type 0
 Short text ws = length text ≤ bytes ws + 3 * length ws
 
