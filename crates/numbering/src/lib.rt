@@ -37,7 +37,7 @@ use totals::{linear_of, range_of};
 use walk::{Counters, Node};
 
 // The next Boolean's and the next integer's number, and words of the answer that are sure to come.
-#[derive(Drop)]
+#[derive(Clone, Copy)]
 pub struct Progress {
     pub bools: usize,
     pub ints: usize,
@@ -45,7 +45,7 @@ pub struct Progress {
 }
 
 // Where the records begin in the output, and the longest answer.
-#[derive(Drop)]
+#[derive(Clone, Copy)]
 pub struct Room {
     pub records: usize,
     pub cap: usize,
@@ -289,7 +289,7 @@ fn put_two(out: &mut [i32], records: usize, k: usize, l: i32, x: i32, y: i32)
 
 // What the walk over an expression or members leaves: the counters, where it ends, the splitting's next number, and the tally as a member of a
 // disjunction.
-#[derive(Drop)]
+#[derive(Clone, Copy)]
 pub struct Numbered {
     pub progress: Progress,
     pub at: usize,
@@ -423,7 +423,7 @@ fn is_leaf(left: usize, code: usize) -> bool
 }
 
 // Where an If's condition, its branches and its end stand; one, two, base: the splitting's next number at the branches and at the end.
-#[derive(Drop)]
+#[derive(Clone, Copy)]
 pub struct IfParts {
     pub cond: usize,
     pub first: usize,
