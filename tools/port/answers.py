@@ -21,6 +21,7 @@ def norm(name):
     for old, new in (("loop_holds", "loop_init"), ("loop_again", "loop_preserved"), ("loop_less", "loop_smaller")):
         name = re.sub(rf"^{old}", new, name)
         name = re.sub(rf"^(.*_?)loop(\d*)_{old[5:]}", rf"\1loop\2_{new[5:]}", name)
+    name = re.sub(r"^slice_bounds_(.*_(?:start|end)(?:_\d+)?)$", r"part_\1", name)
     return re.sub(r"^overflow_", "", name)
 
 
@@ -168,13 +169,13 @@ def path(lts, place, var, parts, notes):
                 best = (new, tail)
         if best:
             return ".".join([var, arm[0], best[0]] + rest[len(best[1]) :])
-    if rest[:1] == ["auto"] and lts.callee.get(at) in lts.params:
+    if rest[:1] in (["auto"], ["new"]) and lts.callee.get(at) in lts.params:
         k = 1
         while k < len(rest) and rest[k] == "1":
             k += 1
         here_params = lts.params[lts.callee[at]]
         if k < len(rest) and rest[k] == "0" and k - 1 < len(here_params):
-            rest = ["auto", here_params[k - 1]] + rest[k + 1 :]
+            rest = [rest[0], here_params[k - 1]] + rest[k + 1 :]
     if rest[:1] == ["ensures"]:
         rest = ["ensures"] + clause(lts.fields.get(at) or [], rest[1:])
     return ".".join([var, step[1]] + rest)

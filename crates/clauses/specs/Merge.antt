@@ -10,14 +10,11 @@ use mathlib.Core.List.{List, [], ◌∷◌}
 use Rattle.laws.specs.Bools.{and_l, and_r, beq_eq, never}
 use Rattle.laws.specs.Lists.{all}
 use Rattle.syntax.specs.Written.{Any}
-use Rattle.clauses.proofs.Entries.{WellMade}
 use Rattle.syntax.specs.Syntax.{Domain, IntExpr, BoolExpr, Const, Var, NVar, And, Or, Not, Xor, Iff, Imp, Cmp, Stmt, Rule, Table, AllDifferent}
 use Rattle.syntax.specs.Satisfies.{Val, IVal, holds, stmt_holds}
 use Rattle.clauses.specs.Clause.{negate_if, BoolLit, lit, lit_true}
 use Rattle.clauses.specs.Log.{declared, aux, side, bool, merged, int, added, defined, known, Log, next_bool, next_int, negate_lit, get_bool_var, get_if, clauses_of}
 use Rattle.clauses.specs.Valuation.{Agrees, negated_true}
-use Rattle.clauses.proofs.Grow.{Extends, Lawful}
-use Rattle.clauses.proofs.Exist.{TiesHold}
 
 abbrev pub as_var : BoolExpr → Option ℕ
 as_var (Const b) = none

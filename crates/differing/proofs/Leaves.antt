@@ -17,7 +17,7 @@ use Rattle.laws.specs.Lists.{counted}
 use Rattle.laws.specs.Writes.{cap, Wrote, wrote_length, wrote_then, wrote_to}
 use Rattle.syntax.specs.Words.{max_ints}
 use Rattle.syntax.specs.Syntax.{Domain, Ne}
-use Rattle.sums.proofs.NormLaws.{norm, load}
+use Rattle.sums.specs.Norm.{norm, load}
 use Rattle.sums.specs.Bounds.{size}
 use Rattle.sums.specs.LinearSum.{Term, term, LinearSum, linear_sum, constant, insert_coef, add_coef, add_terms, add_sum, mul_terms, mul_sum, sub_sum}
 use Rattle.clauses.specs.Clause.{linear}

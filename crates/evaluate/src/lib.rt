@@ -1,5 +1,6 @@
 // A finished roster, checked. `values` holds the Booleans' values, `nb` of them, then the integers'; the set is read as it was written.
 #![tactic(auto)]
+
 ghost use Rattle.std.specs.Prelude.{◌≡◌, ◌+◌, ◌<◌, ◌≤◌, pos, length, get_or};
 ghost use Rattle.laws.specs.Lists.{all, below};
 ghost use Rattle.syntax.specs.Syntax.{op_at};

@@ -31,7 +31,8 @@ use Rattle.sums.proofs.Domain.{ordered}
 use Rattle.sums.specs.LinearSum.{Term, term, LinearSum, linear_sum, singleton, add_coef, mul_sum, lowest, highest, get_domain_linear_sum}
 use Rattle.sums.specs.Rising.{terms_of, constant_of, Among}
 use Rattle.sums.specs.Linear.{linear_of, EveryIf}
-use Rattle.sums.proofs.NormLaws.{norm, load, singleton_load, add_coef_norm, mul_sum_load}
+use Rattle.sums.proofs.NormLaws.{singleton_load, add_coef_norm, mul_sum_load}
+use Rattle.sums.specs.Norm.{norm, load}
 use Rattle.sums.specs.Bounds.{size, Coefficients, Fits, Every, add_steps, sum_steps, computed, computed_comparison, reach}
 use Rattle.sums.proofs.BoundsLaws.{heavy_weight, linear_of_load, linear_of_size, reach_weight, computed_fits, comparison_fits, domain_bounds_fit}
 use Rattle.clauses.specs.Normalize.{hull}

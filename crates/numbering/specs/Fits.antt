@@ -6,7 +6,7 @@ use Rattle.memory.specs.Places.{limit}
 use Rattle.syntax.specs.Syntax.{Domain, lower_bound, upper_bound}
 use Rattle.syntax.specs.Words.{max_weight}
 use Rattle.sums.specs.LinearSum.{is_constant}
-use Rattle.sums.proofs.NormLaws.{load}
+use Rattle.sums.specs.Norm.{load}
 use Rattle.sums.specs.Bounds.{reach}
 use Rattle.clauses.specs.Normalize.{hull}
 use Rattle.walk.specs.Item.{bump, bool_at}

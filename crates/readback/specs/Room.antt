@@ -28,10 +28,7 @@ use Rattle.decimal.specs.Decimal.{print_natural, print_number}
 use Rattle.decimal.specs.Widths.{natural_short, fitting, number_short}
 use Rattle.lines.specs.Lines.{count_word, print_more, print_numbers, print_line}
 use Rattle.text.specs.Listing.{print_compiled, print_answer}
-use Rattle.readback.proofs.Shown.{terms_words, linear_text, lits_words, lits_length, clause_text, members_in}
-use Rattle.readback.proofs.Lines.{last_text}
 use Rattle.readback.specs.Listed.{print_result}
-use Rattle.readback.proofs.ListingBack.{domain_text, tail_text, clauses_text, compiled_printed, whole, bools_word, ints_word}
 
 abbrev pub Short : List ℕ → List ℤ → Type 0
 Short text ws = length text ≤ bytes ws + 3 * length ws

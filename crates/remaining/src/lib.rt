@@ -1,5 +1,6 @@
 // For comparison with the Rust: the fixed values and the remaining statements of a set, behind folding and propagation.
 #![tactic(auto)]
+
 ghost use Rattle.std.specs.Prelude.{◌≤◌, length};
 ghost use Rattle.memory.specs.Places.{folded, folded_end};
 ghost use Rattle.syntax.specs.Words.{max_bools};

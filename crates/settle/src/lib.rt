@@ -1,5 +1,6 @@
 // Refusals 1 to 11, then folding and propagation: what a set's words give before its clauses.
 #![tactic(auto)]
+
 ghost use Rattle.std.specs.Prelude.{◌≡◌, ◌≤◌, length};
 ghost use Rattle.memory.specs.Places.{maps_end};
 ghost use Rattle.settle.specs.Settle.{SomeTaken, FoldPost, maps_empty, SettlePost};

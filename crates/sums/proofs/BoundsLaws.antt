@@ -16,7 +16,8 @@ use Rattle.sums.specs.LinearSum.{Term, term, LinearSum, linear_sum, constant, si
 use Rattle.sums.specs.Rising.{terms_of, constant_of, Rises, Each, Among}
 use Rattle.sums.proofs.RisingLaws.{add_coef_rises, add_coef_each, among_left, among_right, few_terms}
 use Rattle.sums.specs.Linear.{linear_of, linear_terms, EveryIf, EveryIfOf}
-use Rattle.sums.proofs.NormLaws.{norm, load, constant_load, singleton_load, add_coef_norm, add_sum_load, mul_sum_load, take_norm}
+use Rattle.sums.proofs.NormLaws.{constant_load, singleton_load, add_coef_norm, add_sum_load, mul_sum_load, take_norm}
+use Rattle.sums.specs.Norm.{norm, load}
 use Rattle.sums.specs.Bounds.{Coefficients, Every, Fits, Room, Small, add_steps, computed, computed_comparison, computed_terms, reach, size, sum_steps}
 
 pub domain_weight_one : (d : Domain) → 1 ≤ domain_weight d

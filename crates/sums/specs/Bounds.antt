@@ -15,9 +15,8 @@ use Rattle.syntax.specs.Syntax.{Domain, Range, Enumerative, lower_bound, upper_b
 use Rattle.limits.specs.Limits.{largest, domain_weight, weight, terms_weight, heavy, heavy_terms, heavy_comparison, written, written_terms}
 use Rattle.sums.specs.LinearSum.{Term, term, LinearSum, linear_sum, constant, singleton, add_coef, add_sum, mul_sum, lowest, highest}
 use Rattle.sums.specs.Rising.{terms_of, constant_of, Rises, Each, Among}
-use Rattle.sums.proofs.RisingLaws.{add_coef_rises, add_coef_each, among_left, among_right, few_terms}
 use Rattle.sums.specs.Linear.{linear_of, linear_terms, EveryIf, EveryIfOf}
-use Rattle.sums.proofs.NormLaws.{norm, load, constant_load, singleton_load, add_coef_norm, add_sum_load, mul_sum_load, take_norm}
+use Rattle.sums.specs.Norm.{load}
 
 -- each coefficient counts once
 abbrev pub size : LinearSum → ℕ

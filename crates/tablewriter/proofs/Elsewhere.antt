@@ -11,7 +11,7 @@ use Rattle.memory.specs.Places.{folded_end, declared_domains, table}
 use Rattle.memory.specs.Number.{nat}
 use Rattle.syntax.specs.Syntax.{Domain, lower_bound, upper_bound}
 use Rattle.sums.specs.LinearSum.{Term, term, LinearSum, linear_sum, get_domain_linear_sum}
-use Rattle.sums.proofs.NormLaws.{norm, load}
+use Rattle.sums.specs.Norm.{norm, load}
 use Rattle.sums.specs.Bounds.{reach}
 use Rattle.sums.specs.Rising.{terms_of, Each}
 use Rattle.walk.specs.Decode.{read_part}

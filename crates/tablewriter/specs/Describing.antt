@@ -5,7 +5,7 @@ use Rattle.std.proofs.lemmas.List.Edits.{sets}
 use Rattle.memory.specs.Places.{folded_end, table as table-place}
 use Rattle.syntax.specs.Words.{max_value}
 use Rattle.syntax.specs.Syntax.{Domain, lower_bound, upper_bound}
-use Rattle.sums.proofs.NormLaws.{load}
+use Rattle.sums.specs.Norm.{load}
 use Rattle.sums.specs.Bounds.{reach}
 use Rattle.walk.specs.Decode.{read_part}
 use Rattle.walk.specs.declared.Counters.{Counters}

@@ -12,7 +12,7 @@ use mir.Val.{SFits}
 use Rattle.laws.specs.Ints.{times_low, times_high, times_exchanged, times_low_size, natAbs_add, sfits_natAbs}
 use Rattle.syntax.specs.Syntax.{Domain, Range, lower_bound, upper_bound}
 use Rattle.sums.specs.LinearSum.{Term, term, LinearSum, lowest, highest, get_domain_linear_sum}
-use Rattle.sums.proofs.NormLaws.{norm, load}
+use Rattle.sums.specs.Norm.{norm, load}
 use Rattle.sums.specs.Bounds.{reach}
 use Rattle.sums.specs.Struct.{terms, Is}
 use Rattle.sums.specs.declared.LinearSum.{LinearSum as Sum}

@@ -5,7 +5,7 @@ use Rattle.std.proofs.Math.Option.{Option, none, some}
 use Rattle.std.proofs.Common.{arith}
 use Rattle.syntax.specs.Syntax.{Domain, Range, lower_bound, upper_bound}
 use Rattle.sums.specs.LinearSum.{get_domain_linear_sum}
-use Rattle.sums.proofs.NormLaws.{load}
+use Rattle.sums.specs.Norm.{load}
 use Rattle.sums.specs.Bounds.{reach}
 use Rattle.sums.specs.Struct.{sum_of}
 use Rattle.sums.specs.declared.LinearSum.{LinearSum as Sum}

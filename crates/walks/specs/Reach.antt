@@ -18,7 +18,8 @@ use Rattle.syntax.specs.Unique.{int_unique_words}
 use Rattle.limits.specs.Limits.{domain_weight, weight, terms_weight}
 use Rattle.sums.specs.LinearSum.{LinearSum, constant, singleton, is_constant, add_sum, mul_sum}
 use Rattle.sums.specs.Rising.{constant_of}
-use Rattle.sums.proofs.NormLaws.{load, constant_load, singleton_load, add_sum_load, mul_sum_load}
+use Rattle.sums.proofs.NormLaws.{constant_load, singleton_load, add_sum_load, mul_sum_load}
+use Rattle.sums.specs.Norm.{load}
 use Rattle.sums.specs.Bounds.{reach}
 use Rattle.sums.proofs.BoundsLaws.{reach_weight}
 use Rattle.clauses.specs.Clause.{BoolLit, Clause}

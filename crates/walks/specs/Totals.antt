@@ -15,7 +15,8 @@ use Rattle.limits.specs.Limits.{domain_weight}
 use Rattle.sums.specs.LinearSum.{LinearSum, linear_sum, constant, singleton, add_sum, mul_sum, get_domain_linear_sum}
 use Rattle.sums.specs.Rising.{terms_of, constant_of, Proper, Each, Among}
 use Rattle.sums.proofs.RisingLaws.{constant_proper, singleton_proper, add_sum_proper, constant_each, singleton_each, add_sum_each, mul_sum_each, among_left, among_right, among_map, few_terms, different_cons, different_map}
-use Rattle.sums.proofs.NormLaws.{load, constant_load, singleton_load, add_sum_load, mul_sum_load}
+use Rattle.sums.proofs.NormLaws.{constant_load, singleton_load, add_sum_load, mul_sum_load}
+use Rattle.sums.specs.Norm.{load}
 use Rattle.sums.specs.Bounds.{size, reach, Room}
 use Rattle.sums.proofs.BoundsLaws.{domain_weight_one, lowest_size, highest_size, room_among}
 use Rattle.clauses.specs.Normalize.{hull}

@@ -1,0 +1,47 @@
+use Prim.Native.Nat.{ℕ, ◌<◌}
+use Prim.Native.Nat.{◌+◌, ◌-◌, ◌*◌, ◌≤◌}
+use mathlib.Core.Path.{refl}
+use mathlib.Core.Bool.{Bool}
+use native.Mathlib.Omega.{arith}
+use lib.IntN.{ℤ, pos}
+use lib.ListN.{length, get_or}
+use mir.Syntax.{w32}
+use mir.Val.{SFits, to_z}
+use mir.Facts.{to_z-of_z}
+use borrow.Author.Rules.{rules, sfits_of}
+use Rattle.laws.specs.Bools.{beq_eq}
+use Rattle.evaluate.specs.Contract.{ReadyTerms, TermsPost, ReadyMembers, MembersPost}
+use Rattle.passes.proofs.SkipLaws.{bool_inside, bool_first, bool_second}
+use Rattle.evaluate.proofs.IntLaws.{int_first, int_inside, int_some, const_value, condition_ready, then_ready, else_some, then_value, else_ready, else_value, int_second, var_inside, var_value, sum_ready, sum_value, terms_none, term_ready, term_inside, term_small, rest_ready, terms_more, product_fits, sum_fits, sum_is}
+use Rattle.evaluate.proofs.BoolLaws.{ready_some, left_ready, right_ready, comparison_held, list_ready, list_held, not_ready, not_held, first_ready, second_ready, two_held, members_none, member_ready, behind_ready, behind_some, stop_held, members_more, beq_differ, not-true, not-false}
+use Rattle.evaluate.proofs.+bool_holds_comparison_holds_if_value_int_value_members_hold_terms_value.Given as goal
+
+abbrev pub decreases-bool_holds : goal.decreases-bool_holds
+decreases-bool_holds l = 3 * (length l.set.now - l.at) + 1
+
+abbrev pub decreases-comparison_holds : goal.decreases-comparison_holds
+decreases-comparison_holds l = 3 * (length l.set.now - l.at)
+
+abbrev pub decreases-if_value : goal.decreases-if_value
+decreases-if_value l = 3 * (length l.set.now - l.at)
+
+abbrev pub decreases-int_value : goal.decreases-int_value
+decreases-int_value l = 3 * (length l.set.now - l.at) + 1
+
+abbrev pub decreases-members_hold : goal.decreases-members_hold
+decreases-members_hold l = 3 * (length l.set.now - l.at) + 2
+
+abbrev pub decreases-terms_value : goal.decreases-terms_value
+decreases-terms_value l = 3 * (length l.set.now - l.at)
+
+abbrev pub invariant-members_hold-loop-rest : goal.invariant-members_hold-loop-rest
+invariant-members_hold-loop-rest l = ReadyMembers l.set l.values l.nb l.next l.rest × (l.at ≤ l.next) × ((next' : ℕ) (h : Bool) → MembersPost l.set l.values l.nb l.next l.rest l.stop next' h → MembersPost l.set l.values l.nb l.at l.n l.stop next' h)
+
+abbrev pub decreases-members_hold-loop-rest : goal.decreases-members_hold-loop-rest
+decreases-members_hold-loop-rest l = l.rest
+
+abbrev pub invariant-terms_value-loop-rest : goal.invariant-terms_value-loop-rest
+invariant-terms_value-loop-rest l = ReadyTerms l.set l.values l.nb l.next l.rest l.value × (l.at ≤ l.next) × ((next' : ℕ) (x' : ℤ) → TermsPost l.set l.values l.nb l.next l.rest l.value next' x' → TermsPost l.set l.values l.nb l.at l.n (pos 0) next' x')
+
+abbrev pub decreases-terms_value-loop-rest : goal.decreases-terms_value-loop-rest
+decreases-terms_value-loop-rest l = l.rest
