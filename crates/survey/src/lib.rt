@@ -1,5 +1,6 @@
 // Small functions of the walks over the folded words: words, literals, counters, and what members of a survey come to.
 #![tactic(auto)]
+
 ghost use Rattle.std.specs.Prelude.{◌≡◌, ◌+◌, ◌≤◌, ◌<◌, min};
 ghost use Rattle.memory.specs.Places.{folded_end};
 ghost use Rattle.syntax.specs.Words.{max_bools};

@@ -11,7 +11,7 @@ use Rattle.clauses.proofs.Bounds.{int_bound}
 use Rattle.walks.specs.Distinct.{none_some, some_is}
 use Rattle.walks.specs.Tree.{Place, Tree, IntTree, nil, cons, append, Splitting, below, here, inner, own_splits, splits, splits_int, split_int, resolve, ties, ties_int}
 use Rattle.walks.specs.Resolve.{rule_trees, pair_trees}
-use Rattle.walks.specs.Keys.{Key, keys, keys_members, keys_int, keys_terms, Every, every_none, every_more, every_map, Within, Differ, Distinct, distinct_more, Found, found, later, found_in, distinct_found, Written, ChoicesAll, Choices, choices_append, int_choices, ties_int_choices, every_append, wide, every_left, every_right, distinct_append, apart, keys_int_within, keys_int_distinct, resolve_choices, ties_choices, Makes}
+use Rattle.walks.specs.Keys.{Key, keys, keys_members, keys_int, keys_terms, Every, every_none, every_more, every_map, Within, Differ, Distinct, distinct_none, distinct_more, Found, found, later, found_in, distinct_found, Written, ChoicesAll, Choices, choices_append, int_choices, ties_int_choices, every_append, wide, every_left, every_right, distinct_append, apart, keys_int_within, keys_int_distinct, resolve_choices, ties_choices, Makes}
 
 -- ---- of a list
 
@@ -92,8 +92,9 @@ pub found_looked_up : {xs : List Key} (p : Place) (k : IntExpr) → Distinct xs 
 unfolding looked_up
 found_looked_up p k (distinct_more {x} {xs} h hs) (found a b) w = rw (a, eq-eqb p.at p.at refl, w) (ap some b)
 found_looked_up p k (distinct_more {x} {xs} h hs) (later a) w = rw (before_found x p k h a) (found_looked_up p k hs a w)
+found_looked_up p k distinct_none x5 w = elim x5 [ ]
 
-none_parted : {xs : List Key} (q : ℕ) → Every (λ x. q < x.place.at) xs → parted_in (places xs) q ≡ false
+none_parted : (q : ℕ) {xs : List Key} → Every (λ x. q < x.place.at) xs → parted_in (places xs) q ≡ false
 unfolding parted_in
 none_parted q every_none = refl
 none_parted q (every_more {x} h hs) = rw (ne_eqb x.place.at q (λ e. omega (arith, h, e))) (none_parted q hs)
@@ -109,6 +110,7 @@ found_parted p k (distinct_more {x} {xs} h hs) (found a b) =
     let n : parted_in (places xs) p.at ≡ false = none_parted p.at (every_map (λ y d. omega (arith, d.before, z)) h) in
     rw (a, eq-eqb p.at p.at refl) (or_none (not p.whole) (parted_in (places xs) p.at) n)
 found_parted p k (distinct_more {x} {xs} h hs) (later a) = rw (before_found x p k h a) (found_parted p k hs a)
+found_parted p k distinct_none x3 = elim x3 [ ]
 
 -- the If as it is written there
 pub looked_up_written : (w : List ℤ) (xs : List Key) (q : ℕ) (e : IntExpr) → Every (Written w) xs → looked_up xs q ≡ some e → Standing w q

@@ -460,7 +460,7 @@ around x w i j s hs = every_map (λ y v. record {
       absurd (omega (arith, v.small (omega (arith, z, j)), s, u));
 }) hs
 
-apart_both : {xs ys zs : List Key} → Every (λ x. Every (Differ x) ys) xs → Every (λ x. Every (Differ x) zs) xs → Every (λ x. Every (Differ x) (ys ++ zs)) xs
+apart_both : {ys zs xs : List Key} → Every (λ x. Every (Differ x) ys) xs → Every (λ x. Every (Differ x) zs) xs → Every (λ x. Every (Differ x) (ys ++ zs)) xs
 apart_both every_none every_none = every_none
 apart_both (every_more h hs) (every_more k ks) = every_more (every_append h k) (apart_both hs ks)
 
@@ -544,6 +544,7 @@ every_found (x ∷ xs) = every_more (found refl refl) (every_map (λ y h. later 
 pub found_in : {P : Key → Type 0} {xs : List Key} {p : Place} {k : IntExpr} {A : Type 0} → Every P xs → Found p k xs → ((x : Key) → P x → x.place ≡ p → x.key ≡ k → A) → A
 found_in (every_more {x} h hs) (found a b) f = f x h a b
 found_in (every_more h hs) (later a) f = found_in hs a f
+found_in {P = P} {p = p} {k = k} {A = A} every_none x5 f = elim x5 [ ]
 
 -- p k and q l: two of one list
 abbrev pub OneKey : Place → IntExpr → Place → IntExpr → Type 0
@@ -560,6 +561,7 @@ distinct_found p q k l (distinct_more {x} {xs} h hs) (found a b) (found c d) = (
 distinct_found p q k l (distinct_more {x} {xs} h hs) (found a b) (later c) = found_in h c (λ y d i j. rw (sym a, sym b, sym i, sym j) (one_of_differ x y d))
 distinct_found p q k l (distinct_more {x} {xs} h hs) (later a) (found c d) = one_turned q p l k (found_in h a (λ y e i j. rw (sym c, sym d, sym i, sym j) (one_of_differ x y e)))
 distinct_found p q k l (distinct_more h hs) (later a) (later c) = distinct_found p q k l hs a c
+distinct_found p q k l distinct_none x5 _ = elim x5 [ ]
 
 -- ---- the Ifs of trees
 

@@ -268,7 +268,7 @@ module _ (w : List ℤ) (ds : List Domain) where
         let g = terms_grow ds ts m a.1 in
         let re = ready_back g r in
         let b = ((int_good w ds e p.0).from s re n.0).behind in
-        rw b (right_either ds _ x ((int_item ds e).range w (at w s) x) ((terms_item ds ts).range w (at w a.1) x) (right_later ds a.1 _ x ((int_item ds e).range w (at w s) x) g (range_right e p.0 s re n.0 x)) (terms_right ts p.1 m a.1 r n.1 x))
+        rw b (right_either ds (run_terms ds ts m a.1).1 x ((int_item ds e).range w (at w s) x) ((terms_item ds ts).range w (at w a.1) x) (right_later ds a.1 _ x ((int_item ds e).range w (at w s) x) g (range_right e p.0 s re n.0 x)) (terms_right ts p.1 m a.1 r n.1 x))
 
   -- ---- trees: every number of the sum is found
 

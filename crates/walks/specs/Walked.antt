@@ -396,7 +396,7 @@ module _ (ds : List Domain) (F : List ℤ) (parted : ℕ → Bool) (K : ℕ → 
               (grows_words (run_grow ds d y₁.1)) (grows_words (run_grow ds c y₀)) (made_behind h) (ints_then (run_grow ds c y₀) (run_grow ds d y₁.1)) gb u)
             where
               ints_then : {a b c : Log} → Grows a b → Grows b c → next_int a ≤ next_int c
-              ints_then g h = (Rattle.walk.specs.Grow.then g h).ints
+              ints_then g h = (Rattle.walk.proofs.Grow.then g h).ints
 
           open_whole : GoodAt n st s → st.used ≤ words_of s + k → OutcomeAt k n (λ w. PlacedInt w ds t s × PlacedInt w ds f ta.1 × open_placed w) st (meet_new ds rec cap parts st) (known e (next_int fb.1) ∷ y₃)
           open_whole g u = new_whole ds F PlainInt parted K (fixed ds) rec cap with_ifs before (Named ds) (names ds) P low parts e ch.node k n st s ta.1 fb.1 (known e (next_int fb.1) ∷ y₃) (λ w. PlacedInt w ds t s) (λ w. PlacedInt w ds f ta.1) open_placed
