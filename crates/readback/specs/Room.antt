@@ -1,5 +1,4 @@
 -- The listing of an answer of at most 16384 words, each within i32, has at most 262144 bytes. Assumes nothing.
--- ---- a byte for each number's separator
 use Rattle.std.specs.Prelude.{◌≡◌, Bool, true, false, ◌||◌, cond, ltb, drop}
 use Rattle.std.proofs.Math.Path.{refl, sym}
 use Rattle.std.proofs.Common.{ap, ◌∙◌, leb-true, ltb-false}
@@ -29,6 +28,11 @@ use Rattle.decimal.specs.Widths.{natural_short, fitting, number_short}
 use Rattle.lines.specs.Lines.{count_word, print_more, print_numbers, print_line}
 use Rattle.text.specs.Listing.{print_compiled, print_answer}
 use Rattle.readback.specs.Listed.{print_result}
+
+-- a byte for each number's separator
+unfoldable pub bytes : List ℤ → ℕ
+bytes [] = 0
+bytes (z ∷ zs) = length (print_number z) + 1 + bytes zs
 
 abbrev pub Short : List ℕ → List ℤ → Type 0
 Short text ws = length text ≤ bytes ws + 3 * length ws
