@@ -14,8 +14,8 @@ believe = importlib.util.module_from_spec(importlib.util.spec_from_loader("belie
 LOADER.exec_module(believe)
 
 TOP = """-- a comment
-use lib.IntN.{ℤ, pos, _+ℤ_}
-use Rattle·low.specs.Base.{Tree as Wood, leaf, size}
+use lib.IntN.{ℤ, pos, ◌+ℤ◌}
+use Rattle.low.specs.Base.{Tree as Wood, leaf, size}
 
 pub record Claim (t : Wood) : Type 0 where
   pub small : size t ≡ pos 1
@@ -25,7 +25,7 @@ pub record Claim (t : Wood) : Type 0 where
 unused : Wood → ℤ
 unused t = pos 3
 """
-BASE = """use lib.IntN.{ℤ, pos, _+ℤ_}
+BASE = """use lib.IntN.{ℤ, pos, ◌+ℤ◌}
 
 pub data Tree : Type 0 where
   leaf : Tree
@@ -67,7 +67,7 @@ class Believe(unittest.TestCase):
     def test_a_field(self):
         found, library = self.reached("top/Top:Claim.small")
         self.assertEqual(found, [("top/Top", "Claim.small", 1), ("low/Base", "size", 6), ("low/Base", "Tree", 3), ("low/Base", "one", 2)])
-        self.assertEqual(library, ["_+ℤ_", "pos", "ℤ"])
+        self.assertEqual(library, ["pos", "ℤ", "◌+ℤ◌"])
 
     def test_a_record(self):
         self.assertEqual([name for _, name, _ in self.reached("top/Top:Claim")[0]], ["Claim", "Tree", "size", "one", "unused"])

@@ -25,6 +25,12 @@ def norm(name):
     return re.sub(r"^overflow_", "", name)
 
 
+def snake(name):
+    """Returns a step's name where respell.py took a function's name for a type's: node_at for Node-at, is_leaf for is_IsLeaf."""
+    name = norm(re.sub(r"(?<=[a-z])(?=[A-Z])", "_", name)).lower()
+    return name[3:] if name.startswith("is_is_") else name
+
+
 def is_new(place):
     """Says whether the older kit had no such step."""
     return place.startswith("After-way_told")
@@ -141,17 +147,17 @@ def path(lts, place, var, parts, notes):
             rest = clause(lts.pre, rest)
         return ".".join([var, norm(field)] + rest)
 
-    def seek(at):
+    def seek(at, named=norm):
         while at is not None:
             parent, step, arm, _ = lts.places[at]
-            if step and norm(step[0]) == norm(field):
+            if step and norm(step[0]) == named(field):
                 return at
-            if step and arm and any(norm(e[1]) == norm(field) for e in arm[2]):
+            if step and arm and any(norm(e[1]) == named(field) for e in arm[2]):
                 return at
             at = parent
         return None
 
-    at = seek(here) or seek(place)
+    at = seek(here) or seek(place) or seek(here, snake) or seek(place, snake)
     if at is None:
         notes.append(f"no step {field} at {here}: {var}.{'.'.join(parts)}")
         return f"{var}.{'.'.join(parts)}"
@@ -515,6 +521,11 @@ def convert(crate, proof, names, params, asked, keep):
             var = (args[1] if is_t and len(args) > 1 else args[0]) if args else "c"
             out = at_helpers(cite(lts, "\n".join(lines), {var: View(place)}, notes, helper_places), var, View(place), lts)
             out = re.sub(rf"\b(to_z w\d+ {re.escape(var)}\.loop-[\w-]+\.\w+)(?=[\s)])", r"\1-bits", out)
+            # a let of an earlier place that only names fields: every step is a field of the argument itself
+            for m in list(re.finditer(rf"\blet ({N}) = {re.escape(var)}(?:\.before)+ in\b", out)):
+                uses = re.findall(rf"(?<![^\s(){{}};,«»]){re.escape(m[1])}(\.{N}|(?=[\s(){{}};,]|$))", out[: m.start()] + out[m.end() :])
+                if uses and all(u and u != ".before" for u in uses):
+                    out = out.replace(m[0], f"let {m[1]} = {var} in")
             asks = re.match(r"^(.+?)_requires(?:_\d+)?$", old)
             fields = lts.record_goals.get(old) or (asked.get(asks[1], []) if asks else [])
             if len(fields) > 1 and (old in lts.record_goals or not (is_cycle and any(norm(k) == "Lts_" + asks[1] for k in ltss))):

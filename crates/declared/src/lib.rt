@@ -1,5 +1,6 @@
 // The table of the declared domains in the work slice.
 #![tactic(auto)]
+
 ghost use Rattle.memory.specs.Places.{declared_domains};
 ghost use Rattle.declared.specs.DomainTable.{TableRoom, TablePost};
 

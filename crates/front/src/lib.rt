@@ -1,5 +1,6 @@
 // The answer's words in front of the records of the emitted integers: the fixed values, the maps and the two counts.
 #![tactic(auto)]
+
 ghost use Rattle.std.specs.Prelude.{◌≡◌, ◌+◌, ◌≤◌, ◌<◌, pos, length, get_or};
 ghost use Rattle.laws.specs.Writes.{cap, Wrote, Open};
 ghost use Rattle.memory.specs.Places.{maps_end, limit};

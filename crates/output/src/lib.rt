@@ -1,5 +1,6 @@
 // Words put into the output in their final form, counted past its end: literals, comparisons, and the suffix of literals that a clause ends in.
 #![tactic(auto)]
+
 ghost use Rattle.std.specs.Prelude.{◌≡◌, [], ◌∷◌, ◌++◌, map, ◌+◌, ◌*◌, ◌-◌, ◌≤◌, length};
 ghost use Rattle.laws.specs.Lists.{flat};
 ghost use Rattle.laws.specs.Writes.{Wrote, Open};

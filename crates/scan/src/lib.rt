@@ -1,5 +1,6 @@
 // The read-only survey of the folded words with Ifs: what stands at a place, where it ends, and what its numbering and its clauses will come to.
 #![tactic(auto)]
+
 ghost use Rattle.std.specs.Prelude.{◌≡◌, true, ◌+◌, ◌≤◌, ◌<◌, length};
 ghost use Rattle.memory.specs.Places.{folded_end, limit};
 ghost use Rattle.syntax.specs.Words.{max_bools, max_ints};

@@ -2,7 +2,7 @@
 #![tactic(auto)]
 
 // How a disjunction is written: the pool alone; one longer member with the pool's literal; two longer members and no pool; else.
-#[derive(Drop)]
+#[derive(Clone, Copy)]
 pub enum Mode {
     Pool,
     One,
@@ -24,7 +24,7 @@ pub enum Node {
 
 // What a survey finds of an expression, or of so many members: the end, the splitting's next number, the counter behind it, the tally,
 // and how many clauses there are in all.
-#[derive(Drop)]
+#[derive(Clone, Copy)]
 pub struct Surveyed {
     pub at: usize,
     pub base: usize,

@@ -1,0 +1,19 @@
+use mathlib.Core.Path.{◌≡◌, refl, ◌∙◌}
+use mathlib.Core.List.{List}
+use Prim.Native.Nat.{ℕ, ◌+◌}
+use native.Mathlib.Omega.{arith}
+use lib.IntN.{ℤ}
+use lib.ListN.{length}
+use borrow.Author.Rules.{rules, sfits_of}
+use Rattle.laws.specs.Writes.{Wrote, wrote_length, Open}
+use Rattle.output.proofs.Laws.{open_next, put_word}
+use Rattle.front.specs.Front.{copied}
+use Rattle.front.proofs.Words.{copied_none, copied_more}
+use borrow.Author.Rules.{rules}
+use Rattle.front.proofs.copy_words.Given as goal
+
+abbrev pub invariant-loop-rest : goal.invariant-loop-rest
+invariant-loop-rest l = (l.i + l.rest ≡ l.from + l.n) × Open l.out l.p × (length l.out ≡ length l.initial.out) × ((c : List ℤ) (q : ℕ) → Wrote l.out l.p (copied l.work l.i l.rest) c q → Wrote l.initial.out l.o (copied l.work l.from l.n) c q)
+
+abbrev pub decreases-loop-rest : goal.decreases-loop-rest
+decreases-loop-rest l = l.rest

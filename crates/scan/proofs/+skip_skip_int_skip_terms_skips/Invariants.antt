@@ -1,0 +1,34 @@
+use borrow.Author.Rules.{rules}
+use Prim.Native.Nat.{ℕ, ◌<◌, ◌+◌, ◌*◌}
+use mathlib.Core.Path.{refl, sym, ◌∙◌}
+use mathlib.Core.Bool.{false}
+use native.Mathlib.Omega.{arith}
+use Rattle.walk.specs.Decode.{read_part}
+use Rattle.walk.proofs.NumberingSteps.{part_length}
+use Rattle.scan.specs.Nodes.{okay_at}
+use Rattle.scan.specs.Skip.{split_by, inside_low, skips_none, skips_var, skips_cmp, skips_not, skips_join, skips_cross, int_none, int_leaf, int_sum, int_if, Skipping, skipping_first, skipping_next, skipping_last, TermSkipping, terms_first, terms_next, terms_leaf, terms_last}
+use Rattle.scan.proofs.+skip_skip_int_skip_terms_skips.Given as goal
+
+abbrev pub decreases-skip : goal.decreases-skip
+decreases-skip l = 2 * l.left
+
+abbrev pub decreases-skip_int : goal.decreases-skip_int
+decreases-skip_int l = 2 * l.left
+
+abbrev pub decreases-skip_terms : goal.decreases-skip_terms
+decreases-skip_terms l = 2 * l.left + 1
+
+abbrev pub decreases-skips : goal.decreases-skips
+decreases-skips l = 2 * l.left + 1
+
+abbrev pub invariant-skip_terms-loop-rest : goal.invariant-skip_terms-loop-rest
+invariant-skip_terms-loop-rest l = TermSkipping (read_part l.work) l.left (split_by l.m) l.count l.at l.base l.rest l.q l.b
+
+abbrev pub decreases-skip_terms-loop-rest : goal.decreases-skip_terms-loop-rest
+decreases-skip_terms-loop-rest l = l.rest
+
+abbrev pub invariant-skips-loop-rest : goal.invariant-skips-loop-rest
+invariant-skips-loop-rest l = Skipping (read_part l.work) l.left (split_by l.m) l.count l.at l.base l.rest l.q l.b
+
+abbrev pub decreases-skips-loop-rest : goal.decreases-skips-loop-rest
+decreases-skips-loop-rest l = l.rest
