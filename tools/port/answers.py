@@ -545,6 +545,11 @@ def convert(crate, proof, names, params, asked, keep):
             var = (args[1] if is_t and len(args) > 1 else args[0]) if args else "c"
             out = at_helpers(cite(lts, "\n".join(lines), {var: View(place)}, notes, helper_places), var, View(place), lts)
             out = re.sub(rf"\b(to_z w\d+ {re.escape(var)}\.loop-[\w-]+\.\w+)(?=[\s)])", r"\1-bits", out)
+            # a let of an earlier place that only names fields: every step is a field of the argument itself
+            for m in list(re.finditer(rf"\blet ({N}) = {re.escape(var)}(?:\.before)+ in\b", out)):
+                uses = re.findall(rf"(?<![^\s(){{}};,«»]){re.escape(m[1])}(\.{N}|(?=[\s(){{}};,]|$))", out[: m.start()] + out[m.end() :])
+                if uses and all(u and u != ".before" for u in uses):
+                    out = out.replace(m[0], f"let {m[1]} = {var} in")
             asks = re.match(r"^(.+?)_requires(?:_\d+)?$", old)
             fields = lts.record_goals.get(old) or (asked.get(asks[1], []) if asks else [])
             if len(fields) > 1 and (old in lts.record_goals or not (is_cycle and any(norm(k) == "Lts_" + asks[1] for k in ltss))):

@@ -2,7 +2,7 @@
 #![tactic(auto)]
 
 // How a disjunction is written: the pool alone; one longer member with the pool's literal; two longer members and no pool; else.
-#[derive(Drop)]
+#[derive(Clone, Copy)]
 pub enum Mode {
     Pool,
     One,
