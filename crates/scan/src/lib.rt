@@ -447,7 +447,7 @@ pub struct Scanned {
 }
 
 // Where an integer expression ends, the splitting's next number and the counters behind it.
-#[derive(Drop)]
+#[derive(Clone, Copy)]
 pub struct Behind {
     pub at: usize,
     pub base: usize,

@@ -37,7 +37,7 @@ pub struct Surveyed {
 }
 
 // The next Boolean's and the next integer's number.
-#[derive(Drop)]
+#[derive(Clone, Copy)]
 pub struct Counters {
     pub bools: usize,
     pub ints: usize,
