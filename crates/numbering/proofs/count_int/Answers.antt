@@ -1,0 +1,5 @@
+use borrow.Author.Rules.{rules}
+use Rattle.numbering.proofs.count_int.Goals as goal
+
+pub returns : goal.returns
+returns c = rw c.bump-n.ensures
