@@ -1,5 +1,4 @@
-use borrow.Author.Rules.{rules}
-use Prim.Native.Nat.{ℕ, ◌<◌, ◌+◌, ◌*◌}
+use Prim.Native.Nat.{◌+◌}
 use mathlib.Core.Path.{refl, sym, ap, ◌∙◌}
 use mathlib.Core.Bool.{false}
 use native.Mathlib.Omega.{arith}
@@ -9,7 +8,7 @@ use Rattle.scan.specs.Skip.{split_by, Skips, SkipsAll, IntSkips, inner_some, ins
 use Rattle.numbering.specs.Task.{state_of}
 use Rattle.numbering.specs.Ties.{ties_of, int_ties_of, sides_of, ties_zero, ties_var, ties_not_starts, ties_not, ties_join_starts, ties_join, ties_cross_starts, ties_cross, ties_split_starts, ties_split, ties_cmp_first, ties_cmp_second, ties_cmp, int_ties_zero, int_ties_leaf, int_ties_sum_starts, int_ties_sum, int_ties_if_starts, int_ties_if, sides_first, sides_second, sides_third, sides_fourth, sides_done, if_ties_first, if_ties_second, if_ties_third, if_ties_done}
 use Rattle.numbering.specs.Walk.{split_below, split_here}
-use Rattle.numbering.specs.TieWalk.{int_skips_as, skips_as, walked_to, both_skip, EachSofar, each_start, each_member, each_again, each_done, TermTiesSofar, term_ties_start, term_ties_term, term_ties_again, term_ties_leaf, term_ties_done}
+use Rattle.numbering.specs.TieWalk.{int_skips_as, skips_as, walked_to, both_skip, each_start, each_member, each_again, each_done, term_ties_start, term_ties_term, term_ties_again, term_ties_leaf, term_ties_done}
 use Rattle.numbering.specs.declared.NumberedInt.{NumberedInt}
 use Rattle.numbering.proofs.+number_each_ties_number_int_ties_number_sides_number_term_ties_number_ties.Goals as goal
 

@@ -1,5 +1,5 @@
 use borrow.Author.Rules.{rules}
-use Prim.Native.Nat.{ℕ, ◌<◌, ◌+◌, ◌*◌, ◌-◌}
+use Prim.Native.Nat.{◌+◌, ◌-◌}
 use mathlib.Core.Path.{refl, sym, ap, ◌∙◌}
 use native.Mathlib.Omega.{arith}
 use Rattle.walk.specs.Decode.{read_part}
@@ -13,7 +13,7 @@ use Rattle.numbering.specs.IntSteps.{int_done_zero, leaf_starts, leaf_done, sum_
 use Rattle.numbering.specs.If.{parts_starts, parts_skips, choice_passed, choice_found, new_starts, new_done, whole_is}
 use Rattle.numbering.specs.Make.{new_full, first_starts, second_starts, new_late, branches_starts, branches_parts, branches_begin, branches_done, sums_ready, constant_starts, constant_made, open_starts, open_made, sums_bits, range_bits}
 use Rattle.numbering.specs.Conditions.{follow_ready, follow_done, constant_full, negated_starts, plain_starts, follows_as, concludes_as, opens_as, settles_as, constant_concluded, open_full, open_plain, open_negated, open_done, own_none}
-use Rattle.numbering.specs.Walk.{walked_zero, walked_var, walked_cmp, walked_not, walked_conj, walked_disj, walked_split, walked_cross, NumbersSofar, numbers_start, numbers_member, numbers_room, numbers_again, numbers_done, walked_int, TermsSofar, terms_start, terms_term, terms_again, terms_done, joined_as, split_below, split_here, parts_own, walked_if, walked_choice, found_as}
+use Rattle.numbering.specs.Walk.{walked_zero, walked_var, walked_cmp, walked_not, walked_conj, walked_disj, walked_split, walked_cross, numbers_start, numbers_member, numbers_room, numbers_again, numbers_done, walked_int, terms_start, terms_term, terms_again, terms_done, joined_as, split_below, split_here, parts_own, walked_if, walked_choice, found_as}
 use lib.IntN.{nat_abs}
 use Prim.Native.Nat.{◌≤◌}
 use lib.Dec.{leb}

@@ -1,29 +1,6 @@
-use borrow.Author.Rules.{rules}
-use Prim.Native.Nat.{ℕ, ◌<◌, ◌+◌, ◌*◌, ◌-◌}
-use mathlib.Core.Path.{refl, sym, ap, ◌∙◌}
-use native.Mathlib.Omega.{arith}
-use Rattle.walk.specs.Decode.{read_part}
-use Rattle.walk.proofs.Steps.{below_lt}
-use Rattle.walk.proofs.NumberingSteps.{part_length}
-use Rattle.scan.specs.Nodes.{okay_at}
-use Rattle.scan.specs.Skip.{split_by, int_none, int_leaf, int_sum}
-use Rattle.numbering.specs.Task.{state_of}
-use Rattle.numbering.specs.Steps.{cmp_first, cmp_second, not_starts, join_starts, cross_first, cross_second}
-use Rattle.numbering.specs.IntSteps.{int_done_zero, leaf_starts, leaf_done, sum_starts, sum_done, if_starts}
-use Rattle.numbering.specs.If.{parts_starts, parts_skips, choice_passed, choice_found, new_starts, new_done, whole_is}
-use Rattle.numbering.specs.Make.{new_full, first_starts, second_starts, new_late, branches_starts, branches_parts, branches_begin, branches_done, sums_ready, constant_starts, constant_made, open_starts, open_made, sums_bits, range_bits}
-use Rattle.numbering.specs.Conditions.{follow_ready, follow_done, constant_full, negated_starts, plain_starts, follows_as, concludes_as, opens_as, settles_as, constant_concluded, open_full, open_plain, open_negated, open_done, own_none}
-use Rattle.numbering.specs.Walk.{walked_zero, walked_var, walked_cmp, walked_not, walked_conj, walked_disj, walked_split, walked_cross, NumbersSofar, numbers_start, numbers_member, numbers_room, numbers_again, numbers_done, walked_int, TermsSofar, terms_start, terms_term, terms_again, terms_done, joined_as, split_below, split_here, parts_own, walked_if, walked_choice, found_as}
-use lib.IntN.{nat_abs}
-use Prim.Native.Nat.{◌≤◌}
-use lib.Dec.{leb}
-use mir.Syntax.{w32}
-use mir.Val.{SFits}
-use Rattle.syntax.specs.Words.{max_weight, max_bools}
-use Rattle.walks.specs.Meet.{number_word}
-use Rattle.numbering.proofs.Results.{pair_bits}
-use Rattle.numbering.specs.declared.Numbered.{Numbered}
-use Rattle.numbering.specs.declared.NumberedInt.{NumberedInt}
+use Prim.Native.Nat.{◌+◌, ◌*◌, ◌-◌}
+use Rattle.scan.specs.Skip.{split_by}
+use Rattle.numbering.specs.Walk.{NumbersSofar, TermsSofar}
 use Rattle.numbering.proofs.+number_number_branches_number_choice_number_constant_number_if_number_int_number_new_number_open_number_terms_numbers.Given as goal
 
 abbrev pub decreases-number : goal.decreases-number

@@ -1,5 +1,4 @@
 use Rattle.numbering.specs.Members.{closes_pool, closes_long}
-use borrow.Author.Rules.{rules}
 use Rattle.numbering.proofs.close.Goals as goal
 
 pub returns-then-s-eq0 : goal.returns-then-s-eq0

@@ -1,5 +1,4 @@
 use Rattle.numbering.proofs.Results.{concluded_requires, concluded_written, concluded}
-use borrow.Author.Rules.{rules}
 use Rattle.numbering.proofs.conclude.Goals as goal
 
 pub put_two-requires : goal.put_two-requires

@@ -1,6 +1,5 @@
 use mathlib.Core.Path.{sym, ◌∙◌}
 use Rattle.numbering.proofs.Branches.{counters_are}
-use borrow.Author.Rules.{rules}
 use Rattle.numbering.proofs.counters_of.Goals as goal
 
 pub returns-then-has_ifs : goal.returns-then-has_ifs

@@ -1,5 +1,4 @@
 use Rattle.numbering.proofs.Results.{crossed_is}
-use borrow.Author.Rules.{rules}
 use Rattle.numbering.proofs.cross.Goals as goal
 
 pub returns : goal.returns

@@ -1,7 +1,6 @@
 use Prim.Native.Nat.{◌+◌}
 use lib.IntN.{pos}
 use Rattle.numbering.specs.Leaf.{int_old, int_new, stays_few}
-use borrow.Author.Rules.{rules}
 use Rattle.numbering.proofs.declare_int.Goals as goal
 
 pub put_declared-requires : goal.put_declared-requires

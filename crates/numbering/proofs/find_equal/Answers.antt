@@ -1,10 +1,9 @@
-use borrow.Author.Tests.{not-true, not-false}
 use native.Mathlib.Omega.{arith}
 use mathlib.Core.Path.{sym, ◌∙◌}
 use mir.Syntax.{w32}
 use mir.Val.{SFits}
 use Rattle.laws.specs.Ints.{bits_zero, bits_nonzero}
-use Rattle.numbering.specs.Equal.{Seeking, seeking_first, seeking_next, seek_not_whole, seek_seen, seek_found, seek_none}
+use Rattle.numbering.specs.Equal.{seeking_first, seeking_next, seek_not_whole, seek_seen, seek_found, seek_none}
 use borrow.Author.Rules.{rules}
 use Rattle.numbering.proofs.find_equal.Goals as goal
 

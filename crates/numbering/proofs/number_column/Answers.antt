@@ -6,7 +6,6 @@ use Rattle.scan.specs.Skip.{split_by, IntSkips}
 use Rattle.numbering.specs.Task.{state_of}
 use Rattle.numbering.specs.TieWalk.{walked_to}
 use Rattle.numbering.specs.Columns.{column_task, column_first, column_full, column_variable, column_ready, column_made}
-use borrow.Author.Rules.{rules}
 use Rattle.numbering.proofs.number_column.Goals as goal
 
 pub number_int-a-requires : goal.number_int-a-requires

@@ -2,7 +2,6 @@ use Rattle.walk.specs.Decode.{read_part}
 use Rattle.walks.specs.Tree.{below}
 use Rattle.scan.specs.Skip.{split_by}
 use Rattle.numbering.specs.Pairs.{no_extras}
-use borrow.Author.Rules.{rules}
 use Rattle.numbering.proofs.number_extras.Goals as goal
 
 pub number_ties-e-requires : goal.number_ties-e-requires

@@ -1,7 +1,6 @@
 use Rattle.numbering.proofs.Results.{leaf_index}
 use Rattle.numbering.specs.Task.{state_of}
 use Rattle.numbering.specs.IntSteps.{leaf_ready, leaf_declared, leaf_constant}
-use borrow.Author.Rules.{rules}
 use Rattle.numbering.proofs.number_leaf.Goals as goal
 
 pub declare_int-requires : goal.declare_int-requires

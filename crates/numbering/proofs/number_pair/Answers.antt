@@ -8,7 +8,6 @@ use Rattle.numbering.specs.Task.{state_of}
 use Rattle.numbering.specs.Walk.{starts_as}
 use Rattle.numbering.specs.Rules.{done_as}
 use Rattle.numbering.specs.Pairs.{pair_first, pair_second, pair_third, pair_fourth, pair_done}
-use borrow.Author.Rules.{rules}
 use Rattle.numbering.proofs.number_pair.Goals as goal
 
 pub skip_int-a-requires : goal.skip_int-a-requires

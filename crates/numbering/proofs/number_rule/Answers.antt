@@ -8,7 +8,6 @@ use Rattle.numbering.specs.Task.{state_of}
 use Rattle.numbering.specs.Walk.{starts_as}
 use Rattle.numbering.specs.TieWalk.{walked_to}
 use Rattle.numbering.specs.Rules.{rule_task, done_as, rule_first, rule_second, rule_done}
-use borrow.Author.Rules.{rules}
 use Rattle.numbering.proofs.number_rule.Goals as goal
 
 pub skip-s-requires : goal.skip-s-requires

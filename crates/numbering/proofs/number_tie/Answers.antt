@@ -1,7 +1,6 @@
 use Rattle.scan.specs.Skip.{split_by}
 use Rattle.numbering.specs.Task.{state_of}
 use Rattle.numbering.specs.Ties.{tie_first, tie_second, tie_done}
-use borrow.Author.Rules.{rules}
 use Rattle.numbering.proofs.number_tie.Goals as goal
 
 pub number-d-requires : goal.number-d-requires

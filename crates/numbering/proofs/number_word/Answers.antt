@@ -1,5 +1,4 @@
 use Rattle.numbering.proofs.Words.{word_shared, word_fits, word_private}
-use borrow.Author.Rules.{rules}
 use Rattle.numbering.proofs.number_word.Goals as goal
 
 pub returns-then-whole : goal.returns-then-whole

@@ -1,6 +1,5 @@
 use Prim.Native.Nat.{◌+◌, ◌*◌}
 use Rattle.numbering.proofs.Words.{span_fits, count_fits, range_put}
-use borrow.Author.Rules.{rules}
 use Rattle.numbering.proofs.put_range.Goals as goal
 
 pub overflow_sub-hi : goal.overflow_sub-hi

@@ -1,6 +1,5 @@
 use Prim.Native.Nat.{◌+◌, ◌*◌}
 use Rattle.numbering.proofs.Stores.{four_stored}
-use borrow.Author.Rules.{rules}
 use Rattle.numbering.proofs.put_record.Goals as goal
 
 pub returns : goal.returns

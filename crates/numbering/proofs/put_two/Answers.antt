@@ -1,6 +1,5 @@
 use Prim.Native.Nat.{◌+◌, ◌*◌}
 use Rattle.numbering.proofs.Words.{minus_fits, rising_put, same_put, falling_put}
-use borrow.Author.Rules.{rules}
 use Rattle.numbering.proofs.put_two.Goals as goal
 
 pub overflow_sub-l : goal.overflow_sub-l

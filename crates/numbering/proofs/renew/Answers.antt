@@ -1,5 +1,4 @@
 use Rattle.numbering.proofs.Results.{renewed_is}
-use borrow.Author.Rules.{rules}
 use Rattle.numbering.proofs.renew.Goals as goal
 
 pub returns : goal.returns

@@ -1,11 +1,10 @@
 use lib.IntN.{pos}
 use lib.ListN.{get_or}
 use Prim.Native.Nat.{◌-◌, ◌+◌}
-use borrow.Author.Rules.{sfits_of, rules}
+use borrow.Author.Rules.{sfits_of}
 use Rattle.laws.specs.Signed.{same_value}
-use Rattle.numbering.specs.Equal.{Sofar, sofar_none, sofar_more, sofar_not, sofar_all}
+use Rattle.numbering.specs.Equal.{sofar_none, sofar_more, sofar_not, sofar_all}
 use Rattle.numbering.proofs.Words.{differ}
-use borrow.Author.Rules.{rules}
 use Rattle.numbering.proofs.same_words.Goals as goal
 
 pub loop-i-init : goal.loop-i-init

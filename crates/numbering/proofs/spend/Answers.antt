@@ -1,4 +1,3 @@
-use borrow.Author.Rules.{rules}
 use Rattle.numbering.proofs.spend.Goals as goal
 
 pub returns : goal.returns

@@ -1,6 +1,5 @@
 use Prim.Native.Nat.{◌+◌, ◌*◌}
 use Rattle.numbering.proofs.Results.{opened, opened_progress}
-use borrow.Author.Rules.{rules}
 use Rattle.numbering.proofs.start_open.Goals as goal
 
 pub returns : goal.returns

@@ -1,6 +1,5 @@
 use mathlib.Core.Path.{◌∙◌}
 use Rattle.numbering.proofs.Stores.{cells_stored}
-use borrow.Author.Rules.{rules}
 use Rattle.numbering.proofs.store_cells.Goals as goal
 
 pub returns : goal.returns
