@@ -4,7 +4,6 @@ use Rattle.laws.specs.Ints.{bits_nonzero}
 use Rattle.syntax.specs.Words.{max_bools}
 use Rattle.walk.proofs.Steps.{below_lt}
 use Rattle.setnumbers.proofs.Known.{sides_known}
-use borrow.Author.Rules.{rules}
 use Rattle.setnumbers.proofs.known_sides.Goals as goal
 
 pub returns-then-word-ne11 : goal.returns-then-word-ne11

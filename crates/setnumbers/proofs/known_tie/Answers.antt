@@ -1,7 +1,6 @@
 use mathlib.Core.Bool.{false≢true}
 use native.Mathlib.Omega.{arith}
 use Rattle.setnumbers.proofs.Known.{xor_known, iff_known}
-use borrow.Author.Rules.{rules}
 use Rattle.setnumbers.proofs.known_tie.Goals as goal
 
 pub known_sides-requires : goal.known_sides-requires

@@ -1,6 +1,5 @@
 use mathlib.Core.Path.{sym, ◌∙◌}
 use Rattle.setnumbers.proofs.Numbering.{few_done, once_asks, once_done}
-use borrow.Author.Rules.{rules}
 use Rattle.setnumbers.proofs.number_all_different.Goals as goal
 
 pub number_different-requires : goal.number_different-requires

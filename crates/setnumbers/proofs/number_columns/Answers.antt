@@ -1,6 +1,4 @@
-use Rattle.numbering.specs.Task.{state_of}
-use Rattle.setnumbers.proofs.Numbering.{starts_of, Columns, columns_first, column_asks, columns_next, columns_last}
-use borrow.Author.Rules.{rules}
+use Rattle.setnumbers.proofs.Numbering.{starts_of, columns_first, column_asks, columns_next, columns_last}
 use Rattle.setnumbers.proofs.number_columns.Goals as goal
 
 pub loop-rest-init : goal.loop-rest-init

@@ -1,6 +1,5 @@
 use Rattle.numbering.specs.Task.{state_of}
-use Rattle.setnumbers.proofs.Numbering.{starts_of, Columns, columns_first, column_asks, columns_next, columns_last}
-use borrow.Author.Rules.{rules}
+use Rattle.setnumbers.proofs.Numbering.{Columns}
 use Rattle.setnumbers.proofs.number_columns.Given as goal
 
 abbrev pub invariant-loop-rest : goal.invariant-loop-rest

@@ -1,7 +1,5 @@
 use native.Mathlib.Omega.{arith}
-use Rattle.numbering.specs.Task.{state_of}
-use Rattle.setnumbers.proofs.Numbering.{Pairs, pairs_first, row_asks, pairs_next, pairs_last}
-use borrow.Author.Rules.{rules}
+use Rattle.setnumbers.proofs.Numbering.{pairs_first, row_asks, pairs_next, pairs_last}
 use Rattle.setnumbers.proofs.number_different.Goals as goal
 
 pub loop-rest-init : goal.loop-rest-init

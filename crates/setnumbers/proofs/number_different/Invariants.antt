@@ -1,7 +1,5 @@
-use native.Mathlib.Omega.{arith}
 use Rattle.numbering.specs.Task.{state_of}
-use Rattle.setnumbers.proofs.Numbering.{Pairs, pairs_first, row_asks, pairs_next, pairs_last}
-use borrow.Author.Rules.{rules}
+use Rattle.setnumbers.proofs.Numbering.{Pairs}
 use Rattle.setnumbers.proofs.number_different.Given as goal
 
 abbrev pub invariant-loop-rest : goal.invariant-loop-rest

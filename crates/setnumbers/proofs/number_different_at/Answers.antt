@@ -5,7 +5,6 @@ use Rattle.numbering.specs.Task.{state_of}
 use Rattle.stmtwords.proofs.Words.{different_inside}
 use Rattle.stmtwords.proofs.Ends.{some_different, different_ends}
 use Rattle.setnumbers.proofs.Statements.{different_asks, different_plain, different_done}
-use borrow.Author.Rules.{rules}
 use Rattle.setnumbers.proofs.number_different_at.Goals as goal
 
 pub overflow_add-at : goal.overflow_add-at

@@ -1,6 +1,4 @@
-use Rattle.numbering.specs.Task.{state_of}
-use Rattle.setnumbers.proofs.Numbering.{Expressions, each_first, each_asks, each_next, each_last}
-use borrow.Author.Rules.{rules}
+use Rattle.setnumbers.proofs.Numbering.{each_first, each_asks, each_next, each_last}
 use Rattle.setnumbers.proofs.number_each.Goals as goal
 
 pub loop-rest-init : goal.loop-rest-init

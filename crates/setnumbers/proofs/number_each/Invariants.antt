@@ -1,6 +1,5 @@
 use Rattle.numbering.specs.Task.{state_of}
-use Rattle.setnumbers.proofs.Numbering.{Expressions, each_first, each_asks, each_next, each_last}
-use borrow.Author.Rules.{rules}
+use Rattle.setnumbers.proofs.Numbering.{Expressions}
 use Rattle.setnumbers.proofs.number_each.Given as goal
 
 abbrev pub invariant-loop-rest : goal.invariant-loop-rest

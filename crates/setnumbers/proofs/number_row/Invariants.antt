@@ -1,7 +1,5 @@
-use native.Mathlib.Omega.{arith}
 use Rattle.numbering.specs.Task.{state_of}
-use Rattle.setnumbers.proofs.Numbering.{starts_of, Row, row_first, row_full, pair_asks, row_next, row_last}
-use borrow.Author.Rules.{rules}
+use Rattle.setnumbers.proofs.Numbering.{Row}
 use Rattle.setnumbers.proofs.number_row.Given as goal
 
 abbrev pub invariant-loop-rest : goal.invariant-loop-rest

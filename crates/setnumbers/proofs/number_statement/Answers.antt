@@ -5,7 +5,6 @@ use Rattle.stmtwords.proofs.Ends.{some_inside, rule_ends, table_only}
 use Rattle.setnumbers.proofs.Known.{known_ends}
 use Rattle.setnumbers.proofs.Numbering.{starts_of}
 use Rattle.setnumbers.proofs.Statements.{rule_asks, rule_done, known_done, table_asks, table_stmt_done}
-use borrow.Author.Rules.{rules}
 use Rattle.setnumbers.proofs.number_statement.Goals as goal
 
 pub overflow_add-at : goal.overflow_add-at

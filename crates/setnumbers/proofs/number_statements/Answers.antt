@@ -1,10 +1,7 @@
 use native.Mathlib.Omega.{arith}
 use Prim.Native.Nat.{◌-◌}
-use Rattle.memory.specs.Places.{folded}
 use Rattle.stmtwords.proofs.Ends.{ends_later}
-use Rattle.stages.specs.Start.{start}
-use Rattle.numbering.specs.Task.{state_of}
-use Rattle.setnumbers.proofs.Statements.{Walking, walking_first, stmt_asks, stmt_some, walking_next, walking_full, walking_last}
+use Rattle.setnumbers.proofs.Statements.{walking_first, stmt_asks, stmt_some, walking_next, walking_full, walking_last}
 use Rattle.setnumbers.proofs.number_statements.Goals as goal
 
 pub loop-q-init : goal.loop-q-init

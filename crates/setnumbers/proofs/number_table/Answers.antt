@@ -1,7 +1,6 @@
 use native.Mathlib.Omega.{arith}
 use Rattle.stmtwords.proofs.Words.{table_inside, table_stop, table_room}
 use Rattle.setnumbers.proofs.Tables.{columns_asks, table_done}
-use borrow.Author.Rules.{rules}
 use Rattle.setnumbers.proofs.number_table.Goals as goal
 
 pub overflow_add-at : goal.overflow_add-at
