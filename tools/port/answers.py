@@ -184,6 +184,12 @@ def path(lts, place, var, parts, notes):
             rest = [rest[0], here_params[k - 1]] + rest[k + 1 :]
     if rest[:1] == ["ensures"]:
         rest = ["ensures"] + clause(lts.fields.get(at) or [], rest[1:])
+    tested = re.match(r"if-not-(.+)$", step[1])
+    if tested and rest in (["true"], ["false"]):
+        calls = {c.split("::")[-1] for c in lts.callee.values() if c}
+        if any(tested[1] == c or tested[1].startswith(c + "-") for c in calls):
+            # the test of `!f(x)` says `result ≡ false` by now
+            return f"(ap not {var}.{step[1]}.{rest[0]})"
     return ".".join([var, step[1]] + rest)
 
 
@@ -192,6 +198,15 @@ def cite(lts, text, places, notes, helpers=None):
     if not places:
         return text
     helpers = helpers or {}
+    for m in list(re.finditer(rf"\blet ({N}) = ({N})((?:\.before)+) in\b", text)):
+        # a name for an earlier record of which only fields are cited: the flat record has them
+        use = rf"(?<![^\s(){{}};,]){re.escape(m[1])}(?=[\s(){{}};,.]|$)(\.{N})?"
+        if m[0] in text:
+            before, after = text.split(m[0], 1)
+            uses = re.findall(use, after)
+            if uses and all(u and not u.startswith(".before") for u in uses):
+                after = re.sub(use, lambda u: m[2] + u[1], after.lstrip(" "))
+                text = before + (after if before.endswith(" ") and not before.endswith("\n    ") else after.lstrip())
     more = True
     while more:
         more = False
@@ -207,6 +222,15 @@ def cite(lts, text, places, notes, helpers=None):
             for m in re.finditer(rf"\blet ({N}) = {re.escape(h)}(?: \([^()]*\)| {N}(?:\.{N})*)+ in\b", text):
                 if m[1] not in places:
                     places, more = {**places, m[1]: str(pl)}, True
+    for m in list(re.finditer(rf"\blet ({N}) = ({'|'.join(map(re.escape, places))})((?:\.before)*)\.({N}) in\s*", text)):
+        # a name for an arm's step: the arm's record has its fields under other names
+        at = places[m[2]]
+        while at is not None and not (lts.places[at][1] and norm(lts.places[at][1][0]) == norm(m[4])):
+            at = lts.parent(at)
+        use = rf"(?<![^\s(){{}};,]){re.escape(m[1])}(?=[\s(){{}};,.]|$)(\.{N})?"
+        if at and lts.places[at][2] and all(re.findall(use, text[text.index(m[0]) + len(m[0]) :])):
+            before, after = text.split(m[0], 1)
+            text = before + re.sub(use, lambda u: f"{m[2]}{m[3]}.{m[4]}{u[1]}", after)
     names = "|".join(sorted(map(re.escape, places), key=len, reverse=True))
     turn = re.compile(rf"(?<![^\s(){{}};,«»])({names})((?:\.{N})+)")
     text = turn.sub(lambda m: path(lts, places[m[1]], m[1], m[2][1:].split("."), notes), text)
@@ -219,7 +243,7 @@ def cite(lts, text, places, notes, helpers=None):
             lines = text.split("\n")
             for k, line in enumerate(lines):
                 left = ""
-                if k == 0 and " =" in line:
+                if line and not line[0].isspace() and " =" in line:
                     left, line = re.split(r"(?<=\s=)", line, maxsplit=1)
                 lines[k] = left + alone.sub(v + ".before" * up, line)
             text = "\n".join(lines)
@@ -395,7 +419,7 @@ def turn_invariant(item, lts, loop, where, notes, skip=0):
             del table[a]
     if table:
         names = "|".join(sorted(map(re.escape, table), key=len, reverse=True))
-        tail = re.sub(rf"(?<![^\s(){{}};,@«»])({names})(?=[\s(){{}}.;,@«»]|$)", lambda m: table[m[1]], tail)
+        tail = re.sub(rf"(?<![^\s(){{}};,@«»])({names})(?! =\s)(?=[\s(){{}}.;,@«»]|$)", lambda m: table[m[1]], tail)
     tail = re.sub(r"\(to_z w\d+ (l\.[\w.]+)\)", r"\1", tail)
     tail = re.sub(r"\bto_z w\d+ (l\.[\w.]+)", r"\1", tail)
     return new, lead, lets + tail
@@ -405,6 +429,8 @@ def convert(crate, proof, names, params, asked, keep):
     folder = os.path.dirname(proof)
     module = os.path.relpath(folder, os.path.join("crates", crate, "proofs")).replace(os.sep, ".")
     text = open(proof, encoding="utf-8").read()
+    # an import over several lines
+    text = re.sub(r"(?m)^(use \S+\.\{)\n((?:[ \t]+[^\n]*,?\n)+)\}", lambda m: m[1] + ", ".join(m[2].replace(",", " ").split()) + "}", text)
     head, found = items(text)
     notes = []
     is_cycle = os.path.basename(folder).startswith("+")
@@ -521,10 +547,18 @@ def convert(crate, proof, names, params, asked, keep):
             var = (args[1] if is_t and len(args) > 1 else args[0]) if args else "c"
             out = at_helpers(cite(lts, "\n".join(lines), {var: View(place)}, notes, helper_places), var, View(place), lts)
             out = re.sub(rf"\b(to_z w\d+ {re.escape(var)}\.loop-[\w-]+\.\w+)(?=[\s)])", r"\1-bits", out)
+            # a let of an earlier place that only names fields: every step is a field of the argument itself
+            for m in list(re.finditer(rf"\blet ({N}) = {re.escape(var)}(?:\.before)+ in\b", out)):
+                uses = re.findall(rf"(?<![^\s(){{}};,«»]){re.escape(m[1])}(\.{N}|(?=[\s(){{}};,]|$))", out[: m.start()] + out[m.end() :])
+                if uses and all(u and u != ".before" for u in uses):
+                    out = out.replace(m[0], f"let {m[1]} = {var} in")
             asks = re.match(r"^(.+?)_requires(?:_\d+)?$", old)
             fields = lts.record_goals.get(old) or (asked.get(asks[1], []) if asks else [])
             if len(fields) > 1 and (old in lts.record_goals or not (is_cycle and any(norm(k) == "Lts_" + asks[1] for k in ltss))):
                 record = as_record(out, fields)
+                whole = re.fullmatch(rf"(.*\s=\s+)({N})\.requires(?:-raw)?\s*", out, re.S)
+                if record is None and whole and set(fields) <= set(lts.pre):
+                    record = whole[1] + "record { " + "; ".join(f"{f} = {whole[2]}.requires.{f}" for f in fields) + " }"
                 if record is None:
                     notes.append(f"{new}: write it as a record of {', '.join(fields)}")
                 else:
@@ -661,7 +695,7 @@ def convert(crate, proof, names, params, asked, keep):
     uses, comments = [], []
     for line in head:
         if line.startswith("use "):
-            if re.search(rf"\.(Statement|Tie|Reads|Kinds|Lts[^\s.]*)(\.\{{| as |$)", line) or re.search(rf"proofs\.\+\S*\.\{{statement\}}", line):
+            if re.search(rf"\.(Statement|Tie|Reads|Kinds|Lts[^\s.]*)(\.\{{| as |$)", line) or re.search(rf"proofs\.\+\S*\.\{{statement\b", line):
                 continue
             if re.search(r"\bborrow\.Fn\.(Kinds|PlainCycle)\b", line):
                 continue
@@ -686,6 +720,12 @@ def convert(crate, proof, names, params, asked, keep):
         raise Trouble("files are there already")
     # a width that no goal tells any more; every signed number here is an i32
     for k, (n, t) in enumerate(wrote):
+        t = re.sub(rf"\(not[-_]true (?:_|{N}) \(ap not ({N})\)\)", r"\1", t)
+        t = re.sub(rf"\bnot[-_]true (?:_|{N}) \(ap not ({N})\)", r"\1", t)
+        if "(ap not " in t:
+            for word, module in (("not", "mathlib.Core.Bool"), ("ap", "mathlib.Core.Path")):
+                if not re.search(rf"(?m)^use [^\n]*[{{, ]{word}[,}}]", t):
+                    t = re.sub(r"(?m)^use ", f"use {module}.{{{word}}}\nuse ", t, count=1)
         turned = re.sub(r"to_z-of_z (?=\((?:sfits_of|record))", "to_z-of_z {w = w32} ", t)
         if turned != t and not re.search(r"(?m)^use mir\.Syntax\.\{[^}]*\bw32\b", turned):
             turned = re.sub(r"(?m)^use ", "use mir.Syntax.{w32}\nuse ", turned, count=1)

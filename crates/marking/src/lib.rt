@@ -1,5 +1,6 @@
 // The word for Ifs of the folded statements.
 #![tactic(auto)]
+
 ghost use Rattle.std.specs.Prelude.{◌≡◌, ◌-◌, ◌≤◌, ◌<◌, length};
 ghost use Rattle.memory.specs.Places.{folded, folded_end, ifs_word};
 ghost use Rattle.walk.specs.Decode.{read_part};

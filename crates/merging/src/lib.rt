@@ -1,5 +1,6 @@
 // Merging (merge_equivalent_variables): before numbering, rules that tie two variables give them one literal in the Boolean map.
 #![tactic(auto)]
+
 ghost use Rattle.std.specs.Prelude.{◌≡◌, true, ◌+◌, ◌≤◌, ◌<◌, length, set};
 ghost use Rattle.memory.specs.Places.{folded_end, bool_map, limit};
 ghost use Rattle.syntax.specs.Words.{max_bools};

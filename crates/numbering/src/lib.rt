@@ -1,5 +1,6 @@
 // The first walk with Ifs: numbers at first meeting and creation, and the records of the emitted integers, over the folded words.
 #![tactic(auto)]
+
 ghost use Rattle.std.specs.Prelude.{◌≡◌, true, false, ◌||◌, List, [], ◌∷◌, ◌+◌, ◌-◌, ◌*◌, ◌≤◌, ◌<◌, ℤ, pos, nat_abs, ◌+ℤ◌, length, ltb};
 ghost use Rattle.std.proofs.lemmas.List.Edits.{sets};
 ghost use Rattle.laws.specs.Ints.{lower as lower_of, higher as higher-of};
@@ -37,7 +38,7 @@ use totals::{linear_of, range_of};
 use walk::{Counters, Node};
 
 // The next Boolean's and the next integer's number, and words of the answer that are sure to come.
-#[derive(Drop)]
+#[derive(Clone, Copy)]
 pub struct Progress {
     pub bools: usize,
     pub ints: usize,
@@ -45,7 +46,7 @@ pub struct Progress {
 }
 
 // Where the records begin in the output, and the longest answer.
-#[derive(Drop)]
+#[derive(Clone, Copy)]
 pub struct Room {
     pub records: usize,
     pub cap: usize,
@@ -289,7 +290,7 @@ fn put_two(out: &mut [i32], records: usize, k: usize, l: i32, x: i32, y: i32)
 
 // What the walk over an expression or members leaves: the counters, where it ends, the splitting's next number, and the tally as a member of a
 // disjunction.
-#[derive(Drop)]
+#[derive(Clone, Copy)]
 pub struct Numbered {
     pub progress: Progress,
     pub at: usize,
@@ -370,7 +371,7 @@ fn cross(a: Numbered, b: Numbered) -> Numbered
 }
 
 // What the walk over an integer expression or terms leaves.
-#[derive(Drop)]
+#[derive(Clone, Copy)]
 pub struct NumberedInt {
     pub progress: Progress,
     pub at: usize,
@@ -423,7 +424,7 @@ fn is_leaf(left: usize, code: usize) -> bool
 }
 
 // Where an If's condition, its branches and its end stand; one, two, base: the splitting's next number at the branches and at the end.
-#[derive(Drop)]
+#[derive(Clone, Copy)]
 pub struct IfParts {
     pub cond: usize,
     pub first: usize,
@@ -466,7 +467,7 @@ fn is_passed(work: &[i32], at: usize, room: Room, c: Progress) -> bool
 // ---- Ifs: the parts outside the cycle of calls
 
 // What is found of the branches' sums: whether both are constant, and their constants.
-#[derive(Drop)]
+#[derive(Clone, Copy)]
 pub struct Sums {
     pub constant: bool,
     pub first: i32,
@@ -474,7 +475,7 @@ pub struct Sums {
 }
 
 // Lowest and highest of either branch.
-#[derive(Drop)]
+#[derive(Clone, Copy)]
 pub struct Span {
     pub low: i32,
     pub high: i32,

@@ -48,7 +48,7 @@ pub fn put(out: &mut [i32], o: usize, w: i32) -> usize
 }
 
 // The literals that the enclosing disjunctions append, from `from` on, the innermost first.
-#[derive(Drop)]
+#[derive(Clone, Copy)]
 pub struct Suffix {
     pub words: [i32; 64],
     pub from: usize,
@@ -176,7 +176,7 @@ pub fn put_two(m: usize, g: bool, n: usize, h: bool, s: Suffix, out: &mut [i32],
 }
 
 // What a longer member's clauses get: the mode, the block's first number, and whether there is a pool literal, and its word.
-#[derive(Drop)]
+#[derive(Clone, Copy)]
 pub struct Extra {
     pub mode: Mode,
     pub base: usize,

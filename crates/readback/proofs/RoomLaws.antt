@@ -31,8 +31,7 @@ use Rattle.readback.proofs.Shown.{terms_words, linear_text, lits_words, lits_len
 use Rattle.readback.proofs.Lines.{last_text}
 use Rattle.readback.specs.Listed.{print_result}
 use Rattle.readback.proofs.ListingBack.{domain_text, tail_text, clauses_text, compiled_printed, whole, bools_word, ints_word}
-use Rattle.readback.specs.Room.{Room, Short, Typed}
-use Rattle.readback.proofs.RoomLaws.{bytes}
+use Rattle.readback.specs.Room.{Room, Short, Typed, bytes}
 
 bytes_append : (xs ys : List ℤ) → bytes (xs ++ ys) ≡ bytes xs + bytes ys
 unfolding bytes

@@ -1,5 +1,4 @@
 -- The listing of an answer of at most 16384 words, each within i32, has at most 262144 bytes. Assumes nothing.
--- ---- a byte for each number's separator
 use Rattle.std.specs.Prelude.{◌≡◌, Bool, true, false, ◌||◌, cond, ltb, drop}
 use Rattle.std.proofs.Math.Path.{refl, sym}
 use Rattle.std.proofs.Common.{ap, ◌∙◌, leb-true, ltb-false}

@@ -1,5 +1,6 @@
 // Reads a set and a roster on standard input and prints the verdict.
 #![tactic(auto)]
+
 mod check; // check.rt: from text to verdict
 
 use std::io;

@@ -440,14 +440,14 @@ pub fn leaves(work: &[i32], at: usize, left: usize, m: usize, base: usize) -> Le
 // ---- the survey
 
 // What a survey finds of an expression, or of so many members, with the Boolean counter behind it, and the integer counter behind it.
-#[derive(Drop)]
+#[derive(Clone, Copy)]
 pub struct Scanned {
     pub part: Surveyed,
     pub ints: usize,
 }
 
 // Where an integer expression ends, the splitting's next number and the counters behind it.
-#[derive(Drop)]
+#[derive(Clone, Copy)]
 pub struct Behind {
     pub at: usize,
     pub base: usize,

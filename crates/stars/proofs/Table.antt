@@ -123,7 +123,7 @@ unfolding layout clause_text
 row_words x [] = refl
 row_words x (k ∷ ks) =
     let z : 0 + length x ≡ length x = omega arith in
-    rw (append-nil x, append-nil (linear_words k), z) (ap (λ (l : List ℤ). equality x k ++ l) (row_words x ks ∙ ap (λ (y : List ℤ). layout y (map alone ks)) (append-nil x)))
+    rw (append-nil x, append-nil (linear_words k), z) (ap (λ (l : List ℤ). equality x k ++ l) (row_words x ks))
 
 long_words : (o : Mode) (m : ℕ) (vs : List ℕ) (rs : List Row) (j : ℕ) → flat (long_lines o m vs rs j) ≡ long_layout (extra o m []) (longs vs rs) j []
 unfolding long_lines longs long_layout

@@ -1,5 +1,6 @@
 // The clauses of a starred table: the Or over its rows of the And of their equalities, written straight from the rows' words.
 #![tactic(auto)]
+
 ghost use Rattle.std.specs.Prelude.{[], ◌∷◌, ◌+◌, ◌≤◌, ◌<◌, drop};
 ghost use Rattle.laws.specs.Writes.{Wrote, Open};
 ghost use Rattle.memory.specs.Places.{limit};

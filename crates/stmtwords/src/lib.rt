@@ -1,5 +1,6 @@
 // What both walks find in the words of folded statements, without numbering them: where a statement ends, the new numbers of a table's rows; and a pair's Ifs made unseen again.
 #![tactic(auto)]
+
 ghost use Rattle.std.specs.Prelude.{◌≡◌, ℕ, ◌+◌, ◌*◌, ◌≤◌, length};
 ghost use Rattle.memory.specs.Places.{folded_end, limit};
 ghost use Rattle.syntax.specs.Words.{min_work_words};

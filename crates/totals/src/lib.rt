@@ -1,5 +1,6 @@
 // The linear sum of an integer expression with Ifs, from the folded words, the final maps and the cells of the Ifs; and the bounds of one.
 #![tactic(auto)]
+
 ghost use Rattle.std.specs.Prelude.{◌≡◌, false, ◌+◌, ◌-◌, ◌*◌, ◌<◌, ◌≤◌, ◌^◌, pos, negsuc, nat_abs, length, get_or};
 ghost use Rattle.laws.specs.Ints.{lower, higher};
 ghost use Rattle.syntax.specs.Words.{max_ints};

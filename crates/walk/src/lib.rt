@@ -2,7 +2,7 @@
 #![tactic(auto)]
 
 // How a disjunction is written: the pool alone; one longer member with the pool's literal; two longer members and no pool; else.
-#[derive(Drop)]
+#[derive(Clone, Copy)]
 pub enum Mode {
     Pool,
     One,
@@ -37,7 +37,7 @@ pub struct Surveyed {
 }
 
 // The next Boolean's and the next integer's number.
-#[derive(Drop)]
+#[derive(Clone, Copy)]
 pub struct Counters {
     pub bools: usize,
     pub ints: usize,

@@ -1,6 +1,5 @@
 -- `input::count_line` meets its contract. Assumes nothing.
 use Rattle.input.proofs.Reading.{key_fits, count_last, count_not, count_unread, count_done}
-use borrow.Author.Rules.{rules}
 use Rattle.input.proofs.count_line.Goals as goal
 
 pub returns-then-e-text : goal.returns-then-e-text

@@ -1,8 +1,5 @@
 -- `input::find` meets its contract. Assumes nothing.
-use Prim.Native.Nat.{◌-◌}
-use lib.ListN.{length}
-use Rattle.input.proofs.Reading.{Absent, absent_none, absent_more, found_at, found_none}
-use borrow.Author.Rules.{rules}
+use Rattle.input.proofs.Reading.{absent_none, absent_more, found_at, found_none}
 use Rattle.input.proofs.find.Goals as goal
 
 pub loop-i-init : goal.loop-i-init

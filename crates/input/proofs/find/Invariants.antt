@@ -1,8 +1,7 @@
 -- `input::find` meets its contract. Assumes nothing.
 use Prim.Native.Nat.{◌-◌}
 use lib.ListN.{length}
-use Rattle.input.proofs.Reading.{Absent, absent_none, absent_more, found_at, found_none}
-use borrow.Author.Rules.{rules}
+use Rattle.input.proofs.Reading.{Absent}
 use Rattle.input.proofs.find.Given as goal
 
 abbrev pub invariant-loop-i : goal.invariant-loop-i

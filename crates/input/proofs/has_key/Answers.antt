@@ -1,8 +1,5 @@
 -- `input::has_key` meets its contract. Assumes nothing.
-use Prim.Native.Nat.{◌-◌, ◌≤◌}
-use mathlib.Core.Path.{◌≡◌, refl}
-use lib.ListN.{length, drop}
-use Rattle.input.specs.ReadText.{after}
+use mathlib.Core.Path.{refl}
 use Rattle.input.proofs.Reading.{key_short, key_differs, key_next, key_whole}
 use borrow.Author.Rules.{rules}
 use Rattle.input.proofs.has_key.Goals as goal

@@ -1,10 +1,8 @@
 -- `input::has_key` meets its contract. Assumes nothing.
 use Prim.Native.Nat.{◌-◌, ◌≤◌}
-use mathlib.Core.Path.{◌≡◌, refl}
+use mathlib.Core.Path.{◌≡◌}
 use lib.ListN.{length, drop}
 use Rattle.input.specs.ReadText.{after}
-use Rattle.input.proofs.Reading.{key_short, key_differs, key_next, key_whole}
-use borrow.Author.Rules.{rules}
 use Rattle.input.proofs.has_key.Given as goal
 
 abbrev pub invariant-loop-i : goal.invariant-loop-i

@@ -1,14 +1,11 @@
 -- `input::lines` meets its contract. Assumes nothing.
 use Prim.Native.Nat.{◌-◌, ◌≤◌}
-use mathlib.Core.Path.{◌≡◌, refl}
+use mathlib.Core.Path.{◌≡◌}
 use mathlib.Core.List.{[]}
 use mathlib.Core.Option.{none}
 use lib.ListN.{length}
-use native.Mathlib.Omega.{arith}
 use Rattle.input.specs.ReadText.{Reader, lines as all_lines}
 use Rattle.input.specs.Input.{left_at}
-use Rattle.input.proofs.Whole.{lines_unread, lines_other, lines_in, lines_again, lines_done}
-use borrow.Author.Rules.{rules}
 use Rattle.input.proofs.lines.Given as goal
 
 abbrev pub invariant-loop-i : goal.invariant-loop-i

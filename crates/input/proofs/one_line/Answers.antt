@@ -1,6 +1,5 @@
 -- `input::one_line` meets its contract. Assumes nothing.
 use Rattle.input.proofs.Reading.{key_fits, line_not, line_open, line_unread, line_done}
-use borrow.Author.Rules.{rules}
 use Rattle.input.proofs.one_line.Goals as goal
 
 pub returns-then-not-has_key : goal.returns-then-not-has_key

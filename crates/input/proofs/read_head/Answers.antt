@@ -1,7 +1,6 @@
 -- `input::read_head` meets its contract. Assumes nothing.
 use native.Mathlib.Omega.{arith}
 use Rattle.input.proofs.Whole.{inside_next, head_one, head_two, head_three}
-use borrow.Author.Rules.{rules}
 use Rattle.input.proofs.read_head.Goals as goal
 
 pub count_line-requires : goal.count_line-requires

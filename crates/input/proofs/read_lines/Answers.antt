@@ -1,6 +1,5 @@
 -- `input::read_lines` meets its contract. Assumes nothing.
 use Rattle.input.proofs.Whole.{inside_next, text_long, whole_head, whole_tail, whole_more, whole_end}
-use borrow.Author.Rules.{rules}
 use Rattle.input.proofs.read_lines.Goals as goal
 
 pub returns-then-text-gt65536 : goal.returns-then-text-gt65536

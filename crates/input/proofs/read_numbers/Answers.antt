@@ -1,10 +1,5 @@
 -- `input::read_numbers` meets its contract. Assumes nothing.
-use Prim.Native.Nat.{◌+◌, ◌-◌, ◌≤◌}
-use mathlib.Core.Path.{◌≡◌, refl}
-use lib.ListN.{length, drop}
-use Rattle.decimal.specs.Bytes.{comma}
-use Rattle.input.specs.ReadText.{split, read_numbers as numbers}
-use Rattle.input.specs.Input.{fill}
+use mathlib.Core.Path.{refl}
 use Rattle.input.proofs.Reading.{numbers_unread, numbers_count, numbers_again}
 use borrow.Author.Rules.{rules}
 use Rattle.input.proofs.read_numbers.Goals as goal

@@ -1,7 +1,6 @@
 -- `input::read_tail` meets its contract. Assumes nothing.
 use native.Mathlib.Omega.{arith}
 use Rattle.input.proofs.Whole.{inside_next, tail_one, tail_two}
-use borrow.Author.Rules.{rules}
 use Rattle.input.proofs.read_tail.Goals as goal
 
 pub returns-in_default : goal.returns-in_default

@@ -1,6 +1,5 @@
 -- `input::words_of_text` meets its contract. Assumes nothing.
 use Rattle.input.proofs.Whole.{whole_count, whole_unread}
-use borrow.Author.Rules.{rules}
 use Rattle.input.proofs.words_of_text.Goals as goal
 
 pub returns-in-Unread : goal.returns-in-Unread

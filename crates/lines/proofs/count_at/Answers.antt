@@ -6,10 +6,9 @@ use lib.ListN.{get_or}
 use mir.Syntax.{w32}
 use mir.Val.{SFits}
 use mir.Facts.{to_z-of_z, Fits-nat_abs}
-use borrow.Author.Rules.{rules, sfits_of}
+use borrow.Author.Rules.{sfits_of}
 use Rattle.laws.specs.Signed.{test_of, not_neg}
 use Rattle.lines.proofs.Parts.{count_none, count_negative, count_plain, plain_small}
-use borrow.Author.Rules.{rules}
 use Rattle.lines.proofs.count_at.Goals as goal
 
 pub returns-then-w-lt0 : goal.returns-then-w-lt0

@@ -1,7 +1,6 @@
 -- `lines::put_clause` meets its contract. Assumes nothing.
 use Rattle.lines.proofs.Writing.{clause_shown, clause_members}
 use native.Mathlib.Omega.{arith}
-use borrow.Author.Rules.{rules}
 use Rattle.lines.proofs.put_clause.Goals as goal
 
 pub put_part-p-requires : goal.put_part-p-requires

@@ -1,11 +1,7 @@
 -- `lines::put_clauses` meets its contract. Assumes nothing.
-use Prim.Native.Nat.{◌≤◌, ◌+◌}
-use mathlib.Core.Path.{◌≡◌}
 use native.Mathlib.Omega.{arith}
-use lib.ListN.{drop}
-use Rattle.lines.specs.Lines.{members, print_clause, total}
-use Rattle.lines.proofs.Writing.{Showing, showing_start, showing_done, showing_out, showing_next, sum_done, sum_out, sum_next}
-use borrow.Author.Rules.{rules}
+use Rattle.lines.specs.Lines.{members, print_clause}
+use Rattle.lines.proofs.Writing.{showing_start, showing_done, showing_out, showing_next, sum_done, sum_out, sum_next}
 use Rattle.lines.proofs.put_clauses.Goals as goal
 
 pub loop-left-init : goal.loop-left-init

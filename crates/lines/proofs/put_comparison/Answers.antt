@@ -1,7 +1,6 @@
 -- `lines::put_comparison` meets its contract. Assumes nothing.
 use native.Mathlib.Omega.{arith}
 use Rattle.lines.proofs.Writing.{comparison_shown}
-use borrow.Author.Rules.{rules}
 use Rattle.lines.proofs.put_comparison.Goals as goal
 
 pub put_part-q-requires : goal.put_part-q-requires

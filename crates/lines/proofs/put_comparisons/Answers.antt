@@ -1,11 +1,8 @@
 -- `lines::put_comparisons` meets its contract. Assumes nothing.
 use native.Mathlib.Omega.{arith}
-use Prim.Native.Nat.{◌≤◌, ◌+◌}
-use mathlib.Core.Path.{◌≡◌, refl}
-use lib.ListN.{drop}
-use Rattle.lines.specs.Lines.{print_comparison, comparisons_in}
-use Rattle.lines.proofs.Writing.{Showing, showing_start, showing_done, showing_out, showing_next, comparisons_shown, counted_shown, comparison_less, sum_done, sum_out, sum_next}
-use borrow.Author.Rules.{rules}
+use mathlib.Core.Path.{refl}
+use Rattle.lines.specs.Lines.{print_comparison}
+use Rattle.lines.proofs.Writing.{showing_start, showing_done, showing_out, showing_next, comparisons_shown, counted_shown, comparison_less, sum_done, sum_out, sum_next}
 use Rattle.lines.proofs.put_comparisons.Goals as goal
 
 pub loop-left-init : goal.loop-left-init

@@ -1,11 +1,9 @@
 -- `lines::put_comparisons` meets its contract. Assumes nothing.
-use native.Mathlib.Omega.{arith}
 use Prim.Native.Nat.{◌≤◌, ◌+◌}
-use mathlib.Core.Path.{◌≡◌, refl}
+use mathlib.Core.Path.{◌≡◌}
 use lib.ListN.{drop}
 use Rattle.lines.specs.Lines.{print_comparison, comparisons_in}
-use Rattle.lines.proofs.Writing.{Showing, showing_start, showing_done, showing_out, showing_next, comparisons_shown, counted_shown, comparison_less, sum_done, sum_out, sum_next}
-use borrow.Author.Rules.{rules}
+use Rattle.lines.proofs.Writing.{Showing}
 use Rattle.lines.proofs.put_comparisons.Given as goal
 
 abbrev pub invariant-loop-left : goal.invariant-loop-left

@@ -1,6 +1,5 @@
 -- `lines::put_domain` meets its contract. Assumes nothing.
 use Rattle.lines.proofs.Writing.{domain_shown}
-use borrow.Author.Rules.{rules}
 use Rattle.lines.proofs.put_domain.Goals as goal
 
 pub returns : goal.returns

@@ -1,8 +1,6 @@
 -- `lines::put_domains` meets its contract. Assumes nothing.
 use native.Mathlib.Omega.{arith}
-use Rattle.lines.specs.Lines.{print_domain}
-use Rattle.lines.proofs.Writing.{Showing, showing_start, showing_done, showing_out, showing_next}
-use borrow.Author.Rules.{rules}
+use Rattle.lines.proofs.Writing.{showing_start, showing_done, showing_out, showing_next}
 use Rattle.lines.proofs.put_domains.Goals as goal
 
 pub loop-left-init : goal.loop-left-init

@@ -1,8 +1,6 @@
 -- `lines::put_domains` meets its contract. Assumes nothing.
-use native.Mathlib.Omega.{arith}
 use Rattle.lines.specs.Lines.{print_domain}
-use Rattle.lines.proofs.Writing.{Showing, showing_start, showing_done, showing_out, showing_next}
-use borrow.Author.Rules.{rules}
+use Rattle.lines.proofs.Writing.{Showing}
 use Rattle.lines.proofs.put_domains.Given as goal
 
 abbrev pub invariant-loop-left : goal.invariant-loop-left

@@ -1,7 +1,6 @@
 -- `lines::put_line` meets its contract. Assumes nothing.
 use mathlib.Core.Path.{◌∙◌}
 use Rattle.lines.proofs.Parts.{line_shown}
-use borrow.Author.Rules.{rules}
 use Rattle.lines.proofs.put_line.Goals as goal
 
 pub shape_of-out : goal.shape_of-out

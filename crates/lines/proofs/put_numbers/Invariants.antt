@@ -1,11 +1,9 @@
 -- `lines::put_numbers` meets its contract. Assumes nothing.
 use Prim.Native.Nat.{◌-◌, ◌≤◌}
-use mathlib.Core.Path.{◌≡◌, refl, sym, ◌∙◌}
+use mathlib.Core.Path.{◌≡◌}
 use lib.ListN.{length, drop}
 use Rattle.lines.specs.Lines.{print_more}
 use Rattle.decimal.specs.Puts.{puts}
-use Rattle.lines.proofs.Parts.{numbers_empty, numbers_first, numbers_next, numbers_end}
-use borrow.Author.Rules.{rules}
 use Rattle.lines.proofs.put_numbers.Given as goal
 
 abbrev pub invariant-loop-i : goal.invariant-loop-i

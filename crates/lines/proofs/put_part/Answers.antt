@@ -1,6 +1,5 @@
 -- `lines::put_part` meets its contract. Assumes nothing.
 use Rattle.lines.proofs.Parts.{part_shown}
-use borrow.Author.Rules.{rules}
 use Rattle.lines.proofs.put_part.Goals as goal
 
 pub returns : goal.returns

@@ -1,6 +1,5 @@
 -- `lines::stop` meets its contract. Assumes nothing.
 use Rattle.lines.proofs.Parts.{stop_inside, stop_end}
-use borrow.Author.Rules.{rules}
 use Rattle.lines.proofs.stop.Goals as goal
 
 pub returns-then-n-words : goal.returns-then-n-words

@@ -1,6 +1,5 @@
 use Rattle.page.proofs.Bytes.{put_sets}
 use Rattle.page.proofs.Pages.{begin_bare, begin_space, begin_turn}
-use borrow.Author.Rules.{rules}
 use Rattle.page.proofs.begin.Goals as goal
 
 pub returns-then-p : goal.returns-then-p

@@ -1,5 +1,4 @@
 use Rattle.page.proofs.Comparisons.{comparison_measured}
-use borrow.Author.Rules.{rules}
 use Rattle.page.proofs.comparison_width.Goals as goal
 
 pub returns : goal.returns

@@ -1,7 +1,6 @@
 use mathlib.Core.Path.{refl}
 use Rattle.page.proofs.Bytes.{put_sets}
 use Rattle.page.proofs.Pages.{end_written}
-use borrow.Author.Rules.{rules}
 use Rattle.page.proofs.end_line.Goals as goal
 
 pub returns : goal.returns

@@ -1,8 +1,4 @@
-use mathlib.Core.Path.{◌≡◌}
-use Prim.Native.Nat.{◌+◌, ◌≤◌}
 use native.Mathlib.Omega.{arith}
-use lib.ListN.{length}
-use Rattle.decimal.specs.Decimal.{print_natural}
 use Rattle.page.proofs.Bytes.{width_next, width_end, tenth_less}
 use Rattle.page.proofs.natural_width.Goals as goal
 

@@ -1,8 +1,4 @@
-use mathlib.Core.Path.{◌≡◌}
-use Prim.Native.Nat.{◌+◌, ◌-◌, ◌*◌, ◌≤◌}
 use native.Mathlib.Omega.{arith}
-use lib.ListN.{length, drop}
-use Rattle.lines.specs.Lines.{print_more}
 use Rattle.page.proofs.Bytes.{numbers_next, numbers_end}
 use borrow.Author.Rules.{rules}
 use Rattle.page.proofs.numbers_width.Goals as goal

@@ -1,10 +1,7 @@
 use mathlib.Core.Path.{◌≡◌}
 use Prim.Native.Nat.{◌+◌, ◌-◌, ◌*◌, ◌≤◌}
-use native.Mathlib.Omega.{arith}
 use lib.ListN.{length, drop}
 use Rattle.lines.specs.Lines.{print_more}
-use Rattle.page.proofs.Bytes.{numbers_next, numbers_end}
-use borrow.Author.Rules.{rules}
 use Rattle.page.proofs.numbers_width.Given as goal
 
 abbrev pub invariant-loop-i : goal.invariant-loop-i

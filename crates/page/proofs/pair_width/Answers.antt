@@ -1,6 +1,5 @@
 use native.Mathlib.Omega.{arith}
 use Rattle.page.proofs.Pages.{width_plain, width_comma}
-use borrow.Author.Rules.{rules}
 use Rattle.page.proofs.pair_width.Goals as goal
 
 pub returns-then-more : goal.returns-then-more

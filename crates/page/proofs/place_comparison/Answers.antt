@@ -1,5 +1,4 @@
 use Rattle.page.proofs.Comparisons.{terms_fit, comparison_placed}
-use borrow.Author.Rules.{rules}
 use Rattle.page.proofs.place_comparison.Goals as goal
 
 pub place_terms-p-requires : goal.place_terms-p-requires

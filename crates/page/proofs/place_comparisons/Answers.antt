@@ -1,10 +1,6 @@
-use mathlib.Core.Path.{◌≡◌, refl, ◌∙◌}
-use Prim.Native.Nat.{◌+◌, ◌*◌, ◌≤◌}
+use mathlib.Core.Path.{refl, ◌∙◌}
 use native.Mathlib.Omega.{arith}
-use lib.ListN.{length}
-use Rattle.page.specs.Writes.{Line}
-use Rattle.page.proofs.Comparisons.{Comparing, comparing_start, comparing_next, comparing_done, comparing_out}
-use borrow.Author.Rules.{rules}
+use Rattle.page.proofs.Comparisons.{comparing_start, comparing_next, comparing_done, comparing_out}
 use Rattle.page.proofs.place_comparisons.Goals as goal
 
 pub stop-i-requires : goal.stop-i-requires

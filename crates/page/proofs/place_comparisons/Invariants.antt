@@ -1,10 +1,8 @@
-use mathlib.Core.Path.{◌≡◌, refl, ◌∙◌}
+use mathlib.Core.Path.{◌≡◌}
 use Prim.Native.Nat.{◌+◌, ◌*◌, ◌≤◌}
-use native.Mathlib.Omega.{arith}
 use lib.ListN.{length}
 use Rattle.page.specs.Writes.{Line}
-use Rattle.page.proofs.Comparisons.{Comparing, comparing_start, comparing_next, comparing_done, comparing_out}
-use borrow.Author.Rules.{rules}
+use Rattle.page.proofs.Comparisons.{Comparing}
 use Rattle.page.proofs.place_comparisons.Given as goal
 
 abbrev pub invariant-loop-left : goal.invariant-loop-left

@@ -1,10 +1,7 @@
-use mathlib.Core.Path.{◌≡◌, refl, ◌∙◌}
-use Prim.Native.Nat.{◌+◌, ◌-◌, ◌*◌, ◌≤◌}
+use mathlib.Core.Path.{refl, ◌∙◌}
 use native.Mathlib.Omega.{arith}
-use lib.ListN.{length}
-use Rattle.page.specs.Writes.{Line}
 use Rattle.page.proofs.Bytes.{put_sets}
-use Rattle.page.proofs.Pages.{literal_moves, Literals, literals_start, literals_next, literals_end}
+use Rattle.page.proofs.Pages.{literal_moves, literals_start, literals_next, literals_end}
 use borrow.Author.Rules.{rules}
 use Rattle.page.proofs.place_literals.Goals as goal
 

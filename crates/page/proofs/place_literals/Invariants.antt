@@ -1,11 +1,8 @@
-use mathlib.Core.Path.{◌≡◌, refl, ◌∙◌}
+use mathlib.Core.Path.{◌≡◌}
 use Prim.Native.Nat.{◌+◌, ◌-◌, ◌*◌, ◌≤◌}
-use native.Mathlib.Omega.{arith}
 use lib.ListN.{length}
 use Rattle.page.specs.Writes.{Line}
-use Rattle.page.proofs.Bytes.{put_sets}
-use Rattle.page.proofs.Pages.{literal_moves, Literals, literals_start, literals_next, literals_end}
-use borrow.Author.Rules.{rules}
+use Rattle.page.proofs.Pages.{Literals}
 use Rattle.page.proofs.place_literals.Given as goal
 
 abbrev pub invariant-loop-i : goal.invariant-loop-i

@@ -1,5 +1,4 @@
 use Rattle.page.proofs.Pages.{pair_moves}
-use borrow.Author.Rules.{rules}
 use Rattle.page.proofs.place_pair.Goals as goal
 
 pub returns : goal.returns

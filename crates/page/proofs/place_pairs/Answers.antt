@@ -1,9 +1,6 @@
-use mathlib.Core.Path.{◌≡◌, refl, ◌∙◌}
-use Prim.Native.Nat.{◌+◌, ◌-◌, ◌*◌, ◌≤◌}
+use mathlib.Core.Path.{refl, ◌∙◌}
 use native.Mathlib.Omega.{arith}
-use lib.ListN.{length}
-use Rattle.page.specs.Writes.{Line}
-use Rattle.page.proofs.Pages.{stop_two, Pairs, pairs_start, pairs_next, pairs_end}
+use Rattle.page.proofs.Pages.{stop_two, pairs_start, pairs_next, pairs_end}
 use borrow.Author.Rules.{rules}
 use Rattle.page.proofs.place_pairs.Goals as goal
 

@@ -1,10 +1,8 @@
-use mathlib.Core.Path.{◌≡◌, refl, ◌∙◌}
+use mathlib.Core.Path.{◌≡◌}
 use Prim.Native.Nat.{◌+◌, ◌-◌, ◌*◌, ◌≤◌}
-use native.Mathlib.Omega.{arith}
 use lib.ListN.{length}
 use Rattle.page.specs.Writes.{Line}
-use Rattle.page.proofs.Pages.{stop_two, Pairs, pairs_start, pairs_next, pairs_end}
-use borrow.Author.Rules.{rules}
+use Rattle.page.proofs.Pages.{Pairs}
 use Rattle.page.proofs.place_pairs.Given as goal
 
 abbrev pub invariant-loop-i : goal.invariant-loop-i

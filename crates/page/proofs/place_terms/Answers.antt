@@ -1,6 +1,5 @@
 use native.Mathlib.Omega.{arith}
 use Rattle.page.proofs.Comparisons.{terms_moves, head_line}
-use borrow.Author.Rules.{rules}
 use Rattle.page.proofs.place_terms.Goals as goal
 
 pub place_pairs-requires : goal.place_pairs-requires

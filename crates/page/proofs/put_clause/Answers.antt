@@ -1,6 +1,5 @@
 use native.Mathlib.Omega.{arith}
 use Rattle.page.proofs.Clauses.{lits_few, clause_written}
-use borrow.Author.Rules.{rules}
 use Rattle.page.proofs.put_clause.Goals as goal
 
 pub end_line-e-requires : goal.end_line-e-requires

@@ -1,10 +1,7 @@
-use mathlib.Core.Path.{◌≡◌, refl, ◌∙◌}
-use Prim.Native.Nat.{◌+◌, ◌*◌, ◌≤◌}
+use mathlib.Core.Path.{refl, ◌∙◌}
 use native.Mathlib.Omega.{arith}
-use lib.ListN.{length, drop}
 use Rattle.page.proofs.Bytes.{wrote_length}
-use Rattle.page.proofs.Clauses.{text_of, Clausing, clausing_start, clauses_next, clauses_done, clauses_out}
-use borrow.Author.Rules.{rules}
+use Rattle.page.proofs.Clauses.{clausing_start, clauses_next, clauses_done, clauses_out}
 use Rattle.page.proofs.put_clauses.Goals as goal
 
 pub loop-left-init : goal.loop-left-init

@@ -1,10 +1,7 @@
-use mathlib.Core.Path.{◌≡◌, refl, ◌∙◌}
+use mathlib.Core.Path.{◌≡◌}
 use Prim.Native.Nat.{◌+◌, ◌*◌, ◌≤◌}
-use native.Mathlib.Omega.{arith}
 use lib.ListN.{length, drop}
-use Rattle.page.proofs.Bytes.{wrote_length}
-use Rattle.page.proofs.Clauses.{text_of, Clausing, clausing_start, clauses_next, clauses_done, clauses_out}
-use borrow.Author.Rules.{rules}
+use Rattle.page.proofs.Clauses.{text_of, Clausing}
 use Rattle.page.proofs.put_clauses.Given as goal
 
 abbrev pub invariant-loop-left : goal.invariant-loop-left

@@ -1,6 +1,5 @@
 use Rattle.page.proofs.Bytes.{put_sets}
 use Rattle.page.proofs.Comparisons.{head_written}
-use borrow.Author.Rules.{rules}
 use Rattle.page.proofs.put_head.Goals as goal
 
 pub returns : goal.returns

@@ -1,9 +1,6 @@
-use mathlib.Core.Path.{◌≡◌, refl, ◌∙◌}
-use Prim.Native.Nat.{◌+◌, ◌-◌, ◌*◌, ◌≤◌}
+use mathlib.Core.Path.{refl, ◌∙◌}
 use native.Mathlib.Omega.{arith}
-use lib.ListN.{length, drop}
-use Rattle.lines.specs.Lines.{print_more}
-use Rattle.page.proofs.Bytes.{Left, put_sets, numbers_none, numbers_first, numbers_more, numbers_written, left_start}
+use Rattle.page.proofs.Bytes.{put_sets, numbers_none, numbers_first, numbers_more, numbers_written, left_start}
 use borrow.Author.Rules.{rules}
 use Rattle.page.proofs.put_numbers.Goals as goal
 

@@ -1,10 +1,8 @@
-use mathlib.Core.Path.{◌≡◌, refl, ◌∙◌}
+use mathlib.Core.Path.{◌≡◌}
 use Prim.Native.Nat.{◌+◌, ◌-◌, ◌*◌, ◌≤◌}
-use native.Mathlib.Omega.{arith}
 use lib.ListN.{length, drop}
 use Rattle.lines.specs.Lines.{print_more}
-use Rattle.page.proofs.Bytes.{Left, put_sets, numbers_none, numbers_first, numbers_more, numbers_written, left_start}
-use borrow.Author.Rules.{rules}
+use Rattle.page.proofs.Bytes.{Left}
 use Rattle.page.proofs.put_numbers.Given as goal
 
 abbrev pub invariant-loop-i : goal.invariant-loop-i

@@ -1,7 +1,6 @@
 use native.Mathlib.Omega.{arith}
 use Rattle.page.proofs.Bytes.{put_sets, wrote_to}
 use Rattle.page.proofs.Pages.{pair_plain, put_comma}
-use borrow.Author.Rules.{rules}
 use Rattle.page.proofs.put_pair.Goals as goal
 
 pub overflow_add-result : goal.overflow_add-result

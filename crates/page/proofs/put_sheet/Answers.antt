@@ -1,5 +1,4 @@
 use Rattle.page.proofs.Clauses.{sheet_written}
-use borrow.Author.Rules.{rules}
 use Rattle.page.proofs.put_sheet.Goals as goal
 
 pub returns : goal.returns

@@ -1,9 +1,5 @@
-use mathlib.Core.Path.{◌≡◌, refl}
-use Prim.Native.Nat.{◌+◌, ◌-◌, ◌≤◌}
+use mathlib.Core.Path.{refl}
 use native.Mathlib.Omega.{arith}
-use lib.ListN.{length}
-use lib.Seq.{sets}
-use Rattle.page.specs.Sheet.{spaces}
 use Rattle.page.proofs.Bytes.{spaces_start, spaces_next, spaces_end}
 use borrow.Author.Rules.{rules}
 use Rattle.page.proofs.put_spaces.Goals as goal

@@ -1,11 +1,8 @@
-use mathlib.Core.Path.{◌≡◌, refl}
+use mathlib.Core.Path.{◌≡◌}
 use Prim.Native.Nat.{◌+◌, ◌-◌, ◌≤◌}
-use native.Mathlib.Omega.{arith}
 use lib.ListN.{length}
 use lib.Seq.{sets}
 use Rattle.page.specs.Sheet.{spaces}
-use Rattle.page.proofs.Bytes.{spaces_start, spaces_next, spaces_end}
-use borrow.Author.Rules.{rules}
 use Rattle.page.proofs.put_spaces.Given as goal
 
 abbrev pub invariant-loop-o : goal.invariant-loop-o

@@ -1,7 +1,6 @@
 use native.Mathlib.Omega.{arith}
 use Rattle.page.proofs.Bytes.{put_sets}
 use Rattle.page.proofs.Clauses.{number_room, clause_started}
-use borrow.Author.Rules.{rules}
 use Rattle.page.proofs.start_clause.Goals as goal
 
 pub overflow_sub-w : goal.overflow_sub-w

@@ -1,5 +1,4 @@
 use Rattle.page.proofs.Pages.{turn_moves}
-use borrow.Author.Rules.{rules}
 use Rattle.page.proofs.turn.Goals as goal
 
 pub returns : goal.returns

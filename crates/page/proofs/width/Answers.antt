@@ -5,7 +5,6 @@ use lib.Signed.{lt_z}
 use mir.Facts.{to_z-of_z, Fits-nat_abs}
 use Rattle.laws.specs.Signed.{test_of, not_neg}
 use Rattle.page.proofs.Bytes.{flip_fits, flip_plain, flip_more, negative_width, plain_width}
-use borrow.Author.Rules.{rules}
 use Rattle.page.proofs.width.Goals as goal
 
 pub overflow_sub-m : goal.overflow_sub-m

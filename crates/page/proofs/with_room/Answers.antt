@@ -1,5 +1,4 @@
 use Rattle.page.proofs.Pages.{rooms_here, rooms_turn}
-use borrow.Author.Rules.{rules}
 use Rattle.page.proofs.with_room.Goals as goal
 
 pub returns-then-p-w : goal.returns-then-p-w

@@ -1,6 +1,5 @@
 -- `text::put_compiled` meets its contract. Assumes nothing.
 use Rattle.text.proofs.Writing.{compiled_shown}
-use borrow.Author.Rules.{rules}
 use Rattle.text.proofs.put_compiled.Goals as goal
 
 pub put_line-q-requires : goal.put_line-q-requires

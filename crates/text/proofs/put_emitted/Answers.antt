@@ -1,6 +1,5 @@
 -- `text::put_emitted` meets its contract. Assumes nothing.
 use Rattle.text.proofs.Writing.{emitted_shown}
-use borrow.Author.Rules.{rules}
 use Rattle.text.proofs.put_emitted.Goals as goal
 
 pub put_domains-q-requires : goal.put_domains-q-requires

@@ -1,6 +1,5 @@
 -- `text::put_refused` meets its contract. Assumes nothing.
 use Rattle.text.proofs.Writing.{refused_shown}
-use borrow.Author.Rules.{rules}
 use Rattle.text.proofs.put_refused.Goals as goal
 
 pub returns : goal.returns

@@ -1,6 +1,5 @@
 -- `text::put_rest` meets its contract. Assumes nothing.
 use Rattle.text.proofs.Writing.{rest_shown}
-use borrow.Author.Rules.{rules}
 use Rattle.text.proofs.put_rest.Goals as goal
 
 pub put_clauses-p-requires : goal.put_clauses-p-requires

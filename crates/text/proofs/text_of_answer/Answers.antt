@@ -1,6 +1,5 @@
 -- `text::text_of_answer` meets its contract. Assumes nothing.
 use Rattle.text.proofs.Writing.{told_compiled, told_contradiction, told_unread, told_refused}
-use borrow.Author.Rules.{rules}
 use Rattle.text.proofs.text_of_answer.Goals as goal
 
 pub returns-in-Compiled : goal.returns-in-Compiled
