@@ -1,5 +1,4 @@
 -- `listing::list::list_text` meets its contract. Assumes nothing.
-use borrow.Author.Rules.{rules}
 use Rattle.listing.proofs.list.list_text.Goals as goal
 
 pub returns : goal.returns

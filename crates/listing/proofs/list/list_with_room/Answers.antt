@@ -1,6 +1,5 @@
 -- `listing::list::list_with_room` meets its contract. Assumes nothing.
 use mathlib.Core.List.{[]}
-use borrow.Author.Rules.{rules}
 use Rattle.listing.proofs.Laws.{set_fits, set_length, set_is, some_answer, lists_unread, lists_answer}
 use Rattle.listing.proofs.list.list_with_room.Goals as goal
 

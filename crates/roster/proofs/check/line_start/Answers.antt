@@ -1,11 +1,6 @@
 -- `line_start` meets its contract.
 use native.Mathlib.Omega.{arith}
-use Prim.Native.Nat.{◌≤◌}
-use mathlib.Core.Path.{◌≡◌}
-use lib.ListN.{length, take}
-use Rattle.roster.specs.RosterText.{last_feed}
 use Rattle.roster.proofs.Laws.{start_found, start_next, start_none, start_begin}
-use borrow.Author.Rules.{rules}
 use Rattle.roster.proofs.check.line_start.Goals as goal
 
 pub loop-i-init : goal.loop-i-init

@@ -1,5 +1,4 @@
 -- `put_checked` meets its contract.
-use borrow.Author.Rules.{rules}
 use Rattle.roster.specs.RosterText.{print_checked}
 use Rattle.roster.proofs.Laws.{checked_shown}
 use Rattle.roster.proofs.check.put_checked.Goals as goal

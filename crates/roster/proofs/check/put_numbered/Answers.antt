@@ -1,5 +1,4 @@
 -- `put_numbered` meets its contract.
-use borrow.Author.Rules.{rules}
 use Rattle.roster.proofs.Laws.{numbered_shown}
 use Rattle.roster.proofs.check.put_numbered.Goals as goal
 
