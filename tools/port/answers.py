@@ -243,7 +243,7 @@ def cite(lts, text, places, notes, helpers=None):
             lines = text.split("\n")
             for k, line in enumerate(lines):
                 left = ""
-                if k == 0 and " =" in line:
+                if line and not line[0].isspace() and " =" in line:
                     left, line = re.split(r"(?<=\s=)", line, maxsplit=1)
                 lines[k] = left + alone.sub(v + ".before" * up, line)
             text = "\n".join(lines)
@@ -419,7 +419,7 @@ def turn_invariant(item, lts, loop, where, notes, skip=0):
             del table[a]
     if table:
         names = "|".join(sorted(map(re.escape, table), key=len, reverse=True))
-        tail = re.sub(rf"(?<![^\s(){{}};,@«»])({names})(?=[\s(){{}}.;,@«»]|$)", lambda m: table[m[1]], tail)
+        tail = re.sub(rf"(?<![^\s(){{}};,@«»])({names})(?! =\s)(?=[\s(){{}}.;,@«»]|$)", lambda m: table[m[1]], tail)
     tail = re.sub(r"\(to_z w\d+ (l\.[\w.]+)\)", r"\1", tail)
     tail = re.sub(r"\bto_z w\d+ (l\.[\w.]+)", r"\1", tail)
     return new, lead, lets + tail
@@ -429,6 +429,8 @@ def convert(crate, proof, names, params, asked, keep):
     folder = os.path.dirname(proof)
     module = os.path.relpath(folder, os.path.join("crates", crate, "proofs")).replace(os.sep, ".")
     text = open(proof, encoding="utf-8").read()
+    # an import over several lines
+    text = re.sub(r"(?m)^(use \S+\.\{)\n((?:[ \t]+[^\n]*,?\n)+)\}", lambda m: m[1] + ", ".join(m[2].replace(",", " ").split()) + "}", text)
     head, found = items(text)
     notes = []
     is_cycle = os.path.basename(folder).startswith("+")
@@ -554,6 +556,9 @@ def convert(crate, proof, names, params, asked, keep):
             fields = lts.record_goals.get(old) or (asked.get(asks[1], []) if asks else [])
             if len(fields) > 1 and (old in lts.record_goals or not (is_cycle and any(norm(k) == "Lts_" + asks[1] for k in ltss))):
                 record = as_record(out, fields)
+                whole = re.fullmatch(rf"(.*\s=\s+)({N})\.requires(?:-raw)?\s*", out, re.S)
+                if record is None and whole and set(fields) <= set(lts.pre):
+                    record = whole[1] + "record { " + "; ".join(f"{f} = {whole[2]}.requires.{f}" for f in fields) + " }"
                 if record is None:
                     notes.append(f"{new}: write it as a record of {', '.join(fields)}")
                 else:
@@ -690,7 +695,7 @@ def convert(crate, proof, names, params, asked, keep):
     uses, comments = [], []
     for line in head:
         if line.startswith("use "):
-            if re.search(rf"\.(Statement|Tie|Reads|Kinds|Lts[^\s.]*)(\.\{{| as |$)", line) or re.search(rf"proofs\.\+\S*\.\{{statement\}}", line):
+            if re.search(rf"\.(Statement|Tie|Reads|Kinds|Lts[^\s.]*)(\.\{{| as |$)", line) or re.search(rf"proofs\.\+\S*\.\{{statement\b", line):
                 continue
             if re.search(r"\bborrow\.Fn\.(Kinds|PlainCycle)\b", line):
                 continue

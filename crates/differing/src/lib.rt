@@ -1,6 +1,7 @@
 // The clauses of an AllDifferent whose expressions stand in the work slice: one for each pair, and one for each value where the values are used up.
 // Where no If stands among the folded words, every clause follows from the final maps; else each pair is numbered again right before it is written.
 #![tactic(auto)]
+
 ghost use Rattle.std.specs.Prelude.{◌≡◌, ◌+◌, ◌-◌, ◌≤◌, ◌<◌, ◌^◌, nat_abs, length};
 ghost use Rattle.laws.specs.Lists.{counted};
 ghost use Rattle.laws.specs.Writes.{Wrote, Open};

@@ -1,5 +1,6 @@
 // The first walk with Ifs: numbers at first meeting and creation, and the records of the emitted integers, over the folded words.
 #![tactic(auto)]
+
 ghost use Rattle.std.specs.Prelude.{◌≡◌, true, false, ◌||◌, List, [], ◌∷◌, ◌+◌, ◌-◌, ◌*◌, ◌≤◌, ◌<◌, ℤ, pos, nat_abs, ◌+ℤ◌, length, ltb};
 ghost use Rattle.std.proofs.lemmas.List.Edits.{sets};
 ghost use Rattle.laws.specs.Ints.{lower as lower_of, higher as higher-of};
@@ -370,7 +371,7 @@ fn cross(a: Numbered, b: Numbered) -> Numbered
 }
 
 // What the walk over an integer expression or terms leaves.
-#[derive(Drop)]
+#[derive(Clone, Copy)]
 pub struct NumberedInt {
     pub progress: Progress,
     pub at: usize,
@@ -466,7 +467,7 @@ fn is_passed(work: &[i32], at: usize, room: Room, c: Progress) -> bool
 // ---- Ifs: the parts outside the cycle of calls
 
 // What is found of the branches' sums: whether both are constant, and their constants.
-#[derive(Drop)]
+#[derive(Clone, Copy)]
 pub struct Sums {
     pub constant: bool,
     pub first: i32,
@@ -474,7 +475,7 @@ pub struct Sums {
 }
 
 // Lowest and highest of either branch.
-#[derive(Drop)]
+#[derive(Clone, Copy)]
 pub struct Span {
     pub low: i32,
     pub high: i32,

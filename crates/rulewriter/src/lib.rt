@@ -1,6 +1,7 @@
 // The words of a rule's clauses, written straight into the output in their final form: what its Ifs add, then its own.
 // The folded words may hold Ifs.
 #![tactic(auto)]
+
 ghost use Rattle.std.specs.Prelude.{◌≡◌, true, false, not, cond, [], ◌∷◌, ◌++◌, ◌+◌, ◌≤◌, ◌<◌};
 ghost use Rattle.std.proofs.Math.Option.{none};
 ghost use Rattle.laws.specs.Writes.{Wrote, Open};

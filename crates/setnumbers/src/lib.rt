@@ -1,5 +1,6 @@
 // The first walk over all folded statements of the work slice with Ifs: numbers at first meeting and creation, and the records of the emitted integers.
 #![tactic(auto)]
+
 ghost use Rattle.std.specs.Prelude.{◌≡◌, true, false, ◌≤◌, length};
 ghost use Rattle.memory.specs.Places.{folded, folded_end};
 ghost use Rattle.walk.specs.Decode.{word as word_in, read_part};

@@ -1,16 +1,13 @@
-use Prim.Native.Nat.{ℕ, ◌<◌}
 use borrow.Author.Rules.{rules}
-use Prim.Native.Nat.{◌+◌, ◌-◌, ◌*◌, ◌≤◌}
+use Prim.Native.Nat.{◌+◌, ◌-◌}
 use mathlib.Core.Path.{refl}
 use native.Mathlib.Omega.{arith}
 use lib.IntN.{pos}
-use lib.ListN.{length, get_or}
+use lib.ListN.{get_or}
 use mir.Syntax.{w32}
 use mir.Val.{SFits}
 use mir.Facts.{to_z-of_z}
 use borrow.Author.Rules.{sfits_of}
-use Rattle.limits.specs.Total.{cap}
-use Rattle.accept.specs.Walk.{ReadyTerms, TermsPost, ReadyBools, BoolsPost}
 use Rattle.accept.proofs.Laws.{int_first, int_inside, deep_inside, deep_if, deep_if_done, deep_second, deep_terms, deep_sum, if_rule, if_inside, if_left, if_right, if_branches, if_done, terms_none, term_ready, term_inside, rest_ready, terms_more, joined_under}
 use Rattle.accept.proofs.TestLaws.{pair_left, pair_inside, pair_right, pair_behind, pair_totals, pair_done}
 use Rattle.accept.proofs.RuleLaws.{bool_inside, bool_plain, step_leaf, list_plain, step_list, step_not, step_two, cmp_ready, step_cmp, rules_none, rule_first, rules_ready, rules_rest, rules_room}

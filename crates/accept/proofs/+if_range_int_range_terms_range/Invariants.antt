@@ -1,19 +1,8 @@
-use Prim.Native.Nat.{ℕ, ◌<◌}
-use borrow.Author.Rules.{rules}
-use mathlib.Core.Path.{◌≡◌, refl, ◌∙◌}
+use Prim.Native.Nat.{ℕ}
 use Prim.Native.Nat.{◌+◌, ◌-◌, ◌*◌, ◌≤◌}
-use native.Mathlib.Omega.{arith}
 use lib.IntN.{ℤ, pos}
-use lib.ListN.{length, get_or}
-use mir.Syntax.{w32}
-use mir.Val.{SFits, to_z, of_z}
-use mir.Facts.{to_z-of_z}
-use borrow.Author.Rules.{sfits_of}
-use Rattle.laws.specs.Ints.{lower, higher, times_low}
-use Rattle.memory.specs.Places.{bounds}
+use lib.ListN.{length}
 use Rattle.accept.specs.Walk.{ReadyRanges, RangesPost}
-use Rattle.accept.proofs.Laws.{var_inside}
-use Rattle.accept.proofs.RangeLaws.{range_first_word, range_inside, const_range, if_range_ready, if_range_int, range_second, range_var, var_range, sum_ranges, sum_range, range_condition, range_if_inside, range_left, range_right, range_if, ranges_none, ranges_inside, range_first, ranges_next, ranges_more}
 use Rattle.accept.proofs.+if_range_int_range_terms_range.Given as goal
 
 abbrev pub decreases-if_range : goal.decreases-if_range

@@ -1,14 +1,12 @@
-use Prim.Native.Nat.{ℕ, ◌<◌}
+use Prim.Native.Nat.{ℕ}
 use Rattle.syntax.specs.Words.{max_ints}
-use borrow.Author.Rules.{rules}
 use Prim.Native.Nat.{◌+◌, ◌-◌, ◌*◌, ◌≤◌}
-use mathlib.Core.Path.{◌≡◌, subst}
+use mathlib.Core.Path.{◌≡◌}
 use mathlib.Core.Bool.{Bool}
 use mathlib.Core.List.{List}
-use native.Mathlib.Omega.{arith}
 use lib.ListN.{length}
 use Rattle.accept.specs.Walk.{WrittenPost}
-use Rattle.accept.proofs.CountLaws.{head_plain, head_inside, head_const, head_second, head_var, head_sum, head_condition, head_left, head_right, head_room, head_if, Pending, PendingPost, start_pending, start_post, none_pending, pending_behind, pending_inside, pending_next, pending_rest, pending_room, Counted, none_counted, counted_next, counted_room}
+use Rattle.accept.proofs.CountLaws.{Pending, PendingPost, Counted}
 use Rattle.accept.proofs.+mark_head_mark_written.Given as goal
 
 abbrev pub decreases-mark_head : goal.decreases-mark_head

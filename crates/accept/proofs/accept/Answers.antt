@@ -1,7 +1,6 @@
 use native.Mathlib.Omega.{arith}
 use mathlib.Core.Path.{sym, ◌∙◌}
 use Rattle.accept.proofs.SetLaws.{accept_short, accept_long, accept_refused, accept_ready, accept_limit, accept_ok}
-use borrow.Author.Rules.{rules}
 use Rattle.accept.proofs.accept.Goals as goal
 
 pub returns-then-work-lt-WORK_LENGTH : goal.returns-then-work-lt-WORK_LENGTH

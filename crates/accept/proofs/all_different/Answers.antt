@@ -1,5 +1,4 @@
 use Rattle.accept.proofs.DifferentLaws.{whole_split, different_done}
-use borrow.Author.Rules.{rules}
 use Rattle.accept.proofs.all_different.Goals as goal
 
 pub differ-own-requires : goal.differ-own-requires

@@ -3,7 +3,6 @@ use Prim.Native.Nat.{min, max}
 use lib.IntN.{nat_abs}
 use mir.Facts.{to_z-of_z}
 use Rattle.limits.specs.Total.{cap, bounds_total}
-use borrow.Author.Rules.{rules}
 use Rattle.accept.proofs.bounds_total.Goals as goal
 
 pub returns : goal.returns

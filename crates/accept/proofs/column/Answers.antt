@@ -1,6 +1,5 @@
 use native.Mathlib.Omega.{arith}
 use Rattle.accept.proofs.TestLaws.{column_int, column_root, column_done}
-use borrow.Author.Rules.{rules}
 use Rattle.accept.proofs.column.Goals as goal
 
 pub int_total-a-requires : goal.int_total-a-requires

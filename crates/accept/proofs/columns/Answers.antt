@@ -1,8 +1,5 @@
 use native.Mathlib.Omega.{arith}
-use Prim.Native.Nat.{ℕ, ◌≤◌}
-use Rattle.accept.specs.Walk.{ReadyColumns, ColumnsPost}
 use Rattle.accept.proofs.TestLaws.{columns_none, column_first, columns_ready, columns_rest}
-use borrow.Author.Rules.{rules}
 use Rattle.accept.proofs.columns.Goals as goal
 
 pub loop-rest-init : goal.loop-rest-init

@@ -1,8 +1,5 @@
-use native.Mathlib.Omega.{arith}
 use Prim.Native.Nat.{ℕ, ◌≤◌}
 use Rattle.accept.specs.Walk.{ReadyColumns, ColumnsPost}
-use Rattle.accept.proofs.TestLaws.{columns_none, column_first, columns_ready, columns_rest}
-use borrow.Author.Rules.{rules}
 use Rattle.accept.proofs.columns.Given as goal
 
 abbrev pub invariant-loop-rest : goal.invariant-loop-rest

@@ -1,5 +1,4 @@
 use Rattle.accept.proofs.TestLaws.{compared_heavy, compared_many, compared_none}
-use borrow.Author.Rules.{rules}
 use Rattle.accept.proofs.compared.Goals as goal
 
 pub returns-then-sum-gt1073741823 : goal.returns-then-sum-gt1073741823

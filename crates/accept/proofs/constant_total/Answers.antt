@@ -2,7 +2,6 @@ use mathlib.Core.Path.{refl, ap, ◌∙◌}
 use Prim.Native.Nat.{min}
 use mir.Facts.{to_z-of_z}
 use Rattle.limits.specs.Total.{cap, constant_total}
-use borrow.Author.Rules.{rules}
 use Rattle.accept.proofs.constant_total.Goals as goal
 
 pub returns : goal.returns

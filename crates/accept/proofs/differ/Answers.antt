@@ -1,5 +1,4 @@
 use Rattle.accept.proofs.DifferentLaws.{differ_heavy, differ_many, differ_none}
-use borrow.Author.Rules.{rules}
 use Rattle.accept.proofs.differ.Goals as goal
 
 pub returns-then-hit : goal.returns-then-hit

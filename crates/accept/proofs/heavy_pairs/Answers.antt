@@ -1,10 +1,6 @@
-use mathlib.Core.Bool.{Bool, false}
+use mathlib.Core.Bool.{false}
 use native.Mathlib.Omega.{arith}
-use Prim.Native.Nat.{ℕ, ◌≤◌}
-use Rattle.limits.specs.Total.{cap}
-use Rattle.accept.specs.Walk.{ReadyColumns, OverPost}
 use Rattle.accept.proofs.DifferentLaws.{over_none, totals_first, totals_next, over_rest}
-use borrow.Author.Rules.{rules}
 use Rattle.accept.proofs.heavy_pairs.Goals as goal
 
 pub loop-rest-init : goal.loop-rest-init

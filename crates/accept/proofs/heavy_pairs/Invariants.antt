@@ -1,10 +1,7 @@
 use mathlib.Core.Bool.{Bool, false}
-use native.Mathlib.Omega.{arith}
 use Prim.Native.Nat.{ℕ, ◌≤◌}
 use Rattle.limits.specs.Total.{cap}
 use Rattle.accept.specs.Walk.{ReadyColumns, OverPost}
-use Rattle.accept.proofs.DifferentLaws.{over_none, totals_first, totals_next, over_rest}
-use borrow.Author.Rules.{rules}
 use Rattle.accept.proofs.heavy_pairs.Given as goal
 
 abbrev pub invariant-loop-rest : goal.invariant-loop-rest

@@ -1,8 +1,5 @@
-use mathlib.Core.Bool.{Bool}
 use native.Mathlib.Omega.{arith}
-use Rattle.accept.specs.Walk.{ReadyAmong, AmongPost}
 use Rattle.accept.proofs.DifferentLaws.{among_none, among_first, among_behind, among_inside, among_next, among_hit, among_rest}
-use borrow.Author.Rules.{rules}
 use Rattle.accept.proofs.many_among.Goals as goal
 
 pub loop-rest-init : goal.loop-rest-init

@@ -1,6 +1,5 @@
 use Rattle.accept.proofs.TestLaws.{one_few}
 use Rattle.accept.proofs.CountLaws.{blank_of, one_of}
-use borrow.Author.Rules.{rules}
 use Rattle.accept.proofs.many_column.Goals as goal
 
 pub returns-then-words-lt128 : goal.returns-then-words-lt128

@@ -1,7 +1,6 @@
 use native.Mathlib.Omega.{arith}
 use Rattle.accept.proofs.TestLaws.{many_few}
 use Rattle.accept.proofs.CountLaws.{blank_of, first_size, second_size, many_of}
-use borrow.Author.Rules.{rules}
 use Rattle.accept.proofs.many_comparison.Goals as goal
 
 pub returns-then-words-lt128 : goal.returns-then-words-lt128

@@ -1,8 +1,5 @@
 use mathlib.Core.Bool.{Bool}
-use native.Mathlib.Omega.{arith}
 use Rattle.accept.specs.Walk.{ReadySplit, CrowdedPost}
-use Rattle.accept.proofs.DifferentLaws.{pairs_none, split_few, pairs_first, pairs_beside, pairs_next, pairs_hit, pairs_rest}
-use borrow.Author.Rules.{rules}
 use Rattle.accept.proofs.many_pairs.Given as goal
 
 abbrev pub invariant-loop-rest : goal.invariant-loop-rest

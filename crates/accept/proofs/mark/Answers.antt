@@ -1,5 +1,4 @@
 use Rattle.accept.proofs.CountLaws.{mark_above, mark_there, mark_new}
-use borrow.Author.Rules.{rules}
 use Rattle.accept.proofs.mark.Goals as goal
 
 pub returns-then-v-n : goal.returns-then-v-n

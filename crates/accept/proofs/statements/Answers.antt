@@ -1,8 +1,5 @@
 use native.Mathlib.Omega.{arith}
-use Prim.Native.Nat.{ℕ, ◌≤◌}
-use Rattle.accept.specs.Walk.{ReadyStmts, StmtsPost}
 use Rattle.accept.proofs.StatementLaws.{stmts_none, stmt_first, stmts_ready, stmts_rest}
-use borrow.Author.Rules.{rules}
 use Rattle.accept.proofs.statements.Goals as goal
 
 pub loop-rest-init : goal.loop-rest-init

@@ -1,8 +1,5 @@
-use native.Mathlib.Omega.{arith}
 use Prim.Native.Nat.{ℕ, ◌≤◌}
 use Rattle.accept.specs.Walk.{ReadyStmts, StmtsPost}
-use Rattle.accept.proofs.StatementLaws.{stmts_none, stmt_first, stmts_ready, stmts_rest}
-use borrow.Author.Rules.{rules}
 use Rattle.accept.proofs.statements.Given as goal
 
 abbrev pub invariant-loop-rest : goal.invariant-loop-rest

@@ -1,9 +1,7 @@
 -- `decimal::put_natural` meets its contract. Assumes nothing.
 use native.Mathlib.Omega.{arith}
 use native.Mathlib.Nat.{div-add-mod', mod-lt}
-use borrow.Author.Rules.{rules}
 use Rattle.decimal.proofs.Printing.{put_small, put_large}
-use Prim.Native.Nat.{ℕ, ◌<◌}
 use Rattle.decimal.proofs.+put_natural.Goals as goal
 
 pub returns-then-n-lt10 : goal.returns-then-n-lt10

@@ -1,10 +1,8 @@
-use mathlib.Core.Path.{◌≡◌, refl}
+use mathlib.Core.Path.{refl}
 use mathlib.Core.Bool.{true}
-use Prim.Native.Nat.{◌-◌, ◌≤◌}
-use lib.ListN.{length, take}
+use Prim.Native.Nat.{◌-◌}
 use borrow.Author.Rules.{rules, sfits_of}
-use Rattle.laws.specs.Lists.{all}
-use Rattle.decimal.specs.Widths.{fitting, fit_next, fit_all}
+use Rattle.decimal.specs.Widths.{fit_next, fit_all}
 use borrow.Author.Rules.{rules}
 use Rattle.decimal.proofs.all_fit.Goals as goal
 

@@ -1,11 +1,9 @@
-use mathlib.Core.Path.{◌≡◌, refl}
+use mathlib.Core.Path.{◌≡◌}
 use mathlib.Core.Bool.{true}
 use Prim.Native.Nat.{◌-◌, ◌≤◌}
 use lib.ListN.{length, take}
-use borrow.Author.Rules.{rules, sfits_of}
 use Rattle.laws.specs.Lists.{all}
-use Rattle.decimal.specs.Widths.{fitting, fit_next, fit_all}
-use borrow.Author.Rules.{rules}
+use Rattle.decimal.specs.Widths.{fitting}
 use Rattle.decimal.proofs.all_fit.Given as goal
 
 abbrev pub invariant-loop-i : goal.invariant-loop-i

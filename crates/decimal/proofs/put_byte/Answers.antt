@@ -1,6 +1,5 @@
 -- `decimal::put_byte` meets its contract. Assumes nothing.
 use Rattle.decimal.specs.Puts.{puts_one, puts_past}
-use borrow.Author.Rules.{rules}
 use Rattle.decimal.proofs.put_byte.Goals as goal
 
 pub returns-then-at-out : goal.returns-then-at-out

@@ -1,8 +1,6 @@
 -- `decimal::put_bytes` meets its contract. Assumes nothing.
-use Prim.Native.Nat.{◌-◌, ◌≤◌}
-use mathlib.Core.Path.{◌≡◌, refl, ◌∙◌}
-use lib.ListN.{length, drop}
-use Rattle.decimal.specs.Puts.{puts}
+use Prim.Native.Nat.{◌-◌}
+use mathlib.Core.Path.{refl, ◌∙◌}
 use Rattle.decimal.proofs.Printing.{bytes_next, bytes_end}
 use borrow.Author.Rules.{rules}
 use Rattle.decimal.proofs.put_bytes.Goals as goal

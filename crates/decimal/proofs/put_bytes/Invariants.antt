@@ -1,10 +1,8 @@
 -- `decimal::put_bytes` meets its contract. Assumes nothing.
 use Prim.Native.Nat.{◌-◌, ◌≤◌}
-use mathlib.Core.Path.{◌≡◌, refl, ◌∙◌}
+use mathlib.Core.Path.{◌≡◌}
 use lib.ListN.{length, drop}
 use Rattle.decimal.specs.Puts.{puts}
-use Rattle.decimal.proofs.Printing.{bytes_next, bytes_end}
-use borrow.Author.Rules.{rules}
 use Rattle.decimal.proofs.put_bytes.Given as goal
 
 abbrev pub invariant-loop-i : goal.invariant-loop-i

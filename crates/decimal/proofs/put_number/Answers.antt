@@ -5,7 +5,6 @@ use lib.Signed.{lt_z}
 use mir.Facts.{to_z-of_z, Fits-nat_abs}
 use Rattle.laws.specs.Signed.{test_of, not_neg}
 use Rattle.decimal.proofs.Printing.{flip_fits, flip_plain, flip_more, put_negative, put_plain}
-use borrow.Author.Rules.{rules}
 use Rattle.decimal.proofs.put_number.Goals as goal
 
 pub overflow_sub-m : goal.overflow_sub-m

@@ -1,7 +1,7 @@
 -- `decimal::read_digits` meets its contract. Assumes nothing.
-use Prim.Native.Nat.{◌+◌, ◌*◌, ◌-◌, ◌≤◌}
-use mathlib.Core.Path.{◌≡◌, refl, sym, ap, ◌∙◌}
-use lib.ListN.{length, drop}
+use Prim.Native.Nat.{◌+◌, ◌*◌, ◌-◌}
+use mathlib.Core.Path.{refl, sym, ap, ◌∙◌}
+use lib.ListN.{drop}
 use Rattle.decimal.specs.Decimal.{read_digits as digits}
 use Rattle.decimal.specs.Numbers.{limited}
 use Rattle.decimal.proofs.Digits.{digit_low, digit_high, digit_next, digits_unread, digits_over, digits_end}

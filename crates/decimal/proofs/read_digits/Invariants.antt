@@ -1,11 +1,9 @@
 -- `decimal::read_digits` meets its contract. Assumes nothing.
-use Prim.Native.Nat.{◌+◌, ◌*◌, ◌-◌, ◌≤◌}
-use mathlib.Core.Path.{◌≡◌, refl, sym, ap, ◌∙◌}
+use Prim.Native.Nat.{◌-◌, ◌≤◌}
+use mathlib.Core.Path.{◌≡◌}
 use lib.ListN.{length, drop}
 use Rattle.decimal.specs.Decimal.{read_digits as digits}
 use Rattle.decimal.specs.Numbers.{limited}
-use Rattle.decimal.proofs.Digits.{digit_low, digit_high, digit_next, digits_unread, digits_over, digits_end}
-use borrow.Author.Rules.{rules}
 use Rattle.decimal.proofs.read_digits.Given as goal
 
 abbrev pub invariant-loop-i : goal.invariant-loop-i

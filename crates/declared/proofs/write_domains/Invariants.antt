@@ -1,17 +1,10 @@
 -- `write_domains` meets its contract: what is left to write, written, gives the whole table. Assumes nothing.
-use Prim.Native.Nat.{◌+◌}
-use native.Mathlib.Omega.{arith}
-use mathlib.Core.Path.{◌≡◌, refl, ap, ◌∙◌}
+use mathlib.Core.Path.{◌≡◌}
 use mathlib.Core.List.{List}
-use lib.IntN.{ℤ, pos, ◌-ℤ◌}
-use lib.ListN.{length, set, length-set}
-use mir.Syntax.{w32}
-use mir.Val.{SFits, of_z, to_z}
-use mir.Facts.{to_z-of_z}
+use lib.IntN.{ℤ}
+use lib.ListN.{length, set}
 use Rattle.memory.specs.Places.{declared_domains}
 use Rattle.declared.specs.DomainTable.{TableRoom, TablePost}
-use Rattle.declared.proofs.Laws.{first_sized, first_at, less_fits, table_rest, table_more, table_none}
-use borrow.Author.Rules.{rules}
 use Rattle.declared.proofs.write_domains.Given as goal
 
 abbrev pub invariant-loop-rest : goal.invariant-loop-rest

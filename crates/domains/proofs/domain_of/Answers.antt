@@ -1,6 +1,3 @@
-use borrow.Author.Rules.{rules}
-use Prim.Native.Nat.{ℕ}
-use Rattle.domains.specs.Declared.{DomainBelow, DomainPost}
 use Rattle.domains.proofs.Laws.{first_domain, rest_below, rest_post, zero_post}
 use Rattle.domains.proofs.domain_of.Goals as goal
 

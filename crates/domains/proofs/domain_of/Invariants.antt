@@ -1,7 +1,5 @@
-use borrow.Author.Rules.{rules}
 use Prim.Native.Nat.{ℕ}
 use Rattle.domains.specs.Declared.{DomainBelow, DomainPost}
-use Rattle.domains.proofs.Laws.{first_domain, rest_below, rest_post, zero_post}
 use Rattle.domains.proofs.domain_of.Given as goal
 
 abbrev pub invariant-loop-left : goal.invariant-loop-left

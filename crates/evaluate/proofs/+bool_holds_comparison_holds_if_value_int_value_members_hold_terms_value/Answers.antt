@@ -1,16 +1,13 @@
-use Prim.Native.Nat.{ℕ, ◌<◌}
-use Prim.Native.Nat.{◌+◌, ◌-◌, ◌*◌, ◌≤◌}
+use Prim.Native.Nat.{◌+◌, ◌-◌}
 use mathlib.Core.Path.{refl}
-use mathlib.Core.Bool.{Bool}
 use native.Mathlib.Omega.{arith}
-use lib.IntN.{ℤ, pos}
-use lib.ListN.{length, get_or}
+use lib.IntN.{pos}
+use lib.ListN.{get_or}
 use mir.Syntax.{w32}
 use mir.Val.{SFits, to_z}
 use mir.Facts.{to_z-of_z}
 use borrow.Author.Rules.{rules, sfits_of}
 use Rattle.laws.specs.Bools.{beq_eq}
-use Rattle.evaluate.specs.Contract.{ReadyTerms, TermsPost, ReadyMembers, MembersPost}
 use Rattle.passes.proofs.SkipLaws.{bool_inside, bool_first, bool_second}
 use Rattle.evaluate.proofs.IntLaws.{int_first, int_inside, int_some, const_value, condition_ready, then_ready, else_some, then_value, else_ready, else_value, int_second, var_inside, var_value, sum_ready, sum_value, terms_none, term_ready, term_inside, term_small, rest_ready, terms_more, product_fits, sum_fits, sum_is}
 use Rattle.evaluate.proofs.BoolLaws.{ready_some, left_ready, right_ready, comparison_held, list_ready, list_held, not_ready, not_held, first_ready, second_ready, two_held, members_none, member_ready, behind_ready, behind_some, stop_held, members_more, beq_differ, not-true, not-false}

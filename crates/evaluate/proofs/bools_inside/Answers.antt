@@ -1,17 +1,14 @@
 use native.Mathlib.Omega.{arith}
-use Prim.Native.Nat.{◌-◌, ◌≤◌}
-use mathlib.Core.Path.{◌≡◌, sym, ◌∙◌}
-use mathlib.Core.Bool.{Bool}
+use Prim.Native.Nat.{◌-◌}
+use mathlib.Core.Path.{sym, ◌∙◌}
 use lib.IntN.{pos}
 use lib.ListN.{get_or}
 use mir.Syntax.{w32}
 use mir.Val.{SFits}
 use mir.Facts.{to_z-of_z}
-use borrow.Author.Rules.{rules, sfits_of}
-use Rattle.laws.specs.Lists.{all, from, below}
+use borrow.Author.Rules.{sfits_of}
 use Rattle.verdict.specs.Roster.{is_bit}
 use Rattle.evaluate.proofs.ValueLaws.{bools_start, bools_none, bools_stop, bools_more}
-use Rattle.evaluate.proofs.BoolLaws.{not-true, not-false}
 use Rattle.evaluate.proofs.bools_inside.Goals as goal
 
 pub loop-v-init : goal.loop-v-init

@@ -1,4 +1,3 @@
-use borrow.Author.Rules.{rules}
 use mathlib.Core.Path.{ap, ◌∙◌}
 use Rattle.laws.specs.Slices.{zeros}
 use Rattle.evaluate.proofs.check_roster.Goals as goal

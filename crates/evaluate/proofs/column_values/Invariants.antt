@@ -1,14 +1,9 @@
 use Prim.Native.Nat.{ℕ}
-use mathlib.Core.Path.{◌≡◌, refl, ◌∙◌}
+use mathlib.Core.Path.{◌≡◌}
 use mathlib.Core.List.{List}
 use lib.IntN.{ℤ}
-use lib.ListN.{length, length-set}
-use mir.Syntax.{w32}
-use mir.Val.{SFits}
-use mir.Facts.{to_z-of_z}
+use lib.ListN.{length}
 use Rattle.evaluate.specs.Contract.{ReadyColumns, ColumnsPost}
-use Rattle.evaluate.proofs.TableLaws.{columns_none, column_ready, column_room, columns_ready, columns_more}
-use borrow.Author.Rules.{rules}
 use Rattle.evaluate.proofs.column_values.Given as goal
 
 abbrev pub invariant-loop-rest : goal.invariant-loop-rest

@@ -1,4 +1,3 @@
-use mathlib.Core.Bool.{Bool}
 use Prim.Native.Nat.{◌+◌, ◌-◌}
 use lib.IntN.{pos}
 use lib.ListN.{get_or}
@@ -6,7 +5,6 @@ use mir.Syntax.{w32}
 use mir.Val.{SFits}
 use mir.Facts.{to_z-of_z}
 use borrow.Author.Rules.{rules, sfits_of}
-use Rattle.evaluate.specs.Contract.{WordsAt, DifferPost}
 use Rattle.evaluate.proofs.ValueLaws.{listed_same, word_inside, words_rest, differ_none, differ_stop, differ_more}
 use Rattle.evaluate.proofs.differ.Goals as goal
 

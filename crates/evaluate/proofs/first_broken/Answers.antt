@@ -1,12 +1,7 @@
 use native.Mathlib.Omega.{arith}
-use Prim.Native.Nat.{◌+◌}
-use mathlib.Core.Path.{◌≡◌, refl, ◌∙◌}
-use lib.ListN.{length}
-use Rattle.evaluate.specs.Contract.{ReadyStmts, BrokenPost}
-use Rattle.evaluate.specs.declared.Checked.{Checked}
+use mathlib.Core.Path.{refl, ◌∙◌}
 use Rattle.evaluate.proofs.BoolLaws.{not-true, not-false}
 use Rattle.evaluate.proofs.StmtLaws.{stmts_none, stmts_few, stmt_ready, stmts_stop, stmts_ready, stmts_more}
-use borrow.Author.Rules.{rules}
 use Rattle.evaluate.proofs.first_broken.Goals as goal
 
 pub loop-rest-init : goal.loop-rest-init

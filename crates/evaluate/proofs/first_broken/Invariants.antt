@@ -1,12 +1,8 @@
-use native.Mathlib.Omega.{arith}
 use Prim.Native.Nat.{◌+◌}
-use mathlib.Core.Path.{◌≡◌, refl, ◌∙◌}
+use mathlib.Core.Path.{◌≡◌}
 use lib.ListN.{length}
 use Rattle.evaluate.specs.Contract.{ReadyStmts, BrokenPost}
 use Rattle.evaluate.specs.declared.Checked.{Checked}
-use Rattle.evaluate.proofs.BoolLaws.{not-true, not-false}
-use Rattle.evaluate.proofs.StmtLaws.{stmts_none, stmts_few, stmt_ready, stmts_stop, stmts_ready, stmts_more}
-use borrow.Author.Rules.{rules}
 use Rattle.evaluate.proofs.first_broken.Given as goal
 
 abbrev pub invariant-loop-rest : goal.invariant-loop-rest

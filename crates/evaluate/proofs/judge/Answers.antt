@@ -1,8 +1,6 @@
-use borrow.Author.Rules.{rules}
 use native.Mathlib.Omega.{arith}
 use mathlib.Core.Path.{sym, ◌∙◌}
 use lib.ListN.{length}
-use Rattle.evaluate.proofs.BoolLaws.{not-true, not-false}
 use Rattle.evaluate.proofs.SetLaws.{judge_refused, few_declared, judge_count, judge_bools, domains_start, judge_ints, stmts_start, judge_ends}
 use Rattle.evaluate.proofs.judge.Goals as goal
 

@@ -1,5 +1,4 @@
 use mathlib.Core.Path.{ap}
-use mathlib.Core.Bool.{Bool}
 use lib.IntN.{pos}
 use lib.ListN.{get_or}
 use mir.Syntax.{w32}
@@ -8,7 +7,6 @@ use mir.Facts.{to_z-of_z}
 use Rattle.laws.specs.Order.{is_eqZ, not_eqZ}
 use Rattle.laws.specs.Signed.{same_value}
 use borrow.Author.Rules.{rules, sfits_of}
-use Rattle.evaluate.specs.Contract.{WordsAt, ListedPost}
 use Rattle.evaluate.proofs.ValueLaws.{listed_same, listed_none, word_inside, words_rest, listed_hit, listed_more}
 use Rattle.evaluate.proofs.listed.Goals as goal
 

@@ -1,13 +1,10 @@
-use mathlib.Core.Bool.{Bool}
 use lib.IntN.{pos}
 use lib.ListN.{get_or}
 use mir.Syntax.{w32}
 use mir.Val.{SFits}
 use mir.Facts.{to_z-of_z}
 use borrow.Author.Rules.{rules, sfits_of}
-use Rattle.evaluate.specs.Contract.{ReadyRow, RowPost}
 use Rattle.evaluate.proofs.TableLaws.{row_none, row_inside, row_rest, row_stop, row_more}
-use Rattle.evaluate.proofs.BoolLaws.{not-true, not-false}
 use Rattle.evaluate.proofs.row_holds.Goals as goal
 
 pub loop-rest-init : goal.loop-rest-init

@@ -1,5 +1,3 @@
-use mathlib.Core.Bool.{Bool}
-use Rattle.evaluate.specs.Contract.{ReadyRows, RowsPost}
 use Rattle.evaluate.proofs.TableLaws.{rows_none, row_ready, rows_rest, rows_hit, rows_more, rows_room}
 use borrow.Author.Rules.{rules}
 use Rattle.evaluate.proofs.rows_hold.Goals as goal

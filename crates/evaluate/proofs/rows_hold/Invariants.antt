@@ -1,7 +1,5 @@
 use mathlib.Core.Bool.{Bool}
 use Rattle.evaluate.specs.Contract.{ReadyRows, RowsPost}
-use Rattle.evaluate.proofs.TableLaws.{rows_none, row_ready, rows_rest, rows_hit, rows_more, rows_room}
-use borrow.Author.Rules.{rules}
 use Rattle.evaluate.proofs.rows_hold.Given as goal
 
 abbrev pub invariant-loop-rest : goal.invariant-loop-rest

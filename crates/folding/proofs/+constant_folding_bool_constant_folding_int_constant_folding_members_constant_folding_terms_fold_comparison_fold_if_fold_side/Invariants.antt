@@ -1,17 +1,11 @@
-use Prim.Native.Nat.{ℕ, ◌<◌}
-use mathlib.Core.Path.{◌≡◌, refl, sym, ◌∙◌}
+use Prim.Native.Nat.{ℕ}
+use mathlib.Core.Path.{◌≡◌}
 use mathlib.Core.Bool.{Bool, ◌||◌}
 use mathlib.Core.List.{List}
 use Prim.Native.Nat.{◌+◌, ◌-◌, ◌*◌, ◌≤◌}
-use native.Mathlib.Omega.{arith}
-use lib.Dec.{eqb}
 use lib.IntN.{ℤ}
 use lib.ListN.{length}
-use borrow.Author.Rules.{rules}
 use Rattle.folding.specs.Steps.{ReadyTerms, TermsPost, ReadyMembers, MembersPost}
-use Rattle.folding.proofs.IntLaws.{int_inside, int_first, int_second, const_folds, var_below, var_folds, empty_folds, single_inside, single_ready, single_folds, many_ready, many_folds, terms_none, term_inside, term_ready, rest_ready as terms-rest, terms_more}
-use Rattle.folding.proofs.IfLaws.{condition_ready, then_ready, else_ready, if_folds}
-use Rattle.folding.proofs.BoolLaws.{ready_inside, ready_first, ready_second, left_side, right_side, cmp_folds, not_ready, not_closes, not_folds, list_ready, list_closes, list_folds, left_ready, right_ready, binary_closes, binary_folds, members_none, first_ready, rest_ready, members_more, members_sum, binary_low, members_fit, members_start, members_end, kept_room}
 use Rattle.folding.proofs.+constant_folding_bool_constant_folding_int_constant_folding_members_constant_folding_terms_fold_comparison_fold_if_fold_side.Given as goal
 
 abbrev pub decreases-constant_folding_bool : goal.decreases-constant_folding_bool

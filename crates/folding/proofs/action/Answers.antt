@@ -1,4 +1,3 @@
-use borrow.Author.Rules.{rules}
 use Rattle.fold.proofs.TableLaws.{packed_right}
 use Rattle.folding.proofs.action.Goals as goal
 

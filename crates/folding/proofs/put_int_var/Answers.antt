@@ -1,4 +1,3 @@
-use borrow.Author.Rules.{rules}
 use native.Mathlib.Omega.{arith}
 use Rattle.folding.proofs.DomainLaws.{domain_stands, value_inside, var_kept, var_constant}
 use Rattle.folding.proofs.put_int_var.Goals as goal

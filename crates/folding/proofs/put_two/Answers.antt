@@ -1,4 +1,3 @@
-use borrow.Author.Rules.{rules}
 use Rattle.laws.specs.Slices.{stored_two}
 use Rattle.folding.proofs.put_two.Goals as goal
 

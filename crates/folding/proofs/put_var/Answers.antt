@@ -1,4 +1,3 @@
-use borrow.Author.Rules.{rules}
 use borrow.Author.Tests.{eq-eqb, ne_eqb}
 use Rattle.folding.specs.Steps.{var_step}
 use Rattle.folding.proofs.put_var.Goals as goal

@@ -1,12 +1,12 @@
-use Prim.Native.Nat.{◌-◌, ◌≤◌}
+use Prim.Native.Nat.{◌-◌}
 use native.Mathlib.Omega.{arith}
 use lib.IntN.{pos}
 use mir.Facts.{to_z-of_z}
 use mir.Syntax.{w32}
 use mir.Val.{SFits}
 use lib.ListN.{get_or}
-use borrow.Author.Rules.{rules, sfits_of}
-use Rattle.laws.specs.Slices.{Moving, moving_none, moving_next, moving_end}
+use borrow.Author.Rules.{sfits_of}
+use Rattle.laws.specs.Slices.{moving_none, moving_next, moving_end}
 use Rattle.folding.proofs.shift.Goals as goal
 
 pub loop-i-init : goal.loop-i-init

@@ -1,12 +1,5 @@
 use Prim.Native.Nat.{◌-◌, ◌≤◌}
-use native.Mathlib.Omega.{arith}
-use lib.IntN.{pos}
-use mir.Facts.{to_z-of_z}
-use mir.Syntax.{w32}
-use mir.Val.{SFits}
-use lib.ListN.{get_or}
-use borrow.Author.Rules.{rules, sfits_of}
-use Rattle.laws.specs.Slices.{Moving, moving_none, moving_next, moving_end}
+use Rattle.laws.specs.Slices.{Moving}
 use Rattle.folding.proofs.shift.Given as goal
 
 abbrev pub invariant-loop-i : goal.invariant-loop-i

@@ -1,10 +1,5 @@
-use borrow.Author.Rules.{rules}
 use mathlib.Core.Path.{sym, ap}
-use lib.IntN.{pos}
-use lib.ListN.{get_or}
-use mir.Syntax.{w32}
-use mir.Val.{SFits}
-use borrow.Author.Rules.{rules, sfits_of}
+use borrow.Author.Rules.{sfits_of}
 use Rattle.folding.specs.Steps.{state_of}
 use Rattle.fold.specs.Table.{state_num}
 use Rattle.laws.specs.Signed.{value_is}

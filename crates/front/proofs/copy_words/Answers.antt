@@ -1,13 +1,8 @@
-use mathlib.Core.Path.{◌≡◌, refl, ◌∙◌}
-use mathlib.Core.List.{List}
-use Prim.Native.Nat.{ℕ, ◌+◌}
+use mathlib.Core.Path.{refl, ◌∙◌}
 use native.Mathlib.Omega.{arith}
-use lib.IntN.{ℤ}
-use lib.ListN.{length}
 use borrow.Author.Rules.{rules, sfits_of}
-use Rattle.laws.specs.Writes.{Wrote, wrote_length, Open}
+use Rattle.laws.specs.Writes.{wrote_length}
 use Rattle.output.proofs.Laws.{open_next, put_word}
-use Rattle.front.specs.Front.{copied}
 use Rattle.front.proofs.Words.{copied_none, copied_more}
 use borrow.Author.Rules.{rules}
 use Rattle.front.proofs.copy_words.Goals as goal

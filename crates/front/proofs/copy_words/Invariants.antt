@@ -1,15 +1,10 @@
-use mathlib.Core.Path.{◌≡◌, refl, ◌∙◌}
+use mathlib.Core.Path.{◌≡◌}
 use mathlib.Core.List.{List}
 use Prim.Native.Nat.{ℕ, ◌+◌}
-use native.Mathlib.Omega.{arith}
 use lib.IntN.{ℤ}
 use lib.ListN.{length}
-use borrow.Author.Rules.{rules, sfits_of}
-use Rattle.laws.specs.Writes.{Wrote, wrote_length, Open}
-use Rattle.output.proofs.Laws.{open_next, put_word}
+use Rattle.laws.specs.Writes.{Wrote, Open}
 use Rattle.front.specs.Front.{copied}
-use Rattle.front.proofs.Words.{copied_none, copied_more}
-use borrow.Author.Rules.{rules}
 use Rattle.front.proofs.copy_words.Given as goal
 
 abbrev pub invariant-loop-rest : goal.invariant-loop-rest

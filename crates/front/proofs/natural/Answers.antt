@@ -5,7 +5,7 @@ use mathlib.Core.Path.{◌∙◌}
 use mir.Syntax.{w32}
 use mir.Val.{SFits}
 use mir.Facts.{to_z-of_z}
-use borrow.Author.Rules.{rules, sfits_of}
+use borrow.Author.Rules.{sfits_of}
 use Rattle.laws.specs.Signed.{test_of}
 use Rattle.front.proofs.Words.{natural_none, natural_is}
 use Rattle.front.proofs.natural.Goals as goal

@@ -1,5 +1,4 @@
 use Rattle.front.proofs.Words.{maps_done}
-use borrow.Author.Rules.{rules}
 use Rattle.front.proofs.put_maps.Goals as goal
 
 pub returns : goal.returns

@@ -1,14 +1,9 @@
-use mathlib.Core.Path.{◌≡◌, refl, ◌∙◌}
-use mathlib.Core.List.{List}
-use Prim.Native.Nat.{ℕ, ◌+◌}
+use mathlib.Core.Path.{refl, ◌∙◌}
 use native.Mathlib.Omega.{arith}
-use lib.IntN.{ℤ}
-use lib.ListN.{length}
 use mir.Syntax.{w32}
 use mir.Val.{SFits}
-use Rattle.laws.specs.Writes.{Wrote, wrote_length, Open}
+use Rattle.laws.specs.Writes.{wrote_length}
 use Rattle.output.proofs.Laws.{open_next, put_word}
-use Rattle.front.specs.Front.{naturals}
 use Rattle.front.proofs.Words.{naturals_none, naturals_more}
 use borrow.Author.Rules.{rules}
 use Rattle.front.proofs.put_words.Goals as goal

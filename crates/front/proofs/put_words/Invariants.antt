@@ -1,16 +1,10 @@
-use mathlib.Core.Path.{◌≡◌, refl, ◌∙◌}
+use mathlib.Core.Path.{◌≡◌}
 use mathlib.Core.List.{List}
 use Prim.Native.Nat.{ℕ, ◌+◌}
-use native.Mathlib.Omega.{arith}
 use lib.IntN.{ℤ}
 use lib.ListN.{length}
-use mir.Syntax.{w32}
-use mir.Val.{SFits}
-use Rattle.laws.specs.Writes.{Wrote, wrote_length, Open}
-use Rattle.output.proofs.Laws.{open_next, put_word}
+use Rattle.laws.specs.Writes.{Wrote, Open}
 use Rattle.front.specs.Front.{naturals}
-use Rattle.front.proofs.Words.{naturals_none, naturals_more}
-use borrow.Author.Rules.{rules}
 use Rattle.front.proofs.put_words.Given as goal
 
 abbrev pub invariant-loop-rest : goal.invariant-loop-rest

@@ -1,5 +1,4 @@
 use Rattle.front.proofs.Words.{count_fits, front_done}
-use borrow.Author.Rules.{rules}
 use Rattle.front.proofs.write_front.Goals as goal
 
 pub put_maps-a-requires : goal.put_maps-a-requires

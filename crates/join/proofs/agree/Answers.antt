@@ -1,7 +1,6 @@
 use mathlib.Core.Path.{sym, ◌∙◌}
 use Rattle.accept.specs.Taken.{accepted_ok}
 use Rattle.join.proofs.AgreeLaws.{agree_first, agree_second, agree_ready, agree_both}
-use borrow.Author.Rules.{rules}
 use Rattle.join.proofs.agree.Goals as goal
 
 pub compare-requires : goal.compare-requires

@@ -1,7 +1,6 @@
 use mathlib.Core.Path.{sym, ◌∙◌}
 use native.Mathlib.Omega.{arith}
 use Rattle.join.proofs.AgreeLaws.{compare_inside, compare_room, compare_apart, compare_differ, compare_long, compare_ok}
-use borrow.Author.Rules.{rules}
 use Rattle.join.proofs.compare.Goals as goal
 
 pub returns-then-at-e : goal.returns-then-at-e

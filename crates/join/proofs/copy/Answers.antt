@@ -2,11 +2,9 @@ use Prim.Native.Nat.{◌-◌}
 use native.Mathlib.Omega.{arith}
 use mathlib.Core.Path.{refl}
 use lib.IntN.{pos}
-use lib.ListN.{length}
 use mir.Facts.{to_z-of_z}
-use borrow.Author.Rules.{rules, sfits_of}
-use Rattle.join.proofs.WordLaws.{Copying, copying_next, copying_end}
-use borrow.Author.Rules.{rules}
+use borrow.Author.Rules.{sfits_of}
+use Rattle.join.proofs.WordLaws.{copying_next, copying_end}
 use Rattle.join.proofs.copy.Goals as goal
 
 pub loop-i-init : goal.loop-i-init

@@ -1,5 +1,4 @@
 use Rattle.join.proofs.FindLaws.{find_few, first_ready, second_ready, find_zero, find_first, find_second, find_beyond}
-use borrow.Author.Rules.{rules}
 use Rattle.join.proofs.find.Goals as goal
 
 pub returns-then-number-eq0 : goal.returns-then-number-eq0

@@ -2,7 +2,6 @@ use mathlib.Core.Path.{ap, ◌∙◌}
 use Rattle.join.specs.Join.{statement_at}
 use Rattle.join.specs.Contract.{place_of}
 use Rattle.join.proofs.FindLaws.{find_refused, find_ready}
-use borrow.Author.Rules.{rules}
 use Rattle.laws.specs.Slices.{zeros}
 use Rattle.join.proofs.find_place.Goals as goal
 

@@ -1,6 +1,5 @@
 use mathlib.Core.Path.{ap, ◌∙◌}
 use Rattle.join.proofs.JoinLaws.{join_refused, join_over, join_ready, join_done}
-use borrow.Author.Rules.{rules}
 use Rattle.laws.specs.Slices.{zeros}
 use Rattle.join.proofs.join.Goals as goal
 

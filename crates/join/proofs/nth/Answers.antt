@@ -1,8 +1,5 @@
-use Prim.Native.Nat.{ℕ}
 use native.Mathlib.Omega.{arith}
-use Rattle.join.specs.Steps.{ReadyNth, NthPost}
 use Rattle.join.proofs.NthLaws.{nth_first, nth_done, nth_ready, nth_rest}
-use borrow.Author.Rules.{rules}
 use Rattle.join.proofs.nth.Goals as goal
 
 pub loop-rest-init : goal.loop-rest-init

@@ -1,7 +1,6 @@
 use mathlib.Core.Path.{refl}
 use native.Mathlib.Omega.{arith}
 use Rattle.join.proofs.NthLaws.{part_ready, part_post}
-use borrow.Author.Rules.{rules}
 use Rattle.join.proofs.part_of.Goals as goal
 
 pub statement-s-requires : goal.statement-s-requires

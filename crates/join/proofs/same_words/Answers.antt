@@ -3,10 +3,9 @@ use native.Mathlib.Omega.{arith}
 use mathlib.Core.Path.{ap}
 use mir.Syntax.{w32}
 use mir.Val.{of_z}
-use borrow.Author.Rules.{rules, sfits_of}
+use borrow.Author.Rules.{sfits_of}
 use Rattle.laws.specs.Signed.{same_value}
-use Rattle.join.proofs.WordLaws.{Same, same_none, same_next, same_all, same_not}
-use borrow.Author.Rules.{rules}
+use Rattle.join.proofs.WordLaws.{same_none, same_next, same_all, same_not}
 use Rattle.join.proofs.same_words.Goals as goal
 
 pub loop-i-init : goal.loop-i-init

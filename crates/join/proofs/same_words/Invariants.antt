@@ -1,12 +1,5 @@
 use Prim.Native.Nat.{◌-◌}
-use native.Mathlib.Omega.{arith}
-use mathlib.Core.Path.{ap}
-use mir.Syntax.{w32}
-use mir.Val.{of_z}
-use borrow.Author.Rules.{rules, sfits_of}
-use Rattle.laws.specs.Signed.{same_value}
-use Rattle.join.proofs.WordLaws.{Same, same_none, same_next, same_all, same_not}
-use borrow.Author.Rules.{rules}
+use Rattle.join.proofs.WordLaws.{Same}
 use Rattle.join.proofs.same_words.Given as goal
 
 abbrev pub invariant-loop-i : goal.invariant-loop-i

@@ -1,6 +1,5 @@
 -- `any_if` meets its contract. Assumes nothing.
 use mathlib.Core.Path.{sym, ◌∙◌}
-use borrow.Author.Rules.{rules}
 use Rattle.marking.proofs.Laws.{none_found}
 use Rattle.marking.proofs.any_if.Goals as goal
 

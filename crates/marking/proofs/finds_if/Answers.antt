@@ -1,11 +1,8 @@
 -- `finds_if` meets its contract: the places passed do not read as an If. Assumes nothing.
-use mathlib.Core.Path.{◌≡◌, refl, sym, ◌∙◌}
-use mathlib.Core.Logic.{⊎_elim}
+use mathlib.Core.Path.{refl, sym, ◌∙◌}
 use Prim.Native.Nat.{◌-◌}
 use native.Mathlib.Omega.{arith}
-use borrow.Author.Rules.{rules, sfits_of}
-use Rattle.memory.specs.Places.{folded}
-use Rattle.walk.specs.Decode.{read_part}
+use borrow.Author.Rules.{sfits_of}
 use Rattle.marking.specs.Mark.{finds_if}
 use Rattle.marking.proofs.Laws.{if_found, if_unread, if_later, if_last}
 use Rattle.marking.proofs.finds_if.Goals as goal

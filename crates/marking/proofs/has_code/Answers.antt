@@ -1,11 +1,9 @@
 -- `has_code` meets its contract: what was found, or what is left to look at, is all. Assumes nothing.
-use mathlib.Core.Path.{◌≡◌, refl, ap, ◌∙◌}
+use mathlib.Core.Path.{refl, ap, ◌∙◌}
 use mathlib.Core.Bool.{Bool, ◌||◌}
-use mathlib.Core.Logic.{⊎_elim}
 use Prim.Native.Nat.{◌+◌, ◌-◌}
 use native.Mathlib.Omega.{arith}
-use borrow.Author.Rules.{rules, sfits_of}
-use Rattle.memory.specs.Places.{folded}
+use borrow.Author.Rules.{sfits_of}
 use Rattle.walk.specs.Decode.{read_part}
 use Rattle.marking.specs.Mark.{has_code}
 use Rattle.marking.proofs.Laws.{code_found, code_later, code_last}

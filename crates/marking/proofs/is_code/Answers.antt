@@ -1,5 +1,4 @@
 -- `is_code` meets its contract. Assumes nothing.
-use borrow.Author.Rules.{rules}
 use Rattle.marking.proofs.Laws.{code_low, code_rest}
 use Rattle.marking.proofs.is_code.Goals as goal
 

@@ -3,7 +3,6 @@ use mathlib.Core.Path.{sym, ap, ◌∙◌}
 use mathlib.Core.Bool.{Bool, cond}
 use lib.IntN.{pos}
 use lib.ListN.{set}
-use borrow.Author.Rules.{rules}
 use Rattle.memory.specs.Places.{ifs_word}
 use Rattle.marking.proofs.mark_ifs.Goals as goal
 

@@ -1,6 +1,5 @@
 -- `reads_if` meets its contract. Assumes nothing.
 use mathlib.Core.Path.{sym, ◌∙◌}
-use borrow.Author.Rules.{rules}
 use Rattle.marking.proofs.Laws.{reads_none, reads_one, reads_both}
 use Rattle.marking.proofs.reads_if.Goals as goal
 

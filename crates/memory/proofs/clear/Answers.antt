@@ -1,10 +1,9 @@
 -- `clear` meets its contract: the words passed are 0.
-use borrow.Author.Rules.{rules}
 use Prim.Native.Nat.{◌-◌}
 use native.Mathlib.Omega.{arith}
 use lib.IntN.{pos}
-use lib.ListN.{length, length-set}
-use Rattle.memory.proofs.Laws.{Cleared, cleared_none, cleared_next, cleared_all}
+use lib.ListN.{length-set}
+use Rattle.memory.proofs.Laws.{cleared_none, cleared_next, cleared_all}
 use Rattle.memory.proofs.clear.Goals as goal
 
 pub loop-i-init : goal.loop-i-init

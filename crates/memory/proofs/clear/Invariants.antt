@@ -1,10 +1,7 @@
 -- `clear` meets its contract: the words passed are 0.
-use borrow.Author.Rules.{rules}
 use Prim.Native.Nat.{◌-◌}
-use native.Mathlib.Omega.{arith}
-use lib.IntN.{pos}
-use lib.ListN.{length, length-set}
-use Rattle.memory.proofs.Laws.{Cleared, cleared_none, cleared_next, cleared_all}
+use lib.ListN.{length}
+use Rattle.memory.proofs.Laws.{Cleared}
 use Rattle.memory.proofs.clear.Given as goal
 
 abbrev pub invariant-loop-i : goal.invariant-loop-i

@@ -1,12 +1,8 @@
 -- `clear_words` meets its contract: what is left to clear, cleared, gives the whole. Assumes nothing.
 use Prim.Native.Nat.{◌-◌}
-use native.Mathlib.Omega.{arith}
-use mathlib.Core.Path.{◌≡◌, refl, sym, ◌∙◌}
-use lib.IntN.{pos}
-use lib.ListN.{length, length-set}
+use mathlib.Core.Path.{◌≡◌}
+use lib.ListN.{length}
 use Rattle.memory.specs.Cleared.{cleared}
-use Rattle.memory.proofs.Laws.{clear_next, clear_none}
-use borrow.Author.Rules.{rules}
 use Rattle.memory.proofs.clear_words.Given as goal
 
 abbrev pub invariant-loop-i : goal.invariant-loop-i

@@ -1,7 +1,6 @@
-use borrow.Author.Rules.{rules}
 use native.Mathlib.Omega.{arith}
-use Prim.Native.Nat.{◌-◌, ◌≤◌}
-use Rattle.memory.proofs.Laws.{Copying, copying_none, copying_next, copying_end}
+use Prim.Native.Nat.{◌-◌}
+use Rattle.memory.proofs.Laws.{copying_none, copying_next, copying_end}
 use Rattle.memory.proofs.copy_words.Goals as goal
 
 pub loop-k-init : goal.loop-k-init

@@ -1,7 +1,5 @@
-use borrow.Author.Rules.{rules}
-use native.Mathlib.Omega.{arith}
 use Prim.Native.Nat.{◌-◌, ◌≤◌}
-use Rattle.memory.proofs.Laws.{Copying, copying_none, copying_next, copying_end}
+use Rattle.memory.proofs.Laws.{Copying}
 use Rattle.memory.proofs.copy_words.Given as goal
 
 abbrev pub invariant-loop-k : goal.invariant-loop-k

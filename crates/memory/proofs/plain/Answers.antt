@@ -1,7 +1,6 @@
 use mathlib.Core.Path.{sym}
 use lib.IntN.{pos}
 use lib.ListN.{get_or-eq_default}
-use borrow.Author.Rules.{rules}
 use Rattle.memory.proofs.plain.Goals as goal
 
 pub returns : goal.returns

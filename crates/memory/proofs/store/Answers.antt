@@ -1,6 +1,5 @@
 use mathlib.Core.Path.{refl, sym}
 use lib.Seq.{set_out}
-use borrow.Author.Rules.{rules}
 use Rattle.memory.proofs.store.Goals as goal
 
 pub returns-else-i-slice : goal.returns-else-i-slice

@@ -3,7 +3,6 @@ use native.Mathlib.Omega.{arith}
 use lib.Seq.{set_out}
 use lib.ListN.{set, length-set}
 use Rattle.memory.proofs.Laws.{number_is}
-use borrow.Author.Rules.{rules}
 use Rattle.memory.proofs.store_number.Goals as goal
 
 pub returns-then-i-place : goal.returns-then-i-place

@@ -1,6 +1,5 @@
 use mathlib.Core.Bool.{true, false}
 use Rattle.merging.proofs.Loop.{unmerged, merged_as}
-use borrow.Author.Rules.{rules}
 use Rattle.merging.proofs.merge_equivalent_variables.Goals as goal
 
 pub shape_of-work-then-merge : goal.shape_of-work-then-merge

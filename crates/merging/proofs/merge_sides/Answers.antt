@@ -1,5 +1,4 @@
 use Rattle.merging.proofs.Laws.{ties_none, ties_as, sides_first, sides_second, sides_left, sides_right, sides_both}
-use borrow.Author.Rules.{rules}
 use Rattle.merging.proofs.merge_sides.Goals as goal
 
 pub returns-then-word-ne11 : goal.returns-then-word-ne11

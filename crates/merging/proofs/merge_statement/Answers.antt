@@ -1,6 +1,5 @@
 use native.Mathlib.Omega.{arith}
 use Rattle.merging.proofs.Laws.{ties_none, ties_as, other_stmt, xor_rule, iff_rule, other_rule}
-use borrow.Author.Rules.{rules}
 use Rattle.merging.proofs.merge_statement.Goals as goal
 
 pub returns-then-word-ne1 : goal.returns-then-word-ne1

@@ -1,6 +1,5 @@
 use Prim.Native.Nat.{◌-◌}
-use native.Mathlib.Omega.{arith}
-use Rattle.merging.proofs.Loop.{Sofar, all_start, stmt_here, here_inside, size_here, moved, all_again, all_done}
+use Rattle.merging.proofs.Loop.{Sofar}
 use Rattle.merging.proofs.merge_statements.Given as goal
 
 abbrev pub invariant-loop-q : goal.invariant-loop-q

@@ -1,10 +1,7 @@
-use Prim.Native.Nat.{ℕ, ◌<◌}
+use Prim.Native.Nat.{ℕ}
 use Prim.Native.Nat.{◌+◌, ◌-◌, ◌*◌, ◌≤◌}
-use native.Mathlib.Omega.{arith}
 use lib.ListN.{length}
-use borrow.Author.Rules.{rules}
 use Rattle.passes.specs.Skip.{SomeTerms, SomeMembers, SkipTermsPost, SkipMembersPost}
-use Rattle.passes.proofs.SkipLaws.{int_inside, int_first, sum_second, step_sum, step_plain, if_condition, if_then, if_else, step_if, body_some, int_skips, term_some, terms_some, terms_skip, terms_none, terms_room, bool_inside, bool_first, bool_second, step_leaf, step_list, step_not, step_two, at_18, step_left, step_right, step_cmp, members_none, members_room, member_some, members_some, members_skip}
 use Rattle.passes.proofs.+bool_step_int_end_int_step_skip_members_skip_terms.Given as goal
 
 abbrev pub decreases-bool_step : goal.decreases-bool_step

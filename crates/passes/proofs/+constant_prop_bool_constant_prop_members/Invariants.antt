@@ -1,14 +1,11 @@
-use Prim.Native.Nat.{ℕ, ◌<◌}
-use mathlib.Core.Path.{◌≡◌, refl, ◌∙◌}
+use Prim.Native.Nat.{ℕ}
+use mathlib.Core.Path.{◌≡◌}
 use mathlib.Core.List.{List}
 use Prim.Native.Nat.{◌+◌, ◌-◌, ◌*◌, ◌≤◌}
-use native.Mathlib.Omega.{arith}
 use lib.IntN.{ℤ}
 use lib.ListN.{length}
-use borrow.Author.Rules.{rules}
 use Rattle.passes.specs.Want.{worst_num}
 use Rattle.passes.specs.Contract.{StandMembers, MembersPost}
-use Rattle.passes.proofs.PropLaws.{stands_first, stands_inside, stands_second, cmp_props, not_stands, not_props, list_stand, list_props, left_stands, right_stands, binary_props, members_none, first_stands, rest_stand, members_more, binary_low, status_start, status_next, status_end, flip_small, member_small, left_small, right_small}
 use Rattle.passes.proofs.+constant_prop_bool_constant_prop_members.Given as goal
 
 abbrev pub decreases-constant_prop_bool : goal.decreases-constant_prop_bool

@@ -1,11 +1,4 @@
-use borrow.Author.Rules.{rules}
-use mathlib.Core.Path.{◌≡◌, refl, ◌∙◌}
-use mathlib.Core.List.{List}
-use Prim.Native.Nat.{ℕ}
-use lib.IntN.{ℤ}
-use lib.ListN.{length}
-use Rattle.passes.specs.Want.{worst_num}
-use Rattle.passes.specs.Statements.{StandStmts, PropStmtsPost}
+use mathlib.Core.Path.{refl, ◌∙◌}
 use Rattle.passes.proofs.PropStmtLaws.{stmts_none, stmt_stands, stmts_stand, stmts_more, status_start, status_next, status_end}
 use Rattle.passes.proofs.constant_prop_stmts.Goals as goal
 

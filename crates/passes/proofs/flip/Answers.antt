@@ -1,4 +1,3 @@
-use borrow.Author.Rules.{rules}
 use borrow.Author.Tests.{eq-eqb, ne_eqb}
 use Rattle.passes.specs.Want.{flip_num}
 use Rattle.passes.proofs.flip.Goals as goal

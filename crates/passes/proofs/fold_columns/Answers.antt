@@ -1,10 +1,4 @@
-use borrow.Author.Rules.{rules}
-use mathlib.Core.Path.{◌≡◌, refl, ◌∙◌}
-use mathlib.Core.List.{List}
-use Prim.Native.Nat.{ℕ}
-use lib.IntN.{ℤ}
-use lib.ListN.{length}
-use Rattle.passes.specs.Statements.{ReadyColumns, ColumnsPost}
+use mathlib.Core.Path.{refl, ◌∙◌}
 use Rattle.passes.proofs.StmtLaws.{columns_none, column_ready, columns_ready, columns_more}
 use Rattle.passes.proofs.fold_columns.Goals as goal
 

@@ -1,10 +1,4 @@
-use borrow.Author.Rules.{rules}
-use mathlib.Core.Path.{◌≡◌, refl, ◌∙◌}
-use mathlib.Core.List.{List}
-use Prim.Native.Nat.{ℕ}
-use lib.IntN.{ℤ}
-use lib.ListN.{length}
-use Rattle.passes.specs.Statements.{ReadyStmts, StmtsPost}
+use mathlib.Core.Path.{refl, ◌∙◌}
 use Rattle.passes.proofs.StmtLaws.{stmts_none, stmt_ready, stmts_ready, stmts_more}
 use Rattle.passes.proofs.fold_stmts.Goals as goal
 

@@ -1,11 +1,9 @@
-use borrow.Author.Rules.{rules}
-use mathlib.Core.Path.{◌≡◌, refl, ◌∙◌}
+use mathlib.Core.Path.{◌≡◌}
 use mathlib.Core.List.{List}
 use Prim.Native.Nat.{ℕ}
 use lib.IntN.{ℤ}
 use lib.ListN.{length}
 use Rattle.passes.specs.Statements.{ReadyStmts, StmtsPost}
-use Rattle.passes.proofs.StmtLaws.{stmts_none, stmt_ready, stmts_ready, stmts_more}
 use Rattle.passes.proofs.fold_stmts.Given as goal
 
 abbrev pub invariant-loop-rest : goal.invariant-loop-rest

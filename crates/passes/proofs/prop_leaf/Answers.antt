@@ -1,4 +1,3 @@
-use borrow.Author.Rules.{rules}
 use native.Mathlib.Omega.{arith}
 use Rattle.passes.proofs.PropLaws.{stands_inside, stands_second, const_props, var_below, var_props}
 use Rattle.passes.proofs.prop_leaf.Goals as goal

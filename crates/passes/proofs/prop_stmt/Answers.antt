@@ -1,7 +1,6 @@
 use native.Mathlib.Omega.{arith}
 use Rattle.passes.proofs.StmtLaws.{no_rule, code_is}
 use Rattle.passes.proofs.PropStmtLaws.{stmt_fits, stands_plain, stands_different, rule_stands, rule_props, idle_props}
-use borrow.Author.Rules.{rules}
 use Rattle.passes.proofs.prop_stmt.Goals as goal
 
 pub number-w-requires : goal.number-w-requires

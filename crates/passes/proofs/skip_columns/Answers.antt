@@ -1,6 +1,3 @@
-use borrow.Author.Rules.{rules}
-use Prim.Native.Nat.{ℕ}
-use Rattle.passes.specs.Statements.{SomeColumns, SkipColumnsPost}
 use Rattle.passes.proofs.PropStmtLaws.{columns_end, column_stands, columns_stand, columns_skip}
 use Rattle.passes.proofs.skip_columns.Goals as goal
 

@@ -1,4 +1,3 @@
-use borrow.Author.Rules.{rules}
 use Rattle.propagate.proofs.WorklistLaws.{after_none, after_stop, after_run_worklist}
 use Rattle.propagate.proofs.after_pass.Goals as goal
 

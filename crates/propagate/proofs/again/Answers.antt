@@ -1,4 +1,3 @@
-use borrow.Author.Rules.{rules}
 use native.Mathlib.Omega.{arith}
 use Rattle.propagate.proofs.WorklistLaws.{moves_none, again_ready, again_moves, again_fits}
 use Rattle.propagate.proofs.again.Goals as goal

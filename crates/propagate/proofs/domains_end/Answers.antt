@@ -1,6 +1,3 @@
-use borrow.Author.Rules.{rules}
-use Prim.Native.Nat.{ℕ}
-use Rattle.propagate.specs.Optimized.{SomeDomains, DomainsEndPost}
 use Rattle.propagate.proofs.PassLaws.{domains_none, domain_stands, domains_stand, domains_more}
 use Rattle.propagate.proofs.domains_end.Goals as goal
 

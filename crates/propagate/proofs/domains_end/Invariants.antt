@@ -1,7 +1,5 @@
-use borrow.Author.Rules.{rules}
 use Prim.Native.Nat.{ℕ}
 use Rattle.propagate.specs.Optimized.{SomeDomains, DomainsEndPost}
-use Rattle.propagate.proofs.PassLaws.{domains_none, domain_stands, domains_stand, domains_more}
 use Rattle.propagate.proofs.domains_end.Given as goal
 
 abbrev pub invariant-loop-rest : goal.invariant-loop-rest

@@ -1,8 +1,6 @@
-use borrow.Author.Rules.{rules}
 use native.Mathlib.Omega.{arith}
-use Prim.Native.Nat.{◌-◌, ◌≤◌}
-use Rattle.syntax.specs.Words.{max_bools}
-use Rattle.propagate.proofs.PassLaws.{Opening, opening_none, opening_next, opening_end}
+use Prim.Native.Nat.{◌-◌}
+use Rattle.propagate.proofs.PassLaws.{opening_none, opening_next, opening_end}
 use Rattle.propagate.proofs.fill_open.Goals as goal
 
 pub loop-i-init : goal.loop-i-init

@@ -1,11 +1,9 @@
-use borrow.Author.Rules.{rules}
 use mathlib.Core.Bool.{cond}
 use Prim.Native.Nat.{◌+◌}
 use lib.Dec.{eqb}
 use Rattle.folding.specs.Steps.{fixed_in}
 use Rattle.propagate.specs.Passes.{open_count}
-use Rattle.propagate.proofs.PassLaws.{Between, between_first, between_next, stand_folded, values_now, falls, less}
-use Rattle.propagate.proofs.WorklistLaws.{falls_after, between_after}
+use Rattle.propagate.proofs.PassLaws.{Between}
 use Rattle.propagate.proofs.run_passes.Given as goal
 
 abbrev pub invariant-loop-status : goal.invariant-loop-status

@@ -1,9 +1,7 @@
-use borrow.Author.Rules.{rules}
-use mathlib.Core.Path.{◌≡◌, refl, ◌∙◌}
+use mathlib.Core.Path.{refl, ◌∙◌}
 use native.Mathlib.Omega.{arith}
-use Prim.Native.Nat.{◌-◌, ◌≤◌}
-use lib.ListN.{length}
-use Rattle.propagate.proofs.WorklistLaws.{Moving, moving_first, moving_stop, moving_next, moves_as}
+use Prim.Native.Nat.{◌-◌}
+use Rattle.propagate.proofs.WorklistLaws.{moving_first, moving_stop, moving_next, moves_as}
 use Rattle.propagate.proofs.run_queue.Goals as goal
 
 pub loop-k-init : goal.loop-k-init

@@ -1,9 +1,7 @@
-use borrow.Author.Rules.{rules}
-use mathlib.Core.Path.{◌≡◌, refl, ◌∙◌}
-use native.Mathlib.Omega.{arith}
+use mathlib.Core.Path.{◌≡◌}
 use Prim.Native.Nat.{◌-◌, ◌≤◌}
 use lib.ListN.{length}
-use Rattle.propagate.proofs.WorklistLaws.{Moving, moving_first, moving_stop, moving_next, moves_as}
+use Rattle.propagate.proofs.WorklistLaws.{Moving}
 use Rattle.propagate.proofs.run_queue.Given as goal
 
 abbrev pub invariant-loop-k : goal.invariant-loop-k

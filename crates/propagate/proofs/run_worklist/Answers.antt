@@ -1,4 +1,3 @@
-use borrow.Author.Rules.{rules}
 use Rattle.propagate.proofs.WorklistLaws.{places_none, run_worklist_stop, run_worklist_ready, run_worklist_end}
 use Rattle.propagate.proofs.run_worklist.Goals as goal
 

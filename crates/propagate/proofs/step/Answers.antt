@@ -1,4 +1,3 @@
-use borrow.Author.Rules.{rules}
 use Rattle.propagate.proofs.WorklistLaws.{step_stands, stepped}
 use Rattle.propagate.proofs.step.Goals as goal
 

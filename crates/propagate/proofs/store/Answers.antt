@@ -1,4 +1,3 @@
-use borrow.Author.Rules.{rules}
 use Rattle.propagate.proofs.WorklistLaws.{only_set}
 use Rattle.propagate.proofs.store.Goals as goal
 

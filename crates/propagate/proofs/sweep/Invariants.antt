@@ -1,9 +1,7 @@
-use borrow.Author.Rules.{rules}
-use mathlib.Core.Path.{◌≡◌, refl, ◌∙◌}
-use native.Mathlib.Omega.{arith}
+use mathlib.Core.Path.{◌≡◌}
 use Prim.Native.Nat.{◌-◌}
 use lib.ListN.{length}
-use Rattle.propagate.proofs.WorklistLaws.{Sweeping, sweep_first, sweep_ready, sweep_stop, sweep_fits, sweep_next}
+use Rattle.propagate.proofs.WorklistLaws.{Sweeping}
 use Rattle.propagate.proofs.sweep.Given as goal
 
 abbrev pub invariant-loop-i : goal.invariant-loop-i

@@ -1,7 +1,6 @@
 -- `reader::read_rest` meets its contract. Assumes nothing.
 use mathlib.Core.Path.{sym, ◌∙◌}
 use Rattle.reader.proofs.SetLaws.{stmts_no_count, stmts_refused, stmts_more, stmts_end}
-use borrow.Author.Rules.{rules}
 use Rattle.reader.proofs.read_rest.Goals as goal
 
 pub returns-in-Refused : goal.returns-in-Refused

@@ -1,7 +1,6 @@
 -- `reader::read_set` meets its contract. Assumes nothing.
 use mathlib.Core.Path.{sym, ◌∙◌}
 use Rattle.reader.proofs.SetLaws.{set_no_bools, set_no_ints, set_no_domains, set_rest}
-use borrow.Author.Rules.{rules}
 use Rattle.reader.proofs.read_set.Goals as goal
 
 pub returns-in-Refused : goal.returns-in-Refused

@@ -1,7 +1,6 @@
 -- `copy_folded` meets its contract.
 use native.Mathlib.Omega.{arith}
 use Rattle.remaining.proofs.Laws.{copied_short, copied_next, copied_two}
-use borrow.Author.Rules.{rules}
 use Rattle.remaining.proofs.copy_folded.Goals as goal
 
 pub returns-then-out-bools : goal.returns-then-out-bools

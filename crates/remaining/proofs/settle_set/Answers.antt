@@ -1,7 +1,6 @@
 -- `settle_set` meets its contract.
 use native.Mathlib.Omega.{arith}
 use Rattle.remaining.proofs.Laws.{copy_ready, remains_refused, remains_contradiction, remains_folded}
-use borrow.Author.Rules.{rules}
 use Rattle.remaining.proofs.settle_set.Goals as goal
 
 pub copy_folded-n-requires : goal.copy_folded-n-requires

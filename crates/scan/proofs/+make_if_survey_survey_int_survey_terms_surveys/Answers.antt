@@ -1,18 +1,15 @@
 use mathlib.Core.Bool.{not}
-use borrow.Author.Rules.{rules}
-use Prim.Native.Nat.{ℕ, ◌<◌}
 use Rattle.syntax.specs.Words.{max_bools, max_ints}
-use Prim.Native.Nat.{ℕ, ◌<◌, ◌+◌, ◌*◌}
+use Prim.Native.Nat.{◌+◌}
 use mathlib.Core.Path.{refl, sym, ap, ◌∙◌}
 use native.Mathlib.Omega.{arith}
 use Rattle.walk.proofs.Steps.{below_lt}
 use Rattle.walk.proofs.NumberingSteps.{part_length}
-use Rattle.walks.specs.Item.{counters}
 use Rattle.scan.specs.Nodes.{okay_at}
-use Rattle.scan.specs.Skip.{split_by, inside_same, inside_more, skips_none, skips_var, skips_cmp, skips_not, skips_join, skips_cross, int_none, int_leaf, int_sum, int_if}
+use Rattle.scan.specs.Skip.{inside_same, inside_more, skips_none, skips_var, skips_cmp, skips_not, skips_join, skips_cross, int_none, int_leaf, int_sum, int_if}
 use Rattle.scan.specs.LeafLaws.{split_here, not_here}
 use Rattle.scan.specs.IfLaws.{more_bools_low, more_ints_low}
-use Rattle.scan.specs.SurveyLaws.{scanned, survey_none, survey_var, survey_cmp, survey_not, survey_join, survey_split, survey_cross, Sofar, sofar_none, sofar_more, sofar_done, make_open, make_variable, make_named, ints_none, ints_off, ints_var, ints_const, ints_sum, ints_passed, ints_made, TermsSofar, terms_none, terms_more, terms_done}
+use Rattle.scan.specs.SurveyLaws.{scanned, survey_none, survey_var, survey_cmp, survey_not, survey_join, survey_split, survey_cross, sofar_none, sofar_more, sofar_done, make_open, make_variable, make_named, ints_none, ints_off, ints_var, ints_const, ints_sum, ints_passed, ints_made, terms_none, terms_more, terms_done}
 use Rattle.scan.proofs.+make_if_survey_survey_int_survey_terms_surveys.Goals as goal
 
 pub make_if-survey-a-requires : goal.make_if-survey-a-requires

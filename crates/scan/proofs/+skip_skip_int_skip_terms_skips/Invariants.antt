@@ -1,12 +1,6 @@
-use borrow.Author.Rules.{rules}
-use Prim.Native.Nat.{ℕ, ◌<◌, ◌+◌, ◌*◌}
-use mathlib.Core.Path.{refl, sym, ◌∙◌}
-use mathlib.Core.Bool.{false}
-use native.Mathlib.Omega.{arith}
+use Prim.Native.Nat.{◌+◌, ◌*◌}
 use Rattle.walk.specs.Decode.{read_part}
-use Rattle.walk.proofs.NumberingSteps.{part_length}
-use Rattle.scan.specs.Nodes.{okay_at}
-use Rattle.scan.specs.Skip.{split_by, inside_low, skips_none, skips_var, skips_cmp, skips_not, skips_join, skips_cross, int_none, int_leaf, int_sum, int_if, Skipping, skipping_first, skipping_next, skipping_last, TermSkipping, terms_first, terms_next, terms_leaf, terms_last}
+use Rattle.scan.specs.Skip.{split_by, Skipping, TermSkipping}
 use Rattle.scan.proofs.+skip_skip_int_skip_terms_skips.Given as goal
 
 abbrev pub decreases-skip : goal.decreases-skip

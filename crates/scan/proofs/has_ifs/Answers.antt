@@ -2,10 +2,9 @@ use mir.Syntax.{w32}
 use mir.Val.{SFits}
 use lib.ListN.{get_or}
 use lib.IntN.{pos}
-use borrow.Author.Rules.{rules, sfits_of}
+use borrow.Author.Rules.{sfits_of}
 use Rattle.memory.specs.Places.{ifs_word}
 use Rattle.scan.proofs.Seeing.{word_zero, word_other, word_past}
-use borrow.Author.Rules.{rules}
 use Rattle.scan.proofs.has_ifs.Goals as goal
 
 pub returns-then-z-eq0 : goal.returns-then-z-eq0

@@ -1,7 +1,6 @@
 use native.Mathlib.Omega.{arith}
 use Rattle.laws.specs.Bools.{never}
 use Rattle.scan.proofs.NodeLaws.{no_code_at}
-use borrow.Author.Rules.{rules}
 use Rattle.scan.proofs.is_leaf.Goals as goal
 
 pub returns-then-left-eq0 : goal.returns-then-left-eq0

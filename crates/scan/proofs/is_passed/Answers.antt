@@ -1,5 +1,4 @@
 use Rattle.scan.proofs.Seeing.{few_seen, number_seen, none_seen}
-use borrow.Author.Rules.{rules}
 use Rattle.scan.proofs.is_passed.Goals as goal
 
 pub returns-then-k-lt2 : goal.returns-then-k-lt2

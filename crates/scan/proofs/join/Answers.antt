@@ -1,6 +1,5 @@
 use mathlib.Core.Path.{ap, ◌∙◌}
 use Rattle.scan.specs.SurveyLaws.{scanned, joined_of}
-use borrow.Author.Rules.{rules}
 use Rattle.scan.proofs.join.Goals as goal
 
 pub returns-then-d : goal.returns-then-d

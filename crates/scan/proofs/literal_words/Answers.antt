@@ -5,7 +5,7 @@ use mir.Syntax.{w32}
 use mir.Val.{SFits}
 use lib.ListN.{get_or}
 use lib.IntN.{pos}
-use borrow.Author.Rules.{rules, sfits_of}
+use borrow.Author.Rules.{sfits_of}
 use Rattle.scan.specs.Skip.{variable_words, negation_words}
 use Rattle.scan.proofs.NodeLaws.{code_at}
 use Rattle.scan.proofs.literal_words.Goals as goal

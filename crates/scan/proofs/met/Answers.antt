@@ -1,4 +1,3 @@
-use borrow.Author.Rules.{rules}
 use Rattle.scan.proofs.Meeting.{bool_new, bool_old}
 use Rattle.scan.proofs.met.Goals as goal
 

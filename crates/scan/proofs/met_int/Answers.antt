@@ -1,5 +1,4 @@
 use Rattle.scan.proofs.Meeting.{int_new, int_old}
-use borrow.Author.Rules.{rules}
 use Rattle.scan.proofs.met_int.Goals as goal
 
 pub returns-then-entry-n : goal.returns-then-entry-n

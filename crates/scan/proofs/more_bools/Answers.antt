@@ -1,5 +1,4 @@
 use Rattle.walks.specs.Item.{counters}
-use borrow.Author.Rules.{rules}
 use mathlib.Core.Path.{ap}
 use Rattle.scan.proofs.more_bools.Goals as goal
 

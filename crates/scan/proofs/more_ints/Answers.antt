@@ -1,4 +1,3 @@
-use borrow.Author.Rules.{rules}
 use mathlib.Core.Path.{refl, ap}
 use Rattle.walks.specs.Item.{counters}
 use Rattle.scan.proofs.more_ints.Goals as goal

@@ -1,6 +1,5 @@
 use mathlib.Core.Path.{refl}
 use Rattle.scan.specs.SurveyLaws.{named}
-use borrow.Author.Rules.{rules}
 use Rattle.scan.proofs.name_condition.Goals as goal
 
 pub returns : goal.returns

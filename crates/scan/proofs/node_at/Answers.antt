@@ -1,4 +1,3 @@
-use borrow.Author.Rules.{rules}
 use Rattle.scan.proofs.NodeLaws.{node_const, node_var, node_and, node_or, node_not, node_xor, node_iff, node_imp, node_cmp, node_other}
 use Rattle.scan.proofs.node_at.Goals as goal
 

@@ -1,6 +1,5 @@
 use mathlib.Core.Path.{ap, ◌∙◌}
 use Rattle.scan.specs.SurveyLaws.{scanned, single_of}
-use borrow.Author.Rules.{rules}
 use Rattle.scan.proofs.single_at.Goals as goal
 
 pub returns : goal.returns

@@ -1,6 +1,5 @@
 -- `clear_maps` meets its contract.
 use Rattle.settle.proofs.Laws.{cleared_is}
-use borrow.Author.Rules.{rules}
 use Rattle.settle.proofs.clear_maps.Goals as goal
 
 pub returns : goal.returns

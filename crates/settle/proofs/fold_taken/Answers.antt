@@ -1,6 +1,5 @@
 -- `fold_taken` meets its contract.
 use Rattle.settle.proofs.Laws.{fold_contradiction, fold_settled}
-use borrow.Author.Rules.{rules}
 use Rattle.settle.proofs.fold_taken.Goals as goal
 
 pub returns-then-status-ne0 : goal.returns-then-status-ne0

@@ -1,7 +1,6 @@
 -- `settle` meets its contract.
 use mathlib.Core.Path.{sym, ◌∙◌}
 use Rattle.settle.proofs.Laws.{settle_refused, settle_room, settle_taken, settle_post}
-use borrow.Author.Rules.{rules}
 use Rattle.settle.proofs.settle.Goals as goal
 
 pub clear_maps-requires : goal.clear_maps-requires

@@ -1,6 +1,5 @@
 -- `clauses_at` meets its contract.
 use Rattle.sheets.proofs.Laws.{clauses_found}
-use borrow.Author.Rules.{rules}
 use Rattle.sheets.proofs.clauses_at.Goals as goal
 
 pub returns : goal.returns

@@ -1,11 +1,9 @@
 -- `clear_bytes` meets its contract.
-use mathlib.Core.Path.{◌≡◌, refl, ◌∙◌}
-use Prim.Native.Nat.{◌-◌, ◌≤◌}
+use mathlib.Core.Path.{refl, ◌∙◌}
+use Prim.Native.Nat.{◌-◌}
 use native.Mathlib.Omega.{arith}
-use lib.ListN.{length, take, length-set}
-use Rattle.sheetback.specs.Sheeted.{no_bytes}
+use lib.ListN.{length-set}
 use Rattle.sheets.proofs.Laws.{cleared_next, cleared_all}
-use borrow.Author.Rules.{rules}
 use Rattle.sheets.proofs.clear_bytes.Goals as goal
 
 pub loop-i-init : goal.loop-i-init

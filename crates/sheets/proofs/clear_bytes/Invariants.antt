@@ -1,11 +1,8 @@
 -- `clear_bytes` meets its contract.
-use mathlib.Core.Path.{◌≡◌, refl, ◌∙◌}
+use mathlib.Core.Path.{◌≡◌}
 use Prim.Native.Nat.{◌-◌, ◌≤◌}
-use native.Mathlib.Omega.{arith}
-use lib.ListN.{length, take, length-set}
+use lib.ListN.{length, take}
 use Rattle.sheetback.specs.Sheeted.{no_bytes}
-use Rattle.sheets.proofs.Laws.{cleared_next, cleared_all}
-use borrow.Author.Rules.{rules}
 use Rattle.sheets.proofs.clear_bytes.Given as goal
 
 abbrev pub invariant-loop-i : goal.invariant-loop-i

@@ -1,6 +1,5 @@
 -- `finish` meets its contract.
 use Rattle.sheets.proofs.Laws.{some_fits, finish_fits, finish_over}
-use borrow.Author.Rules.{rules}
 use Rattle.sheets.proofs.finish.Goals as goal
 
 pub slice_bounds-write_sheet-end : goal.slice_bounds-write_sheet-end

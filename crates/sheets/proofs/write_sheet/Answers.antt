@@ -1,6 +1,5 @@
 -- `write_sheet` meets its contract.
 use Rattle.sheets.proofs.Laws.{sheet_of_words}
-use borrow.Author.Rules.{rules}
 use Rattle.sheets.proofs.write_sheet.Goals as goal
 
 pub returns : goal.returns

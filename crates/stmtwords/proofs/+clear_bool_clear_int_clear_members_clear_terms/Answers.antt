@@ -1,12 +1,10 @@
-use borrow.Author.Rules.{rules}
-use Prim.Native.Nat.{ℕ, ◌<◌}
-use Prim.Native.Nat.{ℕ, ◌<◌, ◌+◌, ◌*◌}
+use Prim.Native.Nat.{◌+◌}
 use mathlib.Core.Path.{refl, sym, ◌∙◌}
 use mathlib.Core.Bool.{false}
 use native.Mathlib.Omega.{arith}
 use Rattle.scan.specs.Nodes.{okay_at}
 use Rattle.walk.proofs.NumberingSteps.{part_length}
-use Rattle.stmtwords.proofs.Clearing.{clears_none, clears_var, clears_cmp, clears_not, clears_join, clears_cross, int_clears_none, int_clears_leaf, int_clears_sum, int_clears_if, Clearing, clearing_first, clearing_next, clearing_last, TermClearing, term_clearing_first, term_clearing_next, term_clearing_last}
+use Rattle.stmtwords.proofs.Clearing.{clears_none, clears_var, clears_cmp, clears_not, clears_join, clears_cross, int_clears_none, int_clears_leaf, int_clears_sum, int_clears_if, clearing_first, clearing_next, clearing_last, term_clearing_first, term_clearing_next, term_clearing_last}
 use Rattle.stmtwords.proofs.+clear_bool_clear_int_clear_members_clear_terms.Goals as goal
 
 pub clear_bool-returns-then-left-eq0 : goal.clear_bool-returns-then-left-eq0

@@ -3,7 +3,6 @@ use mathlib.Core.Path.{refl}
 use lib.IntN.{pos}
 use lib.ListN.{length-set}
 use Rattle.stmtwords.proofs.Clearing.{cell_cleared, cell_stays}
-use borrow.Author.Rules.{rules}
 use Rattle.stmtwords.proofs.clear_cell.Goals as goal
 
 pub returns-then-base-next : goal.returns-then-base-next

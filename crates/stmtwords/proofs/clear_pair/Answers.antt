@@ -1,5 +1,4 @@
 use Rattle.stmtwords.proofs.Clearing.{pair_none, pair_done}
-use borrow.Author.Rules.{rules}
 use Rattle.stmtwords.proofs.clear_pair.Goals as goal
 
 pub returns-then-has_ifs : goal.returns-then-has_ifs

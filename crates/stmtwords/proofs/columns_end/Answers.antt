@@ -1,9 +1,5 @@
-use borrow.Author.Rules.{rules}
-use mathlib.Core.Path.{◌≡◌, refl, ◌∙◌}
+use mathlib.Core.Path.{refl, ◌∙◌}
 use native.Mathlib.Omega.{arith}
-use Prim.Native.Nat.{◌≤◌}
-use Rattle.memory.specs.Places.{folded_end}
-use Rattle.walk.specs.Decode.{read_part}
 use Rattle.stages.specs.Columns.{columns_end}
 use Rattle.stmtwords.proofs.Words.{columns_more, columns_none}
 use Rattle.stmtwords.proofs.columns_end.Goals as goal

@@ -1,11 +1,8 @@
-use borrow.Author.Rules.{rules}
-use mathlib.Core.Path.{◌≡◌, refl, ◌∙◌}
-use native.Mathlib.Omega.{arith}
+use mathlib.Core.Path.{◌≡◌}
 use Prim.Native.Nat.{◌≤◌}
 use Rattle.memory.specs.Places.{folded_end}
 use Rattle.walk.specs.Decode.{read_part}
 use Rattle.stages.specs.Columns.{columns_end}
-use Rattle.stmtwords.proofs.Words.{columns_more, columns_none}
 use Rattle.stmtwords.proofs.columns_end.Given as goal
 
 abbrev pub invariant-loop-rest : goal.invariant-loop-rest

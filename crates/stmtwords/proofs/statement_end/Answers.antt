@@ -1,4 +1,3 @@
-use borrow.Author.Rules.{rules}
 use native.Mathlib.Omega.{arith}
 use Rattle.stmtwords.specs.Stands.{SomeTable}
 use Rattle.stmtwords.proofs.Words.{table_inside, table_room, different_inside}

@@ -1,4 +1,3 @@
-use borrow.Author.Rules.{rules}
 use mathlib.Core.Path.{sym, ◌∙◌}
 use Rattle.stmtwords.specs.Fresh.{fresh_plain, fresh_free, fresh_starred}
 use Rattle.stmtwords.proofs.table_fresh.Goals as goal

@@ -1,12 +1,6 @@
 -- The loop's invariant is `Looking`; the levels left fall at each call.
-use Prim.Native.Nat.{ℕ, ◌<◌}
-use borrow.Author.Rules.{rules}
-use native.Mathlib.Omega.{arith}
-use mathlib.Core.Path.{refl}
 use Rattle.scan.specs.Skip.{split_by}
 use Rattle.totals.specs.Ranges.{Looking}
-use Rattle.totals.proofs.Steps.{off, on, sum_left}
-use Rattle.totals.proofs.Looks.{look_start, look_end, look_branched, look_found, look_next}
 use Rattle.totals.proofs.+find.Given as goal
 
 abbrev pub decreases-find : goal.decreases-find

@@ -1,18 +1,16 @@
 -- The loop's invariant is `Going`, of the sum in the two arrays; the levels left fall at each call.
 use mathlib.Core.Path.{ap}
 use mathlib.Core.Bool.{not}
-use Prim.Native.Nat.{ℕ, ◌<◌}
 use borrow.Author.Rules.{rules}
 use native.Mathlib.Omega.{arith}
 use mathlib.Core.Path.{refl, sym, ◌∙◌}
 use mir.Syntax.{w32}
 use mir.Val.{SFits}
 use mir.Facts.{to_z-of_z}
-use Rattle.sums.specs.Struct.{Wide, sum_of, sum_at}
+use Rattle.sums.specs.Struct.{sum_of}
 use Rattle.sums.proofs.Laws.{stands_sum, nothing_kept}
 use Rattle.scan.specs.Skip.{split_by}
 use Rattle.totals.specs.Lone.{sum_in, lone_words}
-use Rattle.totals.specs.Linear.{Going}
 use Rattle.totals.proofs.Steps.{off, on, lone_is, sum_left, going_start, going_end, turn_steps, turn_asks, turn_next}
 use Rattle.totals.proofs.+linear_of.Goals as goal
 

@@ -1,7 +1,6 @@
 -- One number or one constant.
 use Rattle.scan.specs.Skip.{split_by}
 use Rattle.totals.proofs.Steps.{alone_linear}
-use borrow.Author.Rules.{rules}
 use Rattle.totals.proofs.alone.Goals as goal
 
 pub returns : goal.returns

@@ -3,7 +3,6 @@ use lib.Signed.{le_z}
 use mir.Facts.{to_z-of_z}
 use Rattle.laws.specs.Signed.{tests_of}
 use Rattle.totals.proofs.Looks.{between_low, between_high}
-use borrow.Author.Rules.{rules}
 use Rattle.totals.proofs.between.Goals as goal
 
 pub returns-then-x-y : goal.returns-then-x-y

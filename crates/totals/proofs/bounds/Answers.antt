@@ -14,7 +14,7 @@ use Rattle.sums.specs.LinearSum.{term}
 use Rattle.sums.specs.Struct.{Is, terms}
 use Rattle.sums.proofs.Laws.{is_param, drop_term}
 use Rattle.scan.specs.Skip.{split_by}
-use Rattle.totals.proofs.Adding.{Adding, adding_start, adding_end, low_asks, low_fits, high_fits, adding_next}
+use Rattle.totals.proofs.Adding.{adding_start, adding_end, low_asks, low_fits, high_fits, adding_next}
 use Rattle.totals.proofs.bounds.Lts
 use Rattle.totals.proofs.bounds.Tie
 use Rattle.totals.proofs.bounds.Reads

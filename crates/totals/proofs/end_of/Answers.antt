@@ -3,7 +3,6 @@ use mathlib.Core.Path.{ap}
 use mathlib.Core.Bool.{not}
 use Rattle.scan.specs.Skip.{split_by}
 use Rattle.totals.proofs.Steps.{leaf_passed}
-use borrow.Author.Rules.{rules}
 use Rattle.totals.proofs.end_of.Goals as goal
 
 pub returns-then-not-has_ifs : goal.returns-then-not-has_ifs

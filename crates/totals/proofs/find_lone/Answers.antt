@@ -7,7 +7,6 @@ use Rattle.memory.specs.Places.{folded_end}
 use Rattle.scan.specs.Skip.{split_by}
 use Rattle.walk.proofs.Steps.{below_lt}
 use Rattle.totals.proofs.Looks.{find_none, variable_hit, variable_miss, other_miss, if_branching, if_hit, if_miss}
-use borrow.Author.Rules.{rules}
 use Rattle.totals.proofs.find_lone.Goals as goal
 
 pub returns-then-left-eq0 : goal.returns-then-left-eq0

@@ -1,6 +1,5 @@
 -- With no level left nothing is a sum.
 use Rattle.totals.proofs.Numbers.{sum_none, sum_code}
-use borrow.Author.Rules.{rules}
 use Rattle.totals.proofs.is_sum.Goals as goal
 
 pub returns-then-left-eq0 : goal.returns-then-left-eq0

@@ -5,7 +5,7 @@ use borrow.Author.Rules.{rules}
 use mir.Syntax.{w32}
 use mir.Val.{SFits}
 use mir.Facts.{to_z-of_z}
-use Rattle.sums.specs.Struct.{Wide, sum_of}
+use Rattle.sums.specs.Struct.{sum_of}
 use Rattle.sums.proofs.Laws.{stands_sum}
 use Rattle.scan.specs.Skip.{split_by}
 use Rattle.totals.specs.Lone.{sum_in, lone_words}

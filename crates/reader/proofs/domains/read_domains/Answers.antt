@@ -1,11 +1,7 @@
 -- `reader::domains::read_domains` meets its contract. Assumes nothing.
-use mathlib.Core.Path.{◌≡◌, refl, sym, ◌∙◌}
-use Rattle.words.specs.Parse.{times}
-use Rattle.read.specs.Read.{read_domain as domain_of}
+use mathlib.Core.Path.{refl, sym, ◌∙◌}
 use Rattle.read.proofs.Exact.{domain_exact}
-use Rattle.reader.specs.Position.{reads}
 use Rattle.reader.proofs.Laws.{times_none, times_refused, times_more}
-use borrow.Author.Rules.{rules}
 use Rattle.reader.proofs.domains.read_domains.Goals as goal
 
 pub loop-rest-init : goal.loop-rest-init

@@ -1,7 +1,6 @@
 -- `reader::domains::read_enumerative` meets its contract. Assumes nothing.
 use mathlib.Core.Path.{sym, ◌∙◌}
 use Rattle.reader.proofs.DomainLaws.{enumerative_refused, enumerative_values}
-use borrow.Author.Rules.{rules}
 use Rattle.reader.proofs.domains.read_enumerative.Goals as goal
 
 pub returns-in-Refused : goal.returns-in-Refused

@@ -1,21 +1,8 @@
 -- The functions of `reader::expressions` meet their contracts; the levels left fall. Assumes nothing.
-use Prim.Native.Nat.{ℕ, ◌<◌, ◌+◌, ◌*◌}
-use mathlib.Core.Path.{◌≡◌, refl, sym, ◌∙◌}
-use native.Mathlib.Omega.{arith}
-use lib.ListN.{drop}
-use mir.Syntax.{w32}
-use mir.Val.{SFits}
-use mir.Facts.{to_z-of_z}
-use Rattle.laws.specs.Signed.{value_is}
-use Rattle.words.specs.Parse.{word}
-use Rattle.words.specs.Cursor.{next_at}
-use Rattle.words.specs.declared.Next.TheVariants.{Word}
+use Prim.Native.Nat.{◌+◌, ◌*◌}
+use mathlib.Core.Path.{◌≡◌}
 use Rattle.read.specs.Read.{read_terms as terms_of, read_members as members-of, read_int as int_of, read_bool as bool_of}
 use Rattle.reader.specs.Position.{reads}
-use Rattle.reader.proofs.Codes.{int_unknown, bool_unknown}
-use Rattle.reader.proofs.IntLaws.{terms_none, terms_no_value, terms_no_int, terms_more, if_no_condition, if_no_first, if_second, int_end, int_deep, int_const, int_var, sum_refused, sum_terms, int_if, int_none}
-use Rattle.reader.proofs.BoolLaws.{comparison_no_operator, comparison_no_left, comparison_right, members_none, members_refused, members_more, list_refused, list_members, pair_refused, pair_second, bool_end, bool_deep, bool_const, bool_var, bool_and, bool_or, bool_not, bool_xor, bool_iff, bool_imp, bool_cmp, bool_none}
-use borrow.Author.Rules.{rules}
 use Rattle.reader.proofs.expressions.+read_bool_read_comparison_read_if_read_int_read_list_read_members_read_pair_read_terms.Given as goal
 
 abbrev pub decreases-read_bool : goal.decreases-read_bool

@@ -3,7 +3,6 @@ use mathlib.Core.Path.{sym, ◌∙◌}
 use Rattle.words.specs.Exact.{index_exact}
 use Rattle.words.specs.Parse.{index}
 use Rattle.reader.proofs.Laws.{number_stopped, number_ok}
-use borrow.Author.Rules.{rules}
 use Rattle.reader.proofs.leaves.check_index.Goals as goal
 
 pub returns-in-Refused : goal.returns-in-Refused

@@ -3,7 +3,6 @@ use mathlib.Core.Path.{sym, ◌∙◌}
 use Rattle.words.specs.Exact.{up_to_exact}
 use Rattle.words.specs.Parse.{up_to}
 use Rattle.reader.proofs.Laws.{number_stopped, number_ok}
-use borrow.Author.Rules.{rules}
 use Rattle.reader.proofs.leaves.check_up_to.Goals as goal
 
 pub returns-in-Refused : goal.returns-in-Refused

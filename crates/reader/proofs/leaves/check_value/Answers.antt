@@ -2,7 +2,6 @@
 use mathlib.Core.Path.{sym, ◌∙◌}
 use Rattle.words.specs.Parse.{number}
 use Rattle.reader.proofs.Laws.{word_stopped, word_ok, value_front}
-use borrow.Author.Rules.{rules}
 use Rattle.reader.proofs.leaves.check_value.Goals as goal
 
 pub returns-in-Refused : goal.returns-in-Refused

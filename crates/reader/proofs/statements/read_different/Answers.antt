@@ -1,7 +1,6 @@
 -- `reader::statements::read_different` meets its contract. Assumes nothing.
 use mathlib.Core.Path.{sym, ◌∙◌}
 use Rattle.reader.proofs.StmtLaws.{different_no_count, different_them}
-use borrow.Author.Rules.{rules}
 use Rattle.reader.proofs.statements.read_different.Goals as goal
 
 pub returns-in-Refused : goal.returns-in-Refused

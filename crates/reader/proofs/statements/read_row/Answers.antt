@@ -1,11 +1,7 @@
 -- `reader::statements::read_row` meets its contract. Assumes nothing.
-use mathlib.Core.Path.{◌≡◌, refl, sym, ◌∙◌}
-use Rattle.words.specs.Parse.{times}
-use Rattle.read.specs.Read.{read_cell as cell_of}
+use mathlib.Core.Path.{refl, sym, ◌∙◌}
 use Rattle.read.proofs.Exact.{cell_exact}
-use Rattle.reader.specs.Position.{reads}
 use Rattle.reader.proofs.Laws.{times_none, times_refused, times_more}
-use borrow.Author.Rules.{rules}
 use Rattle.reader.proofs.statements.read_row.Goals as goal
 
 pub loop-rest-init : goal.loop-rest-init

@@ -1,11 +1,8 @@
 -- `reader::statements::read_rows` meets its contract. Assumes nothing.
-use mathlib.Core.Path.{◌≡◌, refl, sym, ◌∙◌}
+use mathlib.Core.Path.{◌≡◌}
 use Rattle.words.specs.Parse.{times}
 use Rattle.read.specs.Read.{read_cell as cell_of}
-use Rattle.read.proofs.Exact.{row_exact}
 use Rattle.reader.specs.Position.{reads}
-use Rattle.reader.proofs.Laws.{times_none, times_refused, times_more}
-use borrow.Author.Rules.{rules}
 use Rattle.reader.proofs.statements.read_rows.Given as goal
 
 abbrev pub invariant-loop-rest : goal.invariant-loop-rest

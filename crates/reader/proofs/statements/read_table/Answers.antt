@@ -1,7 +1,6 @@
 -- `reader::statements::read_table` meets its contract. Assumes nothing.
 use mathlib.Core.Path.{sym, ◌∙◌}
 use Rattle.reader.proofs.StmtLaws.{table_no_columns, table_no_rows, table_column_refused, table_rows}
-use borrow.Author.Rules.{rules}
 use Rattle.reader.proofs.statements.read_table.Goals as goal
 
 pub returns-in-Refused : goal.returns-in-Refused

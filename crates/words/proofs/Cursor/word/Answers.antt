@@ -1,5 +1,5 @@
 -- `words::Cursor::word` meets its contract. Assumes nothing.
-use borrow.Author.Rules.{rules, sfits_of}
+use borrow.Author.Rules.{sfits_of}
 use lib.IntN.{pos}
 use lib.ListN.{drop_of_length-le}
 use lib.Seq.{drop-cons}
