@@ -4,7 +4,7 @@ The line `total=` is not the reference's: it is counted anew from the printed cl
 
     python3 tools/cases/compare.py SEED COUNT [FAMILY]
 
-FAMILY is text, or iftext for sets with Ifs. Run at the repository's root, after `rt check listing` (target/bin) and the
+FAMILY is text, or iftext for sets with Ifs. Run at the repository's root, after `rt run listing < crates/listing/stdin` (crates/listing/out) and the
 reference's build."""
 import re
 import subprocess
@@ -32,7 +32,7 @@ def main(seed, count, family="text"):
         expected = listed
         kind = expected.split(b"\n")[0].decode()
         kinds[kind] = kinds.get(kind, 0) + 1
-        printed = subprocess.run(["target/bin/listing"], input=given, capture_output=True, check=True).stdout
+        printed = subprocess.run(["crates/listing/out/listing"], input=given, capture_output=True, check=True).stdout
         if printed == expected:
             agree += 1
             continue

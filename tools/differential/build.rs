@@ -1,6 +1,6 @@
-// Each program links the static library that `rt staticlib NAME` writes below the repository's target/.
+// Each program links the static library that `rt lib NAME` writes: crates/NAME/out/libNAME.a.
 fn main() {
-    let root = std::path::Path::new(env!("CARGO_MANIFEST_DIR")).join("../../target/staticlib");
+    let root = std::path::Path::new(env!("CARGO_MANIFEST_DIR")).join("../../crates");
     for (program, library) in [
         ("refusals", "refuse"),
         ("settled", "remaining"),
@@ -12,7 +12,7 @@ fn main() {
         ("sheetcalls", "station"),
         ("bench", "station"),
     ] {
-        let file = root.join(format!("lib{library}.a"));
+        let file = root.join(format!("{library}/out/lib{library}.a"));
         println!("cargo:rustc-link-arg-bin={program}={}", file.display());
         println!("cargo:rerun-if-changed={}", file.display());
     }

@@ -556,6 +556,9 @@ def convert(crate, proof, names, params, asked, keep):
             fields = lts.record_goals.get(old) or (asked.get(asks[1], []) if asks else [])
             if len(fields) > 1 and (old in lts.record_goals or not (is_cycle and any(norm(k) == "Lts_" + asks[1] for k in ltss))):
                 record = as_record(out, fields)
+                whole = re.fullmatch(rf"(.*\s=\s+)({N})\.requires(?:-raw)?\s*", out, re.S)
+                if record is None and whole and set(fields) <= set(lts.pre):
+                    record = whole[1] + "record { " + "; ".join(f"{f} = {whole[2]}.requires.{f}" for f in fields) + " }"
                 if record is None:
                     notes.append(f"{new}: write it as a record of {', '.join(fields)}")
                 else:

@@ -20,7 +20,7 @@ def add_solver_options(parser):
     parser.add_argument("--timeout", type=positive, default=60, metavar="SECONDS",
                         help="for each run of the solver (default: 60)")
     parser.add_argument("--listing", default=listings.PROGRAM, metavar="PROGRAM",
-                        help="the listing program (default: target/bin/listing of this repository)")
+                        help="the listing program (default: crates/listing/out/listing of this repository)")
 
 
 def positive(text):

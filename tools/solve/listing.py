@@ -8,7 +8,7 @@ from collections import namedtuple
 from .errors import Failed
 
 ROOT = os.path.dirname(os.path.dirname(os.path.dirname(os.path.realpath(__file__))))
-PROGRAM = os.path.join(ROOT, "target", "bin", "listing")
+PROGRAM = os.path.join(ROOT, "crates", "listing", "out", "listing")
 
 # answer: compiled, contradiction, unread or a refusal's number. fixed, bools, ints: a word for each declared variable, in bools
 # negative for the negation of an emitted one (of merged answers; several variables may then have the same number).
@@ -40,7 +40,7 @@ def run(text, program=PROGRAM):
     try:
         done = subprocess.run([program], input=text.encode(), capture_output=True)
     except OSError as problem:
-        raise Failed("cannot run %s (%s): `rt check listing` builds it" % (program, problem.strerror))
+        raise Failed("cannot run %s (%s): `rt run listing < crates/listing/stdin` builds it" % (program, problem.strerror))
     if done.returncode != 0:
         raise Failed("%s ended with status %d" % (program, done.returncode))
     return done.stdout.decode("ascii", "replace")

@@ -8,7 +8,7 @@ from . import listing as listings
 from . import meaning, sets, smt, solvers
 from .errors import Failed
 
-PROGRAM = os.path.join(listings.ROOT, "target", "bin", "roster")
+PROGRAM = os.path.join(listings.ROOT, "crates", "roster", "out", "roster")
 OPEN = 2
 
 # bools, ints: a value for each declared variable. free: (Boolean indices, integer indices) that may have any value.

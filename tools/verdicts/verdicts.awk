@@ -1,31 +1,60 @@
-# One edit: what its log shows of each wrong program in it. Variables: crate, label, edit, where (target/must-fail/CRATE/LABEL); the rest
-# as edits.awk says. Prints a line for each wrong program and at the end `counts PROGRAMS FAILURES`.
+# One round: what the log of its check shows of each wrong program in it. The working folder is the crate's, without the edit; standard input
+# lists the files below its proofs/. Variables: crate, label, edit (the file), log, only (the programs that were tried, or "" for all).
+# Prints a line for each wrong program.
 
 # The kinds of error that say of a fact that it does not hold; any other error shows nothing by itself.
 function is_fact(m) {
-    return m ~ /^(as printed|computed as far as they go), the two (types|sides) / || m ~ /^expected type `/ ||
-        m ~ /^`omega`: the goal does not follow/ || m ~ /^`search`: no proof of / ||
-        m ~ /^`rw`: no occurrence of the path's / || m ~ /^give a proof of that as the last argument/
+    return m ~ /^(as printed|computed as far as they go), the two (types|sides) / || m ~ /^the two (types|sides) / || m ~ /^expected type `/ ||
+        m ~ /^`(omega|grind|simp|decide)`: / || m ~ /^`search`: no proof of / || m ~ /^computed as a goal is, one side reads / || m ~ /^`rw`: no occurrence of / ||
+        m ~ /^give a proof of that as the last argument/ || m ~ /^it is not proved that /
 }
 
-function fail(program, text) { print "verdicts: " crate "/" label " " program ": NOT SHOWN: " text; failures++ }
+function fail(program, text) { print "verdicts: " crate "/" label " " program ": NOT SHOWN: " text }
 
-# The log: its errors in order, without those that only say that something else was not admitted; and each function's last word.
-function read_log(    line, log_file, rest, text, current) {
-    log_file = where "/.log"
-    tried_once = 0
+# Which function of `file` holds the text `old`: its place below proofs/, as `bools/read_list` or `Cursor/word`; "" if none does. Its lines go to
+# first_line[] and last_line[], by that place.
+function function_at(file, old,    line, found, here, type, fn, indent, at, n, started, from) {
+    found = n = 0
+    type = fn = ""
+    while ((getline line < file) > 0) {
+        n++
+        if (match(line, /^ *(pub )?(extern "C" )?fn [A-Za-z0-9_]+/)) {
+            fn = substr(line, 1, RLENGTH); sub(/.* /, "", fn)
+            match(line, /^ */); indent = substr(line, 1, RLENGTH)
+            started = n
+        } else if (match(line, /^impl(<[^>]*>)? [A-Za-z0-9_]+/)) { type = substr(line, 1, RLENGTH); sub(/.* /, "", type); type = type "/" }
+        if (index(line, old)) { found++; here = fn == "" ? "" : type fn; from = started }
+        if (fn != "" && line == indent "}") { if (here == type fn && from == started) ended = n; fn = "" }
+        if (line == "}") type = ""
+    }
+    close(file)
+    if (found != 1 || here == "") return ""
+    at = file
+    sub(/^src\//, "", at); sub(/\.rt$/, "", at)
+    at = at == "lib" || at == "main" ? "" : at "/"
+    first_line[at here] = from; last_line[at here] = ended
+    return at here
+}
+
+# The log: its errors in order, without those that only say that something else was not admitted; its open goals; and each function's last word.
+function read_log(    line, rest, text, current) {
     while ((getline line < log_file) > 0) {
-        tried_once = 1
         if (line ~ /^logic=not-proved/) refused = 1
         if (current && line ~ /^  computed as far as they go, /) error_more[current] = substr(line, 3)
         if (line !~ /^ /) current = 0
-        if (line ~ /^fn /) { text = line; sub(/^fn /, "", text); rest = text; sub(/: .*/, "", rest); word_on[rest] = substr(text, length(rest) + 3) }
-        if (index(line, where "/") != 1 || !match(line, /\.antt:[0-9]+:[0-9]+: error: /)) continue
-        if (line ~ /was not admitted/) continue
-        error_path[++errors] = substr(line, length(where) + 2, RSTART + 4 - length(where) - 1)
-        rest = substr(line, RSTART + 6)
-        error_line[errors] = rest + 0
+        if (line ~ /^fn /) { tried = 1; text = line; sub(/^fn /, "", text); rest = text; sub(/: .*/, "", rest); word_on[rest] = substr(text, length(rest) + 3) }
+        if (match(line, /^note: src\/[^:]*:[0-9]+:[0-9]+: it is not proved that /)) {
+            goal_file[++goals] = substr(line, 7); sub(/:.*/, "", goal_file[goals])
+            rest = substr(line, 7 + length(goal_file[goals]) + 1); goal_line[goals] = rest + 0
+            goal_text[goals] = substr(line, 7); sub(/^[^ ]* /, "", goal_text[goals])
+            continue
+        }
+        if (!match(line, /^(\.\/)?[^ :]*:[0-9]+:[0-9]+: error: /)) continue
+        if (line ~ /was not admitted|declarations? that depends? on .*, which was rejected, /) continue
         text = substr(line, RSTART + RLENGTH)
+        rest = line; sub(/^\.\//, "", rest)
+        error_path[++errors] = rest; sub(/:.*/, "", error_path[errors])
+        error_line[errors] = substr(rest, length(error_path[errors]) + 2) + 0
         error_at[errors] = "-"
         if (match(text, /^`[^`]*`: /)) { error_at[errors] = substr(text, 2, RLENGTH - 4); text = substr(text, RLENGTH + 1) }
         error_text[errors] = text
@@ -34,18 +63,24 @@ function read_log(    line, log_file, rest, text, current) {
     close(log_file)
 }
 
-# In a cycle's file: the member whose need the definition around an error is for.
-function member_at(path, upto,    line, n, member, file) {
-    file = where "/" path
-    while (n < upto && (getline line < file) > 0) {
-        n++
-        if (line ~ /^[^ ].* : /) {
-            member = ""
-            if (match(line, /[^ ().]+-lts\.Need-/)) { member = substr(line, RSTART, RLENGTH - 10); gsub(/-/, "_", member) }
-        }
+# The folders of proofs: `f`, or of a cycle `+f_g`, whose answers begin with the function's name.
+function read_proofs(    path) {
+    while ((getline path) > 0) {
+        sub(/^proofs\//, "", path)
+        if (sub(/\/[^\/]*$/, "", path)) has_proof[path] = 1
     }
-    close(file)
-    return member
+}
+
+function is_own(e, place,    folder, last, in_folder) {
+    folder = last = place
+    if (!sub(/[^\/]*$/, "", folder)) folder = ""
+    sub(/.*\//, "", last)
+    if (index(error_path[e], "proofs/" place "/") == 1) return 1
+    in_folder = "proofs/" folder "+"
+    if (index(error_path[e], in_folder) != 1) return 0
+    # in a cycle of one function the answers have no such prefix
+    if (index(error_path[e], in_folder last "/") == 1) return 1
+    return index(error_at[e], last "-") == 1 || error_at[e] == "decreases-" last || error_at[e] == last
 }
 
 # The start of an error's text, no character cut in two.
@@ -55,57 +90,56 @@ function cut(text) {
     return text
 }
 
-function verdict(e, program, what) {
-    if (!e) { fail(program, what " has no error of its own"); return }
-    if (!is_fact(error_text[e])) { fail(program, what " is not refused at a fact: " error_at[e] ": " cut(error_text[e])); return }
-    print "verdicts: " crate "/" label " " program ": " what ", " error_path[e] ":" error_line[e] ": " error_at[e] ": " cut(e in error_more ? error_more[e] : error_text[e])
-}
-
-# The verdict on one function, for program k: by its own errors if it is a copy, else by those of the member in its cycle's proof.
-function judge(place, k,    program, what, tried, path, e, own, shape) {
-    program = name[k]; what = place; tried = tried_as(place, k)
-    path = crate "/" tried; gsub(/\//, "::", path)
-    if (word_on[path] == "proved") { fail(program, what " is still proved"); return }
-    if (!(place in proof_of)) {
-        # A function without a proof file: its own needs are not closed, and it calls nothing that is refused.
-        if (word_on[path] ~ /`search` does not close/ && word_on[path] !~ /it calls/)
-            print "verdicts: " crate "/" label " " program ": " what ", " cut(substr(word_on[path], index(word_on[path], "`search`")))
-        else fail(program, what " has no proof file: " cut(word_on[path]))
-        return
-    }
-    path = tried == place ? proof_of[place] : "proofs/" tried "/Proof.antt"
-    own = shape = 0
-    for (e = 1; e <= errors; e++)
-        if (error_path[e] == path) {
-            if (error_at[e] ~ /-spec$/) shape = e
-            else if (!own && (tried != place || edited[path] == 1 || member_at(path, error_line[e]) == last_of(place))) own = e
-        }
-    # The closing definition names every need in order: an error there says that the code asks for others.
-    if (shape) fail(program, what " has other needs than its proof: " error_at[shape] ": " cut(error_text[shape]))
-    else verdict(own, program, what)
-}
+function shown(program, text) { print "verdicts: " crate "/" label " " program ": " text }
 
 BEGIN {
-    read_edit(); read_proofs(); read_log()
-    if (!pairs) fail(label, "the edit changes nothing")
-    if (!tried_once) fail(label, "it was not tried")
-    else if (!refused) fail(label, "it was not refused")
-    for (p = 1; p <= pairs && tried_once; p++) {
-        place = ""
-        if (pair_file[p] ~ /^src\//) {
-            place = function_at(pair_file[p], pair_old[p])
-            if (place == "") fail(name[pair_of[p]], "it changes no function")
-        } else if (pair_file[p] !~ /^specs\//) fail(name[pair_of[p]], "it changes neither code nor a definition")
-        else if (programs > 1) fail(name[pair_of[p]], "an edit of a definition stands beside other wrong programs")
-        if (place == "" || (place, pair_of[p]) in asked) continue
-        asked[place, pair_of[p]] = 1
-        ask_place[++asks] = place; ask_program[asks] = pair_of[p]
-        if (place in in_cycle) edited[proof_of[place]]++
+    log_file = log_of
+    read_edit(label); read_proofs(); read_log()
+    for (p = 1; p <= pairs; p++) {
+        if (only != "" && index(" " only " ", " " name[pair_of[p]] " ") == 0) continue
+        program = name[pair_of[p]]
+        has[pair_of[p]] = 1
+        # (pairs that turn names in proof files change no program)
+        if (pair_file[p] ~ /^proofs\//) continue
+        if (pair_file[p] !~ /^src\//) { fail(program, "an edit of a definition stands in a round"); bad[pair_of[p]] = 1; continue }
+        changed = function_at(pair_file[p], pair_old[p])
+        if (changed == "") { fail(program, "it changes no function, and stands in a round"); bad[pair_of[p]] = 1; continue }
+        if (changed in owner) {
+            if (owner[changed] != pair_of[p]) { fail(program, changed " is changed by " name[owner[changed]] " too"); bad[pair_of[p]] = 1 }
+            continue
+        }
+        owner[changed] = pair_of[p]; order[++functions] = changed; file_of[changed] = pair_file[p]
     }
-    for (p = 1; p <= pairs; p++) has[pair_of[p]] = 1
-    for (k = 1; k <= programs; k++) if (!(k in has)) fail(name[k], "it changes nothing")
-    # An edit of a definition: the crate's first error is the verdict.
-    if (pairs && tried_once && !asks && !failures) verdict(errors ? 1 : 0, name[1], "the crate")
-    for (k = 1; k <= asks; k++) judge(ask_place[k], ask_program[k])
-    print "counts " programs + 0 " " failures + 0
+    for (k = 1; k <= programs; k++) {
+        if (only != "" && index(" " only " ", " " name[k] " ") == 0) continue
+        if (k in bad) continue
+        if (!(k in has)) fail(name[k], "it changes nothing")
+        else if (!tried) { fail(name[k], "it was not tried"); bad[k] = 1 }
+        else if (!refused) { fail(name[k], "it was not refused"); bad[k] = 1 }
+    }
+    for (k = 1; k <= functions; k++) {
+        changed = order[k]; program = name[owner[changed]]
+        if (owner[changed] in bad) continue
+        path = crate "/" changed; gsub(/\//, "::", path)
+        if (word_on[path] == "proved") { fail(program, changed " is still proved"); continue }
+        own = first = missing = 0
+        for (e = 1; e <= errors; e++) {
+            if (!is_own(e, changed)) continue
+            if (!first) first = e
+            if (is_fact(error_text[e])) { own = e; break }
+            missing = e
+        }
+        if (own) { shown(program, changed ", " error_path[own] ":" error_line[own] ": " error_at[own] ": " cut(own in error_more ? error_more[own] : error_text[own])); continue }
+        goal = false = 0
+        for (g = 1; g <= goals; g++) {
+            if (goal_file[g] != file_of[changed] || goal_line[g] < first_line[changed] || goal_line[g] > last_line[changed]) continue
+            if (!goal) goal = g
+            if (!false && goal_text[g] ~ /allow values at which this goal is false/) false = g
+        }
+        # a goal that was proved with no answer of its own, or that the facts at hand don't give
+        if (false) goal = false
+        if (goal && (false || !missing)) { shown(program, changed ", " goal_file[goal] ":" goal_line[goal] ": " cut(goal_text[goal])); continue }
+        if (missing) fail(program, changed " is not refused at a fact: " error_at[missing] ": " cut(error_text[missing]) (goal ? "; open: " goal_text[goal] : ""))
+        else fail(program, changed " has no error of its own: " cut(word_on[path]))
+    }
 }

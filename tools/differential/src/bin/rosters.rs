@@ -2,7 +2,7 @@
 //! `rosters SEED COUNT [FAMILY..]`: COUNT sets of each family, each with many rosters: enumerated ones of small sets, random and nearly
 //! satisfying ones, wrong lengths and wrong values; where the compile is not refused, yes against passing its answer.
 //! `rosters speed`: the time of a check by its words.
-//! `rosters texts SEED COUNT`: the program target/bin/roster on COUNT texts of each family, a third of them spoilt. Status 1 on the first difference.
+//! `rosters texts SEED COUNT`: the program crates/roster/out/roster on COUNT texts of each family, a third of them spoilt. Status 1 on the first difference.
 
 use differential::{exit_on_error, roster, run_families, with_ifs};
 use reference::generate::{case, Case, FAMILIES};
@@ -368,7 +368,7 @@ fn spoilt(text: &str, numbers: &mut Numbers) -> String {
 }
 
 fn texts(seed: u64, count: u64) -> Result<(), String> {
-    let program = concat!(env!("CARGO_MANIFEST_DIR"), "/../../target/bin/roster");
+    let program = concat!(env!("CARGO_MANIFEST_DIR"), "/../../crates/roster/out/roster");
     let mut answers: BTreeMap<String, u64> = BTreeMap::new();
     for family in with_ifs(&FAMILIES[..9]) {
         for index in 0..count {
