@@ -1,5 +1,4 @@
 -- `compile` meets its contract.
-use borrow.Author.Rules.{rules}
 use Rattle.planner.proofs.compile.Goals as goal
 
 pub returns : goal.returns

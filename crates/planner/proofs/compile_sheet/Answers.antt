@@ -1,6 +1,5 @@
 -- `compile_sheet` meets its contract.
 use Rattle.planner.proofs.SheetCalls.{some_answered, sheets_compiled, sheets_refused, sheets_contradiction}
-use borrow.Author.Rules.{rules}
 use Rattle.planner.proofs.compile_sheet.Goals as goal
 
 pub finish-requires : goal.finish-requires

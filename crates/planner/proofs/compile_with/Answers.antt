@@ -1,7 +1,6 @@
 use mathlib.Core.Path.{ap, ◌∙◌}
 use Rattle.planner.proofs.Cases.{some_emits, gives_refused, gives_contradiction, gives_emitted, left_zeros}
 use Rattle.planner.proofs.Claims.{compiles}
-use borrow.Author.Rules.{rules}
 use Rattle.laws.specs.Slices.{zeros}
 use Rattle.planner.proofs.compile_with.Goals as goal
 

@@ -15,5 +15,8 @@ write_answer-words-requires c = some_writes c.args.merge _ _ _ _ _ _ _ c.lent-ro
 pub returns-then-words-room : goal.returns-then-words-room
 returns-then-words-room c = emit_compiled _ _ _ _ _ _ _ _ c.lent-room.ensures _ _ c.write_answer-words.ensures (omega (arith, c.if-words-room.true))
 
+pub shape_of-out : goal.shape_of-out
+shape_of-out c = search rules
+
 pub returns : goal.returns
-returns c = emit_long _ _ _ _ _ _ _ _ c.lent-room.ensures _ _ c.write_answer-words.ensures (omega (arith, c.if-words-room.false)) _ (zeros_again c.clear.auto.s c.clear.ensures (same-length-3 c))
+returns c = emit_long _ _ _ _ _ _ _ _ c.lent-room.ensures _ _ c.write_answer-words.ensures (omega (arith, c.if-words-room.false)) _ (zeros_again c.clear.auto.s c.clear.ensures (shape_of-out c))

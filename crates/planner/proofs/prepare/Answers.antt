@@ -1,6 +1,5 @@
 use mathlib.Core.Path.{◌∙◌}
 use Rattle.planner.proofs.Prepared.{table_asks, mark_asks, prepares}
-use borrow.Author.Rules.{rules}
 use Rattle.planner.proofs.prepare.Goals as goal
 
 pub write_domains-requires : goal.write_domains-requires

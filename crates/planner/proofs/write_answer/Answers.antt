@@ -1,7 +1,6 @@
 use mathlib.Core.Path.{◌∙◌}
 use native.Mathlib.Omega.{arith}
 use Rattle.planner.proofs.Whole.{some_settles, some_asks, some_low, answer_full, answer_short, front_asks, some_numbered, answer_overrun, count_asks, answer_fits, answer_long}
-use borrow.Author.Rules.{rules}
 use Rattle.planner.proofs.write_answer.Goals as goal
 
 pub begin_walk-n-requires : goal.begin_walk-n-requires

@@ -1,6 +1,5 @@
 use mathlib.Core.Path.{sym, ◌∙◌}
 use Rattle.planner.proofs.Second.{begin_asks, maps_ask, by_maps, again_asks, again}
-use borrow.Author.Rules.{rules}
 use Rattle.planner.proofs.write_clauses.Goals as goal
 
 pub begin_walk-n-requires : goal.begin_walk-n-requires
