@@ -1,5 +1,6 @@
 // Reads a set on standard input and prints the listing of its answer.
 #![tactic(auto)]
+
 mod list; // list.rt: from text to listing
 
 use std::io;

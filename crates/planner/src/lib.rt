@@ -1,5 +1,6 @@
 // The call: a set's words are compiled into the output slice, or refused, or found contradictory.
 #![tactic(auto)]
+
 ghost use Rattle.std.specs.Prelude.{◌≡◌, min};
 ghost use Rattle.syntax.specs.Words.{max_answer_words};
 ghost use Rattle.call.specs.Call.{unchosen};

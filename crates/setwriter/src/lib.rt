@@ -1,5 +1,6 @@
 // The clauses of all statements, in order, behind the answer's front and its records.
 #![tactic(auto)]
+
 ghost use Rattle.std.specs.Prelude.{◌≡◌};
 ghost use Rattle.walk.specs.Decode.{word as word_in, read_part};
 ghost use Rattle.rows.specs.Emit.{Behind};

@@ -5,7 +5,7 @@ use mathlib.Core.Option.{Option, none, some}
 use Prim.Native.Nat.{ℕ, ◌-◌, ◌≤◌}
 use native.Mathlib.Omega.{arith}
 use lib.IntN.{ℤ, pos}
-use lib.ListN.{length, take, length-append, length-replicate}
+use lib.ListN.{length, take, replicate, length-append, length-replicate}
 use lib.Seq.{length-sets, length-take-le}
 use Rattle.laws.specs.Slices.{zeros}
 use Rattle.call.specs.Call.{Result, compiled, contradiction, refused}
@@ -54,3 +54,7 @@ module _ (text : List ℕ) (words words' : List ℤ) (r : Words) (n : ℕ) (long
 
 pub part_length : (out : List ℕ) (n : ℕ) → n ≤ length out → n ≡ length (take n out)
 part_length out n h = sym (length-take-le n out h)
+
+-- stated with a variable, since no comparison may write out a list of so many zeros
+pub room_length : (n : ℕ) → n ≡ length {A = ℕ} (replicate n 0)
+room_length n = sym (length-replicate n 0)

@@ -1,5 +1,6 @@
 // Reads a set on standard input and prints the clause sheet of its answer, or the listing's one line where there is none.
 #![tactic(auto)]
+
 ghost use Rattle.std.specs.Prelude.{◌≤◌, length};
 
 use input::{Words, words_of_text};
