@@ -1,5 +1,6 @@
 // What a station links: every entry for C, over the proved calls. A slice is a pointer and a length in C (tools/station/planner.h).
 #![tactic(auto)]
+
 ghost use Rattle.std.specs.Prelude.{◌≡◌, set};
 ghost use Rattle.call.specs.Call.{unchosen};
 ghost use Rattle.station.specs.Returned.{choices_of, Returns};
