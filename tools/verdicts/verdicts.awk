@@ -1,5 +1,6 @@
 # One round: what the log of its check shows of each wrong program in it. The working folder is the crate's, without the edit; standard input
 # lists the files below its proofs/. Variables: crate, label, edit (the file), log, only (the programs that were tried, or "" for all).
+# strict (1: an open goal shows nothing where names are gone, unless the prover finds values at which it is false).
 # Prints a line for each wrong program.
 
 # The kinds of error that say of a fact that it does not hold; any other error shows nothing by itself.
@@ -138,6 +139,7 @@ BEGIN {
         }
         # a goal that was proved with no answer of its own, or that the facts at hand don't give
         if (false) goal = false
+        if (goal && missing && !false && !strict) { shown(program, changed ", names are gone (" error_at[missing] "), " goal_file[goal] ":" goal_line[goal] ": " cut(goal_text[goal])); continue }
         if (goal && (false || !missing)) { shown(program, changed ", " goal_file[goal] ":" goal_line[goal] ": " cut(goal_text[goal])); continue }
         if (missing) fail(program, changed " is not refused at a fact: " error_at[missing] ": " cut(error_text[missing]) (goal ? "; open: " goal_text[goal] : ""))
         else fail(program, changed " has no error of its own: " cut(word_on[path]))
