@@ -4,7 +4,7 @@ The line `total=` is not the reference's: it is counted anew from the printed cl
 
     python3 tools/cases/compare.py SEED COUNT [FAMILY]
 
-FAMILY is text, or iftext for sets with Ifs. Run at the repository's root, after `rt run listing < crates/listing/stdin` (crates/listing/out) and the
+FAMILY is text, or iftext for sets with Ifs. Run at the repository's root, after `(cd crates/listing && rt run < stdin)` (crates/listing/out) and the
 reference's build."""
 import re
 import subprocess

@@ -23,11 +23,11 @@ def result(text):
 
 def main(records, crate):
     out = ["-- Recorded answers, computed by the definition of the call.",
-           "use mathlib.Core.Path.{_≡_, refl}", "use mathlib.Core.Bool.{true, false}", "use mathlib.Core.List.{List, [], _∷_}",
-           "use lib.IntN.{ℤ, pos, negsuc}", "use Rattle·call.specs.Call.{compiled, contradiction, refused}",
-           "use Rattle·call.specs.Compute.{case, agrees}", "use Rattle·call.specs.declared.Choices.{Choices}", "",
-           "abbrev chosen-0 : Choices", "chosen-0 = record { merge = false }", "",
-           "abbrev chosen-1 : Choices", "chosen-1 = record { merge = true }", ""]
+           "use Rattle.std.specs.Prelude.{◌≡◌, refl, true, false, List, [], ◌∷◌, ℤ, pos, negsuc}",
+           "use Rattle.call.specs.Call.{compiled, contradiction, refused}",
+           "use Rattle.call.specs.Compute.{case, agrees}", "use Rattle.call.specs.declared.Choices.{Choices}", "",
+           "abbrev chosen_0 : Choices", "chosen_0 = record { merge = false }", "",
+           "abbrev chosen_1 : Choices", "chosen_1 = record { merge = true }", ""]
     count = 0
     for line in open(records):
         fields = dict(f.partition("=")[::2] for f in line.split())
@@ -35,11 +35,11 @@ def main(records, crate):
             continue
         count += 1
         chosen = fields.get("choices", "0")
-        out += [f"case-{count} : agrees chosen-{chosen} (case ({words(fields['set'])}) {fields['out']} {fields['work']} {result(fields['result'])}) ≡ true",
-                "unfolding agrees", f"case-{count} = refl", ""]
+        out += [f"case_{count} : agrees chosen_{chosen} (case ({words(fields['set'])}) {fields['out']} {fields['work']} {result(fields['result'])}) ≡ true",
+                "unfolding agrees", f"case_{count} = refl", ""]
     open(f"{crate}/specs/Cases.antt", "w").write("\n".join(out))
     open(f"{crate}/specs/Lib.antt", "w").write("pub mod Cases\n")
-    open(f"{crate}/src/lib.rt", "w").write("// Recorded answers; theorems in specs/.\n")
+    open(f"{crate}/src/lib.rt", "w").write("// Recorded answers; theorems in specs/.\n#![tactic(auto)]\n")
     print(f"{count} cases")
 
 

@@ -1,4 +1,4 @@
-// Each program links the static library that `rt lib NAME` writes: crates/NAME/out/libNAME.a.
+// Each program links the static library that `rt lib` in crates/NAME writes: crates/NAME/out/libNAME.a.
 fn main() {
     let root = std::path::Path::new(env!("CARGO_MANIFEST_DIR")).join("../../crates");
     for (program, library) in [

@@ -40,7 +40,7 @@ def run(text, program=PROGRAM):
     try:
         done = subprocess.run([program], input=text.encode(), capture_output=True)
     except OSError as problem:
-        raise Failed("cannot run %s (%s): `rt run listing < crates/listing/stdin` builds it" % (program, problem.strerror))
+        raise Failed("cannot run %s (%s): `rt run` in crates/listing builds it" % (program, problem.strerror))
     if done.returncode != 0:
         raise Failed("%s ended with status %d" % (program, done.returncode))
     return done.stdout.decode("ascii", "replace")

@@ -50,7 +50,7 @@ class Errors(unittest.TestCase):
         self.expect("cut off", "--listing", self.program("cut", "%s | sed '$d'\n" % listing.PROGRAM))
 
     def test_listing_program_missing_or_failing(self):
-        self.expect("rt check listing", "--listing", os.path.join(self.folder, "none"))
+        self.expect("`rt run` in crates/listing", "--listing", os.path.join(self.folder, "none"))
         self.expect("status 3", "--listing", self.program("failing", "exit 3\n"))
 
     def test_refused_and_unread(self):
