@@ -1,5 +1,6 @@
 // Reading a set from its words: refusals 3 to 8 at the first offending word, or the counts and places that all later work starts from.
 #![tactic(auto)]
+
 mod leaves; // leaves.rt: numbers that only have to be within their limits
 mod expressions; // expressions.rt: integer and Boolean expressions
 mod domains; // domains.rt: domains

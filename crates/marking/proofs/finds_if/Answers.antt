@@ -21,8 +21,8 @@ pub loop-i-preserved : goal.loop-i-preserved
 loop-i-preserved c =
     let l = c.loop-i in
     elim c.if-work-i-eq23.branch [
-      then-work-i-eq23+else-reads_if j ↦ if_unread c.args.work.now c.args.end c.requires.1 l.i (omega arith) (sfits_of c.t7-1.given) j.if-work-i-eq23.true (sym j.reads_if.ensures ∙ j.if-reads_if.false) ∙ l.invariant
-    | else-work-i-eq23 j ↦ if_later c.args.work.now c.args.end c.requires.1 l.i (omega arith) j.if-work-i-eq23.false ∙ l.invariant
+      | then-work-i-eq23+else-reads_if j ↦ if_unread c.args.work.now c.args.end c.requires.1 l.i (omega arith) (sfits_of c.t7-1.given) j.if-work-i-eq23.true (sym j.reads_if.ensures ∙ j.if-reads_if.false) ∙ l.invariant
+      | else-work-i-eq23 j ↦ if_later c.args.work.now c.args.end c.requires.1 l.i (omega arith) j.if-work-i-eq23.false ∙ l.invariant
     ]
 
 pub returns : goal.returns

@@ -18,8 +18,8 @@ loop-q-preserved c =
     let l = c.loop-q in
     let rest = has_code (read_part c.args.work.now) (l.q + 1) (c.args.end - (l.q + 1)) in
     elim c.if-w-eq23.branch [
-      then-w-eq23 j ↦ ap (λ (b : Bool). b || rest) j.found-is ∙ code_found c.args.work.now c.args.end c.requires.1 l.q (omega arith) l.found (sfits_of c.w-1.given) j.if-w-eq23.true ∙ l.invariant
-    | else-w-eq23 j ↦ ap (λ (b : Bool). b || rest) j.found-is ∙ code_later c.args.work.now c.args.end c.requires.1 l.q (omega arith) l.found j.if-w-eq23.false ∙ l.invariant
+      | then-w-eq23 j ↦ ap (λ (b : Bool). b || rest) j.found-is ∙ code_found c.args.work.now c.args.end c.requires.1 l.q (omega arith) l.found (sfits_of c.w-1.given) j.if-w-eq23.true ∙ l.invariant
+      | else-w-eq23 j ↦ ap (λ (b : Bool). b || rest) j.found-is ∙ code_later c.args.work.now c.args.end c.requires.1 l.q (omega arith) l.found j.if-w-eq23.false ∙ l.invariant
     ]
 
 pub returns : goal.returns

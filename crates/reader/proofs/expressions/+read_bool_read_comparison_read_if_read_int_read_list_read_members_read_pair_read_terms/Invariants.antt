@@ -40,4 +40,3 @@ invariant-read_terms-loop-terms l = reads (terms_of (int_of l.bools l.ints l.lef
 
 abbrev pub decreases-read_terms-loop-terms : goal.decreases-read_terms-loop-terms
 decreases-read_terms-loop-terms l = l.terms
-
