@@ -1,4 +1,4 @@
-/* The normaliser for C and C++: link target/staticlib/libstation.a, which `rt staticlib station` makes
+/* The normaliser for C and C++: link crates/station/out/libstation.a, which `rt lib` in crates/station makes
    (x86-64 Linux; the archive's only undefined symbols are memcpy, memmove and memset).
 
    For every entry below, whatever is lent:
