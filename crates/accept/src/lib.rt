@@ -148,7 +148,7 @@ pub struct Head {
 
 // Over all of an If's words, of any other integer expression's own two: how many terms follow.
 // Marks the variables below n written there: how many had no mark, and the Ifs.
-#[cycle(mark_head_mark_written)]
+#[cycle(mark)]
 fn mark_head(set: &[i32], at: usize, n: usize, marks: &mut [bool; 256]) -> Head
     requires { Behind set.now at n × (n ≤ max_ints) × (length marks.old ≡ max_ints) }
     ensures { HeadPost set.now at n marks.old marks.new result.next result.terms result.count }
@@ -195,7 +195,7 @@ pub struct Marked {
 
 // Marks the variables below n that the integer expression writes: how many had no mark, and the Ifs.
 // Each head is followed by a coefficient or by the end.
-#[cycle(mark_head_mark_written)]
+#[cycle(mark)]
 fn mark_written(set: &[i32], at: usize, n: usize, marks: &mut [bool; 256]) -> Marked
     requires { Behind set.now at n × (n ≤ max_ints) × (length marks.old ≡ max_ints) }
     ensures { WrittenPost set.now at n marks.old marks.new result.next result.count }
@@ -292,7 +292,7 @@ pub struct Step {
 }
 
 // As many terms as `n` says.
-#[cycle(comparison_deep_total_if_total_int_total_rule_step_rules_terms_total)]
+#[cycle(total)]
 fn terms_total(set: &[i32], work: &[i32], at: usize, n: usize, ni: usize) -> Total
     requires { ReadyTerms set.now work.now at n ni × (ni ≤ max_ints) }
     ensures { TermsPost set.now work.now at n ni 0 12 result.next result.total result.refusal }
@@ -317,7 +317,7 @@ fn terms_total(set: &[i32], work: &[i32], at: usize, n: usize, ni: usize) -> Tot
 }
 
 // An If: the condition's comparisons, the heavier branch, the tests of both.
-#[cycle(comparison_deep_total_if_total_int_total_rule_step_rules_terms_total)]
+#[cycle(total)]
 fn if_total(set: &[i32], work: &[i32], at: usize, ni: usize) -> Total
     requires { ReadyIf set.now work.now at ni × (ni ≤ max_ints) }
     ensures { IfPost set.now work.now at ni result.next result.total result.refusal }
@@ -352,7 +352,7 @@ fn leaf_total(set: &[i32], work: &[i32], at: usize, code: usize) -> usize
 }
 
 // An If or a sum, whose code is given.
-#[cycle(comparison_deep_total_if_total_int_total_rule_step_rules_terms_total)]
+#[cycle(total)]
 fn deep_total(set: &[i32], work: &[i32], at: usize, code: usize, ni: usize) -> Total
     requires { ReadyDeep set.now work.now at code ni × (ni ≤ max_ints) }
     ensures { IntPost set.now work.now at ni result.next result.total result.refusal }
@@ -364,7 +364,7 @@ fn deep_total(set: &[i32], work: &[i32], at: usize, code: usize, ni: usize) -> T
     terms_total(set, work, at + 2, n, ni)
 }
 
-#[cycle(comparison_deep_total_if_total_int_total_rule_step_rules_terms_total)]
+#[cycle(total)]
 fn int_total(set: &[i32], work: &[i32], at: usize, ni: usize) -> Total
     requires { ReadyInt set.now work.now at ni × (ni ≤ max_ints) }
     ensures { IntPost set.now work.now at ni result.next result.total result.refusal }
@@ -381,7 +381,7 @@ fn int_total(set: &[i32], work: &[i32], at: usize, ni: usize) -> Total
     deep_total(set, work, at, code, ni)
 }
 
-#[cycle(comparison_deep_total_if_total_int_total_rule_step_rules_terms_total)]
+#[cycle(total)]
 fn comparison(set: &[i32], work: &[i32], at: usize, ni: usize) -> Tested
     requires { ReadyPair set.now work.now at ni × (ni ≤ max_ints) }
     ensures { PairPost set.now work.now at ni result.next result.refusal }
@@ -397,7 +397,7 @@ fn comparison(set: &[i32], work: &[i32], at: usize, ni: usize) -> Tested
     }
 }
 
-#[cycle(comparison_deep_total_if_total_int_total_rule_step_rules_terms_total)]
+#[cycle(total)]
 fn rule_step(set: &[i32], work: &[i32], at: usize, ni: usize) -> Step
     requires { ReadyBool set.now work.now at ni × (ni ≤ max_ints) }
     ensures { StepPost set.now work.now at ni result.next result.members result.refusal }
@@ -440,7 +440,7 @@ fn rule_step(set: &[i32], work: &[i32], at: usize, ni: usize) -> Step
     }
 }
 
-#[cycle(comparison_deep_total_if_total_int_total_rule_step_rules_terms_total)]
+#[cycle(total)]
 fn rules(set: &[i32], work: &[i32], at: usize, n: usize, ni: usize) -> Tested
     requires { ReadyBools set.now work.now at n ni × (ni ≤ max_ints) }
     ensures { BoolsPost set.now work.now at n ni 12 result.next result.refusal }
@@ -466,7 +466,7 @@ pub struct Range {
     pub high: i32,
 }
 
-#[cycle(if_range_int_range_terms_range)]
+#[cycle(range)]
 fn terms_range(set: &[i32], work: &[i32], at: usize, n: usize) -> Range
     requires { ReadyRanges set.now work.now at n (pos 0) (pos 0) }
     ensures { RangesPost set.now work.now at n (pos 0) (pos 0) result.next result.low result.high }
@@ -489,7 +489,7 @@ fn terms_range(set: &[i32], work: &[i32], at: usize, n: usize) -> Range
 }
 
 // An If: the lower and the higher end of both branches.
-#[cycle(if_range_int_range_terms_range)]
+#[cycle(range)]
 fn if_range(set: &[i32], work: &[i32], at: usize) -> Range
     requires { ReadyIfRange set.now work.now at }
     ensures { IfRangePost set.now work.now at result.next result.low result.high }
@@ -506,7 +506,7 @@ fn if_range(set: &[i32], work: &[i32], at: usize) -> Range
     }
 }
 
-#[cycle(if_range_int_range_terms_range)]
+#[cycle(range)]
 fn int_range(set: &[i32], work: &[i32], at: usize) -> Range
     requires { ReadyRange set.now work.now at }
     ensures { RangePost set.now work.now at result.next result.low result.high }

@@ -27,7 +27,7 @@ pub struct Valued {
 }
 
 // As many terms as `n` says.
-#[cycle(bool_holds_comparison_holds_if_value_int_value_members_hold_terms_value)]
+#[cycle(holds)]
 fn terms_value(set: &[i32], values: &[i32], nb: usize, at: usize, n: usize) -> Valued
     requires { ReadyTerms set.now values.now nb at n (pos 0) }
     ensures { TermsPost set.now values.now nb at n (pos 0) result.next result.value }
@@ -46,7 +46,7 @@ fn terms_value(set: &[i32], values: &[i32], nb: usize, at: usize, n: usize) -> V
 }
 
 // The condition decides which branch is evaluated; the other one is passed over.
-#[cycle(bool_holds_comparison_holds_if_value_int_value_members_hold_terms_value)]
+#[cycle(holds)]
 fn if_value(set: &[i32], values: &[i32], nb: usize, at: usize) -> Valued
     requires { ReadyInt set.now values.now nb at × (get_or set.now at (pos 0) ≡ pos 23) }
     ensures { IntPost set.now values.now nb at result.next result.value }
@@ -62,7 +62,7 @@ fn if_value(set: &[i32], values: &[i32], nb: usize, at: usize) -> Valued
     Valued { next, value }
 }
 
-#[cycle(bool_holds_comparison_holds_if_value_int_value_members_hold_terms_value)]
+#[cycle(holds)]
 fn int_value(set: &[i32], values: &[i32], nb: usize, at: usize) -> Valued
     requires { ReadyInt set.now values.now nb at }
     ensures { IntPost set.now values.now nb at result.next result.value }
@@ -110,7 +110,7 @@ fn compares(op: usize, x: i32, y: i32) -> bool
     }
 }
 
-#[cycle(bool_holds_comparison_holds_if_value_int_value_members_hold_terms_value)]
+#[cycle(holds)]
 fn comparison_holds(set: &[i32], values: &[i32], nb: usize, at: usize) -> Held
     requires { ReadyBool set.now values.now nb at × (get_or set.now at (pos 0) ≡ pos 18) }
     ensures { BoolPost set.now values.now nb at result.next result.held }
@@ -152,7 +152,7 @@ fn sides_hold(code: usize, a: bool, b: bool) -> bool
 }
 
 // As many members as `n` says: whether one is `stop`, which decides. What lies behind it is passed over.
-#[cycle(bool_holds_comparison_holds_if_value_int_value_members_hold_terms_value)]
+#[cycle(holds)]
 fn members_hold(set: &[i32], values: &[i32], nb: usize, at: usize, n: usize, stop: bool) -> Held
     requires { ReadyMembers set.now values.now nb at n }
     ensures { MembersPost set.now values.now nb at n stop result.next result.held }
@@ -174,7 +174,7 @@ fn members_hold(set: &[i32], values: &[i32], nb: usize, at: usize, n: usize, sto
     Held { next, held: !stop }
 }
 
-#[cycle(bool_holds_comparison_holds_if_value_int_value_members_hold_terms_value)]
+#[cycle(holds)]
 fn bool_holds(set: &[i32], values: &[i32], nb: usize, at: usize) -> Held
     requires { ReadyBool set.now values.now nb at }
     ensures { BoolPost set.now values.now nb at result.next result.held }

@@ -255,7 +255,7 @@ fn put_int_var(words: &[i32], d: usize, work: &mut [i32], o: usize, v: usize) ->
 }
 
 // As many terms as `count` says.
-#[cycle(constant_folding_bool_constant_folding_int_constant_folding_members_constant_folding_terms_fold_comparison_fold_if_fold_side)]
+#[cycle(constant_folding)]
 fn constant_folding_terms(
     words: &[i32],
     d: usize,
@@ -280,7 +280,7 @@ fn constant_folding_terms(
     Span { next, end }
 }
 
-#[cycle(constant_folding_bool_constant_folding_int_constant_folding_members_constant_folding_terms_fold_comparison_fold_if_fold_side)]
+#[cycle(constant_folding)]
 pub fn constant_folding_int(words: &[i32], d: usize, at: usize, work: &mut [i32], o: usize) -> Span
     requires { ReadyInt words.now d at work.old o }
     ensures { IntPost words.now d at work.old o work.new result.next result.end }
@@ -315,7 +315,7 @@ pub fn constant_folding_int(words: &[i32], d: usize, at: usize, work: &mut [i32]
 }
 
 // An If. Where the condition is known, the branch that it picks is written over it; what the other one wrote lies behind the end, or below that branch.
-#[cycle(constant_folding_bool_constant_folding_int_constant_folding_members_constant_folding_terms_fold_comparison_fold_if_fold_side)]
+#[cycle(constant_folding)]
 fn fold_if(words: &[i32], d: usize, at: usize, work: &mut [i32], o: usize) -> Span
     requires ready_int { ReadyInt words.now d at work.old o }
     requires pos_value { get_or words.now at (pos 0) ≡ pos 23 }
@@ -386,7 +386,7 @@ fn fold_leaf(words: &[i32], d: usize, at: usize, work: &mut [i32], o: usize, w: 
 }
 
 // A comparison is never folded; its sides are.
-#[cycle(constant_folding_bool_constant_folding_int_constant_folding_members_constant_folding_terms_fold_comparison_fold_if_fold_side)]
+#[cycle(constant_folding)]
 fn fold_comparison(words: &[i32], d: usize, at: usize, work: &mut [i32], o: usize) -> Folded
     requires ready { Ready words.now d at work.old o }
     requires pos_value { get_or words.now at (pos 0) ≡ pos 18 }
@@ -404,7 +404,7 @@ fn fold_comparison(words: &[i32], d: usize, at: usize, work: &mut [i32], o: usiz
 }
 
 // A side of Xor, Iff or Imp, mostly a variable.
-#[cycle(constant_folding_bool_constant_folding_int_constant_folding_members_constant_folding_terms_fold_comparison_fold_if_fold_side)]
+#[cycle(constant_folding)]
 fn fold_side(words: &[i32], d: usize, at: usize, work: &mut [i32], o: usize) -> Folded
     requires { Ready words.now d at work.old o }
     ensures { FoldPost words.now d at work.old o work.new result.next result.end result.state }
@@ -417,7 +417,7 @@ fn fold_side(words: &[i32], d: usize, at: usize, work: &mut [i32], o: usize) -> 
 }
 
 // As many members as `count` says, of which those that are no constant are written; b is the state that settles the list.
-#[cycle(constant_folding_bool_constant_folding_int_constant_folding_members_constant_folding_terms_fold_comparison_fold_if_fold_side)]
+#[cycle(constant_folding)]
 fn constant_folding_members(
     words: &[i32],
     d: usize,
@@ -451,7 +451,7 @@ fn constant_folding_members(
     }
 }
 
-#[cycle(constant_folding_bool_constant_folding_int_constant_folding_members_constant_folding_terms_fold_comparison_fold_if_fold_side)]
+#[cycle(constant_folding)]
 pub fn constant_folding_bool(
     words: &[i32],
     d: usize,

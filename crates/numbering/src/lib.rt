@@ -623,7 +623,7 @@ fn settle(
 // ---- the cycle of calls
 
 // An If whose branches are not both constant: its integer between lo and hi, then its condition.
-#[cycle(number_number_branches_number_choice_number_constant_number_if_number_int_number_new_number_open_number_terms_numbers)]
+#[cycle(number)]
 fn number_open(
     work: &mut [i32],
     out: &mut [i32],
@@ -651,7 +651,7 @@ fn number_open(
 }
 
 // An If with constant branches x and y: the condition's literal or number, then its integer.
-#[cycle(number_number_branches_number_choice_number_constant_number_if_number_int_number_new_number_open_number_terms_numbers)]
+#[cycle(number)]
 fn number_constant(
     work: &mut [i32],
     out: &mut [i32],
@@ -684,7 +684,7 @@ fn number_constant(
 }
 
 // An If behind its branches, which began at s and y.
-#[cycle(number_number_branches_number_choice_number_constant_number_if_number_int_number_new_number_open_number_terms_numbers)]
+#[cycle(number)]
 fn number_branches(
     work: &mut [i32],
     out: &mut [i32],
@@ -711,7 +711,7 @@ fn number_branches(
 }
 
 // An If of which nothing is known: its branches first.
-#[cycle(number_number_branches_number_choice_number_constant_number_if_number_int_number_new_number_open_number_terms_numbers)]
+#[cycle(number)]
 fn number_new(
     work: &mut [i32],
     out: &mut [i32],
@@ -741,7 +741,7 @@ fn number_new(
 }
 
 // An If with its parts: passed over, found, or made.
-#[cycle(number_number_branches_number_choice_number_constant_number_if_number_int_number_new_number_open_number_terms_numbers)]
+#[cycle(number)]
 fn number_choice(
     work: &mut [i32],
     out: &mut [i32],
@@ -768,7 +768,7 @@ fn number_choice(
 }
 
 // The If at a place, whose condition stands at `one`.
-#[cycle(number_number_branches_number_choice_number_constant_number_if_number_int_number_new_number_open_number_terms_numbers)]
+#[cycle(number)]
 fn number_if(
     work: &mut [i32],
     out: &mut [i32],
@@ -789,7 +789,7 @@ fn number_if(
 }
 
 // So many terms.
-#[cycle(number_number_branches_number_choice_number_constant_number_if_number_int_number_new_number_open_number_terms_numbers)]
+#[cycle(number)]
 fn number_terms(
     work: &mut [i32],
     out: &mut [i32],
@@ -821,7 +821,7 @@ fn number_terms(
 }
 
 // The integer expression at a place.
-#[cycle(number_number_branches_number_choice_number_constant_number_if_number_int_number_new_number_open_number_terms_numbers)]
+#[cycle(number)]
 pub fn number_int(
     work: &mut [i32],
     out: &mut [i32],
@@ -853,7 +853,7 @@ pub fn number_int(
 }
 
 // So many members, the first negated if g, the others if h.
-#[cycle(number_number_branches_number_choice_number_constant_number_if_number_int_number_new_number_open_number_terms_numbers)]
+#[cycle(number)]
 fn numbers(
     work: &mut [i32],
     out: &mut [i32],
@@ -883,7 +883,7 @@ fn numbers(
 }
 
 // The expression at a place, negated if g; m: the splitting's code.
-#[cycle(number_number_branches_number_choice_number_constant_number_if_number_int_number_new_number_open_number_terms_numbers)]
+#[cycle(number)]
 fn number(
     work: &mut [i32],
     out: &mut [i32],
@@ -956,7 +956,7 @@ fn number_tie(
 }
 
 // The extras of so many members.
-#[cycle(number_each_ties_number_int_ties_number_sides_number_term_ties_number_ties)]
+#[cycle(ties)]
 fn number_each_ties(
     work: &mut [i32],
     out: &mut [i32],
@@ -981,7 +981,7 @@ fn number_each_ties(
 }
 
 // Of so many terms; a constant or a variable has none.
-#[cycle(number_each_ties_number_int_ties_number_sides_number_term_ties_number_ties)]
+#[cycle(ties)]
 fn number_term_ties(
     work: &mut [i32],
     out: &mut [i32],
@@ -1011,7 +1011,7 @@ fn number_term_ties(
 }
 
 // Of the integer expression at a place.
-#[cycle(number_each_ties_number_int_ties_number_sides_number_term_ties_number_ties)]
+#[cycle(ties)]
 fn number_int_ties(
     work: &mut [i32],
     out: &mut [i32],
@@ -1044,7 +1044,7 @@ fn number_int_ties(
 }
 
 // Of a split Xor or Iff: of each side, its extras and its tie.
-#[cycle(number_each_ties_number_int_ties_number_sides_number_term_ties_number_ties)]
+#[cycle(ties)]
 fn number_sides(
     work: &mut [i32],
     out: &mut [i32],
@@ -1068,7 +1068,7 @@ fn number_sides(
 }
 
 // Of the expression at a place.
-#[cycle(number_each_ties_number_int_ties_number_sides_number_term_ties_number_ties)]
+#[cycle(ties)]
 fn number_ties(
     work: &mut [i32],
     out: &mut [i32],

@@ -32,7 +32,7 @@ pub struct Step {
 }
 
 // Over all of an If's words, of any other integer expression's own two: how many terms follow.
-#[cycle(bool_step_int_end_int_step_skip_members_skip_terms)]
+#[cycle(skip)]
 fn int_step(words: &[i32], at: usize) -> Step
     requires { SomeInt words.now at }
     ensures { IntStepPost words.now at result.next result.inner }
@@ -58,7 +58,7 @@ fn int_step(words: &[i32], at: usize) -> Step
 }
 
 // The end of as many terms as `count` says, those of inner sums among them.
-#[cycle(bool_step_int_end_int_step_skip_members_skip_terms)]
+#[cycle(skip)]
 fn skip_terms(words: &[i32], at: usize, count: usize) -> usize
     requires { SomeTerms words.now at count }
     ensures { SkipTermsPost words.now at count result }
@@ -73,7 +73,7 @@ fn skip_terms(words: &[i32], at: usize, count: usize) -> usize
     next
 }
 
-#[cycle(bool_step_int_end_int_step_skip_members_skip_terms)]
+#[cycle(skip)]
 fn int_end(words: &[i32], at: usize) -> usize
     requires { SomeInt words.now at }
     ensures { SkipPost words.now at result }
@@ -83,7 +83,7 @@ fn int_end(words: &[i32], at: usize) -> usize
 }
 
 // Over a Boolean expression's own words, a comparison's sides among them: how many expressions follow.
-#[cycle(bool_step_int_end_int_step_skip_members_skip_terms)]
+#[cycle(skip)]
 fn bool_step(words: &[i32], at: usize) -> Step
     requires { SomeBool words.now at }
     ensures { BoolStepPost words.now at result.next result.inner }
@@ -120,7 +120,7 @@ fn bool_step(words: &[i32], at: usize) -> Step
 }
 
 // The end of as many expressions as `n` says.
-#[cycle(bool_step_int_end_int_step_skip_members_skip_terms)]
+#[cycle(skip)]
 pub fn skip_members(words: &[i32], at: usize, n: usize) -> usize
     requires { SomeMembers words.now at n }
     ensures { SkipMembersPost words.now at n result }
@@ -248,7 +248,7 @@ fn skip_comparison(words: &[i32], at: usize) -> usize
 }
 
 // As many members as `count` says.
-#[cycle(constant_prop_bool_constant_prop_members)]
+#[cycle(constant_prop)]
 fn constant_prop_members(work: &mut [i32], at: usize, count: usize, want: usize) -> Required
     requires stand_members { StandMembers work.old at count }
     requires want_bound { want < 3 }
@@ -266,7 +266,7 @@ fn constant_prop_members(work: &mut [i32], at: usize, count: usize, want: usize)
     Required { next, status }
 }
 
-#[cycle(constant_prop_bool_constant_prop_members)]
+#[cycle(constant_prop)]
 fn constant_prop_bool(work: &mut [i32], at: usize, want: usize) -> Required
     requires stands { Stands work.old at }
     requires want_bound { want < 3 }

@@ -10,7 +10,7 @@ use words::{Counted, Cursor, Next};
 // ---- integer expressions
 
 // As many terms as `count` says, each expression with `left` levels left.
-#[cycle(read_bool_read_comparison_read_if_read_int_read_list_read_members_read_pair_read_terms)]
+#[cycle(expressions)]
 pub fn read_terms(
     words: &[i32],
     c: Cursor,
@@ -39,7 +39,7 @@ pub fn read_terms(
 }
 
 // A condition and two integer expressions, each with `left` levels left.
-#[cycle(read_bool_read_comparison_read_if_read_int_read_list_read_members_read_pair_read_terms)]
+#[cycle(expressions)]
 pub fn read_if(words: &[i32], c: Cursor, bools: usize, ints: usize, left: usize) -> Read
     ensures { result ≡ reads (if_of (bool_of bools ints left) (int_of bools ints left)) c.at words.now }
 {
@@ -53,7 +53,7 @@ pub fn read_if(words: &[i32], c: Cursor, bools: usize, ints: usize, left: usize)
 }
 
 // One expression with `left` levels left, its own among them.
-#[cycle(read_bool_read_comparison_read_if_read_int_read_list_read_members_read_pair_read_terms)]
+#[cycle(expressions)]
 pub fn read_int(words: &[i32], c: Cursor, bools: usize, ints: usize, left: usize) -> Read
     ensures { result ≡ reads (int_of bools ints left) c.at words.now }
 {
@@ -80,7 +80,7 @@ pub fn read_int(words: &[i32], c: Cursor, bools: usize, ints: usize, left: usize
 // ---- Boolean expressions
 
 // An operator and two integer expressions with `left` levels left.
-#[cycle(read_bool_read_comparison_read_if_read_int_read_list_read_members_read_pair_read_terms)]
+#[cycle(expressions)]
 pub fn read_comparison(words: &[i32], c: Cursor, bools: usize, ints: usize, left: usize) -> Read
     ensures { result ≡ reads (comparison_of (int_of bools ints left)) c.at words.now }
 {
@@ -94,7 +94,7 @@ pub fn read_comparison(words: &[i32], c: Cursor, bools: usize, ints: usize, left
 }
 
 // As many expressions as `count` says, each with `left` levels left.
-#[cycle(read_bool_read_comparison_read_if_read_int_read_list_read_members_read_pair_read_terms)]
+#[cycle(expressions)]
 pub fn read_members(
     words: &[i32],
     c: Cursor,
@@ -120,7 +120,7 @@ pub fn read_members(
 }
 
 // A count and as many expressions, each with `left` levels left.
-#[cycle(read_bool_read_comparison_read_if_read_int_read_list_read_members_read_pair_read_terms)]
+#[cycle(expressions)]
 pub fn read_list(words: &[i32], c: Cursor, bools: usize, ints: usize, left: usize) -> Read
     ensures { result ≡ reads (list_of (bool_of bools ints left)) c.at words.now }
 {
@@ -131,7 +131,7 @@ pub fn read_list(words: &[i32], c: Cursor, bools: usize, ints: usize, left: usiz
 }
 
 // Two expressions, each with `left` levels left.
-#[cycle(read_bool_read_comparison_read_if_read_int_read_list_read_members_read_pair_read_terms)]
+#[cycle(expressions)]
 pub fn read_pair(words: &[i32], c: Cursor, bools: usize, ints: usize, left: usize) -> Read
     ensures { result ≡ reads (pair_of (bool_of bools ints left)) c.at words.now }
 {
@@ -142,7 +142,7 @@ pub fn read_pair(words: &[i32], c: Cursor, bools: usize, ints: usize, left: usiz
 }
 
 // One expression with `left` levels left, its own among them.
-#[cycle(read_bool_read_comparison_read_if_read_int_read_list_read_members_read_pair_read_terms)]
+#[cycle(expressions)]
 pub fn read_bool(words: &[i32], c: Cursor, bools: usize, ints: usize, left: usize) -> Read
     ensures { result ≡ reads (bool_of bools ints left) c.at words.now }
 {

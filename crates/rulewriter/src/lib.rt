@@ -70,7 +70,7 @@ fn no_members(at: usize, base: usize, n: Counters) -> Scanned
 }
 
 // So many members, as far as the first longer one.
-#[cycle(probe_probes)]
+#[cycle(probe)]
 fn probes(
     work: &[i32],
     at: usize,
@@ -103,7 +103,7 @@ fn probes(
 }
 
 // What a survey finds of the expression at a place if it has one clause; of a longer one only that it is longer, at once.
-#[cycle(probe_probes)]
+#[cycle(probe)]
 fn probe(
     work: &[i32],
     at: usize,
@@ -211,7 +211,7 @@ fn pass(work: &[i32], at: usize, left: usize, m: usize, base: usize, g: bool, n:
 }
 
 // The literals (b) or the comparisons of the single members among so many; there are j of them, and no member behind the last is read.
-#[cycle(pool_pools)]
+#[cycle(pool)]
 fn pools(
     work: &[i32],
     at: usize,
@@ -263,7 +263,7 @@ fn pools(
 }
 
 // The j literals (b) or comparisons of the expression at a place, which has one clause.
-#[cycle(pool_pools)]
+#[cycle(pool)]
 fn pool(
     work: &[i32],
     at: usize,
@@ -425,7 +425,7 @@ fn write_cmp(
 // ---- the walk
 
 // The clauses of so many members, one after another.
-#[cycle(write_write_all_write_cross_write_disj_write_longs)]
+#[cycle(write)]
 fn write_all(
     work: &[i32],
     at: usize,
@@ -462,7 +462,7 @@ fn write_all(
 }
 
 // The clauses of the longer ones among so many members, each with its extra literal.
-#[cycle(write_write_all_write_cross_write_disj_write_longs)]
+#[cycle(write)]
 fn write_longs(
     work: &[i32],
     at: usize,
@@ -515,7 +515,7 @@ fn write_longs(
 }
 
 // The disjunction of so many members, x their tally, its new numbers from `block` on.
-#[cycle(write_write_all_write_cross_write_disj_write_longs)]
+#[cycle(write)]
 fn write_disj(
     work: &[i32],
     at: usize,
@@ -575,7 +575,7 @@ fn write_disj(
 }
 
 // The clauses of the expression at a place, negated if g, each with the suffix.
-#[cycle(write_write_all_write_cross_write_disj_write_longs)]
+#[cycle(write)]
 fn write(
     work: &[i32],
     at: usize,
@@ -628,7 +628,7 @@ fn write(
 }
 
 // An Xor or Iff that is not split, its sides at a place: both disjunctions.
-#[cycle(write_write_all_write_cross_write_disj_write_longs)]
+#[cycle(write)]
 fn write_cross(
     work: &[i32],
     at: usize,
@@ -889,7 +889,7 @@ fn put_open(
 // ---- what Ifs add before an expression's own clauses
 
 // Of the two sides of a comparison.
-#[cycle(make_if_make_named_make_open_register_register_cross_register_if_register_int_register_sides_register_terms_registers)]
+#[cycle(register)]
 fn register_sides(
     work: &[i32],
     at: usize,
@@ -911,7 +911,7 @@ fn register_sides(
 }
 
 // Of so many members.
-#[cycle(make_if_make_named_make_open_register_register_cross_register_if_register_int_register_sides_register_terms_registers)]
+#[cycle(register)]
 fn registers(
     work: &[i32],
     at: usize,
@@ -952,7 +952,7 @@ fn registers(
 }
 
 // Of an Xor or Iff that is not split, its sides at a place.
-#[cycle(make_if_make_named_make_open_register_register_cross_register_if_register_int_register_sides_register_terms_registers)]
+#[cycle(register)]
 fn register_cross(
     work: &[i32],
     at: usize,
@@ -975,7 +975,7 @@ fn register_cross(
 }
 
 // Of the expression at a place, negated if g.
-#[cycle(make_if_make_named_make_open_register_register_cross_register_if_register_int_register_sides_register_terms_registers)]
+#[cycle(register)]
 fn register(
     work: &[i32],
     at: usize,
@@ -1010,7 +1010,7 @@ fn register(
 }
 
 // Of so many terms.
-#[cycle(make_if_make_named_make_open_register_register_cross_register_if_register_int_register_sides_register_terms_registers)]
+#[cycle(register)]
 fn register_terms(
     work: &[i32],
     at: usize,
@@ -1046,7 +1046,7 @@ fn register_terms(
 }
 
 // Of the integer expression at a place.
-#[cycle(make_if_make_named_make_open_register_register_cross_register_if_register_int_register_sides_register_terms_registers)]
+#[cycle(register)]
 pub fn register_int(
     work: &[i32],
     at: usize,
@@ -1075,7 +1075,7 @@ pub fn register_int(
 }
 
 // Of the If at a place: its branches', then its own block, where this visit makes it.
-#[cycle(make_if_make_named_make_open_register_register_cross_register_if_register_int_register_sides_register_terms_registers)]
+#[cycle(register)]
 fn register_if(
     work: &[i32],
     at: usize,
@@ -1108,7 +1108,7 @@ fn register_if(
 }
 
 // The block of an If, behind its branches', t the first branch's place and the counters there, n those behind both.
-#[cycle(make_if_make_named_make_open_register_register_cross_register_if_register_int_register_sides_register_terms_registers)]
+#[cycle(register)]
 fn make_if(
     work: &[i32],
     at: usize,
@@ -1137,7 +1137,7 @@ fn make_if(
 }
 
 // Constant branches: a new number stands for the condition.
-#[cycle(make_if_make_named_make_open_register_register_cross_register_if_register_int_register_sides_register_terms_registers)]
+#[cycle(register)]
 fn make_named(
     work: &[i32],
     at: usize,
@@ -1161,7 +1161,7 @@ fn make_named(
 }
 
 // Other branches: the number v of its own; k the counters behind it.
-#[cycle(make_if_make_named_make_open_register_register_cross_register_if_register_int_register_sides_register_terms_registers)]
+#[cycle(register)]
 fn make_open(
     work: &[i32],
     at: usize,
@@ -1339,7 +1339,7 @@ fn two_ties(a: Tied, b: Tied) -> Tied
 }
 
 // Of so many terms; a constant or a variable has none.
-#[cycle(int_ties_member_ties_split_ties_term_ties_write_ties)]
+#[cycle(ties)]
 fn term_ties(
     work: &[i32],
     at: usize,
@@ -1372,7 +1372,7 @@ fn term_ties(
 }
 
 // Of the integer expression at a place.
-#[cycle(int_ties_member_ties_split_ties_term_ties_write_ties)]
+#[cycle(ties)]
 fn int_ties(
     work: &[i32],
     at: usize,
@@ -1407,7 +1407,7 @@ fn int_ties(
 }
 
 // Of so many members.
-#[cycle(int_ties_member_ties_split_ties_term_ties_write_ties)]
+#[cycle(ties)]
 fn member_ties(
     work: &[i32],
     at: usize,
@@ -1434,7 +1434,7 @@ fn member_ties(
 }
 
 // Of a split Xor or Iff, whose sides have the numbers base and base + 1: of each side its extras, then its tie.
-#[cycle(int_ties_member_ties_split_ties_term_ties_write_ties)]
+#[cycle(ties)]
 fn split_ties(
     work: &[i32],
     at: usize,
@@ -1457,7 +1457,7 @@ fn split_ties(
 }
 
 // Of the expression at a place.
-#[cycle(int_ties_member_ties_split_ties_term_ties_write_ties)]
+#[cycle(ties)]
 fn write_ties(
     work: &[i32],
     at: usize,

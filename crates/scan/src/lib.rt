@@ -103,7 +103,7 @@ fn literal_words(work: &[i32], q: usize, left: usize) -> usize
 }
 
 // So many members.
-#[cycle(skip_skip_int_skip_terms_skips)]
+#[cycle(skip)]
 pub fn skips(work: &[i32], at: usize, left: usize, m: usize, count: usize, base: usize) -> Skipped
     requires { (folded_end ≤ length work.now) × ((at ≤ folded_end) × (base ≤ limit)) }
     ensures { SkipsAll (read_part work.now) left (split_by m) count at base result.at result.base }
@@ -126,7 +126,7 @@ pub fn skips(work: &[i32], at: usize, left: usize, m: usize, count: usize, base:
 }
 
 // The expression at a place, whatever its polarity.
-#[cycle(skip_skip_int_skip_terms_skips)]
+#[cycle(skip)]
 pub fn skip(work: &[i32], at: usize, left: usize, m: usize, base: usize) -> Skipped
     requires { (folded_end ≤ length work.now) × ((at ≤ folded_end) × (base ≤ limit)) }
     ensures { Skips (read_part work.now) left (split_by m) at base result.at result.base }
@@ -170,7 +170,7 @@ pub fn is_leaf(work: &[i32], q: usize, left: usize) -> bool
 }
 
 // So many terms.
-#[cycle(skip_skip_int_skip_terms_skips)]
+#[cycle(skip)]
 fn skip_terms(work: &[i32], at: usize, left: usize, m: usize, count: usize, base: usize) -> Skipped
     requires { (folded_end ≤ length work.now) × ((at ≤ folded_end) × (base ≤ limit)) }
     ensures { TermSkips (read_part work.now) left (split_by m) count at base result.at result.base }
@@ -193,7 +193,7 @@ fn skip_terms(work: &[i32], at: usize, left: usize, m: usize, count: usize, base
 }
 
 // The integer expression at a place.
-#[cycle(skip_skip_int_skip_terms_skips)]
+#[cycle(skip)]
 pub fn skip_int(work: &[i32], at: usize, left: usize, m: usize, base: usize) -> Skipped
     requires { (folded_end ≤ length work.now) × ((at ≤ folded_end) × (base ≤ limit)) }
     ensures { IntSkips (read_part work.now) left (split_by m) at base result.at result.base }
@@ -365,7 +365,7 @@ fn swapped(f: bool, x: usize, y: usize) -> usize
 }
 
 // So many members, the first negated if g, the others if h.
-#[cycle(leaves_leaves_all)]
+#[cycle(leaves)]
 fn leaves_all(
     work: &[i32],
     at: usize,
@@ -403,7 +403,7 @@ fn leaves_all(
 }
 
 // Of the expression at a place.
-#[cycle(leaves_leaves_all)]
+#[cycle(leaves)]
 pub fn leaves(work: &[i32], at: usize, left: usize, m: usize, base: usize) -> LeafCount
     requires { (folded_end ≤ length work.now) × ((at ≤ folded_end) × (base ≤ limit)) }
     ensures { LeavesAt (read_part work.now) left (split_by m) at base result.at result.base result.plain result.negated }
@@ -504,7 +504,7 @@ fn name_condition(s: Scanned, u: Scanned) -> Counters
 }
 
 // So many members, the first negated if g, the others if h.
-#[cycle(make_if_survey_survey_int_survey_terms_surveys)]
+#[cycle(survey)]
 pub fn surveys(
     work: &[i32],
     at: usize,
@@ -551,7 +551,7 @@ pub fn surveys(
 }
 
 // The expression at a place, negated if g.
-#[cycle(make_if_survey_survey_int_survey_terms_surveys)]
+#[cycle(survey)]
 pub fn survey(
     work: &[i32],
     at: usize,
@@ -601,7 +601,7 @@ pub fn survey(
 }
 
 // So many terms.
-#[cycle(make_if_survey_survey_int_survey_terms_surveys)]
+#[cycle(survey)]
 fn survey_terms(
     work: &[i32],
     at: usize,
@@ -629,7 +629,7 @@ fn survey_terms(
 }
 
 // Behind the branches of the If at p, whose condition stands at c.
-#[cycle(make_if_survey_survey_int_survey_terms_surveys)]
+#[cycle(survey)]
 fn make_if(
     work: &[i32],
     p: usize,
@@ -672,7 +672,7 @@ fn make_if(
 }
 
 // The integer expression at a place.
-#[cycle(make_if_survey_survey_int_survey_terms_surveys)]
+#[cycle(survey)]
 pub fn survey_int(
     work: &[i32],
     at: usize,

@@ -86,7 +86,7 @@ fn clear_cell(work: &mut [i32], at: usize, base: usize, next: usize)
 }
 
 // So many members.
-#[cycle(clear_bool_clear_int_clear_members_clear_terms)]
+#[cycle(clear)]
 fn clear_members(work: &mut [i32], at: usize, left: usize, count: usize, base: usize) -> Skipped
     requires { (min_work_words ≤ length work.old) × ((at ≤ folded_end) × (base ≤ limit)) }
     ensures { ClearsAll (read_part work.old) left count at base result.at result.base work.old work.new }
@@ -104,7 +104,7 @@ fn clear_members(work: &mut [i32], at: usize, left: usize, count: usize, base: u
 }
 
 // The Boolean expression at a place, whatever its polarity.
-#[cycle(clear_bool_clear_int_clear_members_clear_terms)]
+#[cycle(clear)]
 fn clear_bool(work: &mut [i32], at: usize, left: usize, base: usize) -> Skipped
     requires { (min_work_words ≤ length work.old) × ((at ≤ folded_end) × (base ≤ limit)) }
     ensures { Clears (read_part work.old) left at base result.at result.base work.old work.new }
@@ -126,7 +126,7 @@ fn clear_bool(work: &mut [i32], at: usize, left: usize, base: usize) -> Skipped
 }
 
 // So many terms.
-#[cycle(clear_bool_clear_int_clear_members_clear_terms)]
+#[cycle(clear)]
 fn clear_terms(work: &mut [i32], at: usize, left: usize, count: usize, base: usize) -> Skipped
     requires { (min_work_words ≤ length work.old) × ((at ≤ folded_end) × (base ≤ limit)) }
     ensures { TermClears (read_part work.old) left count at base result.at result.base work.old work.new }
@@ -145,7 +145,7 @@ fn clear_terms(work: &mut [i32], at: usize, left: usize, count: usize, base: usi
 }
 
 // The integer expression at a place.
-#[cycle(clear_bool_clear_int_clear_members_clear_terms)]
+#[cycle(clear)]
 fn clear_int(work: &mut [i32], at: usize, left: usize, base: usize) -> Skipped
     requires { (min_work_words ≤ length work.old) × ((at ≤ folded_end) × (base ≤ limit)) }
     ensures { IntClears (read_part work.old) left at base result.at result.base work.old work.new }

@@ -1,0 +1,21 @@
+use Prim.Native.Nat.{ℕ}
+use mathlib.Core.Path.{◌≡◌}
+use mathlib.Core.List.{List}
+use Prim.Native.Nat.{◌+◌, ◌-◌, ◌*◌, ◌≤◌}
+use lib.IntN.{ℤ}
+use lib.ListN.{length}
+use Rattle.passes.specs.Want.{worst_num}
+use Rattle.passes.specs.Contract.{StandMembers, MembersPost}
+use Rattle.passes.proofs.+constant_prop.Given as goal
+
+abbrev pub decreases-constant_prop_bool : goal.decreases-constant_prop_bool
+decreases-constant_prop_bool l = 2 * (length l.work.now - l.at)
+
+abbrev pub decreases-constant_prop_members : goal.decreases-constant_prop_members
+decreases-constant_prop_members l = 2 * (length l.work.now - l.at) + 1
+
+abbrev pub invariant-constant_prop_members-loop-rest : goal.invariant-constant_prop_members-loop-rest
+invariant-constant_prop_members-loop-rest l = (l.at ≤ l.next) × (length l.work ≡ length l.initial.work) × StandMembers l.work l.next l.rest × ((out' : List ℤ) (next' s : ℕ) → MembersPost l.work l.next l.rest l.want out' next' s → MembersPost l.initial.work l.at l.count l.want out' next' (worst_num l.status s))
+
+abbrev pub decreases-constant_prop_members-loop-rest : goal.decreases-constant_prop_members-loop-rest
+decreases-constant_prop_members-loop-rest l = l.rest
