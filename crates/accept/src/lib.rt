@@ -11,75 +11,10 @@ ghost use Rattle.accept.specs.Walk.{ReadyVar, VarPost, ReadyInt, ReadyTerms, Rea
 
 use reader::Set;
 
-// ---- sizes
-
-fn wide_size(d: i64) -> usize
-    requires { nat_abs d < 9223372036854775808 }
-    ensures { result ≡ nat_abs d }
-{
-    if d < 0 {
-        let n = 0 - d;
-        return n as usize;
-    }
-    d as usize
-}
-
-fn size(w: i32) -> usize
-    ensures { result ≡ nat_abs w }
-{
-    wide_size(w as i64)
-}
-
-// The distance of two words.
-fn distance(low: i32, high: i32) -> usize
-    ensures { result ≡ nat_abs (high -ℤ low) }
-{
-    wide_size((high as i64) - (low as i64))
-}
-
-fn capped(n: usize) -> usize
-    ensures { result ≡ min n cap }
-{
-    if n < memory::LIMIT {
-        return n;
-    }
-    memory::LIMIT
-}
-
-fn larger(a: usize, b: usize) -> usize
-    ensures { result ≡ max a b }
-{
-    if a < b {
-        return b;
-    }
-    a
-}
-
 fn smaller(a: usize, b: usize) -> usize
     ensures { result ≡ min a b }
 {
-    if a < b {
-        return a;
-    }
-    b
-}
-
-fn lower(a: i32, b: i32) -> i32
-    ensures { result ≡ lower a b }
-{
-    if a <= b {
-        return a;
-    }
-    b
-}
-
-fn higher(a: i32, b: i32) -> i32
-    ensures { result ≡ higher a b }
-{
-    if a <= b {
-        return b;
-    }
-    a
+    a.min(b)
 }
 
 // ---- weights, stopped at 1073741824
@@ -87,18 +22,14 @@ fn higher(a: i32, b: i32) -> i32
 fn constant_total(w: i32) -> usize
     ensures { result ≡ constant_total w }
 {
-    let n = size(w);
-    capped(n)
+    (w.unsigned_abs() as usize).min(memory::LIMIT)
 }
 
 fn bounds_total(low: i32, high: i32) -> usize
     ensures { result ≡ bounds_total low high }
 {
-    let a = size(low);
-    let b = size(high);
-    let c = larger(a, b);
-    let n = larger(1, c);
-    capped(n)
+    let n = low.unsigned_abs().max(high.unsigned_abs()).max(1);
+    (n as usize).min(memory::LIMIT)
 }
 
 fn variable_total(work: &[i32], v: usize) -> usize
@@ -118,8 +49,8 @@ fn add_term(k: i32, t: usize, acc: usize) -> usize
     if t == memory::LIMIT {
         return memory::LIMIT;
     }
-    let n = size(k);
-    capped(acc + n * t)
+    let n = k.unsigned_abs() as usize;
+    (acc + n * t).min(memory::LIMIT)
 }
 
 // ---- variables written
@@ -205,7 +136,7 @@ fn mark_written(set: &[i32], at: usize, n: usize, marks: &mut [bool; 256]) -> Ma
     let mut count = 0;
     while rest != 0 {
         let h = mark_head(set, next + 1, n, marks);
-        count = count + h.count;
+        count += h.count;
         rest = rest - 1 + h.terms;
         next = h.next;
     }
@@ -291,23 +222,21 @@ pub struct Step {
     pub refusal: usize,
 }
 
-// As many terms as `n` says.
+// As many terms as `terms` says.
 #[cycle(total)]
-fn terms_total(set: &[i32], work: &[i32], at: usize, n: usize, ni: usize) -> Total
-    requires { ReadyTerms set.now work.now at n ni × (ni ≤ max_ints) }
-    ensures { TermsPost set.now work.now at n ni 0 12 result.next result.total result.refusal }
+fn terms_total(set: &[i32], work: &[i32], at: usize, terms: usize, ni: usize) -> Total
+    requires { ReadyTerms set.now work.now at terms ni × (ni ≤ max_ints) }
+    ensures { TermsPost set.now work.now at terms ni 0 12 result.next result.total result.refusal }
 {
     let mut next = at;
     let mut total = 0;
     let mut refusal = 12;
-    let mut left = n;
-    while left != 0 {
+    for _ in 0..terms {
         let t = int_total(set, work, next + 1, ni);
         let k = set[next];
         total = add_term(k, t.total, total);
         refusal = smaller(refusal, t.refusal);
         next = t.next;
-        left = left - 1;
     }
     Total {
         next,
@@ -326,8 +255,7 @@ fn if_total(set: &[i32], work: &[i32], at: usize, ni: usize) -> Total
     let t = int_total(set, work, c.next, ni);
     let f = int_total(set, work, t.next, ni);
     let b = branches(set, c.next, t.next, f.next, ni);
-    let x = larger(t.total, f.total);
-    let total = larger(1, x);
+    let total = t.total.max(f.total).max(1);
     let y = smaller(t.refusal, f.refusal);
     let z = smaller(b, y);
     let refusal = smaller(c.refusal, z);
@@ -474,16 +402,12 @@ fn terms_range(set: &[i32], work: &[i32], at: usize, n: usize) -> Range
     let mut next = at;
     let mut low = 0;
     let mut high = 0;
-    let mut rest = n;
-    while rest != 0 {
+    for _ in 0..n {
         let r = int_range(set, work, next + 1);
         let k = set[next];
-        let a = domains::times_low(k, r.low, r.high);
-        let b = domains::times_low(k, r.high, r.low);
-        low = low + a;
-        high = high + b;
+        low += domains::times_low(k, r.low, r.high);
+        high += domains::times_low(k, r.high, r.low);
         next = r.next;
-        rest = rest - 1;
     }
     Range { next, low, high }
 }
@@ -497,12 +421,10 @@ fn if_range(set: &[i32], work: &[i32], at: usize) -> Range
     let c = passes::skip_members(set, at + 1, 1);
     let t = int_range(set, work, c);
     let f = int_range(set, work, t.next);
-    let low = lower(t.low, f.low);
-    let high = higher(t.high, f.high);
     Range {
         next: f.next,
-        low,
-        high,
+        low: t.low.min(f.low),
+        high: t.high.max(f.high),
     }
 }
 
@@ -550,7 +472,7 @@ fn root(set: &[i32], work: &[i32], at: usize, words: usize, total: usize, ni: us
         return 10;
     }
     let r = int_range(set, work, at);
-    let d = distance(r.low, r.high);
+    let d = r.high.abs_diff(r.low);
     if d > 4095 {
         return 11;
     }
@@ -576,26 +498,15 @@ fn columns(set: &[i32], work: &[i32], at: usize, n: usize, ni: usize) -> Tested
 {
     let mut next = at;
     let mut refusal = 12;
-    let mut rest = n;
-    while rest != 0 {
+    for _ in 0..n {
         let t = column(set, work, next, ni);
         refusal = smaller(refusal, t.refusal);
         next = t.next;
-        rest = rest - 1;
     }
     Tested { next, refusal }
 }
 
 // ---- expressions that differ: each pair is tested as a comparison
-
-fn either(a: bool, b: bool) -> bool
-    ensures { result ≡ (a || b) }
-{
-    if a {
-        return true;
-    }
-    b
-}
 
 #[derive(Drop)]
 pub struct Weighed {
@@ -613,14 +524,12 @@ fn heavy_pairs(set: &[i32], work: &[i32], at: usize, n: usize, ni: usize) -> Wei
     let mut top = 0;
     let mut hit = false;
     let mut refusal = 12;
-    let mut rest = n;
-    while rest != 0 {
+    for _ in 0..n {
         let t = int_total(set, work, next, ni);
-        hit = either(hit, top + t.total > 1073741823);
-        top = larger(top, t.total);
+        hit |= top + t.total > 1073741823;
+        top = top.max(t.total);
         refusal = smaller(refusal, t.refusal);
         next = t.next;
-        rest = rest - 1;
     }
     Weighed { next, hit, refusal }
 }
@@ -631,15 +540,12 @@ fn many_among(set: &[i32], a: usize, words: usize, at: usize, n: usize, ni: usiz
     ensures { AmongPost set.now a words at n ni result }
 {
     let mut next = at;
-    let mut rest = n;
-    while rest != 0 {
+    for _ in 0..n {
         let end = passes::skip_int(set, next);
-        let both = words + (end - next);
-        if many_comparison(set, a, next, both, ni) {
+        if many_comparison(set, a, next, words + (end - next), ni) {
             return true;
         }
         next = end;
-        rest = rest - 1;
     }
     false
 }
@@ -653,10 +559,7 @@ fn many_beside(set: &[i32], a: usize, end: usize, at: usize, k: usize, n: usize,
     if words < 64 {
         return false;
     }
-    if many_among(set, a, words, at, k, ni) {
-        return true;
-    }
-    many_among(set, a, words, end, n, ni)
+    many_among(set, a, words, at, k, ni) || many_among(set, a, words, end, n, ni)
 }
 
 // 10.
@@ -665,14 +568,12 @@ fn many_pairs(set: &[i32], at: usize, n: usize, ni: usize) -> bool
     ensures { CrowdedPost set.now at n at n ni result }
 {
     let mut next = at;
-    let mut rest = n;
-    while rest != 0 {
+    for k in 0..n {
         let end = passes::skip_int(set, next);
-        if many_beside(set, next, end, at, n - rest, rest - 1, ni) {
+        if many_beside(set, next, end, at, k, n - k - 1, ni) {
             return true;
         }
         next = end;
-        rest = rest - 1;
     }
     false
 }
@@ -733,12 +634,10 @@ fn statements(set: &[i32], work: &[i32], at: usize, n: usize, ni: usize) -> usiz
 {
     let mut next = at;
     let mut refusal = 12;
-    let mut rest = n;
-    while rest != 0 {
+    for _ in 0..n {
         let t = statement(set, work, next, ni);
         refusal = smaller(refusal, t.refusal);
         next = t.next;
-        rest = rest - 1;
     }
     refusal
 }

@@ -32,8 +32,5 @@ invariant-rules-loop-rest l = ReadyBools l.set l.work l.next l.rest l.ni × (l.a
 abbrev pub decreases-rules-loop-rest : goal.decreases-rules-loop-rest
 decreases-rules-loop-rest l = length l.set - l.next
 
-abbrev pub invariant-terms_total-loop-left : goal.invariant-terms_total-loop-left
-invariant-terms_total-loop-left l = ReadyTerms l.set l.work l.next l.left l.ni × (l.at ≤ l.next) × (l.total ≤ cap) × (l.refusal ≤ 12) × ((y t k : ℕ) → TermsPost l.set l.work l.next l.left l.ni l.total l.refusal y t k → TermsPost l.set l.work l.at l.n l.ni 0 12 y t k)
-
-abbrev pub decreases-terms_total-loop-left : goal.decreases-terms_total-loop-left
-decreases-terms_total-loop-left l = l.left
+abbrev pub invariant-terms_total-loop : goal.invariant-terms_total-loop
+invariant-terms_total-loop l = ReadyTerms l.set l.work l.next (l.terms - l.counter) l.ni × (l.at ≤ l.next) × (l.total ≤ cap) × (l.refusal ≤ 12) × ((y t k : ℕ) → TermsPost l.set l.work l.next (l.terms - l.counter) l.ni l.total l.refusal y t k → TermsPost l.set l.work l.at l.terms l.ni 0 12 y t k)
