@@ -272,13 +272,14 @@ fn put_int_var(words: &[i32], d: usize, work: &mut [i32], o: usize, v: usize) ->
     ensures { IntVarPost words.now d work.old o v work.new result }
 {
     let at = domains::domain_of(words, d, v);
-    let p = domains::as_constant(words, at);
-    if p == 0 {
-        return put_two(work, o, 21, v);
+    match domains::as_constant(words, at) {
+        None => put_two(work, o, 21, v),
+        Some(p) => {
+            put(work, o, 20);
+            memory::copy_word(words, p, work, o + 1);
+            o + 2
+        }
     }
-    put(work, o, 20);
-    memory::copy_word(words, p, work, o + 1);
-    o + 2
 }
 
 // As many terms as `count` says.
