@@ -5,7 +5,7 @@ use mathlib.Core.List.{List}
 use Prim.Native.Nat.{ℕ, zero, suc, ◌≤◌, ◌<◌, min}
 use native.Mathlib.Omega.{arith}
 use lib.IntN.{ℤ, pos, neg_ℤ, ◌-ℤ◌, +ℤ_idl}
-use lib.ListN.{length, get_or, length-take}
+use lib.ListN.{length, get_or, take, length-take, get_or-eq_default}
 use mir.Syntax.{w32}
 use mir.Val.{SFits, to_z}
 use mir.Facts.{to_z-of_z}
@@ -13,7 +13,6 @@ use lib.Seq.{get_or-take}
 use lib.Dec.{eqb}
 use Rattle.memory.specs.Places.{folded_end, limit}
 use Rattle.memory.specs.Number.{nat}
-use Rattle.memory.proofs.Laws.{no_entry}
 use Rattle.clauses.specs.Clause.{negate_if}
 use Rattle.walk.specs.Item.{bump, is_none}
 use Rattle.walk.specs.Decode.{word, past, read_part, surveyed, fresh_of, lines_in_of, closed_disj}
@@ -29,8 +28,8 @@ unfolding word read_part
 word_inside w at h = ap nat (sym (get_or-take folded_end w at (pos 0) h))
 
 pub word_outside : (w : List ℤ) (at : ℕ) → folded_end ≤ at → 0 ≡ word (read_part w) at
-unfolding word read_part
-word_outside w at h = no_entry (read_part w) at (omega (arith, length-take folded_end w))
+unfolding word read_part nat
+word_outside w at h = let l : length (take folded_end w) ≤ at = omega (arith, length-take folded_end w) in rw (get_or-eq_default (take folded_end w) (pos 0) l)
 
 pub past_is : (w : List ℤ) (p q : ℕ) → folded_end ≤ length w → q ≡ min p folded_end → q ≡ past (read_part w) p
 past_is w p q h e = omega (arith, part_length w h)
