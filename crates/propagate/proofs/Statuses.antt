@@ -46,3 +46,19 @@ updated_where s b e h = go s (sym e ∙ h)
     go Unchanged h = cc
     go Updated h = refl
     go Unsatisfiable h = cc
+
+pub unchanged : (s : Status) (b : Bool) → b ≡ not (sameb the_type s Unchanged) → b ≡ false → rank s ≡ 0
+unchanged s b e h = go s (sym e ∙ h)
+  where
+    go : (s : Status) → not (sameb the_type s Unchanged) ≡ false → rank s ≡ 0
+    go Unchanged h = refl
+    go Updated h = cc
+    go Unsatisfiable h = cc
+
+pub changed : (s : Status) (b : Bool) → b ≡ not (sameb the_type s Unchanged) → b ≡ true → rank s ≡ 0 → ⊥
+changed s b e h = go s (sym e ∙ h)
+  where
+    go : (s : Status) → not (sameb the_type s Unchanged) ≡ true → rank s ≡ 0 → ⊥
+    go Unchanged h z = cc
+    go Updated h z = cc
+    go Unsatisfiable h z = cc

@@ -8,7 +8,7 @@ ghost use Rattle.passes.specs.Want.{rank};
 ghost use Rattle.propagate.specs.Optimized.{SomeDomains, DomainsEndPost, Opened, ReadyPasses, PassesPost, Accepted, OptimizePost};
 ghost use Rattle.propagate.specs.Worklist.{Only, ReadyStep, StepPost, NextPost, ReadyWorklist, Moves, WorklistPost, AfterPost, Places};
 
-use passes::Status;
+pub use passes::Status;
 
 #[derive(Drop)]
 pub struct Optimized {
