@@ -12,8 +12,3 @@ limited (some n) = cond (leb n 2147483648) (some n) none
 abbrev pub option_of : {A : Type 0} → Option A → code.Option A
 option_of none = None
 option_of (some x) = Some x
-
--- and back
-abbrev pub maybe_of : {A : Type 0} → code.Option A → Option A
-maybe_of None = none
-maybe_of (Some x) = some x
