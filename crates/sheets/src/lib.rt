@@ -20,11 +20,7 @@ pub enum Sheeted {
 pub fn clear_bytes(s: &mut [u8])
     ensures { s.new ≡ no_bytes (length s.old) }
 {
-    let mut i = 0;
-    while i < s.len() {
-        s[i] = 0;
-        i += 1;
-    }
+    s.fill(0);
 }
 
 // Where the count of clauses stands in an answer's words.
