@@ -27,7 +27,7 @@ fn natural_width(n: u64) -> usize
     let mut w = 1;
     let mut m = n;
     while 10 <= m {
-        m = m / 10;
+        m /= 10;
         w += 1;
     }
     w
@@ -189,9 +189,9 @@ fn place_pair(out: &mut [u8], p: Place, pair: &[i32], more: bool) -> Place
     let q = with_room(out, p, w);
     let o = put_pair(out, q.at, pair, more);
     Place {
-        line: q.line,
         at: o,
         bare: false,
+        ..q
     }
 }
 
@@ -240,9 +240,9 @@ fn place_terms(out: &mut [u8], page: Place, o: &[i32], c: &[i32], terms: &[i32])
     let q = begin(out, page, w);
     let a = put_head(out, q.at, o, c);
     let p = Place {
-        line: q.line,
         at: a,
         bare: false,
+        ..q
     };
     place_pairs(out, p, terms)
 }
@@ -302,15 +302,8 @@ fn start_clause(out: &mut [u8], at: usize, k: u64) -> Place
     }
 }
 
-// Where the next byte goes, and the next word to show.
-#[derive(Drop)]
-pub struct After {
-    pub at: usize,
-    pub next: usize,
-}
-
 // Clause number k.
-fn put_clause(out: &mut [u8], at: usize, k: u64, words: &[i32], from: usize) -> After
+fn put_clause(out: &mut [u8], at: usize, k: u64, words: &[i32], from: usize) -> lines::Place
     requires { (at ≤ 2199023255552) × (k < 100000000) × (Few words.now) × (from < length words.now) × (all fitting words.now ≡ true) }
     ensures { (Wrote out.old at (flat (map full (all_lines (place_items (clause_items (drop from words.now)) (numbered k))))) out.new result.at) × (Shows (print_clause (drop from words.now)).rest words.now from result.next) × (result.at + 81 * from ≤ at + 81 * result.next) × (from < result.next) }
 {
@@ -320,9 +313,8 @@ fn put_clause(out: &mut [u8], at: usize, k: u64, words: &[i32], from: usize) -> 
     let s = start_clause(out, at, k);
     let p = place_literals(out, s, &words[a..b]);
     let q = place_comparisons(out, p, words, b);
-    let e = end_line(out, q.page);
-    After {
-        at: e,
+    lines::Place {
+        at: end_line(out, q.page),
         next: q.next,
     }
 }
