@@ -8,7 +8,8 @@ ghost use Rattle.sheets.specs.Contract.{SomeAnswered, Finishes};
 
 use lines::{count_at, stop};
 
-// The words of the answer and the bytes of its sheet, a contradiction, or the refusal's number.
+// The words of the answer and the bytes of its sheet, a contradiction, or the refusal's number. A `Result` of an `Option` would hide the
+// contradiction in a `None`.
 #[derive(Drop)]
 pub enum Sheeted {
     Compiled(usize, usize),

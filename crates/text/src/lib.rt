@@ -57,6 +57,7 @@ fn put_compiled(out: &mut [u8], bools: usize, ints: usize, words: &[i32]) -> usi
     put_emitted(out, r.at, words, r.next)
 }
 
+// Crate roster has a like function for its own two starts: a common one would be public for two lines.
 fn put_refused(out: &mut [u8], k: usize) -> usize
     ensures { Puts out.old 0 (print_answer (Answer.Refused k) 0 0 []) out.new result }
 {
