@@ -1,3 +1,4 @@
+pub mod Refusal
 pub mod Parse
 pub mod Exact
 pub mod Cursor

@@ -1,9 +1,13 @@
 // A cursor over lent i32 words, by value: each reader takes it and hands the next one back with what it read, or gives the refusal.
 #![tactic(auto)]
 
+mod refusal; // refusal.rt: why something is refused
+
 ghost use Rattle.std.specs.Prelude.{◌≡◌, drop};
 ghost use Rattle.words.specs.Parse.{word, up_to, index, number};
 ghost use Rattle.words.specs.Cursor.{plain_of, next_at, counted_at};
+
+pub use refusal::Refusal;
 
 #[derive(Clone, Copy)]
 pub struct Cursor {

@@ -1,0 +1,52 @@
+-- The numbers of the refusals, as document 01 has them. Assumes nothing.
+use Rattle.std.specs.Prelude.{◌≡◌, refl, List, [], ◌∷◌, ℕ, ◌-◌}
+use Rattle.std.proofs.Common.{ap, ◌∙◌, get_or}
+use Rattle.words.specs.declared.refusal.Refusal.{Refusal}
+use Rattle.words.specs.declared.refusal.Refusal.TheVariants as refusal
+
+abbrev pub number_of : Refusal → ℕ
+number_of refusal.ShortWork = 1
+number_of refusal.LongSet = 2
+number_of refusal.WrongLength = 3
+number_of refusal.OutOfRange = 4
+number_of refusal.UnknownCode = 5
+number_of refusal.Undeclared = 6
+number_of refusal.BadDomain = 7
+number_of refusal.TooDeep = 8
+number_of refusal.HeavyWeight = 9
+number_of refusal.ManyVariables = 10
+number_of refusal.WideColumn = 11
+number_of refusal.LongAnswer = 12
+number_of refusal.ShortSheet = 13
+number_of refusal.CountOfValues = 14
+number_of refusal.OutsideDomain = 15
+number_of refusal.DeclaredOtherwise = 16
+number_of refusal.LongJoin = 17
+
+-- ---- no two refusals have one number
+
+abbrev in_order : List Refusal
+in_order =
+    refusal.ShortWork ∷ refusal.LongSet ∷ refusal.WrongLength ∷ refusal.OutOfRange ∷ refusal.UnknownCode ∷ refusal.Undeclared ∷ refusal.BadDomain ∷ refusal.TooDeep ∷ refusal.HeavyWeight ∷ refusal.ManyVariables ∷ refusal.WideColumn ∷ refusal.LongAnswer ∷ refusal.ShortSheet ∷ refusal.CountOfValues ∷ refusal.OutsideDomain ∷ refusal.DeclaredOtherwise ∷ refusal.LongJoin ∷ []
+
+back : (d r : Refusal) → get_or in_order (number_of r - 1) d ≡ r
+back d refusal.ShortWork = refl
+back d refusal.LongSet = refl
+back d refusal.WrongLength = refl
+back d refusal.OutOfRange = refl
+back d refusal.UnknownCode = refl
+back d refusal.Undeclared = refl
+back d refusal.BadDomain = refl
+back d refusal.TooDeep = refl
+back d refusal.HeavyWeight = refl
+back d refusal.ManyVariables = refl
+back d refusal.WideColumn = refl
+back d refusal.LongAnswer = refl
+back d refusal.ShortSheet = refl
+back d refusal.CountOfValues = refl
+back d refusal.OutsideDomain = refl
+back d refusal.DeclaredOtherwise = refl
+back d refusal.LongJoin = refl
+
+pub number_injective : (r s : Refusal) → number_of r ≡ number_of s → r ≡ s
+number_injective r s e = rw (← back r r) (ap (λ k. get_or in_order (k - 1) r) e ∙ back r s)
