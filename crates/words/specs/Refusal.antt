@@ -1,5 +1,5 @@
 -- The numbers of the refusals, as document 01 has them. Assumes nothing.
-use Rattle.std.specs.Prelude.{◌≡◌, refl, List, [], ◌∷◌, ℕ, ◌-◌}
+use Rattle.std.specs.Prelude.{◌≡◌, refl, List, [], ◌∷◌, ℕ, ◌-◌, Result, Ok, Err}
 use Rattle.std.proofs.Common.{ap, ◌∙◌, get_or}
 use Rattle.words.specs.declared.refusal.Refusal.{Refusal}
 use Rattle.words.specs.declared.refusal.Refusal.TheVariants as refusal
@@ -22,6 +22,11 @@ number_of refusal.CountOfValues = 14
 number_of refusal.OutsideDomain = 15
 number_of refusal.DeclaredOtherwise = 16
 number_of refusal.LongJoin = 17
+
+-- an answer whose refusal is a number
+abbrev pub by_number : {A : Type 0} → Result A Refusal → Result A ℕ
+by_number (Ok a) = Ok a
+by_number (Err r) = Err (number_of r)
 
 -- ---- no two refusals have one number
 

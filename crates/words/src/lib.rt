@@ -11,7 +11,7 @@ ghost use Rattle.words.specs.Refusal.{number_of};
 pub use refusal::Refusal;
 
 // How far from 0 a value may be.
-const MAX_VALUE: u32 = 1073741823;
+pub const MAX_VALUE: u32 = 1073741823;
 
 // The words that are not read yet.
 #[derive(Drop)]
