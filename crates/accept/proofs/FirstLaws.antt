@@ -4,7 +4,22 @@ use mathlib.Core.Path.{◌≡◌, refl, ◌∙◌}
 use mathlib.Core.Bool.{Bool, true, false, ◌||◌, cond}
 use native.Mathlib.Omega.{arith}
 use Rattle.laws.specs.Bools.{eq5}
+use Rattle.std.specs.Prelude.{Option, Some, None}
+use Rattle.accept.specs.declared.Limit.{Limit}
+use Rattle.accept.specs.declared.Limit.TheVariants as limit
+use Rattle.accept.specs.Limit.{hit}
 use Rattle.accept.specs.Walk.{first_of}
+
+pub hit_most : (h : Option Limit) → hit h ≤ 12
+hit_most (Some limit.Weight) = omega arith
+hit_most (Some limit.Variables) = omega arith
+hit_most (Some limit.Span) = omega arith
+hit_most None = omega arith
+
+pub hit_some : (l : Limit) → hit (Some l) ≡ 12 → ⊥
+hit_some limit.Weight e = omega arith
+hit_some limit.Variables e = omega arith
+hit_some limit.Span e = omega arith
 
 at_least_11 : (a : Bool) → 11 ≤ cond a 11 12
 at_least_11 true = omega arith

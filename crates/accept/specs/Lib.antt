@@ -1,3 +1,4 @@
+pub mod Limit
 pub mod Walk
 pub mod Accepted
 pub mod Taken

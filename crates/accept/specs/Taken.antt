@@ -18,7 +18,6 @@ use Rattle.read.specs.Read.{read_set}
 use Rattle.read.proofs.Exact.{set_sound}
 use Rattle.reader.specs.Position.{set_at}
 use Rattle.reader.specs.declared.Declared.{Declared}
-use Rattle.reader.specs.declared.Set as declared-set
 use Rattle.reader.specs.declared.Set.TheVariants as set
 use Rattle.domains.specs.Declared.{bounds_words, Domains}
 use Rattle.limits.specs.Limits.{check}

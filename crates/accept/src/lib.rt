@@ -1,5 +1,5 @@
 // Refusals 1 to 11 over a set's words. `work` holds the table of bounds from 7936 on.
-// A walk that tests what it passes answers with the place behind, and with the first of 9, 10 and 11 that hits, or 12.
+// A walk that tests what it passes answers with the place behind, and with the first limit that is passed.
 #![tactic(auto)]
 
 ghost use Rattle.std.specs.Prelude.{◌≡◌, false, ◌||◌, ◌<◌, ◌≤◌, min, max, eqb, pos, nat_abs, ◌-ℤ◌, length};
@@ -7,79 +7,42 @@ ghost use Rattle.laws.specs.Ints.{lower, higher};
 ghost use Rattle.syntax.specs.Words.{max_ints};
 ghost use Rattle.limits.specs.Total.{cap, joined, product, constant_total, bounds_total};
 ghost use Rattle.accept.specs.Accepted.{ReadySet, LimitsPost, accepted, table_after};
+ghost use Rattle.accept.specs.Limit.{hit, refusal_of};
 ghost use Rattle.accept.specs.Walk.{ReadyVar, VarPost, ReadyInt, ReadyTerms, ReadyIf, ReadyLeaf, ReadyDeep, IntPost, LeafPost, IfPost, TermsPost, ReadyRange, RangePost, ReadyIfRange, IfRangePost, ReadyRanges, RangesPost, Behind, HeadPost, Marks, WrittenPost, ManyOnePost, ManyPost, ReadyBranches, BranchesPost, ComparedPost, ReadyPair, PairPost, ReadyColumn, ReadyRoot, RootPost, ColumnPost, ReadyColumns, ColumnsPost, OverPost, ReadyAmong, AmongPost, ReadyBeside, BesidePost, ReadySplit, CrowdedPost, DifferPost, DifferentPost, ReadyBool, ReadyBools, StepPost, BoolsPost, ReadyStmt, StmtPost, ReadyStmts, StmtsPost, CheckPost};
 
 use reader::Set;
+use words::Refusal;
 
-// ---- sizes
+// ---- refusals 9, 10 and 11
 
-fn wide_size(d: i64) -> usize
-    requires { nat_abs d < 9223372036854775808 }
-    ensures { result ≡ nat_abs d }
-{
-    if d < 0 {
-        let n = 0 - d;
-        return n as usize;
+#[derive(Clone, Copy, PartialEq, Eq, PartialOrd, Ord)]
+pub enum Limit {
+    Weight,
+    Variables,
+    Span,
+}
+
+impl From<Limit> for Refusal {
+    fn from(limit: Limit) -> Refusal
+        ensures { result ≡ refusal_of limit }
+    {
+        match limit {
+            Limit::Weight => Refusal::HeavyWeight,
+            Limit::Variables => Refusal::ManyVariables,
+            Limit::Span => Refusal::WideColumn,
+        }
     }
-    d as usize
 }
 
-fn size(w: i32) -> usize
-    ensures { result ≡ nat_abs w }
+// The first in order of the two, if there is one.
+fn first(a: Option<Limit>, b: Option<Limit>) -> Option<Limit>
+    ensures { hit result ≡ min (hit a) (hit b) }
 {
-    wide_size(w as i64)
-}
-
-// The distance of two words.
-fn distance(low: i32, high: i32) -> usize
-    ensures { result ≡ nat_abs (high -ℤ low) }
-{
-    wide_size((high as i64) - (low as i64))
-}
-
-fn capped(n: usize) -> usize
-    ensures { result ≡ min n cap }
-{
-    if n < memory::LIMIT {
-        return n;
+    match (a, b) {
+        (Some(x), Some(y)) => Some(x.min(y)),
+        (Some(_), None) => a,
+        (None, _) => b,
     }
-    memory::LIMIT
-}
-
-fn larger(a: usize, b: usize) -> usize
-    ensures { result ≡ max a b }
-{
-    if a < b {
-        return b;
-    }
-    a
-}
-
-fn smaller(a: usize, b: usize) -> usize
-    ensures { result ≡ min a b }
-{
-    if a < b {
-        return a;
-    }
-    b
-}
-
-fn lower(a: i32, b: i32) -> i32
-    ensures { result ≡ lower a b }
-{
-    if a <= b {
-        return a;
-    }
-    b
-}
-
-fn higher(a: i32, b: i32) -> i32
-    ensures { result ≡ higher a b }
-{
-    if a <= b {
-        return b;
-    }
-    a
 }
 
 // ---- weights, stopped at 1073741824
@@ -87,18 +50,14 @@ fn higher(a: i32, b: i32) -> i32
 fn constant_total(w: i32) -> usize
     ensures { result ≡ constant_total w }
 {
-    let n = size(w);
-    capped(n)
+    (w.unsigned_abs() as usize).min(memory::LIMIT)
 }
 
 fn bounds_total(low: i32, high: i32) -> usize
     ensures { result ≡ bounds_total low high }
 {
-    let a = size(low);
-    let b = size(high);
-    let c = larger(a, b);
-    let n = larger(1, c);
-    capped(n)
+    let n = low.unsigned_abs().max(high.unsigned_abs()).max(1);
+    (n as usize).min(memory::LIMIT)
 }
 
 fn variable_total(work: &[i32], v: usize) -> usize
@@ -118,8 +77,8 @@ fn add_term(k: i32, t: usize, acc: usize) -> usize
     if t == memory::LIMIT {
         return memory::LIMIT;
     }
-    let n = size(k);
-    capped(acc + n * t)
+    let n = k.unsigned_abs() as usize;
+    (acc + n * t).min(memory::LIMIT)
 }
 
 // ---- variables written
@@ -205,7 +164,7 @@ fn mark_written(set: &[i32], at: usize, n: usize, marks: &mut [bool; 256]) -> Ma
     let mut count = 0;
     while rest != 0 {
         let h = mark_head(set, next + 1, n, marks);
-        count = count + h.count;
+        count += h.count;
         rest = rest - 1 + h.terms;
         next = h.next;
     }
@@ -241,32 +200,29 @@ fn many_column(set: &[i32], at: usize, words: usize, ni: usize) -> bool
     x.count > 63
 }
 
-// 10 or 12: an If's branches, from t to f and from f to `end`.
-fn branches(set: &[i32], t: usize, f: usize, end: usize, ni: usize) -> usize
+// An If's branches, from t to f and from f to `end`, but for their weights.
+fn branches(set: &[i32], t: usize, f: usize, end: usize, ni: usize) -> Option<Limit>
     requires { ReadyBranches set.now t f end ni × (ni ≤ max_ints) }
-    ensures { BranchesPost set.now t f end ni result }
+    ensures { BranchesPost set.now t f end ni (hit result) }
 {
-    if many_column(set, t, f - t, ni) {
-        return 10;
+    if many_column(set, t, f - t, ni) || many_column(set, f, end - f, ni) {
+        return Some(Limit::Variables);
     }
-    if many_column(set, f, end - f, ni) {
-        return 10;
-    }
-    12
+    None
 }
 
-// 9, 10 or 12: two integer expressions of so many words, whose totals are added.
-fn compared(set: &[i32], a: usize, b: usize, words: usize, sum: usize, ni: usize) -> usize
+// Two integer expressions of so many words, whose totals are added.
+fn compared(set: &[i32], a: usize, b: usize, words: usize, sum: usize, ni: usize) -> Option<Limit>
     requires { Behind set.now a ni × Behind set.now b ni × (ni ≤ max_ints) }
-    ensures { ComparedPost set.now a b words sum ni result }
+    ensures { ComparedPost set.now a b words sum ni (hit result) }
 {
     if sum > 1073741823 {
-        return 9;
+        return Some(Limit::Weight);
     }
     if many_comparison(set, a, b, words, ni) {
-        return 10;
+        return Some(Limit::Variables);
     }
-    12
+    None
 }
 
 // ---- integer expressions: their weights, and the tests of what stands inside; a rule's expressions, `rest` of them pending
@@ -275,39 +231,37 @@ fn compared(set: &[i32], a: usize, b: usize, words: usize, sum: usize, ni: usize
 pub struct Total {
     pub next: usize,
     pub total: usize,
-    pub refusal: usize,
+    pub refusal: Option<Limit>,
 }
 
 #[derive(Drop)]
 pub struct Tested {
     pub next: usize,
-    pub refusal: usize,
+    pub refusal: Option<Limit>,
 }
 
 #[derive(Drop)]
 pub struct Step {
     pub next: usize,
     pub members: usize,
-    pub refusal: usize,
+    pub refusal: Option<Limit>,
 }
 
-// As many terms as `n` says.
+// As many terms as `terms` says.
 #[cycle(total)]
-fn terms_total(set: &[i32], work: &[i32], at: usize, n: usize, ni: usize) -> Total
-    requires { ReadyTerms set.now work.now at n ni × (ni ≤ max_ints) }
-    ensures { TermsPost set.now work.now at n ni 0 12 result.next result.total result.refusal }
+fn terms_total(set: &[i32], work: &[i32], at: usize, terms: usize, ni: usize) -> Total
+    requires { ReadyTerms set.now work.now at terms ni × (ni ≤ max_ints) }
+    ensures { TermsPost set.now work.now at terms ni 0 12 result.next result.total (hit result.refusal) }
 {
     let mut next = at;
     let mut total = 0;
-    let mut refusal = 12;
-    let mut left = n;
-    while left != 0 {
+    let mut refusal = None;
+    for _ in 0..terms {
         let t = int_total(set, work, next + 1, ni);
         let k = set[next];
         total = add_term(k, t.total, total);
-        refusal = smaller(refusal, t.refusal);
+        refusal = first(refusal, t.refusal);
         next = t.next;
-        left = left - 1;
     }
     Total {
         next,
@@ -320,17 +274,15 @@ fn terms_total(set: &[i32], work: &[i32], at: usize, n: usize, ni: usize) -> Tot
 #[cycle(total)]
 fn if_total(set: &[i32], work: &[i32], at: usize, ni: usize) -> Total
     requires { ReadyIf set.now work.now at ni × (ni ≤ max_ints) }
-    ensures { IfPost set.now work.now at ni result.next result.total result.refusal }
+    ensures { IfPost set.now work.now at ni result.next result.total (hit result.refusal) }
 {
     let c = rules(set, work, at + 1, 1, ni);
     let t = int_total(set, work, c.next, ni);
     let f = int_total(set, work, t.next, ni);
     let b = branches(set, c.next, t.next, f.next, ni);
-    let x = larger(t.total, f.total);
-    let total = larger(1, x);
-    let y = smaller(t.refusal, f.refusal);
-    let z = smaller(b, y);
-    let refusal = smaller(c.refusal, z);
+    let total = t.total.max(f.total).max(1);
+    let inside = first(t.refusal, f.refusal);
+    let refusal = first(c.refusal, first(b, inside));
     Total {
         next: f.next,
         total,
@@ -355,7 +307,7 @@ fn leaf_total(set: &[i32], work: &[i32], at: usize, code: usize) -> usize
 #[cycle(total)]
 fn deep_total(set: &[i32], work: &[i32], at: usize, code: usize, ni: usize) -> Total
     requires { ReadyDeep set.now work.now at code ni × (ni ≤ max_ints) }
-    ensures { IntPost set.now work.now at ni result.next result.total result.refusal }
+    ensures { IntPost set.now work.now at ni result.next result.total (hit result.refusal) }
 {
     if code == 23 {
         return if_total(set, work, at, ni);
@@ -367,7 +319,7 @@ fn deep_total(set: &[i32], work: &[i32], at: usize, code: usize, ni: usize) -> T
 #[cycle(total)]
 fn int_total(set: &[i32], work: &[i32], at: usize, ni: usize) -> Total
     requires { ReadyInt set.now work.now at ni × (ni ≤ max_ints) }
-    ensures { IntPost set.now work.now at ni result.next result.total result.refusal }
+    ensures { IntPost set.now work.now at ni result.next result.total (hit result.refusal) }
 {
     let code = domains::number(set, at);
     if code < 22 {
@@ -375,7 +327,7 @@ fn int_total(set: &[i32], work: &[i32], at: usize, ni: usize) -> Total
         return Total {
             next: at + 2,
             total,
-            refusal: 12,
+            refusal: None,
         };
     }
     deep_total(set, work, at, code, ni)
@@ -384,13 +336,13 @@ fn int_total(set: &[i32], work: &[i32], at: usize, ni: usize) -> Total
 #[cycle(total)]
 fn comparison(set: &[i32], work: &[i32], at: usize, ni: usize) -> Tested
     requires { ReadyPair set.now work.now at ni × (ni ≤ max_ints) }
-    ensures { PairPost set.now work.now at ni result.next result.refusal }
+    ensures { PairPost set.now work.now at ni result.next (hit result.refusal) }
 {
     let a = int_total(set, work, at, ni);
     let b = int_total(set, work, a.next, ni);
     let own = compared(set, at, a.next, b.next - at, a.total + b.total, ni);
-    let inside = smaller(a.refusal, b.refusal);
-    let refusal = smaller(own, inside);
+    let inside = first(a.refusal, b.refusal);
+    let refusal = first(own, inside);
     Tested {
         next: b.next,
         refusal,
@@ -400,14 +352,14 @@ fn comparison(set: &[i32], work: &[i32], at: usize, ni: usize) -> Tested
 #[cycle(total)]
 fn rule_step(set: &[i32], work: &[i32], at: usize, ni: usize) -> Step
     requires { ReadyBool set.now work.now at ni × (ni ≤ max_ints) }
-    ensures { StepPost set.now work.now at ni result.next result.members result.refusal }
+    ensures { StepPost set.now work.now at ni result.next result.members (hit result.refusal) }
 {
     let code = domains::number(set, at);
     if code < 12 {
         return Step {
             next: at + 2,
             members: 0,
-            refusal: 12,
+            refusal: None,
         };
     }
     if code < 14 {
@@ -415,21 +367,21 @@ fn rule_step(set: &[i32], work: &[i32], at: usize, ni: usize) -> Step
         return Step {
             next: at + 2,
             members: n,
-            refusal: 12,
+            refusal: None,
         };
     }
     if code == 14 {
         return Step {
             next: at + 1,
             members: 1,
-            refusal: 12,
+            refusal: None,
         };
     }
     if code < 18 {
         return Step {
             next: at + 1,
             members: 2,
-            refusal: 12,
+            refusal: None,
         };
     }
     let t = comparison(set, work, at + 2, ni);
@@ -443,14 +395,14 @@ fn rule_step(set: &[i32], work: &[i32], at: usize, ni: usize) -> Step
 #[cycle(total)]
 fn rules(set: &[i32], work: &[i32], at: usize, n: usize, ni: usize) -> Tested
     requires { ReadyBools set.now work.now at n ni × (ni ≤ max_ints) }
-    ensures { BoolsPost set.now work.now at n ni 12 result.next result.refusal }
+    ensures { BoolsPost set.now work.now at n ni 12 result.next (hit result.refusal) }
 {
     let mut next = at;
-    let mut refusal = 12;
+    let mut refusal = None;
     let mut rest = n;
     while rest != 0 {
         let s = rule_step(set, work, next, ni);
-        refusal = smaller(refusal, s.refusal);
+        refusal = first(refusal, s.refusal);
         next = s.next;
         rest = rest - 1 + s.members;
     }
@@ -474,16 +426,12 @@ fn terms_range(set: &[i32], work: &[i32], at: usize, n: usize) -> Range
     let mut next = at;
     let mut low = 0;
     let mut high = 0;
-    let mut rest = n;
-    while rest != 0 {
+    for _ in 0..n {
         let r = int_range(set, work, next + 1);
         let k = set[next];
-        let a = domains::times_low(k, r.low, r.high);
-        let b = domains::times_low(k, r.high, r.low);
-        low = low + a;
-        high = high + b;
+        low += domains::times_low(k, r.low, r.high);
+        high += domains::times_low(k, r.high, r.low);
         next = r.next;
-        rest = rest - 1;
     }
     Range { next, low, high }
 }
@@ -497,12 +445,10 @@ fn if_range(set: &[i32], work: &[i32], at: usize) -> Range
     let c = passes::skip_members(set, at + 1, 1);
     let t = int_range(set, work, c);
     let f = int_range(set, work, t.next);
-    let low = lower(t.low, f.low);
-    let high = higher(t.high, f.high);
     Range {
         next: f.next,
-        low,
-        high,
+        low: t.low.min(f.low),
+        high: t.high.max(f.high),
     }
 }
 
@@ -538,32 +484,39 @@ fn int_range(set: &[i32], work: &[i32], at: usize) -> Range
 
 // ---- columns
 
-// 9, 10, 11 or 12: a column of so many words with this total, but for what stands inside.
-fn root(set: &[i32], work: &[i32], at: usize, words: usize, total: usize, ni: usize) -> usize
+// A column of so many words with this total, but for what stands inside.
+fn root(
+    set: &[i32],
+    work: &[i32],
+    at: usize,
+    words: usize,
+    total: usize,
+    ni: usize,
+) -> Option<Limit>
     requires { ReadyRoot set.now work.now at total ni × (ni ≤ max_ints) }
-    ensures { RootPost set.now work.now at words total ni result }
+    ensures { RootPost set.now work.now at words total ni (hit result) }
 {
     if total > 1073741823 {
-        return 9;
+        return Some(Limit::Weight);
     }
     if many_column(set, at, words, ni) {
-        return 10;
+        return Some(Limit::Variables);
     }
     let r = int_range(set, work, at);
-    let d = distance(r.low, r.high);
+    let d = r.high.abs_diff(r.low);
     if d > 4095 {
-        return 11;
+        return Some(Limit::Span);
     }
-    12
+    None
 }
 
 fn column(set: &[i32], work: &[i32], at: usize, ni: usize) -> Tested
     requires { ReadyColumn set.now work.now at ni × (ni ≤ max_ints) }
-    ensures { ColumnPost set.now work.now at ni result.next result.refusal }
+    ensures { ColumnPost set.now work.now at ni result.next (hit result.refusal) }
 {
     let a = int_total(set, work, at, ni);
     let own = root(set, work, at, a.next - at, a.total, ni);
-    let refusal = smaller(own, a.refusal);
+    let refusal = first(own, a.refusal);
     Tested {
         next: a.next,
         refusal,
@@ -572,57 +525,48 @@ fn column(set: &[i32], work: &[i32], at: usize, ni: usize) -> Tested
 
 fn columns(set: &[i32], work: &[i32], at: usize, n: usize, ni: usize) -> Tested
     requires { ReadyColumns set.now work.now at n ni × (ni ≤ max_ints) }
-    ensures { ColumnsPost set.now work.now at n ni 12 result.next result.refusal }
+    ensures { ColumnsPost set.now work.now at n ni 12 result.next (hit result.refusal) }
 {
     let mut next = at;
-    let mut refusal = 12;
-    let mut rest = n;
-    while rest != 0 {
+    let mut refusal = None;
+    for _ in 0..n {
         let t = column(set, work, next, ni);
-        refusal = smaller(refusal, t.refusal);
+        refusal = first(refusal, t.refusal);
         next = t.next;
-        rest = rest - 1;
     }
     Tested { next, refusal }
 }
 
 // ---- expressions that differ: each pair is tested as a comparison
 
-fn either(a: bool, b: bool) -> bool
-    ensures { result ≡ (a || b) }
-{
-    if a {
-        return true;
-    }
-    b
-}
-
 #[derive(Drop)]
 pub struct Weighed {
     pub next: usize,
-    pub hit: bool,
-    pub refusal: usize,
+    pub heavy: bool,
+    pub refusal: Option<Limit>,
 }
 
 // 9: the largest total so far with the next one; the first comes beside 0. And what stands inside each.
 fn heavy_pairs(set: &[i32], work: &[i32], at: usize, n: usize, ni: usize) -> Weighed
     requires { ReadyColumns set.now work.now at n ni × (ni ≤ max_ints) }
-    ensures { OverPost set.now work.now at n ni 0 false 12 result.next result.hit result.refusal }
+    ensures { OverPost set.now work.now at n ni 0 false 12 result.next result.heavy (hit result.refusal) }
 {
     let mut next = at;
     let mut top = 0;
-    let mut hit = false;
-    let mut refusal = 12;
-    let mut rest = n;
-    while rest != 0 {
+    let mut heavy = false;
+    let mut refusal = None;
+    for _ in 0..n {
         let t = int_total(set, work, next, ni);
-        hit = either(hit, top + t.total > 1073741823);
-        top = larger(top, t.total);
-        refusal = smaller(refusal, t.refusal);
+        heavy |= top + t.total > 1073741823;
+        top = top.max(t.total);
+        refusal = first(refusal, t.refusal);
         next = t.next;
-        rest = rest - 1;
     }
-    Weighed { next, hit, refusal }
+    Weighed {
+        next,
+        heavy,
+        refusal,
+    }
 }
 
 // 10: whether the expression at `a`, of so many words, writes over 64 variables with one of the n.
@@ -631,15 +575,12 @@ fn many_among(set: &[i32], a: usize, words: usize, at: usize, n: usize, ni: usiz
     ensures { AmongPost set.now a words at n ni result }
 {
     let mut next = at;
-    let mut rest = n;
-    while rest != 0 {
+    for _ in 0..n {
         let end = passes::skip_int(set, next);
-        let both = words + (end - next);
-        if many_comparison(set, a, next, both, ni) {
+        if many_comparison(set, a, next, words + (end - next), ni) {
             return true;
         }
         next = end;
-        rest = rest - 1;
     }
     false
 }
@@ -653,10 +594,7 @@ fn many_beside(set: &[i32], a: usize, end: usize, at: usize, k: usize, n: usize,
     if words < 64 {
         return false;
     }
-    if many_among(set, a, words, at, k, ni) {
-        return true;
-    }
-    many_among(set, a, words, end, n, ni)
+    many_among(set, a, words, at, k, ni) || many_among(set, a, words, end, n, ni)
 }
 
 // 10.
@@ -665,39 +603,37 @@ fn many_pairs(set: &[i32], at: usize, n: usize, ni: usize) -> bool
     ensures { CrowdedPost set.now at n at n ni result }
 {
     let mut next = at;
-    let mut rest = n;
-    while rest != 0 {
+    for k in 0..n {
         let end = passes::skip_int(set, next);
-        if many_beside(set, next, end, at, n - rest, rest - 1, ni) {
+        if many_beside(set, next, end, at, k, n - k - 1, ni) {
             return true;
         }
         next = end;
-        rest = rest - 1;
     }
     false
 }
 
-// 9, 10 or 12, but for what stands inside.
-fn differ(set: &[i32], at: usize, n: usize, hit: bool, ni: usize) -> usize
+// Expressions that differ, but for what stands inside.
+fn differ(set: &[i32], at: usize, n: usize, heavy: bool, ni: usize) -> Option<Limit>
     requires { ReadySplit set.now at n at n ni × (ni ≤ max_ints) }
-    ensures { DifferPost set.now at n hit ni result }
+    ensures { DifferPost set.now at n heavy ni (hit result) }
 {
-    if hit {
-        return 9;
+    if heavy {
+        return Some(Limit::Weight);
     }
     if many_pairs(set, at, n, ni) {
-        return 10;
+        return Some(Limit::Variables);
     }
-    12
+    None
 }
 
 fn all_different(set: &[i32], work: &[i32], at: usize, n: usize, ni: usize) -> Tested
     requires { ReadyColumns set.now work.now at n ni × (ni ≤ max_ints) }
-    ensures { DifferentPost set.now work.now at n ni result.next result.refusal }
+    ensures { DifferentPost set.now work.now at n ni result.next (hit result.refusal) }
 {
     let w = heavy_pairs(set, work, at, n, ni);
-    let own = differ(set, at, n, w.hit, ni);
-    let refusal = smaller(own, w.refusal);
+    let own = differ(set, at, n, w.heavy, ni);
+    let refusal = first(own, w.refusal);
     Tested {
         next: w.next,
         refusal,
@@ -709,7 +645,7 @@ fn all_different(set: &[i32], work: &[i32], at: usize, n: usize, ni: usize) -> T
 // The place behind the statement, and the refusal that it hits.
 pub fn statement(set: &[i32], work: &[i32], at: usize, ni: usize) -> Tested
     requires { ReadyStmt set.now work.now at ni × (ni ≤ max_ints) }
-    ensures { StmtPost set.now work.now at ni result.next result.refusal }
+    ensures { StmtPost set.now work.now at ni result.next (hit result.refusal) }
 {
     let code = domains::number(set, at);
     if code == 1 {
@@ -727,18 +663,16 @@ pub fn statement(set: &[i32], work: &[i32], at: usize, ni: usize) -> Tested
     }
 }
 
-fn statements(set: &[i32], work: &[i32], at: usize, n: usize, ni: usize) -> usize
+fn statements(set: &[i32], work: &[i32], at: usize, n: usize, ni: usize) -> Option<Limit>
     requires { ReadyStmts set.now work.now at n ni × (ni ≤ max_ints) }
-    ensures { StmtsPost set.now work.now at n ni 12 result }
+    ensures { StmtsPost set.now work.now at n ni 12 (hit result) }
 {
     let mut next = at;
-    let mut refusal = 12;
-    let mut rest = n;
-    while rest != 0 {
+    let mut refusal = None;
+    for _ in 0..n {
         let t = statement(set, work, next, ni);
-        refusal = smaller(refusal, t.refusal);
+        refusal = first(refusal, t.refusal);
         next = t.next;
-        rest = rest - 1;
     }
     refusal
 }
@@ -748,11 +682,10 @@ fn check(set: &[i32], work: &[i32], at: usize, n: usize, ni: usize) -> usize
     requires { ReadyStmts set.now work.now at n ni × (ni ≤ max_ints) }
     ensures { CheckPost set.now work.now at n ni result }
 {
-    let k = statements(set, work, at, n, ni);
-    if k == 12 {
-        return 0;
+    match statements(set, work, at, n, ni) {
+        Some(limit) => Refusal::from(limit).number(),
+        None => 0,
     }
-    k
 }
 
 // Refusals 9, 10 and 11 of a set that was read, or 0. The table of bounds stays in the work slice.

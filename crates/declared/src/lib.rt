@@ -11,17 +11,11 @@ pub fn write_domains(set: &[i32], d: usize, n: usize, work: &mut [i32])
 {
     let mut at = d;
     let mut p = memory::DECLARED_DOMAINS;
-    let mut rest = n;
-    while rest != 0 {
-        let low = domains::lower_bound(set, at);
-        let high = domains::upper_bound(set, at);
-        let many = domains::num_candidates(set, at);
-        let less = many - 1;
-        work[p] = low;
-        work[p + 1] = high;
-        work[p + 2] = less;
+    for _ in 0..n {
+        work[p] = domains::lower_bound(set, at);
+        work[p + 1] = domains::upper_bound(set, at);
+        work[p + 2] = domains::num_candidates(set, at) - 1;
         at = domains::domain_end(set, at);
-        p = p + 3;
-        rest = rest - 1;
+        p += 3;
     }
 }

@@ -1,23 +1,15 @@
 -- What the functions over the set's domains ask and give at each step, over variables. Assumes nothing.
 use Prim.Native.Nat.{ℕ, zero, suc, ◌+◌, ◌-◌, ◌*◌, ◌≤◌, ◌<◌}
-use mathlib.Core.Path.{◌≡◌, refl, sym, ap, ◌∙◌}
-use mathlib.Core.Bool.{true, false}
-use mathlib.Core.Option.{none, some}
+use mathlib.Core.Path.{◌≡◌, refl, sym, ◌∙◌}
 use mathlib.Core.List.{List, [], ◌∷◌, map}
 use native.Mathlib.Omega.{arith}
-use lib.IntN.{ℤ, pos, negsuc, nat_abs, suc_ℤ, ◌+ℤ◌, ◌-ℤ◌, ◌*ℤ◌, +ℤ_one}
-use lib.Signed.{lt_z}
+use lib.IntN.{ℤ, pos}
 use lib.ListN.{length, get_or, set, length-append, length-set}
-use borrow.Author.Tests.{ltb-true}
-use mir.Syntax.{w32}
-use mir.Val.{SFits}
-use Rattle.laws.specs.Bools.{never}
-use Rattle.laws.specs.Ints.{eqZ, times_low, sfits_natAbs, pos_eq}
-use Rattle.laws.specs.Order.{is_eqZ, not_eqZ}
+use Rattle.laws.specs.Ints.{pos_eq}
 use Rattle.laws.specs.Lists.{flat}
-use Rattle.laws.specs.Slices.{Has, has_fits, has_front, has_back, has_word, has_rest, has_nth}
-use Rattle.syntax.specs.Syntax.{Domain, Range, Enumerative, as_constant, lower_bound, upper_bound, num_candidates, last_or, domain_of, encode_domain}
-use Rattle.domains.specs.Declared.{Plain, DomainAt, DomainSizedAt, DomainBelow, DomainPost, HasOneValue, Domains, BoundsRoom, BoundsPost}
+use Rattle.laws.specs.Slices.{Has, has_fits, has_front, has_back, has_word, has_rest}
+use Rattle.syntax.specs.Syntax.{Domain, Range, Enumerative, lower_bound, upper_bound, last_or, domain_of, encode_domain}
+use Rattle.domains.specs.Declared.{Plain, DomainAt, DomainSizedAt, DomainBelow, DomainPost, Domains, BoundsRoom, BoundsPost}
 
 abbrev kind : Domain → ℕ
 kind (Range low high) = 0
@@ -45,79 +37,14 @@ module _ (ws : List ℤ) (at : ℕ) where
     kind_is : (dm : Domain) → Has ws at (encode_domain dm) → kind dm ≡ k
     kind_is dm h = pos_eq _ _ _ (kind_word ws at dm h) hk
 
-    range_inv : {X : Type 0} (dm : Domain) → Has ws at (encode_domain dm) → k ≡ 0 → ((low high : ℤ) → dm ≡ Range low high → Has ws at (pos 0 ∷ low ∷ high ∷ []) → X) → X
-    range_inv (Range low high) h z go = go low high refl h
-    range_inv (Enumerative xs) h z go = absurd (let e : 1 ≡ k = kind_is (Enumerative xs) h in omega arith)
-
     enum_inv : {X : Type 0} (dm : Domain) → Has ws at (encode_domain dm) → (k ≡ 0 → ⊥) → ((xs : List ℤ) → dm ≡ Enumerative xs → Has ws at (pos 1 ∷ pos (length xs) ∷ xs) → X) → X
     enum_inv (Range low high) h z go = absurd (z (sym (kind_is (Range low high) h)))
     enum_inv (Enumerative xs) h z go = go xs refl h
 
-    -- ---- `domain_end`
-
-    pub range_fits : DomainAt ws at → k ≡ 0 → at + 3 ≤ length ws
-    range_fits a z = range_inv a.it a.words z λ low high q h. omega (arith, has_fits ws at _ h (omega arith))
-
-    pub range_end : k ≡ 0 → (dm : Domain) → Has ws at (encode_domain dm) → at + 3 ≡ at + length (encode_domain dm)
-    range_end z dm h = range_inv dm h z λ low high q g. rw q refl
+    -- ---- `domain_at`
 
     pub count_plain : DomainAt ws at → (k ≡ 0 → ⊥) → Plain ws (at + 1)
     count_plain a z = enum_inv a.it a.words z λ xs q h. record { inside = omega (arith, has_fits ws at _ h (omega arith)); value = length xs; is = has_word ws (at + 1) _ _ (pos 0) (has_rest ws at _ _ h) }
-
-    module _ (n : ℕ) (hn : get_or ws (at + 1) (pos 0) ≡ pos n) where
-      count_is : (xs : List ℤ) → Has ws at (pos 1 ∷ pos (length xs) ∷ xs) → length xs ≡ n
-      count_is xs h = pos_eq _ _ _ (has_word ws (at + 1) _ _ (pos 0) (has_rest ws at _ _ h)) hn
-
-      pub enum_fits : DomainAt ws at → (k ≡ 0 → ⊥) → at + 2 + n ≤ length ws
-      enum_fits a z = enum_inv a.it a.words z λ xs q h. omega (arith, has_fits ws at _ h (omega arith), count_is xs h)
-
-      pub enum_end : (k ≡ 0 → ⊥) → (dm : Domain) → Has ws at (encode_domain dm) → at + 2 + n ≡ at + length (encode_domain dm)
-      enum_end z dm h = enum_inv dm h z λ xs q g. rw q (omega (arith, count_is xs g))
-
-      -- ---- `as_constant`
-
-      pub enum_one : (k ≡ 0 → ⊥) → n ≡ 1 → (dm : Domain) → Has ws at (encode_domain dm) → HasOneValue ws dm (at + 2)
-      enum_one z e dm h = enum_inv dm h z λ xs q g. rw q (go xs g (count_is xs g ∙ e))
-        where
-          go : (xs : List ℤ) → Has ws at (pos 1 ∷ pos (length xs) ∷ xs) → length xs ≡ 1 → HasOneValue ws (Enumerative xs) (at + 2)
-          go [] g l = absurd (omega arith)
-          go (x ∷ []) g l =
-              let m : at + 2 ≡ at + 1 + 1 = omega arith in
-              record {
-                absent = λ w. absurd (omega arith);
-                found = λ w. (ap some (sym (ap (λ j. get_or ws j (pos 0)) m ∙ has_word ws (at + 1 + 1) x [] (pos 0) (has_rest ws (at + 1) _ _ (has_rest ws at _ _ g)))), omega (arith, has_fits ws at _ g (omega arith)));
-              }
-          go (x ∷ y ∷ xs) g l = absurd (omega arith)
-
-      pub enum_many : (k ≡ 0 → ⊥) → (n ≡ 1 → ⊥) → (dm : Domain) → Has ws at (encode_domain dm) → HasOneValue ws dm 0
-      enum_many z e dm h = enum_inv dm h z λ xs q g. rw q (record { absent = λ w. go xs (λ l. e (sym (count_is xs g) ∙ l)); found = λ w. absurd (w refl) })
-        where
-          go : (xs : List ℤ) → (length xs ≡ 1 → ⊥) → as_constant (Enumerative xs) ≡ none
-          go [] l = refl
-          go (x ∷ []) l = absurd (l refl)
-          go (x ∷ y ∷ xs) l = refl
-
-    ends_are : (low high : ℤ) → Has ws at (pos 0 ∷ low ∷ high ∷ []) → (get_or ws (at + 1) (pos 0) ≡ low) × (get_or ws (at + 2) (pos 0) ≡ high)
-    ends_are low high g =
-        let m : at + 2 ≡ at + 1 + 1 = omega arith in
-        (has_word ws (at + 1) _ _ (pos 0) (has_rest ws at _ _ g), ap (λ j. get_or ws j (pos 0)) m ∙ has_word ws (at + 1 + 1) high [] (pos 0) (has_rest ws (at + 1) _ _ (has_rest ws at _ _ g)))
-
-    pub range_one : k ≡ 0 → get_or ws (at + 1) (pos 0) ≡ get_or ws (at + 2) (pos 0) → (dm : Domain) → Has ws at (encode_domain dm) → HasOneValue ws dm (at + 1)
-    range_one z e dm h =
-        range_inv dm h z λ low high q g.
-        let s = ends_are low high g in
-        let lh : low ≡ high = sym s.0 ∙ e ∙ s.1 in
-        let lt : eqZ low high ≡ true = is_eqZ low high lh in
-        rw q (record { absent = λ w. absurd (omega arith); found = λ w. (rw lt (ap some (sym s.0)), omega (arith, has_fits ws at _ g (omega arith))) })
-
-    pub range_many : k ≡ 0 → (get_or ws (at + 1) (pos 0) ≡ get_or ws (at + 2) (pos 0) → ⊥) → (dm : Domain) → Has ws at (encode_domain dm) → HasOneValue ws dm 0
-    range_many z e dm h =
-        range_inv dm h z λ low high q g.
-        let s = ends_are low high g in
-        rw q (record { absent = λ w. go low high (λ l. e (s.0 ∙ l ∙ sym s.1)); found = λ w. absurd (w refl) })
-      where
-        go : (low high : ℤ) → (low ≡ high → ⊥) → as_constant (Range low high) ≡ none
-        go low high l = rw (not_eqZ low high l) refl
 
 -- ---- `domain_of`
 
@@ -155,69 +82,20 @@ module _ (ws : List ℤ) where
   zero_post d v z [] h l = absurd (omega arith)
   zero_post d v z (x ∷ ds) h l = rw z (has_front ws d (encode_domain x) (flat (map encode_domain ds)) h.words)
 
--- ---- `lower_bound`, `upper_bound`
+-- ---- `upper_bound`
 
 last_nth : (x : ℤ) (xs : List ℤ) → get_or (x ∷ xs) (length xs) (pos 0) ≡ last_or x xs
 last_nth x [] = refl
 last_nth x (y ∷ ys) = last_nth y ys
 
-enum_last : (xs : List ℤ) → get_or (pos 1 ∷ pos (length xs) ∷ xs) (suc (length xs)) (pos 0) ≡ upper_bound (Enumerative xs)
-enum_last [] = refl
-enum_last (x ∷ xs) = last_nth x xs
-
-module _ (ws : List ℤ) (at k : ℕ) (hk : get_or ws at (pos 0) ≡ pos k) where
-  pub range_low : k ≡ 0 → (dm : Domain) → Has ws at (encode_domain dm) → get_or ws (at + 1) (pos 0) ≡ lower_bound dm
-  range_low z dm h = range_inv ws at k hk dm h z λ low high q g. rw q (ends_are ws at k hk low high g).0
-
-  pub range_high : k ≡ 0 → (dm : Domain) → Has ws at (encode_domain dm) → get_or ws (at + 2) (pos 0) ≡ upper_bound dm
-  range_high z dm h = range_inv ws at k hk dm h z λ low high q g. rw q (ends_are ws at k hk low high g).1
-
-  module _ (n : ℕ) (hn : get_or ws (at + 1) (pos 0) ≡ pos n) (z : k ≡ 0 → ⊥) where
-    pub enum_none : n ≡ 0 → (dm : Domain) → Has ws at (encode_domain dm) → pos 1 ≡ lower_bound dm
-    enum_none e dm h = enum_inv ws at k hk dm h z λ xs q g. rw q (go xs (count_is ws at k hk n hn xs g ∙ e))
-      where
-        go : (xs : List ℤ) → length xs ≡ 0 → pos 1 ≡ lower_bound (Enumerative xs)
-        go [] l = refl
-        go (x ∷ xs) l = absurd (omega arith)
-
-    pub enum_low : (n ≡ 0 → ⊥) → (dm : Domain) → Has ws at (encode_domain dm) → get_or ws (at + 2) (pos 0) ≡ lower_bound dm
-    enum_low e dm h = enum_inv ws at k hk dm h z λ xs q g. rw q (go xs g (count_is ws at k hk n hn xs g))
-      where
-        go : (xs : List ℤ) → Has ws at (pos 1 ∷ pos (length xs) ∷ xs) → length xs ≡ n → get_or ws (at + 2) (pos 0) ≡ lower_bound (Enumerative xs)
-        go [] g l = absurd (e (sym l))
-        go (x ∷ xs) g l = has_nth ws at _ 2 (pos 0) g (omega arith)
-
-    pub enum_high : (dm : Domain) → Has ws at (encode_domain dm) → get_or ws (at + 1 + n) (pos 0) ≡ upper_bound dm
-    enum_high dm h =
-        enum_inv ws at k hk dm h z λ xs q g.
-        let l = count_is ws at k hk n hn xs g in
-        let m : at + 1 + n ≡ at + suc (length xs) = omega arith in
-        rw (q, m) (has_nth ws at _ (suc (length xs)) (pos 0) g (omega arith) ∙ enum_last xs)
+pub last_is : (xs : List ℤ) → get_or xs (length xs - 1) (pos 0) ≡ upper_bound (Enumerative xs)
+last_is [] = refl
+last_is (x ∷ xs) = let e : length (x ∷ xs) - 1 ≡ length xs = omega arith in rw e (last_nth x xs)
 
 -- ---- `num_candidates`
 
 pub sized_at : (ws : List ℤ) (at : ℕ) → DomainSizedAt ws at → DomainAt ws at
 sized_at ws at s = record { it = s.it; words = s.words }
-
--- a number whose successor fits
-before_fits : (z : ℤ) → nat_abs (suc_ℤ z) < 2147483648 → SFits w32 z
-before_fits (pos n) h = record { sfits = omega arith }
-before_fits (negsuc zero) h = record { sfits = omega arith }
-before_fits (negsuc (suc n)) h = record { sfits = omega arith }
-
-module _ (ws : List ℤ) (at k : ℕ) (hk : get_or ws at (pos 0) ≡ pos k) where
-  module _ (z : k ≡ 0) (low high : ℤ) (hl : low ≡ get_or ws (at + 1) (pos 0)) (hh : high ≡ get_or ws (at + 2) (pos 0)) where
-    pub range_size : (dm : Domain) → Has ws at (encode_domain dm) → (high -ℤ low) +ℤ pos 1 ≡ num_candidates dm
-    range_size dm h = range_inv ws at k hk dm h z λ l u q g. let e = ends_are ws at k hk l u g in rw (q, hl ∙ e.0, hh ∙ e.1) refl
-
-    pub range_size_fits : DomainSizedAt ws at → SFits w32 ((high -ℤ low) +ℤ pos 1)
-    range_size_fits s = sfits_natAbs w32 _ (rw (range_size s.it s.words) s.fits)
-
-    pub range_apart_fits : DomainSizedAt ws at → SFits w32 (high -ℤ low)
-    range_apart_fits s = before_fits (high -ℤ low) (rw (sym (+ℤ_one (high -ℤ low)), range_size s.it s.words) s.fits)
-
-  pub enum_size : (n : ℕ) → get_or ws (at + 1) (pos 0) ≡ pos n → (k ≡ 0 → ⊥) → (dm : Domain) → Has ws at (encode_domain dm) → pos n ≡ num_candidates dm
-  enum_size n hn z dm h = enum_inv ws at k hk dm h z λ xs q g. rw q (ap pos (sym (count_is ws at k hk n hn xs g)))
 
 -- ---- `write_bounds`
 
@@ -253,13 +131,3 @@ module _ (ws : List ℤ) (d n : ℕ) (z : n ≡ 0 → ⊥) where
 pub bounds_none : (ws : List ℤ) (d n : ℕ) (out : List ℤ) (o : ℕ) → n ≡ 0 → BoundsPost ws d n out o out d
 bounds_none ws d n out o z [] h s = record { behind = omega arith; stored = refl }
 bounds_none ws d n out o z (x ∷ ds) h s = absurd (omega arith)
-
--- ---- `times_low`
-
-pub low_negative : (k a b : ℤ) → lt_z k (pos 0) ≡ true → k *ℤ b ≡ times_low k a b
-low_negative (pos n) a b h = absurd (let l = ltb-true n 0 h in omega arith)
-low_negative (negsuc n) a b h = refl
-
-pub low_plain : (k a b : ℤ) → lt_z k (pos 0) ≡ false → k *ℤ a ≡ times_low k a b
-low_plain (pos n) a b h = refl
-low_plain (negsuc n) a b h = never (sym h)

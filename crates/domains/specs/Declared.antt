@@ -1,6 +1,8 @@
 -- The declared domains in a set's words: what the functions over them ask and give. Assumes nothing.
 use Rattle.std.specs.Prelude.{◌≡◌, refl, List, [], ◌∷◌, map, ℕ, zero, suc, ◌+◌, ◌*◌, ◌<◌, ◌≤◌, ℤ, pos, nat_abs, length, get_or}
 use Rattle.std.proofs.Common.{◌∙◌, arith}
+use Rattle.std.specs.declared.option.Option.{Option as RustOption}
+use Rattle.std.specs.Option.{MatchOption}
 use Rattle.std.proofs.Math.Option.{none, some}
 use Rattle.std.proofs.lemmas.List.Edits.{sets}
 use Rattle.laws.specs.Lists.{flat}
@@ -25,10 +27,9 @@ pub record DomainSizedAt (ws : List ℤ) (at : ℕ) : Type 0 where
   pub words : Has ws at (encode_domain it)
   pub fits : nat_abs (num_candidates it) < 2147483648
 
--- the place of a domain's one value, or 0
-pub record HasOneValue (ws : List ℤ) (dm : Domain) (r : ℕ) : Type 0 where
-  pub absent : r ≡ 0 → as_constant dm ≡ none
-  pub found : (r ≡ 0 → ⊥) → (as_constant dm ≡ some (get_or ws r (pos 0))) × (r < length ws)
+-- the place of a domain's one value
+abbrev pub HasOneValue : List ℤ → Domain → RustOption ℕ → Type 0
+HasOneValue ws dm r = MatchOption r (as_constant dm ≡ none) (λ at. (as_constant dm ≡ some (get_or ws at (pos 0))) × (at < length ws))
 
 -- ---- the set's domains stand from d on
 

@@ -6,27 +6,39 @@ ghost use Rattle.std.specs.Prelude.{◌≡◌, ◌+◌, ◌*◌, ◌<◌, ◌^�
 ghost use Rattle.laws.specs.Ints.{times_low};
 ghost use Rattle.laws.specs.Slices.{Has};
 ghost use Rattle.syntax.specs.Syntax.{Domain, encode_domain, lower_bound, upper_bound, num_candidates};
+ghost use Rattle.domains.specs.Kinds.{domain};
 ghost use Rattle.domains.specs.Declared.{Plain, DomainAt, DomainSizedAt, DomainBelow, DomainPost, HasOneValue, BoundsRoom, BoundsPost};
+
+use syntax::Values;
 
 // A word that is a number.
 pub fn number(words: &[i32], at: usize) -> usize
     requires { Plain words.now at }
     ensures { (get_or words.now at (pos 0) ≡ pos result) × (result < 2147483648) }
 {
-    let w = words[at];
-    w as usize
+    words[at] as usize
+}
+
+// The domain whose words begin at `at`.
+pub fn domain_at(words: &[i32], at: usize) -> Values<'_>
+    requires { DomainAt words.now at }
+    ensures { (dm : Domain) → Has words.now at (encode_domain dm) → domain result ≡ dm }
+{
+    if number(words, at) == 0 {
+        return Values::Range(words[at + 1], words[at + 2]);
+    }
+    let n = number(words, at + 1);
+    Values::Enumerative(&words[at + 2..at + 2 + n])
 }
 
 pub fn domain_end(words: &[i32], at: usize) -> usize
     requires { DomainAt words.now at }
     ensures { (dm : Domain) → Has words.now at (encode_domain dm) → result ≡ at + length (encode_domain dm) }
 {
-    let kind = number(words, at);
-    if kind == 0 {
-        return at + 3;
+    match domain_at(words, at) {
+        Values::Range(..) => at + 3,
+        Values::Enumerative(values) => at + 2 + values.len(),
     }
-    let n = number(words, at + 1);
-    at + 2 + n
 }
 
 // The place of variable v's domain.
@@ -35,64 +47,42 @@ pub fn domain_of(words: &[i32], d: usize, v: usize) -> usize
     ensures { DomainPost words.now d v result }
 {
     let mut at = d;
-    let mut left = v;
-    while left != 0 {
+    for _ in 0..v {
         at = domain_end(words, at);
-        left = left - 1;
     }
     at
 }
 
-// The place of the one value of the domain at `at`, or 0.
-pub fn as_constant(words: &[i32], at: usize) -> usize
+// The place of the one value of the domain at `at`.
+pub fn as_constant(words: &[i32], at: usize) -> Option<usize>
     requires { DomainAt words.now at }
     ensures { (dm : Domain) → Has words.now at (encode_domain dm) → HasOneValue words.now dm result }
 {
-    let kind = number(words, at);
-    if kind == 0 {
-        let low = words[at + 1];
-        let high = words[at + 2];
-        if low == high {
-            return at + 1;
-        }
-        return 0;
+    match domain_at(words, at) {
+        Values::Range(low, high) if low == high => Some(at + 1),
+        Values::Enumerative([_]) => Some(at + 2),
+        _ => None,
     }
-    let n = number(words, at + 1);
-    if n == 1 {
-        return at + 2;
-    }
-    0
 }
 
 pub fn lower_bound(words: &[i32], at: usize) -> i32
     requires { DomainAt words.now at }
     ensures { (dm : Domain) → Has words.now at (encode_domain dm) → result ≡ lower_bound dm }
 {
-    let kind = number(words, at);
-    if kind == 0 {
-        let low = words[at + 1];
-        return low;
+    match domain_at(words, at) {
+        Values::Range(low, _) => low,
+        Values::Enumerative(values) => values.first().copied().unwrap_or(1),
     }
-    let n = number(words, at + 1);
-    if n == 0 {
-        return 1;
-    }
-    let low = words[at + 2];
-    low
 }
 
 pub fn upper_bound(words: &[i32], at: usize) -> i32
     requires { DomainAt words.now at }
     ensures { (dm : Domain) → Has words.now at (encode_domain dm) → result ≡ upper_bound dm }
 {
-    let kind = number(words, at);
-    if kind == 0 {
-        let high = words[at + 2];
-        return high;
+    match domain_at(words, at) {
+        Values::Range(_, high) => high,
+        Values::Enumerative(values) => values.last().copied().unwrap_or(0),
     }
-    let n = number(words, at + 1);
-    let high = words[at + 1 + n];
-    high
 }
 
 // How many values the domain has.
@@ -100,15 +90,10 @@ pub fn num_candidates(words: &[i32], at: usize) -> i32
     requires { DomainSizedAt words.now at }
     ensures { (dm : Domain) → Has words.now at (encode_domain dm) → result ≡ num_candidates dm }
 {
-    let kind = number(words, at);
-    if kind == 0 {
-        let low = words[at + 1];
-        let high = words[at + 2];
-        let apart = high - low;
-        return apart + 1;
+    match domain_at(words, at) {
+        Values::Range(low, high) => high - low + 1,
+        Values::Enumerative(values) => values.len() as i32,
     }
-    let n = number(words, at + 1);
-    n as i32
 }
 
 // The bounds of the n domains from `d` on, stored from `o` on; the place behind the domains.
@@ -118,15 +103,11 @@ pub fn write_bounds(words: &[i32], d: usize, n: usize, work: &mut [i32], o: usiz
 {
     let mut at = d;
     let mut p = o;
-    let mut rest = n;
-    while rest != 0 {
-        let low = lower_bound(words, at);
-        let high = upper_bound(words, at);
-        work[p] = low;
-        work[p + 1] = high;
+    for _ in 0..n {
+        work[p] = lower_bound(words, at);
+        work[p + 1] = upper_bound(words, at);
         at = domain_end(words, at);
-        p = p + 2;
-        rest = rest - 1;
+        p += 2;
     }
     at
 }
@@ -136,8 +117,5 @@ pub fn times_low(k: i32, low: i32, high: i32) -> i32
     requires { (nat_abs k * nat_abs low < 2 ^ 31) × (nat_abs k * nat_abs high < 2 ^ 31) }
     ensures { result ≡ times_low k low high }
 {
-    if k < 0 {
-        return k * high;
-    }
-    k * low
+    if k < 0 { k * high } else { k * low }
 }

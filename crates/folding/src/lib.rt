@@ -60,15 +60,8 @@ fn shift(work: &mut [i32], from: usize, end: usize, to: usize) -> usize
     requires { (to ≤ from) × (from ≤ end) × (end ≤ length work.old) }
     ensures { Stored work.old to (slice from end work.old) work.new result }
 {
-    let mut i = from;
-    let mut p = to;
-    while i < end {
-        let w = work[i];
-        work[p] = w;
-        i += 1;
-        p += 1;
-    }
-    p
+    work.copy_within(from..end, to);
+    to + (end - from)
 }
 
 // ---- the table
@@ -245,13 +238,14 @@ fn put_int_var(words: &[i32], d: usize, work: &mut [i32], o: usize, v: usize) ->
     ensures { IntVarPost words.now d work.old o v work.new result }
 {
     let at = domains::domain_of(words, d, v);
-    let p = domains::as_constant(words, at);
-    if p == 0 {
-        return put_two(work, o, 21, v);
+    match domains::as_constant(words, at) {
+        None => put_two(work, o, 21, v),
+        Some(p) => {
+            put(work, o, 20);
+            memory::copy_word(words, p, work, o + 1);
+            o + 2
+        }
     }
-    put(work, o, 20);
-    memory::copy_word(words, p, work, o + 1);
-    o + 2
 }
 
 // As many terms as `count` says.
@@ -269,13 +263,11 @@ fn constant_folding_terms(
 {
     let mut next = at;
     let mut end = o;
-    let mut rest = count;
-    while rest != 0 {
+    for _ in 0..count {
         memory::copy_word(words, next, work, end);
         let a = constant_folding_int(words, d, next + 1, work, end + 1);
         next = a.next;
         end = a.end;
-        rest = rest - 1;
     }
     Span { next, end }
 }
@@ -432,16 +424,14 @@ fn constant_folding_members(
 {
     let mut next = at;
     let mut end = o;
-    let mut rest = count;
     let mut hit = false;
     let mut kept = 0;
-    while rest != 0 {
+    for _ in 0..count {
         let f = constant_folding_bool(words, d, next, work, end);
         next = f.next;
         end = kept_end(f.state, end, f.end);
         hit = hits(f.state, b, hit);
         kept = kept_count(f.state, kept);
-        rest = rest - 1;
     }
     Listed {
         next,

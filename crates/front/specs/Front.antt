@@ -1,13 +1,8 @@
 -- The answer's words in front of the records, by the work slice: fixed values, maps, two counts. They are the definition's where the maps are (`front_is`).
-use Rattle.std.specs.Prelude.{◌≡◌, refl, List, [], ◌∷◌, ◌++◌, map, ℕ, zero, suc, ◌+◌, ◌≤◌, ◌<◌, ℤ, pos, get_or}
-use Rattle.std.proofs.Common.{ap, ◌∙◌, append_assoc, arith}
-use Rattle.laws.specs.Lists.{from, below}
+use Rattle.std.specs.Prelude.{List, [], ◌∷◌, ◌++◌, ℕ, zero, suc, ℤ, pos, get_or}
+use Rattle.laws.specs.Lists.{from}
 use Rattle.memory.specs.Places.{bool_map, int_map}
 use Rattle.memory.specs.Number.{nat}
-use Rattle.syntax.specs.Words.{max_bools}
-use Rattle.fold.specs.Fold.{Fixed}
-use Rattle.answer.specs.Answer.{fixed_word}
-use Rattle.walk.specs.Item.{bool_at, int_entry}
 use Rattle.walk.specs.declared.Counters.{Counters}
 
 -- n words from a place on, 0 for a negative one

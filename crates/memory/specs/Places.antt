@@ -1,6 +1,5 @@
 -- The work slice's places, the same as the code's constants, and that they lie apart. Assumes nothing.
-use Rattle.std.specs.Prelude.{ℕ, ◌+◌, ◌*◌, ◌≤◌, ◌<◌}
-use Rattle.std.proofs.Common.{arith}
+use Rattle.std.specs.Prelude.{ℕ}
 
 -- below this place: a fixed value for each declared Boolean. From it on: the folded statements
 abbrev pub folded : ℕ

@@ -67,24 +67,14 @@ pub const CAP: usize = 16777217;
 pub fn plain(s: &[i32], i: usize) -> i32
     ensures { result ≡ get_or s.now i (pos 0) }
 {
-    if i < s.len() {
-        return s[i];
-    }
-    0
+    s.get(i).copied().unwrap_or(0)
 }
 
 // The number at a place; 0 for a negative word and past the end.
 pub fn entry(work: &[i32], i: usize) -> usize
     ensures { result ≡ nat (get_or work.now i (pos 0)) }
 {
-    if i < work.len() {
-        let w = work[i];
-        if w < 0 {
-            return 0;
-        }
-        return w as usize;
-    }
-    0
+    usize::try_from(plain(work, i)).unwrap_or(0)
 }
 
 // ---- stores; past the end nothing is stored
@@ -102,9 +92,7 @@ pub fn store_number(place: &mut [i32], i: usize, x: usize)
     requires { x < 2147483648 }
     ensures { (place.new ≡ set place.old i (pos x)) × (length place.new ≡ length place.old) }
 {
-    if i < place.len() {
-        place[i] = x as i32;
-    }
+    store(place, i, x as i32);
 }
 
 // ---- clearing
@@ -113,11 +101,7 @@ pub fn store_number(place: &mut [i32], i: usize, x: usize)
 pub fn clear(s: &mut [i32])
     ensures { s.new ≡ zeros (length s.old) }
 {
-    let mut i = 0;
-    while i < s.len() {
-        s[i] = 0;
-        i += 1;
-    }
+    s.fill(0);
 }
 
 // The words from `from` to `to` become 0; the others stay.
@@ -125,10 +109,8 @@ pub fn clear_words(work: &mut [i32], from: usize, to: usize)
     requires { to ≤ length work.old }
     ensures { work.new ≡ cleared work.old from to }
 {
-    let mut i = from;
-    while i < to {
+    for i in from..to {
         work[i] = 0;
-        i += 1;
     }
 }
 
@@ -138,8 +120,7 @@ pub fn copy_word(words: &[i32], at: usize, work: &mut [i32], o: usize)
     requires { (at < length words.now) × (o < length work.old) }
     ensures { work.new ≡ set work.old o (get_or words.now at (pos 0)) }
 {
-    let w = words[at];
-    work[o] = w;
+    work[o] = words[at];
 }
 
 // The n words from `at` on, written from `o` on.
@@ -147,10 +128,6 @@ pub fn copy_words(words: &[i32], at: usize, n: usize, work: &mut [i32], o: usize
     requires { (at + n ≤ length words.now) × (o + n ≤ length work.old) }
     ensures { Stored work.old o (take n (drop at words.now)) work.new result }
 {
-    let mut k = 0;
-    while k < n {
-        copy_word(words, at + k, work, o + k);
-        k += 1;
-    }
+    work[o..o + n].copy_from_slice(&words[at..at + n]);
     o + n
 }

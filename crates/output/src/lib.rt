@@ -25,7 +25,7 @@ pub fn word_of(x: usize, g: bool) -> i32
     if x <= memory::LIMIT {
         let w = x as i32;
         if g {
-            return 0 - w;
+            return -w;
         }
         return w;
     }
@@ -45,6 +45,18 @@ pub fn put(out: &mut [i32], o: usize, w: i32) -> usize
         return o + 1;
     }
     o
+}
+
+// Words written one after another.
+pub fn put_all(words: &[i32], out: &mut [i32], o: usize) -> usize
+    requires { Open out.old o }
+    ensures { Wrote out.old o words.now out.new result }
+{
+    let mut p = o;
+    for &w in words {
+        p = put(out, p, w);
+    }
+    p
 }
 
 // The literals that the enclosing disjunctions append, from `from` on, the innermost first.
@@ -68,15 +80,7 @@ pub fn put_suffix(s: Suffix, out: &mut [i32], o: usize) -> usize
     requires { Stacked s 0 × Open out.old o }
     ensures { Wrote out.old o (suffix s) out.new result }
 {
-    let a = s.words;
-    let mut i = s.from;
-    let mut p = o;
-    while i < 64 {
-        let w = a[i];
-        p = put(out, p, w);
-        i += 1;
-    }
-    p
+    put_all(&s.words[s.from..], out, o)
 }
 
 // The literals of k numbers from b on.
@@ -84,13 +88,9 @@ pub fn put_block(b: usize, k: usize, out: &mut [i32], o: usize) -> usize
     requires { (b + k ≤ 2 * limit) × Open out.old o }
     ensures { Wrote out.old o (Block-of b k) out.new result }
 {
-    let mut n = b;
-    let mut rest = k;
     let mut p = o;
-    while rest != 0 {
+    for n in b..b + k {
         p = put(out, p, word_of(n + 1, false));
-        n += 1;
-        rest -= 1;
     }
     p
 }
@@ -121,14 +121,7 @@ fn op_word(k: usize, g: bool) -> i32
             _ => 2,
         };
     }
-    match k {
-        0 => 0,
-        1 => 1,
-        2 => 2,
-        3 => 3,
-        4 => 4,
-        _ => 5,
-    }
+    k.min(5) as i32
 }
 
 // The terms of a sum: variable and coefficient of each.
@@ -136,15 +129,10 @@ fn put_terms(s: LinearSum, out: &mut [i32], o: usize) -> usize
     requires { (s.count ≤ 64) × Each Word (terms s) × Open out.old o }
     ensures { Wrote out.old o (flat (map term_words (terms s))) out.new result }
 {
-    let n = s.count;
-    let mut i: usize = 0;
     let mut p = o;
-    while i < n {
-        let v = s.vars[i];
-        let k = s.coefs[i];
-        let q = put(out, p, v as i32);
-        p = put(out, q, k);
-        i += 1;
+    for i in 0..s.count {
+        let q = put(out, p, s.vars[i] as i32);
+        p = put(out, q, s.coefs[i]);
     }
     p
 }

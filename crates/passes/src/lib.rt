@@ -255,13 +255,11 @@ fn constant_prop_members(work: &mut [i32], at: usize, count: usize, want: usize)
     ensures { MembersPost work.old at count want work.new result.next result.status }
 {
     let mut next = at;
-    let mut rest = count;
     let mut status = 0;
-    while rest != 0 {
+    for _ in 0..count {
         let a = constant_prop_bool(work, next, want);
         next = a.next;
         status = worst(status, a.status);
-        rest = rest - 1;
     }
     Required { next, status }
 }
@@ -308,12 +306,10 @@ fn fold_columns(words: &[i32], d: usize, at: usize, n: usize, work: &mut [i32], 
 {
     let mut next = at;
     let mut end = o;
-    let mut rest = n;
-    while rest != 0 {
+    for _ in 0..n {
         let a = folding::constant_folding_int(words, d, next, work, end);
         next = a.next;
         end = a.end;
-        rest = rest - 1;
     }
     Span { next, end }
 }
@@ -381,12 +377,10 @@ pub fn fold_stmts(
 {
     let mut next = at;
     let mut end = o;
-    let mut rest = count;
-    while rest != 0 {
+    for _ in 0..count {
         let a = fold_stmt(words, d, next, work, end);
         next = a.next;
         end = a.end;
-        rest = rest - 1;
     }
     Span { next, end }
 }
@@ -398,10 +392,8 @@ fn skip_columns(words: &[i32], at: usize, n: usize) -> usize
     ensures { SkipColumnsPost words.now at n result }
 {
     let mut next = at;
-    let mut rest = n;
-    while rest != 0 {
+    for _ in 0..n {
         next = skip_int(words, next);
-        rest = rest - 1;
     }
     next
 }
@@ -448,13 +440,11 @@ pub fn constant_prop_stmts(work: &mut [i32], at: usize, count: usize) -> usize
     ensures { PropStmtsPost work.old at count work.new result }
 {
     let mut next = at;
-    let mut rest = count;
     let mut status = 0;
-    while rest != 0 {
+    for _ in 0..count {
         let a = prop_stmt(work, next);
         next = a.next;
         status = worst(status, a.status);
-        rest = rest - 1;
     }
     status
 }

@@ -6,10 +6,11 @@ use mathlib.Core.Option.{none}
 use mathlib.Core.List.{List, [], ◌∷◌, ◌++◌, map}
 use native.Mathlib.Omega.{arith}
 use lib.Dec.{eqb, ltb}
-use borrow.Author.Tests.{eq-eqb, eqb-true, eqb-false, ltb-true, ltb-false}
+use borrow.Author.Tests.{eq-eqb, eqb-true, ltb-true, ltb-false}
 use lib.IntN.{ℤ, pos}
-use lib.ListN.{length, take, drop, get_or, set, length-append, length-set}
-use lib.Seq.{take_all, drop-set-lt, get_or-take, get_or-set_same, get_or-set_other}
+use lib.ListN.{length, replicate, take, drop, get_or, length-append, get_or-append}
+use Rattle.std.proofs.lemmas.List.{length-replicate, get_or-replicate, drop_at}
+use lib.Seq.{length-take-le, take_all, get_or-take}
 use Rattle.laws.specs.Lists.{flat}
 use Rattle.laws.specs.Slices.{Has, has_fits, has_front, has_back, has_word, has_rest, Pushed, pushed_below, pushed_has, drop_up}
 use Rattle.laws.specs.Ints.{pos_eq}
@@ -54,27 +55,16 @@ values_fixed out f vs l = fun_ext (fixed_in out) f (λ v. go v (ltb v max_bools)
 
 -- ---- `fill_open`
 
-pub record Opening (out₀ out : List ℤ) (i : ℕ) : Type 0 where
-  pub size : length out ≡ length out₀
-  pub cells : (v : ℕ) → v < i → get_or out v (pos 0) ≡ pos 2
-  pub high : drop max_bools out ≡ drop max_bools out₀
-
-pub opening_none : (out : List ℤ) → Opening out out 0
-opening_none out = record { size = refl; cells = λ v h. absurd (omega arith); high = refl }
-
-pub opening_next : (out₀ out : List ℤ) (i : ℕ) (out' : List ℤ) → i < max_bools → i < length out → out' ≡ set out i (pos 2) → Opening out₀ out i → Opening out₀ out' (i + 1)
-opening_next out₀ out i out' h l e o = record {
-  size = ap length e ∙ length-set out i (pos 2) ∙ o.size;
-  cells = λ v k. rw e (cell v k (eqb v i) refl);
-  high = ap (drop max_bools) e ∙ drop-set-lt max_bools out i (pos 2) h ∙ o.high;
-}
-  where
-    cell : (v : ℕ) → v < i + 1 → (t : Bool) → eqb v i ≡ t → get_or (set out i (pos 2)) v (pos 0) ≡ pos 2
-    cell v k true t = let q : v ≡ i = eqb-true v i t in rw q (get_or-set_same out i (pos 2) (pos 0) l)
-    cell v k false t = let q = eqb-false v i t in get_or-set_other out i v (pos 2) (pos 0) q ∙ o.cells v (omega arith)
-
-pub opening_end : (out₀ out : List ℤ) (i : ℕ) → max_bools ≤ i → Opening out₀ out i → Opened out₀ out
-opening_end out₀ out i h o = record { cells = λ v k. o.cells v (omega arith); high = o.high }
+-- as many twos in place of the first words
+pub opened : (out part : List ℤ) → max_bools ≤ length out → part ≡ replicate (length (take max_bools out)) (pos 2) → Opened out (part ++ drop max_bools out)
+opened out part h e =
+    let n : length (take max_bools out) ≡ max_bools = length-take-le max_bools out h in
+    let f : part ≡ replicate max_bools (pos 2) = rw n at e in
+    let l : length part ≡ max_bools = ap length f ∙ length-replicate max_bools (pos 2) in
+    record {
+      cells = λ v k. get_or-append part (drop max_bools out) (pos 0) v (omega arith) ∙ ap (λ (x : List ℤ). get_or x v (pos 0)) f ∙ get_or-replicate max_bools v (pos 2) (pos 0) k;
+      high = drop_at part (drop max_bools out) max_bools l;
+    }
 
 opened_values : (out out' : List ℤ) → Opened out out' → Values out' (λ v. none)
 opened_values out out' o = record { cells = λ v h. o.cells v h; others = λ v h. refl }

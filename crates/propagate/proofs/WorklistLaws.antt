@@ -5,13 +5,11 @@ use mathlib.Core.Bool.{Bool, true, false}
 use mathlib.Core.List.{List, [], ◌∷◌, ◌++◌, map}
 use native.Mathlib.Omega.{arith}
 use lib.Dec.{eqb, ltb}
-use lib.Signed.{lt_z}
 use borrow.Author.Tests.{eqb-true, eqb-false, ltb-true, ltb-false}
-use lib.IntN.{ℤ, pos, negsuc, nat_abs}
+use lib.IntN.{ℤ, pos, negsuc}
 use lib.ListN.{length, replicate, take, drop, get_or, set, length-append}
 use lib.Seq.{set_out, get_or-take, get_or-set_same, get_or-set_other}
 use Rattle.laws.specs.Lists.{flat}
-use Rattle.laws.specs.Bools.{never}
 use Rattle.laws.specs.Ints.{pos_eq}
 use Rattle.laws.specs.Slices.{has_front, has_back, Pushed, pushed_below, pushed_has, drop_up}
 use Rattle.syntax.specs.Words.{max_bools}
@@ -23,6 +21,7 @@ use Rattle.fold.proofs.Ahead.{prop_stmt, Below, NoRest, step_below, step_none, p
 use Rattle.fold.proofs.Ends.{opens_extends}
 use Rattle.fold.proofs.Kept.{fold_stmt_size}
 use Rattle.folding.specs.Steps.{fixed_in}
+use Rattle.memory.specs.Number.{nat}
 use Rattle.domains.specs.Declared.{Domains}
 use Rattle.passes.specs.Want.{status_num, Values, Propagates}
 use Rattle.passes.specs.Statements.{DeclaredStmts, ReadsStmt, ReadsStmts, StmtPost, StandsStmt, PropStmtPost}
@@ -33,9 +32,10 @@ use Rattle.propagate.proofs.PassLaws.{values_fixed, Going, Between}
 
 -- ---- numbers kept in arrays
 
-pub number_kept : (z : ℤ) → lt_z z (pos 0) ≡ false → z ≡ pos (nat_abs z)
-number_kept (pos n) h = refl
-number_kept (negsuc n) h = never (sym h)
+pub number_at : (z : ℤ) (n : ℕ) → n ≡ nat z → (n ≡ 0 → ⊥) → z ≡ pos n
+unfolding nat
+number_at (pos n) m e z = ap pos (sym e)
+number_at (negsuc n) m e z = absurd (z e)
 
 pub only_set : (n : ℕ) (a b : List ℤ) (i : ℕ) → b ≡ set a i (pos n) → Only n a b
 only_set n a b i e = record { others = λ j p z k h. go j p z k h (eqb j i) (ltb i (length a)) refl refl }

@@ -34,31 +34,17 @@ pub struct Moved {
 fn entry(a: &[i32], i: usize) -> usize
     ensures { ((result ≡ 0 → ⊥) → get_or a.now i (pos 0) ≡ pos result) × (result < 8192) }
 {
-    if i >= a.len() {
-        return 0;
-    }
-    let w = a[i];
-    if w < 0 {
-        return 0;
-    }
-    let n = w as usize;
-    if n < 8192 {
-        return n;
-    }
-    0
+    let n = memory::entry(a, i);
+    if n < 8192 { n } else { 0 }
 }
 
 // n at i, where there is room.
 fn store(a: &mut [i32], i: usize, n: usize)
     ensures { Only n a.old a.new }
 {
-    if i >= a.len() {
-        return;
+    if n < 8192 {
+        memory::store_number(a, i, n);
     }
-    if n >= 8192 {
-        return;
-    }
-    folding::put(a, i, n);
 }
 
 // ---- the watches and the queue
@@ -68,11 +54,7 @@ fn store(a: &mut [i32], i: usize, n: usize)
 
 // The occurrence of a variable at p, if there is one, in the statement of index i: the first one in the statement counts.
 fn watch_at(words: &[i32], p: usize, i: usize, watches: &mut [i32]) {
-    let code = entry(words, p);
-    if code != 11 {
-        return;
-    }
-    if p >= 4096 {
+    if entry(words, p) != 11 || p >= 4096 {
         return;
     }
     let v = entry(words, p + 1);
@@ -80,8 +62,7 @@ fn watch_at(words: &[i32], p: usize, i: usize, watches: &mut [i32]) {
         return;
     }
     let before = entry(watches, v);
-    let same = entry(watches, 513 + before);
-    if before != 0 && same == i {
+    if before != 0 && entry(watches, 513 + before) == i {
         return;
     }
     store(watches, 512 + p, before);
@@ -90,10 +71,8 @@ fn watch_at(words: &[i32], p: usize, i: usize, watches: &mut [i32]) {
 }
 
 fn watch(words: &[i32], from: usize, to: usize, i: usize, watches: &mut [i32]) {
-    let mut p = from;
-    while p < to {
+    for p in from..to {
         watch_at(words, p, i, watches);
-        p += 1;
     }
 }
 
@@ -111,11 +90,7 @@ fn enqueue(watches: &mut [i32], i: usize, count: usize) -> usize
     requires { (count ≤ 2048) × (i < 8192) }
     ensures { result ≤ 2048 }
 {
-    if count >= 2048 {
-        return count;
-    }
-    let waits = entry(watches, 4610 + i);
-    if waits != 0 {
+    if count >= 2048 || entry(watches, 4610 + i) != 0 {
         return count;
     }
     store(watches, 4610 + i, 1);
@@ -143,11 +118,7 @@ fn push(work: &[i32], v: usize, watches: &mut [i32], count: usize) -> usize
     requires { count ≤ 2048 }
     ensures { result ≤ 2048 }
 {
-    if v >= memory::MAX_BOOLS {
-        return count;
-    }
-    let value = entry(work, v);
-    if value == 2 {
+    if v >= memory::MAX_BOOLS || entry(work, v) == 2 {
         return count;
     }
     let first = entry(watches, v);
@@ -160,12 +131,11 @@ fn push_at(work: &[i32], p: usize, watches: &mut [i32], count: usize) -> usize
     requires p_in_bounds { p < length work.now }
     ensures { result ≤ 2048 }
 {
-    let code = entry(work, p);
-    if code == 11 {
-        let v = entry(work, p + 1);
-        return push(work, v, watches, count);
+    if entry(work, p) == 11 {
+        push(work, entry(work, p + 1), watches, count)
+    } else {
+        count
     }
-    count
 }
 
 // The variables of the folded statement, those that are fixed now.
@@ -175,10 +145,8 @@ fn push_fixed(work: &[i32], end: usize, watches: &mut [i32], queued: usize) -> u
     ensures { result ≤ 2048 }
 {
     let mut count = queued;
-    let mut p = memory::FOLDED;
-    while p < end {
+    for p in memory::FOLDED..end {
         count = push_at(work, p, watches, count);
-        p += 1;
     }
     count
 }
@@ -201,8 +169,7 @@ fn step(words: &[i32], at: usize, work: &mut [i32]) -> Stepped
 
 // Whether the folded statement, once required, may fix something later: a table, an AllDifferent, a constant and a variable do not.
 fn lasting(work: &[i32], end: usize) -> bool {
-    let kind = entry(work, memory::FOLDED);
-    kind == 1 && end > 516
+    entry(work, memory::FOLDED) == 1 && end > 516
 }
 
 // The statement of index i, which stands from `at` to `next`, is watched if it may fix something later.
@@ -218,8 +185,7 @@ fn watch_statement(
 )
     ensures { Only at places.old places.new }
 {
-    let keep = lasting(work, end);
-    if keep {
+    if lasting(work, end) {
         store(places, i, at);
         watch(words, at, next, i, watches);
     }
@@ -251,9 +217,8 @@ fn sweep(
     ensures { WorklistPost words.now at statements work.old work.new result.status × Places words.now at statements places.new × (result.count ≤ 2048) }
 {
     let mut next = at;
-    let mut i = 0;
     let mut count = 0;
-    while i < statements {
+    for i in 0..statements {
         let a = step(words, next, work);
         let status = a.status;
         if status == 2 {
@@ -262,7 +227,6 @@ fn sweep(
         watch_statement(words, next, a.next, i, work, a.end, places, watches);
         count = push_after(work, a.end, status, watches, count);
         next = a.next;
-        i += 1;
     }
     Moved { count, status: 0 }
 }
@@ -271,8 +235,7 @@ fn sweep(
 fn forget_done(work: &[i32], end: usize, places: &mut [i32], i: usize)
     ensures { Only 0 places.old places.new }
 {
-    let keep = lasting(work, end);
-    if !keep {
+    if !lasting(work, end) {
         store(places, i, 0);
     }
 }
@@ -353,11 +316,7 @@ fn fill_open(work: &mut [i32])
     requires { max_bools ≤ length work.old }
     ensures { Opened work.old work.new }
 {
-    let mut i = 0;
-    while i < memory::MAX_BOOLS {
-        folding::put(work, i, 2);
-        i += 1;
-    }
+    work[..memory::MAX_BOOLS].fill(2);
 }
 
 // The place behind n domains.
@@ -366,10 +325,8 @@ fn domains_end(words: &[i32], d: usize, n: usize) -> usize
     ensures { DomainsEndPost words.now d n result }
 {
     let mut at = d;
-    let mut rest = n;
-    while rest != 0 {
+    for _ in 0..n {
         at = domains::domain_end(words, at);
-        rest = rest - 1;
     }
     at
 }
@@ -400,12 +357,6 @@ fn after_pass(
     Optimized { status, end }
 }
 
-fn less_one(n: usize) -> usize
-    ensures { result ≤ n }
-{
-    if n == 0 { 0 } else { n - 1 }
-}
-
 // Fold every statement of the set under the values fixed so far, require each rule, and again while a variable was fixed.
 fn run_passes(words: &[i32], at: usize, count: usize, work: &mut [i32]) -> Optimized
     requires { ReadyPasses words.now at count work.old }
@@ -413,9 +364,9 @@ fn run_passes(words: &[i32], at: usize, count: usize, work: &mut [i32]) -> Optim
 {
     let mut status = 1;
     let mut end = memory::FOLDED;
-    let mut left = 3;
+    let mut left = 3usize;
     while status == 1 {
-        left = less_one(left);
+        left = left.saturating_sub(1);
         let a = passes::fold_stmts(words, 2, at, count, work, memory::FOLDED);
         let s = passes::constant_prop_stmts(work, memory::FOLDED, count);
         let b = after_pass(words, at, count, work, s, a.end, left);

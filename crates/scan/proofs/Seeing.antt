@@ -1,19 +1,19 @@
 -- Laws of what is known of an If.
 use mathlib.Core.Path.{◌≡◌, refl, sym, ap, ◌∙◌}
-use mathlib.Core.Bool.{Bool, true, false}
+use mathlib.Core.Bool.{Bool, true, false, not}
 use mathlib.Core.List.{List}
 use Prim.Native.Nat.{ℕ, zero, suc, ◌+◌, ◌-◌, ◌≤◌, ◌<◌}
 use native.Mathlib.Omega.{arith}
 use lib.IntN.{ℤ, pos, negsuc, neg_ℤ, suc_ℤ, nat_abs, ◌+ℤ◌, ◌-ℤ◌, +ℤ_one, +ℤ_idl}
-use lib.ListN.{length, get_or, get_or-eq_default}
+use lib.ListN.{get_or}
 use lib.Signed.{lt_z, non_neg}
-use lib.Dec.{T, ltb}
-use borrow.Author.Tests.{ltb-true, ltb-false}
+use lib.Dec.{T, ltb, eqb}
+use borrow.Author.Tests.{ltb-true, ltb-false, eqb-true, eqb-false}
 use mir.Syntax.{w32, w64}
 use mir.Val.{Fits, SFits, of_z}
 use mir.Facts.{Fits-nat_abs}
 use Rattle.laws.specs.Bools.{never}
-use Rattle.laws.specs.Ints.{bits_zero, bits_nonzero}
+use Rattle.laws.specs.Ints.{is_zero, bits_zero, bits_nonzero}
 use Rattle.memory.specs.Places.{ifs_word}
 use Rattle.walks.specs.Item.{has_ifs, Seen, unseen, both_constant, numbered, seen_in, known_in}
 use Rattle.scan.specs.IfLaws.{seen_code, seen_at, passed_at}
@@ -41,17 +41,13 @@ module _ (w : List ℤ) (at i : ℕ) where
 -- ---- the word that says whether there are Ifs
 
 module _ (w : List ℤ) where
-  pub word_zero : SFits w32 (get_or w ifs_word (pos 0)) → of_z w32 (get_or w ifs_word (pos 0)) ≡ 0 → false ≡ has_ifs w
+  pub word_test : (z : ℤ) → SFits w32 z → z ≡ get_or w ifs_word (pos 0) → not (eqb (of_z w32 z) 0) ≡ has_ifs w
   unfolding has_ifs
-  word_zero f e = rw (bits_zero (get_or w ifs_word (pos 0)) f e) refl
-
-  pub word_other : (of_z w32 (get_or w ifs_word (pos 0)) ≡ 0 → ⊥) → true ≡ has_ifs w
-  unfolding has_ifs
-  word_other e = rw (bits_nonzero (get_or w ifs_word (pos 0)) e) refl
-
-  pub word_past : length w ≤ ifs_word → false ≡ has_ifs w
-  unfolding has_ifs
-  word_past h = rw (get_or-eq_default w (pos 0) h) refl
+  word_test z f e = rw (← e) (go (eqb (of_z w32 z) 0) refl)
+    where
+      go : (b : Bool) → eqb (of_z w32 z) 0 ≡ b → not b ≡ not (is_zero z)
+      go true h = sym (ap not (bits_zero z f (eqb-true _ _ h)))
+      go false h = sym (ap not (bits_nonzero z (eqb-false _ _ h)))
 
 -- ---- what a cell says. y, s, q: the bits of a negative z, of z + 1 and of 0 - (z + 1)
 

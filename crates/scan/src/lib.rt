@@ -2,6 +2,7 @@
 #![tactic(auto)]
 
 ghost use Rattle.std.specs.Prelude.{◌≡◌, true, ◌+◌, ◌≤◌, ◌<◌, length};
+ghost use Rattle.std.specs.Option.{IfSome};
 ghost use Rattle.memory.specs.Places.{folded_end, limit};
 ghost use Rattle.syntax.specs.Words.{max_bools, max_ints};
 ghost use Rattle.walk.specs.Decode.{word as word_in, constant_node, read_part};
@@ -23,10 +24,7 @@ use walk::{Counters, Node, Surveyed};
 fn constant_at(x: usize, g: bool, q: usize) -> Node
     ensures { result ≡ constant_node x g q }
 {
-    if g {
-        return Node::Join(x == 1, 0, g, g, q);
-    }
-    Node::Join(x != 1, 0, g, g, q)
+    Node::Join((x == 1) == g, 0, g, g, q)
 }
 
 // What the code word at a place asks; of a comparison, its operator's code and where its first side stands.
@@ -78,28 +76,19 @@ const THREE_WORDS: usize = memory::FOLDED_END - 2;
 
 const FOUR_WORDS: usize = memory::FOLDED_END - 3;
 
-// The words of the member at a place, with levels left, if it is a variable or the negation of one; otherwise 0.
-fn literal_words(work: &[i32], q: usize, left: usize) -> usize
+// How many words the member at a place has, with levels left, if it is a variable or the negation of one.
+fn literal_words(work: &[i32], q: usize, left: usize) -> Option<usize>
     requires { folded_end ≤ length work.now }
-    ensures { (result ≡ 0 → ⊥) → LiteralMember work.now left q result }
+    ensures { IfSome result (λ k. LiteralMember work.now left q k) }
 {
-    let other = 0;
-    if left < 2 {
-        return other;
+    if left < 2 || q >= THREE_WORDS {
+        return None;
     }
-    if q < THREE_WORDS {
-        let k = work[q];
-        if k == 11 {
-            return 2;
-        }
-        if k == 14 {
-            let c = work[q + 1];
-            if c == 11 {
-                return 3;
-            }
-        }
+    match (work[q], work[q + 1]) {
+        (11, _) => Some(2),
+        (14, 11) => Some(3),
+        _ => None,
     }
-    other
 }
 
 // So many members.
@@ -110,12 +99,9 @@ pub fn skips(work: &[i32], at: usize, left: usize, m: usize, count: usize, base:
 {
     let mut q = at;
     let mut b = base;
-    let mut rest = count;
-    while rest != 0 {
-        rest = rest - 1;
-        let k = literal_words(work, q, left);
-        if k != 0 {
-            q = q + k;
+    for _ in 0..count {
+        if let Some(k) = literal_words(work, q, left) {
+            q += k;
             continue;
         }
         let s = skip(work, q, left, m, b);
@@ -132,11 +118,11 @@ pub fn skip(work: &[i32], at: usize, left: usize, m: usize, base: usize) -> Skip
     ensures { Skips (read_part work.now) left (split_by m) at base result.at result.base }
 {
     if left == 0 {
-        return Skipped { at: at, base: base };
+        return Skipped { at, base };
     }
     let under = left - 1;
     match node_at(work, false, at) {
-        Node::Var(_, q) => Skipped { at: q, base: base },
+        Node::Var(_, q) => Skipped { at: q, base },
         Node::Cmp(_, q) => {
             let j = inner(m);
             let a = skip_int(work, q, under, j, base);
@@ -153,20 +139,11 @@ pub fn is_leaf(work: &[i32], q: usize, left: usize) -> bool
     requires { folded_end ≤ length work.now }
     ensures { result ≡ true → LeafTerm work.now left q }
 {
-    if left == 0 {
+    if left == 0 || q >= FOUR_WORDS {
         return false;
     }
-    if q < FOUR_WORDS {
-        let k = work[q + 1];
-        if k == 22 {
-            return false;
-        }
-        if k == 23 {
-            return false;
-        }
-        return true;
-    }
-    false
+    let k = work[q + 1];
+    k != 22 && k != 23
 }
 
 // So many terms.
@@ -177,11 +154,9 @@ fn skip_terms(work: &[i32], at: usize, left: usize, m: usize, count: usize, base
 {
     let mut q = at;
     let mut b = base;
-    let mut rest = count;
-    while rest != 0 {
-        rest = rest - 1;
+    for _ in 0..count {
         if is_leaf(work, q, left) {
-            q = q + 3;
+            q += 3;
             continue;
         }
         let p = within(q + 1);
@@ -199,7 +174,7 @@ pub fn skip_int(work: &[i32], at: usize, left: usize, m: usize, base: usize) -> 
     ensures { IntSkips (read_part work.now) left (split_by m) at base result.at result.base }
 {
     if left == 0 {
-        return Skipped { at: at, base: base };
+        return Skipped { at, base };
     }
     let under = left - 1;
     let x = word(work, at + 1);
@@ -212,10 +187,7 @@ pub fn skip_int(work: &[i32], at: usize, left: usize, m: usize, base: usize) -> 
             let t = skip_int(work, c.at, under, m, c.base);
             skip_int(work, t.at, under, m, t.base)
         }
-        _ => Skipped {
-            at: two,
-            base: base,
-        },
+        _ => Skipped { at: two, base },
     }
 }
 
@@ -228,10 +200,9 @@ pub fn met(work: &[i32], v: usize, n: Counters) -> Counters
 {
     let b = n.bools;
     if memory::entry(work, memory::BOOL_MAP + v) == b + 1 {
-        let k = bump(b, 1);
         return Counters {
-            bools: k,
-            ints: n.ints,
+            bools: bump(b, 1),
+            ..n
         };
     }
     n
@@ -241,14 +212,7 @@ pub fn met(work: &[i32], v: usize, n: Counters) -> Counters
 pub fn has_ifs(work: &[i32]) -> bool
     ensures { result ≡ has-ifs-in work.now }
 {
-    if memory::IFS_WORD < work.len() {
-        let z = work[memory::IFS_WORD];
-        if z == 0 {
-            return false;
-        }
-        return true;
-    }
-    false
+    memory::plain(work, memory::IFS_WORD) != 0
 }
 
 // One integer more, where there are Ifs.
@@ -256,10 +220,9 @@ pub fn more_ints(work: &[i32], n: Counters) -> Counters
     ensures { result ≡ more-ints-of work.now 1 n }
 {
     if has_ifs(work) {
-        let k = bump(n.ints, 1);
         return Counters {
-            bools: n.bools,
-            ints: k,
+            ints: bump(n.ints, 1),
+            ..n
         };
     }
     n
@@ -269,10 +232,9 @@ pub fn more_ints(work: &[i32], n: Counters) -> Counters
 pub fn more_bools(n: Counters) -> Counters
     ensures { result ≡ more-bools-of 1 n }
 {
-    let k = bump(n.bools, 1);
     Counters {
-        bools: k,
-        ints: n.ints,
+        bools: bump(n.bools, 1),
+        ..n
     }
 }
 
@@ -299,14 +261,10 @@ pub fn cell(work: &[i32], p: usize) -> i32
 fn code_of(z: i32) -> usize
     ensures { result ≡ seen_code (seen_in z) }
 {
-    if z < 0 {
-        let q = 0 - (z + 1);
-        return q as usize + 1;
-    }
     if z > 0 {
         return z as usize + 1;
     }
-    0
+    z.unsigned_abs() as usize
 }
 
 // The same of the If at a place.
@@ -322,14 +280,11 @@ pub fn is_passed(work: &[i32], at: usize, ints: usize) -> bool
     requires { at ≤ folded_end }
     ensures { result ≡ passed_at work.now at ints }
 {
-    if has_ifs(work) {
-        let k = seen(work, at);
-        if k < 2 {
-            return false;
-        }
-        return k - 2 < ints;
+    if !has_ifs(work) {
+        return true;
     }
-    true
+    let k = seen(work, at);
+    k >= 2 && k - 2 < ints
 }
 
 // ---- leaves
@@ -347,10 +302,10 @@ fn leaf_count(at: usize, base: usize, plain: usize, negated: usize) -> LeafCount
     ensures { result ≡ counted at base plain negated }
 {
     LeafCount {
-        at: at,
-        base: base,
-        plain: plain,
-        negated: negated,
+        at,
+        base,
+        plain,
+        negated,
     }
 }
 
@@ -358,10 +313,7 @@ fn leaf_count(at: usize, base: usize, plain: usize, negated: usize) -> LeafCount
 fn swapped(f: bool, x: usize, y: usize) -> usize
     ensures { result ≡ swapped-of f x y }
 {
-    if f {
-        return y;
-    }
-    x
+    if f { y } else { x }
 }
 
 // So many members, the first negated if g, the others if h.
@@ -383,15 +335,13 @@ fn leaves_all(
     let mut b = base;
     let mut x = 0;
     let mut y = 0;
-    let mut rest = count;
     let mut f = g;
-    while rest != 0 {
+    for _ in 0..count {
         let s = leaves(work, q, left, m, b);
         x = bump(x, swapped(f, s.plain, s.negated));
         y = bump(y, swapped(!f, s.plain, s.negated));
         q = s.at;
         b = s.base;
-        rest = rest - 1;
         f = h;
     }
     LeafCount {
@@ -457,11 +407,7 @@ pub struct Behind {
 fn behind_of(at: usize, base: usize, n: Counters) -> Behind
     ensures { result ≡ behind_at at base n }
 {
-    Behind {
-        at: at,
-        base: base,
-        n: n,
-    }
+    Behind { at, base, n }
 }
 
 fn with_ints(s: Surveyed, k: usize) -> Scanned
@@ -520,8 +466,8 @@ pub fn surveys(
     ensures { SurveysAll work.now left (split_by m) count g h at base n result }
 {
     let mut r = Surveyed {
-        at: at,
-        base: base,
+        at,
+        base,
         n: n.bools,
         longs: 0,
         lits: 0,
@@ -530,24 +476,16 @@ pub fn surveys(
         all: 0,
     };
     let mut ints = n.ints;
-    let mut rest = count;
     let mut turned = g;
-    while rest != 0 {
-        let k = Counters {
-            bools: r.n,
-            ints: ints,
-        };
+    for _ in 0..count {
+        let k = Counters { bools: r.n, ints };
         let s = survey(work, r.at, left, m, r.base, turned, k);
         let p = s.part;
         r = add_member(r, p);
         ints = s.ints;
-        rest = rest - 1;
         turned = h;
     }
-    Scanned {
-        part: r,
-        ints: ints,
-    }
+    Scanned { part: r, ints }
 }
 
 // The expression at a place, negated if g.
@@ -614,16 +552,10 @@ fn survey_terms(
     requires { (folded_end ≤ length work.now) × ((at ≤ folded_end) × ((base ≤ limit) × Low n)) }
     ensures { TermSurveys work.now left (split_by m) count at base n result }
 {
-    let mut r = Behind {
-        at: at,
-        base: base,
-        n: n,
-    };
-    let mut rest = count;
-    while rest != 0 {
+    let mut r = Behind { at, base, n };
+    for _ in 0..count {
         let p = within(r.at + 1);
         r = survey_int(work, p, left, m, r.base, r.n);
-        rest = rest - 1;
     }
     r
 }

@@ -2,7 +2,6 @@
 use mathlib.Core.Path.{◌≡◌, sym, ap, ◌∙◌}
 use mathlib.Core.Bool.{false}
 use mathlib.Core.List.{List}
-use mathlib.Core.Logic.{inl, inr}
 use Prim.Native.Nat.{ℕ, ◌+◌, ◌≤◌, min}
 use native.Mathlib.Omega.{arith}
 use lib.IntN.{ℤ}
@@ -33,12 +32,6 @@ module _ (w : List ℤ) (size : folded_end ≤ length w) where
         left = ap (λ (k : ℕ). is_zero (bool_at w k)) (sym (hx ∙ ap (index max_bools) hi)) ∙ ap is_zero (sym hu) ∙ zu;
         right = rw e (ap (λ (k : ℕ). is_zero (bool_at w k)) (sym (hy ∙ ap (index max_bools) hj)) ∙ ap is_zero (sym hv) ∙ zv);
       }
-
-  pub xor_known : (at k p : ℕ) → k ≡ word (read_part w) at → k ≡ 15 → p ≡ min (at + 1) folded_end → KnownSides w p → KnownTie w at
-  xor_known at k p h e hp x = record { code = inl (sym h ∙ e); sides = rw (past_is (at + 1) p hp) x }
-
-  pub iff_known : (at k p : ℕ) → k ≡ word (read_part w) at → k ≡ 16 → p ≡ min (at + 1) folded_end → KnownSides w p → KnownTie w at
-  iff_known at k p h e hp x = record { code = inr (sym h ∙ e); sides = rw (past_is (at + 1) p hp) x }
 
   -- k: the statement's first word
   pub known_ends : (at k : ℕ) → k ≡ word (read_part w) at → (q : ℕ) → k ≡ 1 → KnownTie w (at + 1) → q ≡ min (at + 6) folded_end → StmtEnds w at q

@@ -39,12 +39,10 @@ fn number_columns(
 {
     let mut d = c;
     let mut q = at;
-    let mut rest = count;
-    while rest != 0 {
+    for _ in 0..count {
         let s = number_column(work, out, q, room, d);
         d = s.progress;
         q = s.at;
-        rest = rest - 1;
     }
     NumberedStmt {
         progress: d,
@@ -67,8 +65,7 @@ fn number_row(
 {
     let mut d = c;
     let mut q = at;
-    let mut rest = count;
-    while rest != 0 {
+    for _ in 0..count {
         if room.cap < d.used {
             return d;
         }
@@ -77,7 +74,6 @@ fn number_row(
         clear_pair(work, p, o);
         d = number_pair(work, out, p, o, room, d);
         q = s.at;
-        rest = rest - 1;
     }
     d
 }
@@ -96,12 +92,10 @@ fn number_different(
 {
     let mut d = c;
     let mut p = at;
-    let mut rest = count;
-    while rest != 0 {
+    for rest in (0..count).rev() {
         let o = p;
         let s = scan::skip_int(work, o, 64, 0, 0);
         p = s.at;
-        rest = rest - 1;
         d = number_row(work, out, o, p, rest, room, d);
     }
     d
@@ -121,12 +115,10 @@ fn number_each(
 {
     let mut d = c;
     let mut q = at;
-    let mut rest = count;
-    while rest != 0 {
+    for _ in 0..count {
         let s = number_int(work, out, q, 64, 2, 0, room, d);
         d = s.progress;
         q = s.at;
-        rest = rest - 1;
     }
     d
 }
@@ -169,16 +161,13 @@ fn number_table(
     let p = r.next;
     let f = table_fresh(work, p, n, k);
     let d = r.progress;
-    let b = bump(d.bools, f);
     let e = Progress {
-        bools: b,
-        ints: d.ints,
-        used: d.used,
+        bools: bump(d.bools, f),
+        ..d
     };
-    let size = k * n;
     NumberedStmt {
         progress: e,
-        next: p + size,
+        next: p + k * n,
     }
 }
 
@@ -187,22 +176,13 @@ fn known_sides(work: &[i32], p: usize) -> bool
     requires { (folded_end ≤ length work.now) × (p ≤ folded_end) }
     ensures { result ≡ true → KnownSides work.now p }
 {
-    if word(work, p) != 11 {
-        return false;
-    }
     let q = within(p + 2);
-    if word(work, q) != 11 {
+    if word(work, p) != 11 || word(work, q) != 11 {
         return false;
     }
     let x = below(word(work, p + 1), memory::MAX_BOOLS);
-    if literal(work, x) == 0 {
-        return false;
-    }
     let y = below(word(work, q + 1), memory::MAX_BOOLS);
-    if literal(work, y) == 0 {
-        return false;
-    }
-    true
+    literal(work, x) != 0 && literal(work, y) != 0
 }
 
 // Whether the rule at a place ties two variables that have literals: then it takes no number.
@@ -211,13 +191,7 @@ fn known_tie(work: &[i32], at: usize) -> bool
     ensures { result ≡ true → KnownTie work.now at }
 {
     let code = word(work, at);
-    if code == 15 {
-        return known_sides(work, within(at + 1));
-    }
-    if code == 16 {
-        return known_sides(work, within(at + 1));
-    }
-    false
+    (code == 15 || code == 16) && known_sides(work, within(at + 1))
 }
 
 // The AllDifferent at a place, and where it ends.
@@ -260,9 +234,8 @@ pub fn number_statement(
             };
         }
         let r = number_rule(work, out, at + 1, room, c);
-        let d = r.progress;
         return NumberedStmt {
-            progress: d,
+            progress: r.progress,
             next: r.at,
         };
     }

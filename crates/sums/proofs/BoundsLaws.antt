@@ -12,7 +12,7 @@ use Rattle.laws.specs.Lists.{different}
 use Rattle.syntax.specs.Words.{max_weight}
 use Rattle.syntax.specs.Syntax.{Domain, Range, Enumerative, lower_bound, upper_bound, last_or, domain_of, IntExpr, IConst, IVar, Linear, If, Terms, tnil, tmore, encode_int}
 use Rattle.limits.specs.Limits.{largest, domain_weight, weight, terms_weight, heavy, heavy_terms, heavy_comparison, written, written_terms}
-use Rattle.sums.specs.LinearSum.{Term, term, LinearSum, linear_sum, constant, singleton, add_coef, add_sum, mul_sum, lowest, highest}
+use Rattle.sums.specs.LinearSum.{Term, term, LinearSum, linear_sum, constant, add_coef, add_sum, mul_sum, lowest, highest}
 use Rattle.sums.specs.Rising.{terms_of, constant_of, Rises, Each, Among}
 use Rattle.sums.proofs.RisingLaws.{add_coef_rises, add_coef_each, among_left, among_right, few_terms}
 use Rattle.sums.specs.Linear.{linear_of, linear_terms, EveryIf, EveryIfOf}

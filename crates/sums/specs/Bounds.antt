@@ -1,21 +1,13 @@
 -- Within refusal 9 every sum, partial sum and coefficient that the Rust computes stays in i32; room for the terms of a sum.
 -- ---- weights
-use Rattle.std.specs.Prelude.{◌≡◌, refl, false, ◌||◌, ℕ, ◌+◌, ◌*◌, ◌≤◌, max, eqb, ℤ, pos, negsuc, nat_abs, ◌+ℤ◌, take}
+use Rattle.std.specs.Prelude.{ℕ, ◌+◌, ◌≤◌, max, ℤ, pos, negsuc, nat_abs, ◌+ℤ◌}
 use mathlib.Core.List.{List, [], ◌∷◌, ◌++◌}
-use Rattle.std.proofs.Common.{mul-le-mul_left}
-use native.Mathlib.Omega.{arith}
-use Rattle.std.proofs.Math.Dec.{ltb}
 use Rattle.std.proofs.Math.ListN.{length}
-use borrow.Author.Tests.{eq-eqb, ltb-false}
-use Rattle.laws.specs.Bools.{or_l, or_no_l, or_no_r}
-use Rattle.laws.specs.Ints.{times_low, times_high, natAbs_add, times_low_size, times_high_size}
-use Rattle.laws.specs.Lists.{different}
 use Rattle.syntax.specs.Words.{max_weight}
-use Rattle.syntax.specs.Syntax.{Domain, Range, Enumerative, lower_bound, upper_bound, last_or, domain_of, IntExpr, IConst, IVar, Linear, If, Terms, tnil, tmore, encode_int}
-use Rattle.limits.specs.Limits.{largest, domain_weight, weight, terms_weight, heavy, heavy_terms, heavy_comparison, written, written_terms}
-use Rattle.sums.specs.LinearSum.{Term, term, LinearSum, linear_sum, constant, singleton, add_coef, add_sum, mul_sum, lowest, highest}
-use Rattle.sums.specs.Rising.{terms_of, constant_of, Rises, Each, Among}
-use Rattle.sums.specs.Linear.{linear_of, linear_terms, EveryIf, EveryIfOf}
+use Rattle.syntax.specs.Syntax.{Domain, lower_bound, upper_bound, IntExpr, IConst, IVar, Linear, If, Terms, tnil, tmore, encode_int}
+use Rattle.sums.specs.LinearSum.{Term, term, LinearSum, linear_sum, constant, singleton, add_coef, add_sum, mul_sum}
+use Rattle.sums.specs.Rising.{terms_of, constant_of}
+use Rattle.sums.specs.Linear.{linear_of}
 use Rattle.sums.specs.Norm.{load}
 
 -- each coefficient counts once

@@ -5,7 +5,7 @@ use mathlib.Core.List.{List}
 use Prim.Native.Nat.{ℕ, zero, suc, ◌≤◌, ◌<◌, min}
 use native.Mathlib.Omega.{arith}
 use lib.IntN.{ℤ, pos, neg_ℤ, ◌-ℤ◌, +ℤ_idl}
-use lib.ListN.{length, get_or, length-take}
+use lib.ListN.{length, get_or, take, length-take, get_or-eq_default}
 use mir.Syntax.{w32}
 use mir.Val.{SFits, to_z}
 use mir.Facts.{to_z-of_z}
@@ -13,11 +13,9 @@ use lib.Seq.{get_or-take}
 use lib.Dec.{eqb}
 use Rattle.memory.specs.Places.{folded_end, limit}
 use Rattle.memory.specs.Number.{nat}
-use Rattle.memory.proofs.Laws.{no_entry}
 use Rattle.clauses.specs.Clause.{negate_if}
-use Rattle.walk.specs.Item.{bump, is_none, mode_in}
+use Rattle.walk.specs.Item.{bump, is_none}
 use Rattle.walk.specs.Decode.{word, past, read_part, surveyed, fresh_of, lines_in_of, closed_disj}
-use Rattle.walk.specs.declared.Mode.TheVariants.{One, Each}
 use Rattle.walk.specs.declared.Surveyed.{Surveyed}
 use Rattle.walk.specs.declared.Node.{Node}
 use Rattle.walk.specs.declared.Node.TheVariants.{Join}
@@ -30,44 +28,11 @@ unfolding word read_part
 word_inside w at h = ap nat (sym (get_or-take folded_end w at (pos 0) h))
 
 pub word_outside : (w : List ℤ) (at : ℕ) → folded_end ≤ at → 0 ≡ word (read_part w) at
-unfolding word read_part
-word_outside w at h = no_entry (read_part w) at (omega (arith, length-take folded_end w))
+unfolding word read_part nat
+word_outside w at h = let l : length (take folded_end w) ≤ at = omega (arith, length-take folded_end w) in rw (get_or-eq_default (take folded_end w) (pos 0) l)
 
 pub past_is : (w : List ℤ) (p q : ℕ) → folded_end ≤ length w → q ≡ min p folded_end → q ≡ past (read_part w) p
 past_is w p q h e = omega (arith, part_length w h)
-
--- ---- modes
-
-pub one_mode : (l k : ℕ) → k ≡ 0 → l < 2 → One ≡ mode_in 1 l k
-one_mode zero zero e h = refl
-one_mode (suc zero) zero e h = refl
-one_mode (suc (suc l)) zero e h = absurd (omega arith)
-one_mode l (suc k) e h = absurd (omega arith)
-
-pub one_lits : (l k : ℕ) → k ≡ 0 → 2 ≤ l → Each ≡ mode_in 1 l k
-one_lits zero zero e h = absurd (omega arith)
-one_lits (suc zero) zero e h = absurd (omega arith)
-one_lits (suc (suc l)) zero e h = refl
-one_lits l (suc k) e h = absurd (omega arith)
-
-pub one_cmps : (l k : ℕ) → (k ≡ 0 → ⊥) → Each ≡ mode_in 1 l k
-one_cmps l zero h = absurd (h refl)
-one_cmps l (suc k) h = refl
-
-pub two_lits : (l k : ℕ) → (l ≡ 0 → ⊥) → Each ≡ mode_in 2 l k
-two_lits zero k h = absurd (h refl)
-two_lits (suc l) k h = refl
-
-pub two_cmps : (l k : ℕ) → (k ≡ 0 → ⊥) → Each ≡ mode_in 2 l k
-two_cmps l zero h = absurd (h refl)
-two_cmps zero (suc k) h = refl
-two_cmps (suc l) (suc k) h = refl
-
-pub more_longs : (x l k : ℕ) → (x ≡ 0 → ⊥) → (x ≡ 1 → ⊥) → (x ≡ 2 → ⊥) → Each ≡ mode_in x l k
-more_longs zero l k p q r = absurd (p refl)
-more_longs (suc zero) l k p q r = absurd (q refl)
-more_longs (suc (suc zero)) l k p q r = absurd (r refl)
-more_longs (suc (suc (suc x))) l k p q r = refl
 
 -- ---- nodes
 
@@ -83,7 +48,7 @@ constant_plain x g q e = rw e
 
 -- ---- tallies
 
-pub disj_none : (s : Surveyed) → s.longs ≡ 0 → surveyed s.at s.base s.n 0 s.lits s.cmps s.lines 1 ≡ closed_disj s
+pub disj_none : (s : Surveyed) → s.longs ≡ 0 → surveyed s.at s.base s.n s.longs s.lits s.cmps s.lines 1 ≡ closed_disj s
 unfolding closed_disj
 disj_none s h = rw h
 

@@ -1,4 +1,4 @@
-// Small functions of the walks over the folded words: words, literals, counters, and what members of a survey come to.
+// Small functions of the walks over the folded words, literals, counters, and what members of a survey come to.
 #![tactic(auto)]
 
 ghost use Rattle.std.specs.Prelude.{◌≡◌, ◌+◌, ◌≤◌, ◌<◌, min};
@@ -21,14 +21,11 @@ pub fn literal(work: &[i32], v: usize) -> i32
 pub fn signed(z: i32, g: bool) -> i32
     ensures { result ≡ Signed-of z g }
 {
-    if z > memory::LIMIT_WORD {
-        return 0;
-    }
-    if z < memory::LIMIT_NEGATED {
+    if z > memory::LIMIT_WORD || z < memory::LIMIT_NEGATED {
         return 0;
     }
     if g {
-        return 0 - z;
+        return -z;
     }
     z
 }
@@ -46,11 +43,7 @@ pub fn word(work: &[i32], at: usize) -> usize
 pub fn within(p: usize) -> usize
     ensures { result ≡ min p folded_end }
 {
-    if p < memory::FOLDED_END {
-        p
-    } else {
-        memory::FOLDED_END
-    }
+    p.min(memory::FOLDED_END)
 }
 
 // A variable's index; 0 for what is none.
@@ -63,38 +56,18 @@ pub fn below(x: usize, count: usize) -> usize
 pub fn bump(n: usize, k: usize) -> usize
     ensures { result ≡ bump-of n k }
 {
-    if n < memory::LIMIT {
-        if k < memory::LIMIT {
-            if n + k < memory::LIMIT {
-                return n + k;
-            }
-        }
-    }
-    memory::LIMIT
+    n.saturating_add(k).min(memory::LIMIT)
 }
 
 pub fn mode_of(longs: usize, lits: usize, cmps: usize) -> Mode
     ensures { result ≡ mode_in longs lits cmps }
 {
-    if longs == 0 {
-        return Mode::Pool;
+    match (longs, lits, cmps) {
+        (0, _, _) => Mode::Pool,
+        (1, 0 | 1, 0) => Mode::One,
+        (2, 0, 0) => Mode::Two,
+        _ => Mode::Each,
     }
-    if longs == 1 {
-        if cmps == 0 {
-            if lits < 2 {
-                return Mode::One;
-            }
-        }
-        return Mode::Each;
-    }
-    if longs == 2 {
-        if cmps == 0 {
-            if lits == 0 {
-                return Mode::Two;
-            }
-        }
-    }
-    Mode::Each
 }
 
 // The new numbers of a disjunction.
@@ -137,12 +110,12 @@ pub fn single(at: usize, base: usize, n: usize, lits: usize, cmps: usize) -> Sur
     ensures { result ≡ surveyed at base n 0 lits cmps 0 1 }
 {
     Surveyed {
-        at: at,
-        base: base,
-        n: n,
+        at,
+        base,
+        n,
         longs: 0,
-        lits: lits,
-        cmps: cmps,
+        lits,
+        cmps,
         lines: 0,
         all: 1,
     }
@@ -152,13 +125,13 @@ pub fn longer(at: usize, base: usize, n: usize, lines: usize) -> Surveyed
     ensures { result ≡ surveyed at base n 1 0 0 lines lines }
 {
     Surveyed {
-        at: at,
-        base: base,
-        n: n,
+        at,
+        base,
+        n,
         longs: 1,
         lits: 0,
         cmps: 0,
-        lines: lines,
+        lines,
         all: lines,
     }
 }
@@ -167,16 +140,7 @@ pub fn close_disj(s: Surveyed) -> Surveyed
     ensures { result ≡ closed_disj s }
 {
     if s.longs == 0 {
-        return Surveyed {
-            at: s.at,
-            base: s.base,
-            n: s.n,
-            longs: 0,
-            lits: s.lits,
-            cmps: s.cmps,
-            lines: s.lines,
-            all: 1,
-        };
+        return Surveyed { all: 1, ..s };
     }
     let n = bump(s.n, fresh(s.longs, s.lits, s.cmps));
     longer(
@@ -203,13 +167,11 @@ pub fn add_member(r: Surveyed, s: Surveyed) -> Surveyed
     ensures { result ≡ added r s }
 {
     Surveyed {
-        at: s.at,
-        base: s.base,
-        n: s.n,
         longs: r.longs + s.longs,
         lits: r.lits + s.lits,
         cmps: r.cmps + s.cmps,
         lines: bump(r.lines, s.lines),
         all: bump(r.all, s.all),
+        ..s
     }
 }

@@ -10,6 +10,7 @@ use mir.Facts.{to_z-of_z}
 use borrow.Author.Rules.{sfits_of}
 use Rattle.laws.specs.Ints.{times_low}
 use Rattle.memory.specs.Places.{bounds}
+use Rattle.accept.proofs.Sizes.{lower_min, higher_max}
 use Rattle.accept.proofs.Laws.{var_inside}
 use Rattle.accept.proofs.RangeLaws.{range_first_word, range_inside, const_range, if_range_ready, if_range_int, range_second, range_var, var_range, sum_ranges, sum_range, range_condition, range_if_inside, range_left, range_right, range_if, ranges_none, ranges_inside, range_first, ranges_next, ranges_more}
 use Rattle.accept.proofs.+range.Goals as goal
@@ -27,7 +28,7 @@ pub if_range-int_range-f-requires : goal.if_range-int_range-f-requires
 if_range-int_range-f-requires t c = let q = range_if_inside c.args.set.now c.args.work.now c.args.at c.requires in let s = range_right c.args.set.now c.args.work.now c.args.at _ c.skip_members-c.ensures _ _ _ c.int_range-t.ensures c.requires in (omega (arith, c.decreases, s.1), s.0)
 
 pub if_range-returns : goal.if_range-returns
-if_range-returns t c = let f1 : SFits w32 c.int_range-t.result.low = search rules in let f2 : SFits w32 c.int_range-f.result.low = search rules in let g1 : SFits w32 c.int_range-t.result.high = search rules in let g2 : SFits w32 c.int_range-f.result.high = search rules in let rl : SFits w32 c.lower-low.result = search rules in let rh : SFits w32 c.higher-high.result = search rules in range_if c.args.set.now c.args.work.now c.args.at _ c.skip_members-c.ensures _ _ _ c.int_range-t.ensures _ _ _ _ _ c.int_range-f.ensures (to_z-of_z rl ∙ c.lower-low.ensures ∙ rw (to_z-of_z f1, to_z-of_z f2) refl) (to_z-of_z rh ∙ c.higher-high.ensures ∙ rw (to_z-of_z g1, to_z-of_z g2) refl)
+if_range-returns t c = let f1 : SFits w32 c.int_range-t.result.low = search rules in let f2 : SFits w32 c.int_range-f.result.low = search rules in let g1 : SFits w32 c.int_range-t.result.high = search rules in let g2 : SFits w32 c.int_range-f.result.high = search rules in let rl : SFits w32 c.min.result = search rules in let rh : SFits w32 c.max.result = search rules in range_if c.args.set.now c.args.work.now c.args.at _ c.skip_members-c.ensures _ _ _ c.int_range-t.ensures _ _ _ _ _ c.int_range-f.ensures (to_z-of_z rl ∙ c.min.ensures.value ∙ rw (to_z-of_z f1, to_z-of_z f2) (lower_min c.int_range-t.result.low c.int_range-f.result.low)) (to_z-of_z rh ∙ c.max.ensures.value ∙ rw (to_z-of_z g1, to_z-of_z g2) (higher_max c.int_range-t.result.high c.int_range-f.result.high))
 
 pub int_range-number-code-requires : goal.int_range-number-code-requires
 int_range-number-code-requires t c = range_first_word c.args.set.now c.args.work.now c.args.at c.requires
@@ -101,35 +102,35 @@ int_range-terms_range-requires t c = let q = range_inside c.args.set.now c.args.
 pub int_range-returns : goal.int_range-returns
 int_range-returns t c = sum_range c.args.set.now c.args.work.now c.args.at _ c.number-code.ensures.0 _ c.number-v.ensures.0 c.if-code-eq20.false c.if-code-eq21.false c.if-code-eq23.false _ _ _ c.terms_range.ensures
 
-pub terms_range-loop-rest-init : goal.terms_range-loop-rest-init
-terms_range-loop-rest-init t c = (c.requires, omega arith, λ next' low' high' x. x)
+pub terms_range-loop-init : goal.terms_range-loop-init
+terms_range-loop-init t c = let e : c.args.n - 0 ≡ c.args.n = omega arith in rw e (c.requires, omega arith, λ next' low' high' x. x)
 
 pub terms_range-overflow_add-next : goal.terms_range-overflow_add-next
-terms_range-overflow_add-next t c = let q = ranges_inside _ _ _ _ _ _ c.loop-rest-test.true c.loop-rest.invariant.0 in search rules
+terms_range-overflow_add-next t c = let q = ranges_inside _ _ _ _ _ _ (omega (arith, c.loop-test.true)) c.loop.invariant.0 in search rules
 
 pub terms_range-int_range-r-requires : goal.terms_range-int_range-r-requires
-terms_range-int_range-r-requires t c = let q = ranges_inside _ _ _ _ _ _ c.loop-rest-test.true c.loop-rest.invariant.0 in (omega (arith, c.decreases, c.loop-rest.invariant.1), range_first _ _ _ _ _ _ c.loop-rest-test.true c.loop-rest.invariant.0)
+terms_range-int_range-r-requires t c = let q = ranges_inside _ _ _ _ _ _ (omega (arith, c.loop-test.true)) c.loop.invariant.0 in (omega (arith, c.decreases, c.loop.invariant.1), range_first _ _ _ _ _ _ (omega (arith, c.loop-test.true)) c.loop.invariant.0)
 
 pub terms_range-offset_bounds-set-next : goal.terms_range-offset_bounds-set-next
-terms_range-offset_bounds-set-next t c = let q = ranges_inside _ _ _ _ _ _ c.loop-rest-test.true c.loop-rest.invariant.0 in search rules
+terms_range-offset_bounds-set-next t c = let q = ranges_inside _ _ _ _ _ _ (omega (arith, c.loop-test.true)) c.loop.invariant.0 in search rules
 
 pub terms_range-bounds-set-next : goal.terms_range-bounds-set-next
-terms_range-bounds-set-next t c = let q = ranges_inside _ _ _ _ _ _ c.loop-rest-test.true c.loop-rest.invariant.0 in search rules
+terms_range-bounds-set-next t c = let q = ranges_inside _ _ _ _ _ _ (omega (arith, c.loop-test.true)) c.loop.invariant.0 in search rules
 
-pub terms_range-times_low-a-requires : goal.terms_range-times_low-a-requires
-terms_range-times_low-a-requires t c = let fk : SFits w32 (get_or c.args.set.now c.loop-rest.next (pos 0)) = sfits_of c.k-1.given in let fl : SFits w32 c.int_range-r.result.low = search rules in let fh : SFits w32 c.int_range-r.result.high = search rules in let q = ranges_next c.args.set.now c.args.work.now c.loop-rest.next c.loop-rest.rest (to_z w32 c.loop-rest.low-bits) (to_z w32 c.loop-rest.high-bits) c.loop-rest-test.true _ _ _ c.int_range-r.ensures (get_or c.args.set.now c.loop-rest.next (pos 0)) refl c.loop-rest.invariant.0 in rw (to_z-of_z fk, to_z-of_z fl, to_z-of_z fh) (q.0, q.1)
+pub terms_range-times_low-low-requires : goal.terms_range-times_low-low-requires
+terms_range-times_low-low-requires t c = let fk : SFits w32 (get_or c.args.set.now c.loop.next (pos 0)) = sfits_of c.k-1.given in let fl : SFits w32 c.int_range-r.result.low = search rules in let fh : SFits w32 c.int_range-r.result.high = search rules in let q = ranges_next c.args.set.now c.args.work.now c.loop.next (c.args.n - c.loop.counter) (to_z w32 c.loop.low-bits) (to_z w32 c.loop.high-bits) (omega (arith, c.loop-test.true)) _ _ _ c.int_range-r.ensures (get_or c.args.set.now c.loop.next (pos 0)) refl c.loop.invariant.0 in rw (to_z-of_z fk, to_z-of_z fl, to_z-of_z fh) (q.0, q.1)
 
-pub terms_range-times_low-b-requires : goal.terms_range-times_low-b-requires
-terms_range-times_low-b-requires t c = let fk : SFits w32 (get_or c.args.set.now c.loop-rest.next (pos 0)) = sfits_of c.k-1.given in let fl : SFits w32 c.int_range-r.result.low = search rules in let fh : SFits w32 c.int_range-r.result.high = search rules in let q = ranges_next c.args.set.now c.args.work.now c.loop-rest.next c.loop-rest.rest (to_z w32 c.loop-rest.low-bits) (to_z w32 c.loop-rest.high-bits) c.loop-rest-test.true _ _ _ c.int_range-r.ensures (get_or c.args.set.now c.loop-rest.next (pos 0)) refl c.loop-rest.invariant.0 in rw (to_z-of_z fk, to_z-of_z fl, to_z-of_z fh) (q.1, q.0)
+pub terms_range-times_low-high-requires : goal.terms_range-times_low-high-requires
+terms_range-times_low-high-requires t c = let fk : SFits w32 (get_or c.args.set.now c.loop.next (pos 0)) = sfits_of c.k-1.given in let fl : SFits w32 c.int_range-r.result.low = search rules in let fh : SFits w32 c.int_range-r.result.high = search rules in let q = ranges_next c.args.set.now c.args.work.now c.loop.next (c.args.n - c.loop.counter) (to_z w32 c.loop.low-bits) (to_z w32 c.loop.high-bits) (omega (arith, c.loop-test.true)) _ _ _ c.int_range-r.ensures (get_or c.args.set.now c.loop.next (pos 0)) refl c.loop.invariant.0 in rw (to_z-of_z fk, to_z-of_z fl, to_z-of_z fh) (q.1, q.0)
 
 pub terms_range-overflow_add-low : goal.terms_range-overflow_add-low
-terms_range-overflow_add-low t c = let fk : SFits w32 (get_or c.args.set.now c.loop-rest.next (pos 0)) = sfits_of c.k-1.given in let fl : SFits w32 c.int_range-r.result.low = search rules in let fh : SFits w32 c.int_range-r.result.high = search rules in let q = ranges_next c.args.set.now c.args.work.now c.loop-rest.next c.loop-rest.rest (to_z w32 c.loop-rest.low-bits) (to_z w32 c.loop-rest.high-bits) c.loop-rest-test.true _ _ _ c.int_range-r.ensures (get_or c.args.set.now c.loop-rest.next (pos 0)) refl c.loop-rest.invariant.0 in let ga : SFits w32 c.times_low-a.result = search rules in let gb : SFits w32 c.times_low-b.result = search rules in let pa : to_z w32 (of_z w32 c.times_low-a.result) ≡ times_low (get_or c.args.set.now c.loop-rest.next (pos 0)) c.int_range-r.result.low c.int_range-r.result.high = to_z-of_z ga ∙ c.times_low-a.ensures ∙ rw (to_z-of_z fk, to_z-of_z fl, to_z-of_z fh) refl in let pb : to_z w32 (of_z w32 c.times_low-b.result) ≡ times_low (get_or c.args.set.now c.loop-rest.next (pos 0)) c.int_range-r.result.high c.int_range-r.result.low = to_z-of_z gb ∙ c.times_low-b.ensures ∙ rw (to_z-of_z fk, to_z-of_z fl, to_z-of_z fh) refl in rw pa q.2
+terms_range-overflow_add-low t c = let fk : SFits w32 (get_or c.args.set.now c.loop.next (pos 0)) = sfits_of c.k-1.given in let fl : SFits w32 c.int_range-r.result.low = search rules in let fh : SFits w32 c.int_range-r.result.high = search rules in let q = ranges_next c.args.set.now c.args.work.now c.loop.next (c.args.n - c.loop.counter) (to_z w32 c.loop.low-bits) (to_z w32 c.loop.high-bits) (omega (arith, c.loop-test.true)) _ _ _ c.int_range-r.ensures (get_or c.args.set.now c.loop.next (pos 0)) refl c.loop.invariant.0 in let ga : SFits w32 c.times_low-low.result = search rules in let pa : to_z w32 (of_z w32 c.times_low-low.result) ≡ times_low (get_or c.args.set.now c.loop.next (pos 0)) c.int_range-r.result.low c.int_range-r.result.high = to_z-of_z ga ∙ c.times_low-low.ensures ∙ rw (to_z-of_z fk, to_z-of_z fl, to_z-of_z fh) refl in rw pa q.2
 
 pub terms_range-overflow_add-high : goal.terms_range-overflow_add-high
-terms_range-overflow_add-high t c = let fk : SFits w32 (get_or c.args.set.now c.loop-rest.next (pos 0)) = sfits_of c.k-1.given in let fl : SFits w32 c.int_range-r.result.low = search rules in let fh : SFits w32 c.int_range-r.result.high = search rules in let q = ranges_next c.args.set.now c.args.work.now c.loop-rest.next c.loop-rest.rest (to_z w32 c.loop-rest.low-bits) (to_z w32 c.loop-rest.high-bits) c.loop-rest-test.true _ _ _ c.int_range-r.ensures (get_or c.args.set.now c.loop-rest.next (pos 0)) refl c.loop-rest.invariant.0 in let ga : SFits w32 c.times_low-a.result = search rules in let gb : SFits w32 c.times_low-b.result = search rules in let pa : to_z w32 (of_z w32 c.times_low-a.result) ≡ times_low (get_or c.args.set.now c.loop-rest.next (pos 0)) c.int_range-r.result.low c.int_range-r.result.high = to_z-of_z ga ∙ c.times_low-a.ensures ∙ rw (to_z-of_z fk, to_z-of_z fl, to_z-of_z fh) refl in let pb : to_z w32 (of_z w32 c.times_low-b.result) ≡ times_low (get_or c.args.set.now c.loop-rest.next (pos 0)) c.int_range-r.result.high c.int_range-r.result.low = to_z-of_z gb ∙ c.times_low-b.ensures ∙ rw (to_z-of_z fk, to_z-of_z fl, to_z-of_z fh) refl in rw pb q.3
+terms_range-overflow_add-high t c = let fk : SFits w32 (get_or c.args.set.now c.loop.next (pos 0)) = sfits_of c.k-1.given in let fl : SFits w32 c.int_range-r.result.low = search rules in let fh : SFits w32 c.int_range-r.result.high = search rules in let q = ranges_next c.args.set.now c.args.work.now c.loop.next (c.args.n - c.loop.counter) (to_z w32 c.loop.low-bits) (to_z w32 c.loop.high-bits) (omega (arith, c.loop-test.true)) _ _ _ c.int_range-r.ensures (get_or c.args.set.now c.loop.next (pos 0)) refl c.loop.invariant.0 in let ga : SFits w32 c.times_low-low.result = search rules in let gb : SFits w32 c.times_low-high.result = search rules in let pa : to_z w32 (of_z w32 c.times_low-low.result) ≡ times_low (get_or c.args.set.now c.loop.next (pos 0)) c.int_range-r.result.low c.int_range-r.result.high = to_z-of_z ga ∙ c.times_low-low.ensures ∙ rw (to_z-of_z fk, to_z-of_z fl, to_z-of_z fh) refl in let pb : to_z w32 (of_z w32 c.times_low-high.result) ≡ times_low (get_or c.args.set.now c.loop.next (pos 0)) c.int_range-r.result.high c.int_range-r.result.low = to_z-of_z gb ∙ c.times_low-high.ensures ∙ rw (to_z-of_z fk, to_z-of_z fl, to_z-of_z fh) refl in rw pb q.3
 
-pub terms_range-loop-rest-preserved : goal.terms_range-loop-rest-preserved
-terms_range-loop-rest-preserved t c = let fk : SFits w32 (get_or c.args.set.now c.loop-rest.next (pos 0)) = sfits_of c.k-1.given in let fl : SFits w32 c.int_range-r.result.low = search rules in let fh : SFits w32 c.int_range-r.result.high = search rules in let q = ranges_next c.args.set.now c.args.work.now c.loop-rest.next c.loop-rest.rest (to_z w32 c.loop-rest.low-bits) (to_z w32 c.loop-rest.high-bits) c.loop-rest-test.true _ _ _ c.int_range-r.ensures (get_or c.args.set.now c.loop-rest.next (pos 0)) refl c.loop-rest.invariant.0 in let ga : SFits w32 c.times_low-a.result = search rules in let gb : SFits w32 c.times_low-b.result = search rules in let pa : to_z w32 (of_z w32 c.times_low-a.result) ≡ times_low (get_or c.args.set.now c.loop-rest.next (pos 0)) c.int_range-r.result.low c.int_range-r.result.high = to_z-of_z ga ∙ c.times_low-a.ensures ∙ rw (to_z-of_z fk, to_z-of_z fl, to_z-of_z fh) refl in let pb : to_z w32 (of_z w32 c.times_low-b.result) ≡ times_low (get_or c.args.set.now c.loop-rest.next (pos 0)) c.int_range-r.result.high c.int_range-r.result.low = to_z-of_z gb ∙ c.times_low-b.ensures ∙ rw (to_z-of_z fk, to_z-of_z fl, to_z-of_z fh) refl in rw (pa, pb, to_z-of_z q.2, to_z-of_z q.3) (q.4, omega (arith, q.5, c.loop-rest.invariant.1), λ next' low' high' x. c.loop-rest.invariant.2 next' low' high' (ranges_more c.args.set.now c.args.work.now c.loop-rest.next c.loop-rest.rest (to_z w32 c.loop-rest.low-bits) (to_z w32 c.loop-rest.high-bits) c.loop-rest-test.true _ _ _ c.int_range-r.ensures (get_or c.args.set.now c.loop-rest.next (pos 0)) refl next' low' high' x))
+pub terms_range-loop-preserved : goal.terms_range-loop-preserved
+terms_range-loop-preserved t c = let fk : SFits w32 (get_or c.args.set.now c.loop.next (pos 0)) = sfits_of c.k-1.given in let fl : SFits w32 c.int_range-r.result.low = search rules in let fh : SFits w32 c.int_range-r.result.high = search rules in let q = ranges_next c.args.set.now c.args.work.now c.loop.next (c.args.n - c.loop.counter) (to_z w32 c.loop.low-bits) (to_z w32 c.loop.high-bits) (omega (arith, c.loop-test.true)) _ _ _ c.int_range-r.ensures (get_or c.args.set.now c.loop.next (pos 0)) refl c.loop.invariant.0 in let ga : SFits w32 c.times_low-low.result = search rules in let gb : SFits w32 c.times_low-high.result = search rules in let pa : to_z w32 (of_z w32 c.times_low-low.result) ≡ times_low (get_or c.args.set.now c.loop.next (pos 0)) c.int_range-r.result.low c.int_range-r.result.high = to_z-of_z ga ∙ c.times_low-low.ensures ∙ rw (to_z-of_z fk, to_z-of_z fl, to_z-of_z fh) refl in let pb : to_z w32 (of_z w32 c.times_low-high.result) ≡ times_low (get_or c.args.set.now c.loop.next (pos 0)) c.int_range-r.result.high c.int_range-r.result.low = to_z-of_z gb ∙ c.times_low-high.ensures ∙ rw (to_z-of_z fk, to_z-of_z fl, to_z-of_z fh) refl in let e : c.args.n - (c.loop.counter + 1) ≡ c.args.n - c.loop.counter - 1 = omega arith in rw (e, pa, pb, to_z-of_z q.2, to_z-of_z q.3) (q.4, omega (arith, q.5, c.loop.invariant.1), λ next' low' high' x. c.loop.invariant.2 next' low' high' (ranges_more c.args.set.now c.args.work.now c.loop.next (c.args.n - c.loop.counter) (to_z w32 c.loop.low-bits) (to_z w32 c.loop.high-bits) (omega (arith, c.loop-test.true)) _ _ _ c.int_range-r.ensures (get_or c.args.set.now c.loop.next (pos 0)) refl next' low' high' x))
 
 pub terms_range-returns : goal.terms_range-returns
-terms_range-returns t c = c.loop-rest.invariant.2 _ _ _ (ranges_none _ _ _ _ _ _ c.loop-rest-test.false)
+terms_range-returns t c = c.loop.invariant.2 _ _ _ (ranges_none _ _ _ _ _ _ (omega (arith, c.loop-test.false)))

@@ -14,8 +14,5 @@ decreases-int_range l = 2 * (length l.set.now - l.at) + 1
 abbrev pub decreases-terms_range : goal.decreases-terms_range
 decreases-terms_range l = 2 * (length l.set.now - l.at) + 2
 
-abbrev pub invariant-terms_range-loop-rest : goal.invariant-terms_range-loop-rest
-invariant-terms_range-loop-rest l = ReadyRanges l.set l.work l.next l.rest l.low l.high × (l.at ≤ l.next) × ((next' : ℕ) (low' high' : ℤ) → RangesPost l.set l.work l.next l.rest l.low l.high next' low' high' → RangesPost l.set l.work l.at l.n (pos 0) (pos 0) next' low' high')
-
-abbrev pub decreases-terms_range-loop-rest : goal.decreases-terms_range-loop-rest
-decreases-terms_range-loop-rest l = l.rest
+abbrev pub invariant-terms_range-loop : goal.invariant-terms_range-loop
+invariant-terms_range-loop l = ReadyRanges l.set l.work l.next (l.n - l.counter) l.low l.high × (l.at ≤ l.next) × ((next' : ℕ) (low' high' : ℤ) → RangesPost l.set l.work l.next (l.n - l.counter) l.low l.high next' low' high' → RangesPost l.set l.work l.at l.n (pos 0) (pos 0) next' low' high')

@@ -1,6 +1,6 @@
 use borrow.Author.Rules.{rules}
 use Prim.Native.Nat.{◌+◌, ◌-◌}
-use mathlib.Core.Path.{refl}
+use mathlib.Core.Path.{◌≡◌, refl}
 use native.Mathlib.Omega.{arith}
 use lib.IntN.{pos}
 use lib.ListN.{get_or}
@@ -8,6 +8,8 @@ use mir.Syntax.{w32}
 use mir.Val.{SFits}
 use mir.Facts.{to_z-of_z}
 use borrow.Author.Rules.{sfits_of}
+use Rattle.accept.specs.Limit.{hit}
+use Rattle.accept.proofs.FirstLaws.{hit_most}
 use Rattle.accept.proofs.Laws.{int_first, int_inside, deep_inside, deep_if, deep_if_done, deep_second, deep_terms, deep_sum, if_rule, if_inside, if_left, if_right, if_branches, if_done, terms_none, term_ready, term_inside, rest_ready, terms_more, joined_under}
 use Rattle.accept.proofs.TestLaws.{pair_left, pair_inside, pair_right, pair_behind, pair_totals, pair_done}
 use Rattle.accept.proofs.RuleLaws.{bool_inside, bool_plain, step_leaf, list_plain, step_list, step_not, step_two, cmp_ready, step_cmp, rules_none, rule_first, rules_ready, rules_rest, rules_room}
@@ -29,7 +31,7 @@ pub comparison-compared-own-requires : goal.comparison-compared-own-requires
 comparison-compared-own-requires t c = let s = pair_behind c.args.set.now c.args.work.now c.args.at c.args.ni _ _ _ c.int_total-a.ensures c.requires.0 in (s.0, s.1, c.requires.1)
 
 pub comparison-returns : goal.comparison-returns
-comparison-returns t c = pair_done c.args.set.now c.args.work.now c.args.at c.args.ni _ _ _ c.int_total-a.ensures _ _ _ c.int_total-b.ensures _ _ _ c.compared-own.ensures c.smaller-inside.ensures c.smaller-refusal.ensures
+comparison-returns t c = pair_done c.args.set.now c.args.work.now c.args.at c.args.ni _ _ _ c.int_total-a.ensures _ _ _ c.int_total-b.ensures _ _ _ c.compared-own.ensures c.first-inside.ensures c.first-refusal.ensures
 
 pub deep_total-if_total-requires : goal.deep_total-if_total-requires
 deep_total-if_total-requires t c = (omega (arith, c.decreases), (deep_if c.args.set.now c.args.work.now c.args.at c.args.code c.args.ni c.requires.0 c.if-code-eq23.true, c.requires.1))
@@ -68,7 +70,7 @@ pub if_total-branches-b-requires : goal.if_total-branches-b-requires
 if_total-branches-b-requires t c = (if_branches c.args.set.now c.args.work.now c.args.at c.args.ni _ _ c.rules-c.ensures _ _ _ c.int_total-t.ensures _ _ _ c.int_total-f.ensures c.requires.0, c.requires.1)
 
 pub if_total-returns : goal.if_total-returns
-if_total-returns t c = if_done c.args.set.now c.args.work.now c.args.at c.args.ni _ _ c.rules-c.ensures _ _ _ c.int_total-t.ensures _ _ _ c.int_total-f.ensures _ _ _ _ _ _ c.branches-b.ensures c.larger-x.ensures c.larger-total.ensures c.smaller-y.ensures c.smaller-z.ensures c.smaller-refusal.ensures
+if_total-returns t c = if_done c.args.set.now c.args.work.now c.args.at c.args.ni _ _ c.rules-c.ensures _ _ _ c.int_total-t.ensures _ _ _ c.int_total-f.ensures _ _ _ _ _ _ c.branches-b.ensures c.max.ensures (omega (arith, c.max-total.ensures)) c.first-inside.ensures c.first.ensures c.first-refusal.ensures
 
 pub int_total-number-code-requires : goal.int_total-number-code-requires
 int_total-number-code-requires t c = int_first c.args.set.now c.args.work.now c.args.at c.args.ni c.requires.0
@@ -131,7 +133,7 @@ pub rule_step-returns : goal.rule_step-returns
 rule_step-returns t c = step_cmp c.args.set.now c.args.work.now c.args.at c.args.ni _ c.number-code.ensures.0 (λ l. omega (arith, l, c.if-code-lt18.false)) _ _ c.comparison-t.ensures
 
 pub rules-loop-rest-init : goal.rules-loop-rest-init
-rules-loop-rest-init t c = (c.requires.0, omega arith, omega arith, λ y r x. x)
+rules-loop-rest-init t c = (c.requires.0, omega arith, λ y r x. x)
 
 pub rules-rule_step-s-requires : goal.rules-rule_step-s-requires
 rules-rule_step-s-requires t c = (omega (arith, c.decreases, c.loop-rest.invariant.1), (rule_first c.args.set.now c.args.work.now c.loop-rest.next c.loop-rest.rest c.args.ni c.loop-rest-test.true c.loop-rest.invariant.0, c.requires.1))
@@ -143,31 +145,31 @@ pub rules-loop-rest-smaller : goal.rules-loop-rest-smaller
 rules-loop-rest-smaller t c = let q = (rules_ready c.args.set.now c.args.work.now c.loop-rest.next c.loop-rest.rest c.args.ni c.loop-rest-test.true _ _ _ c.rule_step-s.ensures c.loop-rest.invariant.0).1 in let p = bool_inside c.args.set.now c.args.work.now c.loop-rest.next c.args.ni (rule_first c.args.set.now c.args.work.now c.loop-rest.next c.loop-rest.rest c.args.ni c.loop-rest-test.true c.loop-rest.invariant.0) in omega (arith, q, p)
 
 pub rules-loop-rest-preserved : goal.rules-loop-rest-preserved
-rules-loop-rest-preserved t c = let q = rules_ready c.args.set.now c.args.work.now c.loop-rest.next c.loop-rest.rest c.args.ni c.loop-rest-test.true _ _ _ c.rule_step-s.ensures c.loop-rest.invariant.0 in (q.0, omega (arith, q.1, c.loop-rest.invariant.1), omega (arith, c.smaller-refusal.ensures, c.loop-rest.invariant.2), λ y r x. c.loop-rest.invariant.3 y r (rules_rest c.args.set.now c.args.work.now c.loop-rest.next c.loop-rest.rest c.args.ni c.loop-rest-test.true _ _ _ c.rule_step-s.ensures c.loop-rest.refusal _ y r c.smaller-refusal.ensures x))
+rules-loop-rest-preserved t c = let q = rules_ready c.args.set.now c.args.work.now c.loop-rest.next c.loop-rest.rest c.args.ni c.loop-rest-test.true _ _ _ c.rule_step-s.ensures c.loop-rest.invariant.0 in (q.0, omega (arith, q.1, c.loop-rest.invariant.1), λ y r x. c.loop-rest.invariant.2 y r (rules_rest c.args.set.now c.args.work.now c.loop-rest.next c.loop-rest.rest c.args.ni c.loop-rest-test.true _ _ _ c.rule_step-s.ensures (hit c.loop-rest.refusal) _ y r c.first-refusal.ensures x))
 
 pub rules-returns : goal.rules-returns
-rules-returns t c = c.loop-rest.invariant.3 _ _ (rules_none c.args.set.now c.args.work.now c.loop-rest.next c.loop-rest.rest c.args.ni c.loop-rest.refusal c.loop-rest-test.false c.loop-rest.invariant.2)
+rules-returns t c = c.loop-rest.invariant.2 _ _ (rules_none c.args.set.now c.args.work.now c.loop-rest.next c.loop-rest.rest c.args.ni (hit c.loop-rest.refusal) c.loop-rest-test.false (hit_most c.loop-rest.refusal))
 
-pub terms_total-loop-left-init : goal.terms_total-loop-left-init
-terms_total-loop-left-init t c = (c.requires.0, omega arith, omega arith, omega arith, λ y t k x. x)
+pub terms_total-loop-init : goal.terms_total-loop-init
+terms_total-loop-init t c = let e : c.args.terms - 0 ≡ c.args.terms = omega arith in rw e (c.requires.0, omega arith, omega arith, λ y t k x. x)
 
 pub terms_total-overflow_add-next : goal.terms_total-overflow_add-next
-terms_total-overflow_add-next t c = let q = term_inside c.args.set.now c.args.work.now c.loop-left.next c.loop-left.left c.args.ni c.loop-left-test.true c.loop-left.invariant.0 in omega (arith, q, c.well_formed.0.0)
+terms_total-overflow_add-next t c = let q = term_inside c.args.set.now c.args.work.now c.loop.next (c.args.terms - c.loop.counter) c.args.ni (omega (arith, c.loop-test.true)) c.loop.invariant.0 in omega (arith, q, c.well_formed.0.0)
 
 pub terms_total-int_total-t-requires : goal.terms_total-int_total-t-requires
-terms_total-int_total-t-requires t c = let q = term_inside c.args.set.now c.args.work.now c.loop-left.next c.loop-left.left c.args.ni c.loop-left-test.true c.loop-left.invariant.0 in (omega (arith, c.decreases, c.loop-left.invariant.1, q), (term_ready c.args.set.now c.args.work.now c.loop-left.next c.loop-left.left c.args.ni c.loop-left-test.true c.loop-left.invariant.0, c.requires.1))
+terms_total-int_total-t-requires t c = let q = term_inside c.args.set.now c.args.work.now c.loop.next (c.args.terms - c.loop.counter) c.args.ni (omega (arith, c.loop-test.true)) c.loop.invariant.0 in (omega (arith, c.decreases, c.loop.invariant.1, q), (term_ready c.args.set.now c.args.work.now c.loop.next (c.args.terms - c.loop.counter) c.args.ni (omega (arith, c.loop-test.true)) c.loop.invariant.0, c.requires.1))
 
 pub terms_total-offset_bounds-set-next : goal.terms_total-offset_bounds-set-next
-terms_total-offset_bounds-set-next t c = let q = term_inside c.args.set.now c.args.work.now c.loop-left.next c.loop-left.left c.args.ni c.loop-left-test.true c.loop-left.invariant.0 in search rules
+terms_total-offset_bounds-set-next t c = let q = term_inside c.args.set.now c.args.work.now c.loop.next (c.args.terms - c.loop.counter) c.args.ni (omega (arith, c.loop-test.true)) c.loop.invariant.0 in search rules
 
 pub terms_total-bounds-set-next : goal.terms_total-bounds-set-next
-terms_total-bounds-set-next t c = let q = term_inside c.args.set.now c.args.work.now c.loop-left.next c.loop-left.left c.args.ni c.loop-left-test.true c.loop-left.invariant.0 in search rules
+terms_total-bounds-set-next t c = let q = term_inside c.args.set.now c.args.work.now c.loop.next (c.args.terms - c.loop.counter) c.args.ni (omega (arith, c.loop-test.true)) c.loop.invariant.0 in search rules
 
 pub terms_total-add_term-total-requires : goal.terms_total-add_term-total-requires
-terms_total-add_term-total-requires t c = ((rest_ready c.args.set.now c.args.work.now c.loop-left.next c.loop-left.left c.args.ni c.loop-left-test.true _ _ _ c.int_total-t.ensures c.loop-left.invariant.0).2, c.loop-left.invariant.2)
+terms_total-add_term-total-requires t c = ((rest_ready c.args.set.now c.args.work.now c.loop.next (c.args.terms - c.loop.counter) c.args.ni (omega (arith, c.loop-test.true)) _ _ _ c.int_total-t.ensures c.loop.invariant.0).2, c.loop.invariant.2)
 
-pub terms_total-loop-left-preserved : goal.terms_total-loop-left-preserved
-terms_total-loop-left-preserved t c = let r = rest_ready c.args.set.now c.args.work.now c.loop-left.next c.loop-left.left c.args.ni c.loop-left-test.true _ _ _ c.int_total-t.ensures c.loop-left.invariant.0 in let f : SFits w32 (get_or c.args.set.now c.loop-left.next (pos 0)) = sfits_of c.k-1.given in let s = rw (to_z-of_z f) at c.add_term-total.ensures in (r.0, omega (arith, r.1, c.loop-left.invariant.1), joined_under _ _ _ s, omega (arith, c.smaller-refusal.ensures, c.loop-left.invariant.3), λ y t k x. c.loop-left.invariant.4 y t k (terms_more c.args.set.now c.args.work.now c.loop-left.next c.loop-left.left c.args.ni c.loop-left-test.true _ _ _ c.int_total-t.ensures _ c.loop-left.total _ c.loop-left.refusal _ y t k refl s c.smaller-refusal.ensures x))
+pub terms_total-loop-preserved : goal.terms_total-loop-preserved
+terms_total-loop-preserved t c = let r = rest_ready c.args.set.now c.args.work.now c.loop.next (c.args.terms - c.loop.counter) c.args.ni (omega (arith, c.loop-test.true)) _ _ _ c.int_total-t.ensures c.loop.invariant.0 in let f : SFits w32 (get_or c.args.set.now c.loop.next (pos 0)) = sfits_of c.k-1.given in let s = rw (to_z-of_z f) at c.add_term-total.ensures in let e : c.args.terms - (c.loop.counter + 1) ≡ c.args.terms - c.loop.counter - 1 = omega arith in rw e (r.0, omega (arith, r.1, c.loop.invariant.1), joined_under _ _ _ s, λ y t k x. c.loop.invariant.3 y t k (terms_more c.args.set.now c.args.work.now c.loop.next (c.args.terms - c.loop.counter) c.args.ni (omega (arith, c.loop-test.true)) _ _ _ c.int_total-t.ensures _ c.loop.total _ (hit c.loop.refusal) _ y t k refl s c.first-refusal.ensures x))
 
 pub terms_total-returns : goal.terms_total-returns
-terms_total-returns t c = c.loop-left.invariant.4 _ _ _ (terms_none c.args.set.now c.args.work.now c.loop-left.next c.loop-left.left c.args.ni c.loop-left.total c.loop-left.refusal c.loop-left.invariant.2 c.loop-left.invariant.3 c.loop-left-test.false)
+terms_total-returns t c = c.loop.invariant.3 _ _ _ (terms_none c.args.set.now c.args.work.now c.loop.next (c.args.terms - c.loop.counter) c.args.ni c.loop.total (hit c.loop.refusal) c.loop.invariant.2 (hit_most c.loop.refusal) (omega (arith, c.loop-test.false)))

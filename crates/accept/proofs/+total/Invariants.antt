@@ -2,6 +2,7 @@ use Prim.Native.Nat.{ℕ}
 use Prim.Native.Nat.{◌+◌, ◌-◌, ◌*◌, ◌≤◌}
 use lib.ListN.{length}
 use Rattle.limits.specs.Total.{cap}
+use Rattle.accept.specs.Limit.{hit}
 use Rattle.accept.specs.Walk.{ReadyTerms, TermsPost, ReadyBools, BoolsPost}
 use Rattle.accept.proofs.+total.Given as goal
 
@@ -27,13 +28,10 @@ abbrev pub decreases-terms_total : goal.decreases-terms_total
 decreases-terms_total l = 3 * (length l.set.now - l.at)
 
 abbrev pub invariant-rules-loop-rest : goal.invariant-rules-loop-rest
-invariant-rules-loop-rest l = ReadyBools l.set l.work l.next l.rest l.ni × (l.at ≤ l.next) × (l.refusal ≤ 12) × ((y r : ℕ) → BoolsPost l.set l.work l.next l.rest l.ni l.refusal y r → BoolsPost l.set l.work l.at l.n l.ni 12 y r)
+invariant-rules-loop-rest l = ReadyBools l.set l.work l.next l.rest l.ni × (l.at ≤ l.next) × ((y r : ℕ) → BoolsPost l.set l.work l.next l.rest l.ni (hit l.refusal) y r → BoolsPost l.set l.work l.at l.n l.ni 12 y r)
 
 abbrev pub decreases-rules-loop-rest : goal.decreases-rules-loop-rest
 decreases-rules-loop-rest l = length l.set - l.next
 
-abbrev pub invariant-terms_total-loop-left : goal.invariant-terms_total-loop-left
-invariant-terms_total-loop-left l = ReadyTerms l.set l.work l.next l.left l.ni × (l.at ≤ l.next) × (l.total ≤ cap) × (l.refusal ≤ 12) × ((y t k : ℕ) → TermsPost l.set l.work l.next l.left l.ni l.total l.refusal y t k → TermsPost l.set l.work l.at l.n l.ni 0 12 y t k)
-
-abbrev pub decreases-terms_total-loop-left : goal.decreases-terms_total-loop-left
-decreases-terms_total-loop-left l = l.left
+abbrev pub invariant-terms_total-loop : goal.invariant-terms_total-loop
+invariant-terms_total-loop l = ReadyTerms l.set l.work l.next (l.terms - l.counter) l.ni × (l.at ≤ l.next) × (l.total ≤ cap) × ((y t k : ℕ) → TermsPost l.set l.work l.next (l.terms - l.counter) l.ni l.total (hit l.refusal) y t k → TermsPost l.set l.work l.at l.terms l.ni 0 12 y t k)

@@ -12,4 +12,4 @@ pub root-own-requires : goal.root-own-requires
 root-own-requires c = ((column_root c.args.set.now c.args.work.now c.args.at c.args.ni _ _ _ c.int_total-a.ensures c.requires.0).0, c.requires.1)
 
 pub returns : goal.returns
-returns c = column_done c.args.set.now c.args.work.now c.args.at c.args.ni _ _ _ c.int_total-a.ensures _ _ c.root-own.ensures c.smaller-refusal.ensures
+returns c = column_done c.args.set.now c.args.work.now c.args.at c.args.ni _ _ _ c.int_total-a.ensures _ _ c.root-own.ensures c.first-refusal.ensures

@@ -1,15 +1,19 @@
+use mathlib.Core.Path.{◌≡◌}
+use Prim.Native.Nat.{◌+◌, ◌-◌}
 use native.Mathlib.Omega.{arith}
 use Rattle.accept.proofs.TestLaws.{columns_none, column_first, columns_ready, columns_rest}
+use Rattle.accept.specs.Limit.{hit}
+use Rattle.accept.proofs.FirstLaws.{hit_most}
 use Rattle.accept.proofs.columns.Goals as goal
 
-pub loop-rest-init : goal.loop-rest-init
-loop-rest-init c = (c.requires.0, omega arith, λ y r x. x)
+pub loop-init : goal.loop-init
+loop-init c = let e : c.args.n - 0 ≡ c.args.n = omega arith in rw e (c.requires.0, λ y r x. x)
 
 pub column-t-requires : goal.column-t-requires
-column-t-requires c = (column_first c.args.set.now c.args.work.now c.loop-rest.next c.loop-rest.rest c.args.ni c.loop-rest-test.true c.loop-rest.invariant.0, c.requires.1)
+column-t-requires c = (column_first c.args.set.now c.args.work.now c.loop.next (c.args.n - c.loop.counter) c.args.ni (omega (arith, c.loop-test.true)) c.loop.invariant.0, c.requires.1)
 
-pub loop-rest-preserved : goal.loop-rest-preserved
-loop-rest-preserved c = (columns_ready c.args.set.now c.args.work.now c.loop-rest.next c.loop-rest.rest c.args.ni c.loop-rest-test.true _ _ c.column-t.ensures c.loop-rest.invariant.0, omega (arith, c.smaller-refusal.ensures, c.loop-rest.invariant.1), λ y r x. c.loop-rest.invariant.2 y r (columns_rest c.args.set.now c.args.work.now c.loop-rest.next c.loop-rest.rest c.args.ni c.loop-rest-test.true _ _ c.column-t.ensures c.loop-rest.refusal _ y r c.smaller-refusal.ensures x))
+pub loop-preserved : goal.loop-preserved
+loop-preserved c = let e : c.args.n - (c.loop.counter + 1) ≡ c.args.n - c.loop.counter - 1 = omega arith in rw e ((columns_ready c.args.set.now c.args.work.now c.loop.next (c.args.n - c.loop.counter) c.args.ni (omega (arith, c.loop-test.true)) _ _ c.column-t.ensures c.loop.invariant.0, λ y r x. c.loop.invariant.1 y r (columns_rest c.args.set.now c.args.work.now c.loop.next (c.args.n - c.loop.counter) c.args.ni (omega (arith, c.loop-test.true)) _ _ c.column-t.ensures (hit c.loop.refusal) _ y r c.first-refusal.ensures x)))
 
 pub returns : goal.returns
-returns c = c.loop-rest.invariant.2 _ _ (columns_none c.args.set.now c.args.work.now c.loop-rest.next c.loop-rest.rest c.args.ni c.loop-rest.refusal c.loop-rest-test.false c.loop-rest.invariant.1)
+returns c = c.loop.invariant.1 _ _ (columns_none c.args.set.now c.args.work.now c.loop.next (c.args.n - c.loop.counter) c.args.ni (hit c.loop.refusal) (omega (arith, c.loop-test.false)) (hit_most c.loop.refusal))

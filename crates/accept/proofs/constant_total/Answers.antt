@@ -6,4 +6,4 @@ use Rattle.accept.proofs.constant_total.Goals as goal
 
 pub returns : goal.returns
 unfolding constant_total
-returns c = c.capped.ensures ∙ ap (λ n. min n cap) (c.size-n.ensures ∙ rw (to_z-of_z c.ranges.w) refl)
+returns c = c.min.ensures ∙ ap (λ n. min n cap) (c.unsigned_abs.ensures.value ∙ rw (to_z-of_z c.ranges.w) refl)

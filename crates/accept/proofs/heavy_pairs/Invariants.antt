@@ -1,11 +1,9 @@
 use mathlib.Core.Bool.{Bool, false}
-use Prim.Native.Nat.{ℕ, ◌≤◌}
+use Prim.Native.Nat.{ℕ, ◌≤◌, ◌-◌}
 use Rattle.limits.specs.Total.{cap}
+use Rattle.accept.specs.Limit.{hit}
 use Rattle.accept.specs.Walk.{ReadyColumns, OverPost}
 use Rattle.accept.proofs.heavy_pairs.Given as goal
 
-abbrev pub invariant-loop-rest : goal.invariant-loop-rest
-invariant-loop-rest l = ReadyColumns l.set l.work l.next l.rest l.ni × (l.top ≤ cap) × (l.refusal ≤ 12) × ((y : ℕ) (r : Bool) (k : ℕ) → OverPost l.set l.work l.next l.rest l.ni l.top l.hit l.refusal y r k → OverPost l.set l.work l.at l.n l.ni 0 false 12 y r k)
-
-abbrev pub decreases-loop-rest : goal.decreases-loop-rest
-decreases-loop-rest l = l.rest
+abbrev pub invariant-loop : goal.invariant-loop
+invariant-loop l = ReadyColumns l.set l.work l.next (l.n - l.counter) l.ni × (l.top ≤ cap) × ((y : ℕ) (r : Bool) (k : ℕ) → OverPost l.set l.work l.next (l.n - l.counter) l.ni l.top l.heavy (hit l.refusal) y r k → OverPost l.set l.work l.at l.n l.ni 0 false 12 y r k)

@@ -12,10 +12,10 @@ pub many_among-requires : goal.many_among-requires
 many_among-requires c = (beside_before c.args.set.now c.args.a c.args.end c.args.at c.args.k c.args.n c.args.ni c.requires.0, c.requires.1)
 
 pub returns-then-many_among : goal.returns-then-many_among
-returns-then-many_among c = beside_hit c.args.set.now c.args.a c.args.end c.args.at c.args.k c.args.n c.args.ni c.if-words-lt64.false _ c.many_among.ensures c.if-many_among.true
+returns-then-many_among c = rw c.if-many_among.true (beside_hit c.args.set.now c.args.a c.args.end c.args.at c.args.k c.args.n c.args.ni c.if-words-lt64.false _ c.many_among.ensures c.if-many_among.true)
 
-pub many_among-requires-2 : goal.many_among-requires-2
-many_among-requires-2 c = (beside_after c.args.set.now c.args.a c.args.end c.args.at c.args.k c.args.n c.args.ni c.requires.0, c.requires.1)
+pub many_among-requires-else-many_among : goal.many_among-requires-else-many_among
+many_among-requires-else-many_among c = (beside_after c.args.set.now c.args.a c.args.end c.args.at c.args.k c.args.n c.args.ni c.requires.0, c.requires.1)
 
-pub returns : goal.returns
-returns c = beside_rest c.args.set.now c.args.a c.args.end c.args.at c.args.k c.args.n c.args.ni c.if-words-lt64.false _ c.many_among.ensures c.if-many_among.false _ c.many_among-2.ensures
+pub returns-else-many_among : goal.returns-else-many_among
+returns-else-many_among c = beside_rest c.args.set.now c.args.a c.args.end c.args.at c.args.k c.args.n c.args.ni c.if-words-lt64.false _ c.many_among.ensures c.if-many_among.false _ c.many_among-else-many_among.ensures

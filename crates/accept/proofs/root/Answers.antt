@@ -20,7 +20,7 @@ pub int_range-r-requires : goal.int_range-r-requires
 int_range-r-requires c = root_ready c.args.set.now c.args.work.now c.args.at c.args.words c.args.total c.args.ni c.if-total-gt1073741823.false c.requires.0
 
 pub returns-then-d-gt4095 : goal.returns-then-d-gt4095
-returns-then-d-gt4095 c = let f : SFits w32 c.int_range-r.result.low = search rules in let g : SFits w32 c.int_range-r.result.high = search rules in let d : c.distance-d.result ≡ nat_abs (c.int_range-r.result.high -ℤ c.int_range-r.result.low) = c.distance-d.ensures ∙ rw (to_z-of_z f, to_z-of_z g) refl in root_wide c.args.set.now c.args.work.now c.args.at c.args.words c.args.total c.args.ni c.if-total-gt1073741823.false _ c.many_column.ensures c.if-many_column.false _ _ _ c.int_range-r.ensures _ d c.if-d-gt4095.true
+returns-then-d-gt4095 c = let f : SFits w32 c.int_range-r.result.low = search rules in let g : SFits w32 c.int_range-r.result.high = search rules in let d : c.abs_diff-d.result ≡ nat_abs (c.int_range-r.result.high -ℤ c.int_range-r.result.low) = c.abs_diff-d.ensures ∙ rw (to_z-of_z f, to_z-of_z g) refl in root_wide c.args.set.now c.args.work.now c.args.at c.args.words c.args.total c.args.ni c.if-total-gt1073741823.false _ c.many_column.ensures c.if-many_column.false _ _ _ c.int_range-r.ensures _ d c.if-d-gt4095.true
 
 pub returns : goal.returns
-returns c = let f : SFits w32 c.int_range-r.result.low = search rules in let g : SFits w32 c.int_range-r.result.high = search rules in let d : c.distance-d.result ≡ nat_abs (c.int_range-r.result.high -ℤ c.int_range-r.result.low) = c.distance-d.ensures ∙ rw (to_z-of_z f, to_z-of_z g) refl in root_none c.args.set.now c.args.work.now c.args.at c.args.words c.args.total c.args.ni c.if-total-gt1073741823.false _ c.many_column.ensures c.if-many_column.false _ _ _ c.int_range-r.ensures _ d c.if-d-gt4095.false
+returns c = let f : SFits w32 c.int_range-r.result.low = search rules in let g : SFits w32 c.int_range-r.result.high = search rules in let d : c.abs_diff-d.result ≡ nat_abs (c.int_range-r.result.high -ℤ c.int_range-r.result.low) = c.abs_diff-d.ensures ∙ rw (to_z-of_z f, to_z-of_z g) refl in root_none c.args.set.now c.args.work.now c.args.at c.args.words c.args.total c.args.ni c.if-total-gt1073741823.false _ c.many_column.ensures c.if-many_column.false _ _ _ c.int_range-r.ensures _ d c.if-d-gt4095.false

@@ -1,46 +1,19 @@
+use mathlib.Core.Path.{◌≡◌, ap, ◌∙◌}
+use Prim.Native.Nat.{◌-◌}
 use lib.IntN.{pos}
-use lib.ListN.{get_or}
-use Prim.Native.Nat.{◌+◌}
+use lib.ListN.{length, get_or}
 use mir.Syntax.{w32}
 use mir.Val.{SFits}
 use mir.Facts.{to_z-of_z}
-use borrow.Author.Rules.{rules, sfits_of}
-use Rattle.domains.proofs.Laws.{kind_plain, range_fits, count_plain, enum_fits, domain_inside, range_high, enum_high}
 use borrow.Author.Rules.{rules}
+use Rattle.std.specs.Option.{unwrap_or}
+use Rattle.std.proofs.lemmas.Option.{unwrap_or-slice_get}
+use Rattle.domains.proofs.Laws.{last_is}
 use Rattle.domains.proofs.upper_bound.Goals as goal
 
-pub number-kind-requires : goal.number-kind-requires
-number-kind-requires c = kind_plain _ _ c.requires
-
-pub overflow_add-high : goal.overflow_add-high
-overflow_add-high c = let q = range_fits _ _ _ c.number-kind.ensures.0 c.requires c.if-kind-eq0.true in search rules
-
-pub offset_bounds-words-at : goal.offset_bounds-words-at
-offset_bounds-words-at c = let q = range_fits _ _ _ c.number-kind.ensures.0 c.requires c.if-kind-eq0.true in search rules
-
-pub bounds-words-at : goal.bounds-words-at
-bounds-words-at c = let q = range_fits _ _ _ c.number-kind.ensures.0 c.requires c.if-kind-eq0.true in search rules
-
-pub returns-then-kind-eq0 : goal.returns-then-kind-eq0
-returns-then-kind-eq0 c = let f : SFits w32 (get_or c.args.words.now (c.args.at + 2) (pos 0)) = sfits_of c.high-1.given in rw (to_z-of_z f) (range_high c.args.words.now c.args.at _ c.number-kind.ensures.0 c.if-kind-eq0.true)
-
-pub overflow_add-at : goal.overflow_add-at
-overflow_add-at c = let q = domain_inside _ _ c.requires in search rules
-
-pub number-n-requires : goal.number-n-requires
-number-n-requires c = count_plain _ _ _ c.number-kind.ensures.0 c.requires c.if-kind-eq0.false
-
-pub overflow_add-high-2 : goal.overflow_add-high-2
-overflow_add-high-2 c = let q = enum_fits _ _ _ c.number-kind.ensures.0 _ c.number-n.ensures.0 c.requires c.if-kind-eq0.false in search rules
-
-pub overflow_add-high-3 : goal.overflow_add-high-3
-overflow_add-high-3 c = let q = enum_fits _ _ _ c.number-kind.ensures.0 _ c.number-n.ensures.0 c.requires c.if-kind-eq0.false in search rules
-
-pub offset_bounds-words-at-2 : goal.offset_bounds-words-at-2
-offset_bounds-words-at-2 c = let q = enum_fits _ _ _ c.number-kind.ensures.0 _ c.number-n.ensures.0 c.requires c.if-kind-eq0.false in search rules
-
-pub bounds-words-at-2 : goal.bounds-words-at-2
-bounds-words-at-2 c = let q = enum_fits _ _ _ c.number-kind.ensures.0 _ c.number-n.ensures.0 c.requires c.if-kind-eq0.false in search rules
-
-pub returns : goal.returns
-returns c = let f : SFits w32 (get_or c.args.words.now (c.args.at + 1 + c.number-n.result) (pos 0)) = sfits_of c.high-2-1.given in rw (to_z-of_z f) (enum_high c.args.words.now c.args.at _ c.number-kind.ensures.0 _ c.number-n.ensures.0 c.if-kind-eq0.false)
+pub returns-in-Enumerative : goal.returns-in-Enumerative
+returns-in-Enumerative c = λ dm h.
+    let v = c.in-Enumerative.values.now in
+    let f : SFits w32 c.unwrap_or.result = search rules in
+    let e : c.unwrap_or.result ≡ get_or v (length v - 1) (pos 0) = c.unwrap_or.ensures ∙ ap (λ o. unwrap_or o (pos 0)) (c.copied.ensures ∙ c.last.ensures.value) ∙ unwrap_or-slice_get v _ _ in
+    rw (← c.in-Enumerative.ensures dm h) (to_z-of_z f ∙ e ∙ last_is v)

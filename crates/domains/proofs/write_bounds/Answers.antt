@@ -1,50 +1,29 @@
 use native.Mathlib.Omega.{arith}
-use mathlib.Core.Path.{refl, ◌∙◌}
+use mathlib.Core.Path.{◌≡◌, ◌∙◌}
 use lib.ListN.{set, length-set}
 use mir.Syntax.{w32}
-use mir.Val.{SFits, of_z, to_z}
-use Prim.Native.Nat.{◌+◌}
+use mir.Val.{SFits}
+use Prim.Native.Nat.{◌+◌, ◌-◌}
 use mir.Facts.{to_z-of_z}
 use Rattle.domains.proofs.Laws.{bounds_first, bounds_rest, bounds_more, bounds_none}
 use borrow.Author.Rules.{rules}
 use Rattle.domains.proofs.write_bounds.Goals as goal
 
-pub loop-rest-init : goal.loop-rest-init
-loop-rest-init c = (c.requires, refl, λ out r x. x)
+pub lower_bound-requires : goal.lower_bound-requires
+lower_bound-requires c = bounds_first _ _ (c.args.n - c.loop.counter) (omega arith) _ _ c.loop.invariant.0
 
-pub lower_bound-low-requires : goal.lower_bound-low-requires
-lower_bound-low-requires c = bounds_first _ _ _ c.loop-rest-test.true _ _ c.loop-rest.invariant.0
-
-pub upper_bound-high-requires : goal.upper_bound-high-requires
-upper_bound-high-requires c = bounds_first _ _ _ c.loop-rest-test.true _ _ c.loop-rest.invariant.0
-
-pub offset_bounds-work-p : goal.offset_bounds-work-p
-offset_bounds-work-p c = let q = c.loop-rest.invariant.0.room in let z = c.loop-rest-test.true in search rules
-
-pub bounds-work-p : goal.bounds-work-p
-bounds-work-p c = let q = c.loop-rest.invariant.0.room in let z = c.loop-rest-test.true in search rules
-
-pub overflow_add-high : goal.overflow_add-high
-overflow_add-high c = let q = c.loop-rest.invariant.0.room in let z = c.loop-rest-test.true in search rules
-
-pub offset_bounds-work-p-in-loop-rest : goal.offset_bounds-work-p-in-loop-rest
-offset_bounds-work-p-in-loop-rest c = let q = c.loop-rest.invariant.0.room in let z = c.loop-rest-test.true in search rules
-
-pub bounds-work-p-in-loop-rest : goal.bounds-work-p-in-loop-rest
-bounds-work-p-in-loop-rest c = let q = c.loop-rest.invariant.0.room in let z = c.loop-rest-test.true in let l = length-set c.loop-rest.work c.loop-rest.p (to_z w32 (of_z w32 c.lower_bound-low.result)) in omega (arith, l)
+pub upper_bound-requires : goal.upper_bound-requires
+upper_bound-requires c = bounds_first _ _ (c.args.n - c.loop.counter) (omega arith) _ _ c.loop.invariant.0
 
 pub domain_end-at-requires : goal.domain_end-at-requires
-domain_end-at-requires c = bounds_first _ _ _ c.loop-rest-test.true _ _ c.loop-rest.invariant.0
+domain_end-at-requires c = bounds_first _ _ (c.args.n - c.loop.counter) (omega arith) _ _ c.loop.invariant.0
 
-pub overflow_add-p : goal.overflow_add-p
-overflow_add-p c = let q = c.loop-rest.invariant.0.room in let z = c.loop-rest-test.true in search rules
-
-pub loop-rest-preserved : goal.loop-rest-preserved
-loop-rest-preserved c = let f : SFits w32 c.lower_bound-low.result = search rules in let g : SFits w32 c.upper_bound-high.result = search rules in
-    (bounds_rest _ _ _ c.loop-rest-test.true _ c.domain_end-at.ensures _ _ _ _ c.loop-rest.invariant.0, length-set (set c.loop-rest.work c.loop-rest.p _) (c.loop-rest.p + 1) _ ∙ length-set c.loop-rest.work c.loop-rest.p _ ∙ c.loop-rest.invariant.1, λ out r x. c.loop-rest.invariant.2 out r (bounds_more _ _ _ c.loop-rest-test.true _ c.domain_end-at.ensures _ _ _ _ (λ dm h. to_z-of_z f ∙ c.lower_bound-low.ensures dm h) (λ dm h. to_z-of_z g ∙ c.upper_bound-high.ensures dm h) out r x))
-
-pub shape_of-work : goal.shape_of-work
-shape_of-work c = c.loop-rest.invariant.1
+pub loop-preserved : goal.loop-preserved
+loop-preserved c =
+    let e : c.args.n - (c.loop.counter + 1) ≡ c.args.n - c.loop.counter - 1 = omega arith in
+    let f : SFits w32 c.lower_bound.result = search rules in
+    let g : SFits w32 c.upper_bound.result = search rules in
+    rw e (bounds_rest _ _ _ (omega arith) _ c.domain_end-at.ensures _ _ _ _ c.loop.invariant.0, length-set (set c.loop.work c.loop.p _) (c.loop.p + 1) _ ∙ length-set c.loop.work c.loop.p _ ∙ c.loop.invariant.1, λ out r x. c.loop.invariant.2 out r (bounds_more _ _ _ (omega arith) _ c.domain_end-at.ensures _ _ _ _ (λ dm h. to_z-of_z f ∙ c.lower_bound.ensures dm h) (λ dm h. to_z-of_z g ∙ c.upper_bound.ensures dm h) out r x))
 
 pub returns : goal.returns
-returns c = c.loop-rest.invariant.2 _ _ (bounds_none _ _ _ _ _ c.loop-rest-test.false)
+returns c = c.loop.invariant.2 _ _ (bounds_none _ _ _ _ _ (omega arith))

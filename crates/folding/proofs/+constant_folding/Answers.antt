@@ -1,4 +1,4 @@
-use mathlib.Core.Path.{refl, sym, ◌∙◌}
+use mathlib.Core.Path.{refl, sym, ◌∙◌, ◌≡◌}
 use Prim.Native.Nat.{◌+◌, ◌-◌}
 use native.Mathlib.Omega.{arith}
 use lib.Dec.{eqb}
@@ -205,47 +205,47 @@ constant_folding_int-shape_of-work t c = c.constant_folding_terms.auto.work ∙ 
 pub constant_folding_int-returns : goal.constant_folding_int-returns
 constant_folding_int-returns t c = many_folds _ _ _ _ _ _ c.number-w.ensures.0 _ c.number-n.ensures.0 c.if-w-eq20.false c.if-w-eq21.false c.if-w-eq23.false _ _ _ _ _ c.requires c.if-n-eq0.false (sym c.is_single.ensures ∙ c.if-is_single.false) c.put_two-m.ensures c.constant_folding_terms.ensures
 
-pub constant_folding_members-loop-rest-init : goal.constant_folding_members-loop-rest-init
-constant_folding_members-loop-rest-init t c = (omega arith, refl, omega arith, c.requires, λ out' next' end' hit' size p. members_start _ _ _ _ _ _ _ _ _ _ _ _ p)
+pub constant_folding_members-loop-init : goal.constant_folding_members-loop-init
+constant_folding_members-loop-init t c = let e : c.args.count - 0 ≡ c.args.count = omega arith in rw e (omega arith, refl, omega arith, c.requires, λ out' next' end' hit' size p. members_start _ _ _ _ _ _ _ _ _ _ _ _ p)
 
 pub constant_folding_members-constant_folding_bool-f-requires : goal.constant_folding_members-constant_folding_bool-f-requires
-constant_folding_members-constant_folding_bool-f-requires t c = (omega (arith, c.decreases, c.loop-rest.invariant.0), first_ready _ _ _ _ _ _ c.loop-rest-test.true c.loop-rest.invariant.3)
+constant_folding_members-constant_folding_bool-f-requires t c = (omega (arith, c.decreases, c.loop.invariant.0), first_ready _ _ _ _ _ _ (omega arith) c.loop.invariant.3)
 
 pub constant_folding_members-kept_count-kept-requires : goal.constant_folding_members-kept_count-kept-requires
-constant_folding_members-kept_count-kept-requires t c = let q = members_fit _ _ _ _ _ _ c.requires in omega (arith, c.loop-rest.invariant.2, c.well_formed.1.1.1.1.0.0)
+constant_folding_members-kept_count-kept-requires t c = let q = members_fit _ _ _ _ _ _ c.requires in omega (arith, c.loop.invariant.2, c.well_formed.1.1.1.1.0.0)
 
-pub constant_folding_members-loop-rest-preserved : goal.constant_folding_members-loop-rest-preserved
-constant_folding_members-loop-rest-preserved t c = let s = rest_ready _ _ _ _ _ _ c.loop-rest-test.true _ _ _ _ c.constant_folding_bool-f.ensures _ c.kept_end-end.ensures c.loop-rest.invariant.3 c.constant_folding_bool-f.auto.work in (omega (arith, s.1, c.loop-rest.invariant.0), c.constant_folding_bool-f.auto.work ∙ c.loop-rest.invariant.1, kept_room c.constant_folding_bool-f.result.state _ _ _ _ c.kept_count-kept.ensures c.loop-rest-test.true c.loop-rest.invariant.2, s.0, λ out' next' end' hit' size p. members_sum _ _ _ _ _ _ _ _ _ _ (eqb c.constant_folding_bool-f.result.state c.args.b) c.loop-rest.hit hit' c.constant_folding_bool-f.result.state c.loop-rest.kept size _ _ c.hits-hit.ensures c.kept_count-kept.ensures (c.loop-rest.invariant.4 out' next' end' _ _ (members_more _ _ _ _ _ _ c.loop-rest-test.true _ _ _ _ c.constant_folding_bool-f.ensures _ c.kept_end-end.ensures _ _ _ _ _ _ p c.loop-rest.invariant.3)))
+pub constant_folding_members-loop-preserved : goal.constant_folding_members-loop-preserved
+constant_folding_members-loop-preserved t c = let e : c.args.count - (c.loop.counter + 1) ≡ c.args.count - c.loop.counter - 1 = omega arith in rw e (let s = rest_ready _ _ _ _ _ _ (omega arith) _ _ _ _ c.constant_folding_bool-f.ensures _ c.kept_end-end.ensures c.loop.invariant.3 c.constant_folding_bool-f.auto.work in (omega (arith, s.1, c.loop.invariant.0), c.constant_folding_bool-f.auto.work ∙ c.loop.invariant.1, kept_room c.constant_folding_bool-f.result.state _ _ _ _ c.kept_count-kept.ensures (omega arith) c.loop.invariant.2, s.0, λ out' next' end' hit' size p. members_sum _ _ _ _ _ _ _ _ _ _ (eqb c.constant_folding_bool-f.result.state c.args.b) c.loop.hit hit' c.constant_folding_bool-f.result.state c.loop.kept size _ _ c.hits-hit.ensures c.kept_count-kept.ensures (c.loop.invariant.4 out' next' end' _ _ (members_more _ _ _ _ _ _ (omega arith) _ _ _ _ c.constant_folding_bool-f.ensures _ c.kept_end-end.ensures _ _ _ _ _ _ p c.loop.invariant.3))))
 
 pub constant_folding_members-shape_of-work : goal.constant_folding_members-shape_of-work
-constant_folding_members-shape_of-work t c = c.loop-rest.invariant.1
+constant_folding_members-shape_of-work t c = c.loop.invariant.1
 
 pub constant_folding_members-returns : goal.constant_folding_members-returns
-constant_folding_members-returns t c = members_end _ _ _ _ _ _ _ _ _ _ _ _ (c.loop-rest.invariant.4 _ _ _ _ _ (members_none _ _ _ _ _ _ _ c.loop-rest-test.false))
+constant_folding_members-returns t c = members_end _ _ _ _ _ _ _ _ _ _ _ _ (c.loop.invariant.4 _ _ _ _ _ (members_none _ _ _ _ _ _ _ (omega arith)))
 
-pub constant_folding_terms-loop-rest-init : goal.constant_folding_terms-loop-rest-init
-constant_folding_terms-loop-rest-init t c = (omega arith, refl, c.requires, λ out' next' end' p. p)
+pub constant_folding_terms-loop-init : goal.constant_folding_terms-loop-init
+constant_folding_terms-loop-init t c = let e : c.args.count - 0 ≡ c.args.count = omega arith in rw e (omega arith, refl, c.requires, λ out' next' end' p. p)
 
 pub constant_folding_terms-copy_word-requires : goal.constant_folding_terms-copy_word-requires
-constant_folding_terms-copy_word-requires t c = let q = (term_inside _ _ _ _ _ _ c.loop-rest-test.true c.loop-rest.invariant.2) in (omega arith, omega arith)
+constant_folding_terms-copy_word-requires t c = let q = (term_inside _ _ _ _ _ _ (omega arith) c.loop.invariant.2) in (omega arith, omega arith)
 
 pub constant_folding_terms-overflow_add-next : goal.constant_folding_terms-overflow_add-next
-constant_folding_terms-overflow_add-next t c = let q = (term_inside _ _ _ _ _ _ c.loop-rest-test.true c.loop-rest.invariant.2) in omega (arith, c.well_formed.0.0)
+constant_folding_terms-overflow_add-next t c = let q = (term_inside _ _ _ _ _ _ (omega arith) c.loop.invariant.2) in omega (arith, c.well_formed.0.0)
 
 pub constant_folding_terms-overflow_add-end : goal.constant_folding_terms-overflow_add-end
-constant_folding_terms-overflow_add-end t c = let q = (term_inside _ _ _ _ _ _ c.loop-rest-test.true c.loop-rest.invariant.2) in omega (arith, c.well_formed.1.1.1.1.0.0, c.loop-rest.invariant.1)
+constant_folding_terms-overflow_add-end t c = let q = (term_inside _ _ _ _ _ _ (omega arith) c.loop.invariant.2) in omega (arith, c.well_formed.1.1.1.1.0.0, c.loop.invariant.1)
 
 pub constant_folding_terms-constant_folding_int-a-requires : goal.constant_folding_terms-constant_folding_int-a-requires
-constant_folding_terms-constant_folding_int-a-requires t c = let q = (term_inside _ _ _ _ _ _ c.loop-rest-test.true c.loop-rest.invariant.2) in (omega (arith, c.decreases, c.loop-rest.invariant.0), term_ready _ _ _ _ _ _ c.loop-rest-test.true _ _ c.loop-rest.invariant.2 c.copy_word.ensures)
+constant_folding_terms-constant_folding_int-a-requires t c = let q = (term_inside _ _ _ _ _ _ (omega arith) c.loop.invariant.2) in (omega (arith, c.decreases, c.loop.invariant.0), term_ready _ _ _ _ _ _ (omega arith) _ _ c.loop.invariant.2 c.copy_word.ensures)
 
-pub constant_folding_terms-loop-rest-preserved : goal.constant_folding_terms-loop-rest-preserved
-constant_folding_terms-loop-rest-preserved t c = let s = terms-rest _ _ _ _ _ _ c.loop-rest-test.true _ c.copy_word.ensures _ _ _ c.constant_folding_int-a.ensures c.loop-rest.invariant.2 c.constant_folding_int-a.auto.work in (omega (arith, s.1, c.loop-rest.invariant.0), c.constant_folding_int-a.auto.work ∙ c.copy_word.auto.work ∙ c.loop-rest.invariant.1, s.0, λ out' next' end' p. c.loop-rest.invariant.3 out' next' end' (terms_more _ _ _ _ _ _ c.loop-rest-test.true _ c.copy_word.ensures _ _ _ c.constant_folding_int-a.ensures _ _ _ c.loop-rest.invariant.2 p))
+pub constant_folding_terms-loop-preserved : goal.constant_folding_terms-loop-preserved
+constant_folding_terms-loop-preserved t c = let e : c.args.count - (c.loop.counter + 1) ≡ c.args.count - c.loop.counter - 1 = omega arith in rw e (let s = terms-rest _ _ _ _ _ _ (omega arith) _ c.copy_word.ensures _ _ _ c.constant_folding_int-a.ensures c.loop.invariant.2 c.constant_folding_int-a.auto.work in (omega (arith, s.1, c.loop.invariant.0), c.constant_folding_int-a.auto.work ∙ c.copy_word.auto.work ∙ c.loop.invariant.1, s.0, λ out' next' end' p. c.loop.invariant.3 out' next' end' (terms_more _ _ _ _ _ _ (omega arith) _ c.copy_word.ensures _ _ _ c.constant_folding_int-a.ensures _ _ _ c.loop.invariant.2 p)))
 
 pub constant_folding_terms-shape_of-work : goal.constant_folding_terms-shape_of-work
-constant_folding_terms-shape_of-work t c = c.loop-rest.invariant.1
+constant_folding_terms-shape_of-work t c = c.loop.invariant.1
 
 pub constant_folding_terms-returns : goal.constant_folding_terms-returns
-constant_folding_terms-returns t c = c.loop-rest.invariant.3 _ _ _ (terms_none _ _ _ _ _ _ c.loop-rest-test.false)
+constant_folding_terms-returns t c = c.loop.invariant.3 _ _ _ (terms_none _ _ _ _ _ _ (omega arith))
 
 pub fold_comparison-overflow_add-at : goal.fold_comparison-overflow_add-at
 fold_comparison-overflow_add-at t c = let q = (ready_inside _ _ _ _ _ c.requires.ready) in omega (arith, c.well_formed.0.0)

@@ -29,14 +29,8 @@ decreases-fold_if l = 3 * (length l.words.now - l.at)
 abbrev pub decreases-fold_side : goal.decreases-fold_side
 decreases-fold_side l = 3 * (length l.words.now - l.at) + 2
 
-abbrev pub invariant-constant_folding_members-loop-rest : goal.invariant-constant_folding_members-loop-rest
-invariant-constant_folding_members-loop-rest l = (l.at ≤ l.next) × (length l.work ≡ length l.initial.work) × (l.kept + l.rest ≤ l.count) × ReadyMembers l.words l.d l.next l.rest l.work l.end × ((out' : List ℤ) (next' end' : ℕ) (hit' : Bool) (size : ℕ) → MembersPost l.words l.d l.next l.rest l.work l.end l.b out' next' end' hit' size → MembersPost l.words l.d l.at l.count l.initial.work l.o l.b out' next' end' (l.hit || hit') (l.kept + size))
+abbrev pub invariant-constant_folding_members-loop : goal.invariant-constant_folding_members-loop
+invariant-constant_folding_members-loop l = (l.at ≤ l.next) × (length l.work ≡ length l.initial.work) × (l.kept + (l.count - l.counter) ≤ l.count) × ReadyMembers l.words l.d l.next (l.count - l.counter) l.work l.end × ((out' : List ℤ) (next' end' : ℕ) (hit' : Bool) (size : ℕ) → MembersPost l.words l.d l.next (l.count - l.counter) l.work l.end l.b out' next' end' hit' size → MembersPost l.words l.d l.at l.count l.initial.work l.o l.b out' next' end' (l.hit || hit') (l.kept + size))
 
-abbrev pub decreases-constant_folding_members-loop-rest : goal.decreases-constant_folding_members-loop-rest
-decreases-constant_folding_members-loop-rest l = l.rest
-
-abbrev pub invariant-constant_folding_terms-loop-rest : goal.invariant-constant_folding_terms-loop-rest
-invariant-constant_folding_terms-loop-rest l = (l.at ≤ l.next) × (length l.work ≡ length l.initial.work) × ReadyTerms l.words l.d l.next l.rest l.work l.end × ((out' : List ℤ) (next' end' : ℕ) → TermsPost l.words l.d l.next l.rest l.work l.end out' next' end' → TermsPost l.words l.d l.at l.count l.initial.work l.o out' next' end')
-
-abbrev pub decreases-constant_folding_terms-loop-rest : goal.decreases-constant_folding_terms-loop-rest
-decreases-constant_folding_terms-loop-rest l = l.rest
+abbrev pub invariant-constant_folding_terms-loop : goal.invariant-constant_folding_terms-loop
+invariant-constant_folding_terms-loop l = (l.at ≤ l.next) × (length l.work ≡ length l.initial.work) × ReadyTerms l.words l.d l.next (l.count - l.counter) l.work l.end × ((out' : List ℤ) (next' end' : ℕ) → TermsPost l.words l.d l.next (l.count - l.counter) l.work l.end out' next' end' → TermsPost l.words l.d l.at l.count l.initial.work l.o out' next' end')

@@ -1,10 +1,8 @@
 -- `clear_words` meets its contract: what is left to clear, cleared, gives the whole. Assumes nothing.
-use Prim.Native.Nat.{◌-◌}
 use native.Mathlib.Omega.{arith}
 use mathlib.Core.Path.{refl, sym, ◌∙◌}
 use lib.IntN.{pos}
 use lib.ListN.{length-set}
-use Rattle.memory.specs.Cleared.{cleared}
 use Rattle.memory.proofs.Laws.{clear_next, clear_none}
 use Rattle.memory.proofs.clear_words.Goals as goal
 

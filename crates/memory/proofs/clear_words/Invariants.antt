@@ -1,5 +1,4 @@
 -- `clear_words` meets its contract: what is left to clear, cleared, gives the whole. Assumes nothing.
-use Prim.Native.Nat.{◌-◌}
 use mathlib.Core.Path.{◌≡◌}
 use lib.ListN.{length}
 use Rattle.memory.specs.Cleared.{cleared}
@@ -7,6 +6,3 @@ use Rattle.memory.proofs.clear_words.Given as goal
 
 abbrev pub invariant-loop-i : goal.invariant-loop-i
 invariant-loop-i l = (length l.work ≡ length l.initial.work) × (cleared l.work l.i l.to ≡ cleared l.initial.work l.from l.to)
-
-abbrev pub decreases-loop-i : goal.decreases-loop-i
-decreases-loop-i l = l.to - l.i

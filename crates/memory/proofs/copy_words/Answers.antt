@@ -1,19 +1,5 @@
-use native.Mathlib.Omega.{arith}
-use Prim.Native.Nat.{◌-◌}
-use Rattle.memory.proofs.Laws.{copying_none, copying_next, copying_end}
+use Rattle.memory.proofs.Laws.{copied}
 use Rattle.memory.proofs.copy_words.Goals as goal
 
-pub loop-k-init : goal.loop-k-init
-loop-k-init c = (omega arith, copying_none _ _ _ _)
-
-pub copy_word-requires : goal.copy_word-requires
-copy_word-requires c = (omega (arith, c.requires.0), omega (arith, c.requires.1, c.loop-k.invariant.1.size))
-
-pub loop-k-preserved : goal.loop-k-preserved
-loop-k-preserved c = (omega arith, copying_next _ _ _ _ _ _ _ (omega (arith, c.requires.0)) (omega (arith, c.requires.1, c.loop-k.invariant.1.size)) c.copy_word.ensures c.loop-k.invariant.1)
-
-pub shape_of-work : goal.shape_of-work
-shape_of-work c = c.loop-k.invariant.1.size
-
 pub returns : goal.returns
-returns c = copying_end _ _ _ _ _ _ _ (omega arith) c.requires.0 c.loop-k.invariant.1
+returns c = copied c.args.words.now c.args.at c.args.n c.args.work.now c.args.o c.copy_from_slice.new.self c.requires.0 c.requires.1 c.copy_from_slice.ensures.after

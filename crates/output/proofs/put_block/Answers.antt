@@ -1,4 +1,5 @@
-use mathlib.Core.Path.{refl, ◌∙◌}
+use mathlib.Core.Path.{◌≡◌, refl, ◌∙◌}
+use Prim.Native.Nat.{◌+◌, ◌-◌}
 use native.Mathlib.Omega.{arith}
 use mir.Syntax.{w32}
 use mir.Val.{SFits}
@@ -7,34 +8,20 @@ use Rattle.output.proofs.Laws.{open_next, put_word, block_none, block_more}
 use borrow.Author.Rules.{rules}
 use Rattle.output.proofs.put_block.Goals as goal
 
-pub loop-rest-init : goal.loop-rest-init
-loop-rest-init c = (refl, c.requires.1, refl, λ c q h. h)
-
-pub overflow_add-n : goal.overflow_add-n
-overflow_add-n c = omega (arith, c.loop-rest.invariant.0, c.requires.0)
+pub loop-n-init : goal.loop-n-init
+loop-n-init c = let e : c.args.b + c.args.k - c.args.b ≡ c.args.k = omega arith in (c.requires.1, refl, rw e (λ c q h. h))
 
 pub put-p-requires : goal.put-p-requires
-put-p-requires c = c.loop-rest.invariant.1
+put-p-requires c = c.loop-n.invariant.0
 
-pub overflow_add-n-in-loop-rest : goal.overflow_add-n-in-loop-rest
-overflow_add-n-in-loop-rest c = omega (arith, c.loop-rest.invariant.0, c.requires.0)
-
-pub overflow_sub-rest : goal.overflow_sub-rest
-overflow_sub-rest c = let z = c.loop-rest-test.true in omega arith
-
-pub loop-rest-smaller : goal.loop-rest-smaller
-loop-rest-smaller c = let z = c.loop-rest-test.true in omega arith
-
-pub loop-rest-preserved : goal.loop-rest-preserved
-loop-rest-preserved c =
-    let l = c.loop-rest in
-    let z = c.loop-rest-test.true in
+pub loop-n-preserved : goal.loop-n-preserved
+loop-n-preserved c =
+    let l = c.loop-n in
     let f : SFits w32 c.word_of.result = search rules in
     let e = put_word f c.word_of.ensures c.put-p.ensures in
-    (omega (arith, l.invariant.0), open_next l.invariant.1 e, wrote_length e ∙ l.invariant.2, λ c q h. l.invariant.3 c q (block_more l.n l.rest z l.invariant.1.room e h))
-
-pub shape_of-out : goal.shape_of-out
-shape_of-out c = c.loop-rest.invariant.2
+    let k = c.args.b + c.args.k - l.n in
+    let r : c.args.b + c.args.k - (l.n + 1) ≡ k - 1 = omega arith in
+    (open_next l.invariant.0 e, wrote_length e ∙ l.invariant.1, rw r (λ d q h. l.invariant.2 d q (block_more l.n k (omega arith) l.invariant.0.room e h)))
 
 pub returns : goal.returns
-returns c = c.loop-rest.invariant.3 _ _ (block_none _ _ c.loop-rest.n c.loop-rest.rest c.loop-rest-test.false c.loop-rest.invariant.1.low)
+returns c = c.loop-n.invariant.2 _ _ (block_none _ _ c.loop-n.n _ (omega arith) c.loop-n.invariant.0.low)

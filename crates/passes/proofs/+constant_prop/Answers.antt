@@ -1,4 +1,4 @@
-use mathlib.Core.Path.{refl, ◌∙◌}
+use mathlib.Core.Path.{refl, ◌∙◌, ◌≡◌}
 use Prim.Native.Nat.{◌+◌, ◌-◌}
 use native.Mathlib.Omega.{arith}
 use Rattle.passes.proofs.PropLaws.{stands_first, stands_inside, stands_second, cmp_props, not_stands, not_props, list_stand, list_props, left_stands, right_stands, binary_props, members_none, first_stands, rest_stand, members_more, binary_low, status_start, status_next, status_end, flip_small, member_small, left_small, right_small}
@@ -67,17 +67,17 @@ constant_prop_bool-shape_of-work t c = c.constant_prop_bool-b.auto.work ∙ c.co
 pub constant_prop_bool-returns : goal.constant_prop_bool-returns
 constant_prop_bool-returns t c = binary_props _ _ _ c.number-w.ensures.0 (binary_low _ c.if-w-eq14.false c.if-w-lt14.false) c.if-w-eq18.false _ _ c.left_want-l.ensures _ _ _ c.constant_prop_bool-a.ensures _ _ _ _ _ c.right_want-r.ensures c.constant_prop_bool-b.ensures c.worst-status.ensures
 
-pub constant_prop_members-loop-rest-init : goal.constant_prop_members-loop-rest-init
-constant_prop_members-loop-rest-init t c = (omega arith, refl, c.requires.stand_members, λ out' next' s p. status_start _ _ _ _ _ _ _ p)
+pub constant_prop_members-loop-init : goal.constant_prop_members-loop-init
+constant_prop_members-loop-init t c = let e : c.args.count - 0 ≡ c.args.count = omega arith in rw e (omega arith, refl, c.requires.stand_members, λ out' next' s p. status_start _ _ _ _ _ _ _ p)
 
 pub constant_prop_members-constant_prop_bool-a-requires : goal.constant_prop_members-constant_prop_bool-a-requires
-constant_prop_members-constant_prop_bool-a-requires t c = (omega (arith, c.decreases, c.loop-rest.invariant.0, c.loop-rest.invariant.1), (first_stands _ _ _ c.args.want c.loop-rest-test.true c.loop-rest.invariant.2, c.requires.want_bound))
+constant_prop_members-constant_prop_bool-a-requires t c = (omega (arith, c.decreases, c.loop.invariant.0, c.loop.invariant.1), (first_stands _ _ _ c.args.want (omega arith) c.loop.invariant.2, c.requires.want_bound))
 
-pub constant_prop_members-loop-rest-preserved : goal.constant_prop_members-loop-rest-preserved
-constant_prop_members-loop-rest-preserved t c = let r = rest_stand _ _ _ _ c.loop-rest-test.true _ _ _ c.constant_prop_bool-a.ensures c.loop-rest.invariant.2 c.requires.want_bound in (omega (arith, r.1, c.loop-rest.invariant.0), c.constant_prop_bool-a.auto.work ∙ c.loop-rest.invariant.1, r.0, λ out' next' s p. status_next _ _ _ _ _ _ _ _ _ _ c.worst-status.ensures (c.loop-rest.invariant.3 out' next' _ (members_more _ _ _ _ c.loop-rest-test.true _ _ _ c.constant_prop_bool-a.ensures _ _ _ p)))
+pub constant_prop_members-loop-preserved : goal.constant_prop_members-loop-preserved
+constant_prop_members-loop-preserved t c = let e : c.args.count - (c.loop.counter + 1) ≡ c.args.count - c.loop.counter - 1 = omega arith in rw e (let r = rest_stand _ _ _ _ (omega arith) _ _ _ c.constant_prop_bool-a.ensures c.loop.invariant.2 c.requires.want_bound in (omega (arith, r.1, c.loop.invariant.0), c.constant_prop_bool-a.auto.work ∙ c.loop.invariant.1, r.0, λ out' next' s p. status_next _ _ _ _ _ _ _ _ _ _ c.worst-status.ensures (c.loop.invariant.3 out' next' _ (members_more _ _ _ _ (omega arith) _ _ _ c.constant_prop_bool-a.ensures _ _ _ p))))
 
 pub constant_prop_members-shape_of-work : goal.constant_prop_members-shape_of-work
-constant_prop_members-shape_of-work t c = c.loop-rest.invariant.1
+constant_prop_members-shape_of-work t c = c.loop.invariant.1
 
 pub constant_prop_members-returns : goal.constant_prop_members-returns
-constant_prop_members-returns t c = status_end _ _ _ _ _ _ _ (c.loop-rest.invariant.3 _ _ _ (members_none _ _ _ _ c.loop-rest-test.false))
+constant_prop_members-returns t c = status_end _ _ _ _ _ _ _ (c.loop.invariant.3 _ _ _ (members_none _ _ _ _ (omega arith)))

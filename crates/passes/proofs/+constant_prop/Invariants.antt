@@ -14,8 +14,5 @@ decreases-constant_prop_bool l = 2 * (length l.work.now - l.at)
 abbrev pub decreases-constant_prop_members : goal.decreases-constant_prop_members
 decreases-constant_prop_members l = 2 * (length l.work.now - l.at) + 1
 
-abbrev pub invariant-constant_prop_members-loop-rest : goal.invariant-constant_prop_members-loop-rest
-invariant-constant_prop_members-loop-rest l = (l.at ≤ l.next) × (length l.work ≡ length l.initial.work) × StandMembers l.work l.next l.rest × ((out' : List ℤ) (next' s : ℕ) → MembersPost l.work l.next l.rest l.want out' next' s → MembersPost l.initial.work l.at l.count l.want out' next' (worst_num l.status s))
-
-abbrev pub decreases-constant_prop_members-loop-rest : goal.decreases-constant_prop_members-loop-rest
-decreases-constant_prop_members-loop-rest l = l.rest
+abbrev pub invariant-constant_prop_members-loop : goal.invariant-constant_prop_members-loop
+invariant-constant_prop_members-loop l = (l.at ≤ l.next) × (length l.work ≡ length l.initial.work) × StandMembers l.work l.next (l.count - l.counter) × ((out' : List ℤ) (next' s : ℕ) → MembersPost l.work l.next (l.count - l.counter) l.want out' next' s → MembersPost l.initial.work l.at l.count l.want out' next' (worst_num l.status s))

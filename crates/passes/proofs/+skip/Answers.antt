@@ -1,4 +1,3 @@
-use Prim.Native.Nat.{◌+◌, ◌-◌}
 use native.Mathlib.Omega.{arith}
 use Rattle.passes.proofs.SkipLaws.{int_inside, int_first, sum_second, step_sum, step_plain, if_condition, if_then, if_else, step_if, body_some, int_skips, term_some, terms_some, terms_skip, terms_none, terms_room, bool_inside, bool_first, bool_second, step_leaf, step_list, step_not, step_two, at_18, step_left, step_right, step_cmp, members_none, members_room, member_some, members_some, members_skip}
 use Rattle.passes.proofs.+skip.Goals as goal

@@ -1,14 +1,11 @@
 use mathlib.Core.Path.{◌≡◌}
 use mathlib.Core.List.{List}
-use Prim.Native.Nat.{ℕ}
+use Prim.Native.Nat.{ℕ, ◌-◌}
 use lib.IntN.{ℤ}
 use lib.ListN.{length}
 use Rattle.passes.specs.Want.{worst_num}
 use Rattle.passes.specs.Statements.{StandStmts, PropStmtsPost}
 use Rattle.passes.proofs.constant_prop_stmts.Given as goal
 
-abbrev pub invariant-loop-rest : goal.invariant-loop-rest
-invariant-loop-rest l = (length l.work ≡ length l.initial.work) × StandStmts l.work l.next l.rest × ((out' : List ℤ) (s : ℕ) → PropStmtsPost l.work l.next l.rest out' s → PropStmtsPost l.initial.work l.at l.count out' (worst_num l.status s))
-
-abbrev pub decreases-loop-rest : goal.decreases-loop-rest
-decreases-loop-rest l = l.rest
+abbrev pub invariant-loop : goal.invariant-loop
+invariant-loop l = (length l.work ≡ length l.initial.work) × StandStmts l.work l.next (l.count - l.counter) × ((out' : List ℤ) (s : ℕ) → PropStmtsPost l.work l.next (l.count - l.counter) out' s → PropStmtsPost l.initial.work l.at l.count out' (worst_num l.status s))

@@ -1,9 +1,6 @@
-use Prim.Native.Nat.{ℕ}
+use Prim.Native.Nat.{ℕ, ◌-◌}
 use Rattle.propagate.specs.Optimized.{SomeDomains, DomainsEndPost}
 use Rattle.propagate.proofs.domains_end.Given as goal
 
-abbrev pub invariant-loop-rest : goal.invariant-loop-rest
-invariant-loop-rest l = SomeDomains l.words l.at l.rest × ((r : ℕ) → DomainsEndPost l.words l.at l.rest r → DomainsEndPost l.words l.d l.n r)
-
-abbrev pub decreases-loop-rest : goal.decreases-loop-rest
-decreases-loop-rest l = l.rest
+abbrev pub invariant-loop : goal.invariant-loop
+invariant-loop l = SomeDomains l.words l.at (l.n - l.counter) × ((r : ℕ) → DomainsEndPost l.words l.at (l.n - l.counter) r → DomainsEndPost l.words l.d l.n r)

@@ -5,9 +5,6 @@ use Rattle.propagate.proofs.run_passes.Goals as goal
 pub loop-status-init : goal.loop-status-init
 loop-status-init c = between_first _ _ _ _ _ c.requires
 
-pub fold_stmts-a-requires : goal.fold_stmts-a-requires
-fold_stmts-a-requires c = c.loop-status.invariant.ready.ready
-
 pub constant_prop_stmts-s-requires : goal.constant_prop_stmts-s-requires
 constant_prop_stmts-s-requires c = stand_folded _ _ _ _ _ _ _ c.fold_stmts-a.ensures c.fold_stmts-a.auto.work c.loop-status.invariant.ready
 
@@ -19,9 +16,6 @@ loop-status-smaller c = less _ _ _ _ c.loop-status-test.true (falls_after _ _ _ 
 
 pub loop-status-preserved : goal.loop-status-preserved
 loop-status-preserved c = between_after _ _ _ _ _ _ _ _ _ c.after_pass-b.ensures c.after_pass-b.auto.work _ (between_next _ _ _ _ _ _ _ _ c.fold_stmts-a.ensures c.fold_stmts-a.auto.work _ _ c.constant_prop_stmts-s.ensures _ _ c.constant_prop_stmts-s.auto.work c.loop-status-test.true c.loop-status.invariant)
-
-pub shape_of-work : goal.shape_of-work
-shape_of-work c = c.loop-status.invariant.size
 
 pub returns : goal.returns
 returns c = c.loop-status.invariant.ended c.loop-status-test.false

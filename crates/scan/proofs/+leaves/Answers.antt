@@ -1,5 +1,5 @@
-use Prim.Native.Nat.{◌+◌}
-use mathlib.Core.Path.{refl, sym, ap, ◌∙◌}
+use Prim.Native.Nat.{◌+◌, ◌-◌}
+use mathlib.Core.Path.{◌≡◌, refl, sym, ap, ◌∙◌}
 use mathlib.Core.Bool.{false}
 use native.Mathlib.Omega.{arith}
 use Rattle.walk.specs.Item.{bump}
@@ -55,14 +55,14 @@ leaves-returns-in-Join t c = leaves_join _ _ _ _ _ _ _ (skips_join c.args.work.n
 pub leaves-returns-else-m-le1 : goal.leaves-returns-else-m-le1
 leaves-returns-else-m-le1 t c = as_counted _ _ _ _ _ _ _ _ _ _ c.leaf_count-in-Cross.ensures (leaves_split _ _ _ _ _ _ _ c.skip-s.ensures _ c.if-left-eq0.false refl _ _ (split_here c.args.m (omega (arith, c.if-m-le1.false))) (sym c.in-Cross.is ∙ c.node_at.ensures))
 
-pub leaves_all-loop-rest-init : goal.leaves_all-loop-rest-init
-leaves_all-loop-rest-init t c = leaving_first _ _ _ _ _ _ _ _ c.requires.1.0 c.requires.1.1
+pub leaves_all-loop-init : goal.leaves_all-loop-init
+leaves_all-loop-init t c = let e : c.args.count - 0 ≡ c.args.count = omega arith in rw e (leaving_first _ _ _ _ _ _ _ _ c.requires.1.0 c.requires.1.1)
 
 pub leaves_all-leaves-s-requires : goal.leaves_all-leaves-s-requires
-leaves_all-leaves-s-requires t c = (omega (arith, c.decreases), (c.requires.0, (c.loop-rest.invariant.skips.inside, c.loop-rest.invariant.skips.low)))
+leaves_all-leaves-s-requires t c = (omega (arith, c.decreases), (c.requires.0, (c.loop.invariant.skips.inside, c.loop.invariant.skips.low)))
 
-pub leaves_all-loop-rest-preserved : goal.leaves_all-loop-rest-preserved
-leaves_all-loop-rest-preserved t c = leaving_next _ _ _ _ _ _ _ _ _ _ _ _ _ _ _ _ _ _ _ _ c.loop-rest.invariant c.loop-rest-test.true c.leaves-s.ensures (c.bump-x.ensures ∙ ap (bump c.loop-rest.x) c.swapped.ensures) (c.bump-y.ensures ∙ ap (bump c.loop-rest.y) c.swapped-in-loop-rest.ensures)
+pub leaves_all-loop-preserved : goal.leaves_all-loop-preserved
+leaves_all-loop-preserved t c = let e : c.args.count - (c.loop.counter + 1) ≡ c.args.count - c.loop.counter - 1 = omega arith in rw e (leaving_next _ _ _ _ _ _ _ _ _ _ _ _ _ _ _ _ _ _ _ _ c.loop.invariant (omega arith) c.leaves-s.ensures (c.bump-x.ensures ∙ ap (bump c.loop.x) c.swapped.ensures) (c.bump-y.ensures ∙ ap (bump c.loop.y) c.swapped-in-loop.ensures))
 
 pub leaves_all-returns : goal.leaves_all-returns
-leaves_all-returns t c = leaving_last _ _ _ _ _ _ _ _ _ _ _ _ _ _ c.loop-rest.invariant c.loop-rest-test.false
+leaves_all-returns t c = leaving_last _ _ _ _ _ _ _ _ _ _ _ _ _ _ c.loop.invariant (omega arith)

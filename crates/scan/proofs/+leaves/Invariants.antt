@@ -1,4 +1,4 @@
-use Prim.Native.Nat.{◌+◌, ◌*◌}
+use Prim.Native.Nat.{◌+◌, ◌-◌, ◌*◌}
 use Rattle.walk.specs.Decode.{read_part}
 use Rattle.scan.specs.Skip.{split_by}
 use Rattle.scan.specs.LeafLaws.{Leaving}
@@ -10,8 +10,5 @@ decreases-leaves l = 2 * l.left
 abbrev pub decreases-leaves_all : goal.decreases-leaves_all
 decreases-leaves_all l = 2 * l.left + 1
 
-abbrev pub invariant-leaves_all-loop-rest : goal.invariant-leaves_all-loop-rest
-invariant-leaves_all-loop-rest l = Leaving (read_part l.work) l.left (split_by l.m) l.count l.g l.h l.at l.base l.rest l.f l.q l.b l.x l.y
-
-abbrev pub decreases-leaves_all-loop-rest : goal.decreases-leaves_all-loop-rest
-decreases-leaves_all-loop-rest l = l.rest
+abbrev pub invariant-leaves_all-loop : goal.invariant-leaves_all-loop
+invariant-leaves_all-loop l = Leaving (read_part l.work) l.left (split_by l.m) l.count l.g l.h l.at l.base (l.count - l.counter) l.f l.q l.b l.x l.y

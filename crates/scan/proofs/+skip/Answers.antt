@@ -1,5 +1,5 @@
-use Prim.Native.Nat.{◌+◌}
-use mathlib.Core.Path.{refl, sym, ◌∙◌}
+use Prim.Native.Nat.{◌+◌, ◌-◌}
+use mathlib.Core.Path.{◌≡◌, refl, sym, ◌∙◌}
 use mathlib.Core.Bool.{false}
 use native.Mathlib.Omega.{arith}
 use Rattle.walk.proofs.NumberingSteps.{part_length}
@@ -71,8 +71,8 @@ skip_int-returns-in-23 t c = int_if c.args.work.now c.requires.0 _ _ _ _ c.requi
 pub skip_int-returns-in_default : goal.skip_int-returns-in_default
 skip_int-returns-in_default t c = int_leaf c.args.work.now c.requires.0 _ _ _ _ c.requires.1.0 c.requires.1.1 _ c.if-left-eq0.false refl _ _ c.word.ensures c.in_default.in_default-own.rest.0.1 c.in_default.in_default-own.rest.1 c.within-two.ensures
 
-pub skip_terms-loop-rest-init : goal.skip_terms-loop-rest-init
-skip_terms-loop-rest-init t c = terms_first _ _ _ _ _ _ c.requires.1.0 c.requires.1.1
+pub skip_terms-loop-init : goal.skip_terms-loop-init
+skip_terms-loop-init t c = let e : c.args.count - 0 ≡ c.args.count = omega arith in rw e (terms_first _ _ _ _ _ _ c.requires.1.0 c.requires.1.1)
 
 pub skip_terms-is_leaf-requires : goal.skip_terms-is_leaf-requires
 skip_terms-is_leaf-requires t c = c.requires.0
@@ -80,35 +80,35 @@ skip_terms-is_leaf-requires t c = c.requires.0
 pub skip_terms-overflow_add-q : goal.skip_terms-overflow_add-q
 skip_terms-overflow_add-q t c = omega (arith, (c.is_leaf.ensures c.if-is_leaf.true).1)
 
-pub skip_terms-loop-rest-preserved-then-is_leaf : goal.skip_terms-loop-rest-preserved-then-is_leaf
-skip_terms-loop-rest-preserved-then-is_leaf t c = terms_leaf _ _ _ _ _ _ c.requires.0 _ _ _ c.loop-rest.invariant c.loop-rest-test.true (c.is_leaf.ensures c.if-is_leaf.true)
+pub skip_terms-loop-preserved-then-is_leaf : goal.skip_terms-loop-preserved-then-is_leaf
+skip_terms-loop-preserved-then-is_leaf t c = let e : c.args.count - (c.loop.counter + 1) ≡ c.args.count - c.loop.counter - 1 = omega arith in rw e (terms_leaf _ _ _ _ _ _ c.requires.0 _ _ _ c.loop.invariant (omega arith) (c.is_leaf.ensures c.if-is_leaf.true))
 
 pub skip_terms-skip_int-s-requires : goal.skip_terms-skip_int-s-requires
-skip_terms-skip_int-s-requires t c = (omega (arith, c.decreases), (c.requires.0, (omega (arith, c.within-p.ensures), c.loop-rest.invariant.low)))
+skip_terms-skip_int-s-requires t c = (omega (arith, c.decreases), (c.requires.0, (omega (arith, c.within-p.ensures), c.loop.invariant.low)))
 
-pub skip_terms-loop-rest-preserved : goal.skip_terms-loop-rest-preserved
-skip_terms-loop-rest-preserved t c = terms_next _ _ _ _ _ _ c.requires.0 _ _ _ _ _ _ c.loop-rest.invariant c.loop-rest-test.true c.within-p.ensures c.skip_int-s.ensures
+pub skip_terms-loop-preserved : goal.skip_terms-loop-preserved
+skip_terms-loop-preserved t c = let e : c.args.count - (c.loop.counter + 1) ≡ c.args.count - c.loop.counter - 1 = omega arith in rw e (terms_next _ _ _ _ _ _ c.requires.0 _ _ _ _ _ _ c.loop.invariant (omega arith) c.within-p.ensures c.skip_int-s.ensures)
 
 pub skip_terms-returns : goal.skip_terms-returns
-skip_terms-returns t c = terms_last _ _ _ _ _ _ _ _ _ c.loop-rest.invariant c.loop-rest-test.false
+skip_terms-returns t c = terms_last _ _ _ _ _ _ _ _ _ c.loop.invariant (omega arith)
 
-pub skips-loop-rest-init : goal.skips-loop-rest-init
-skips-loop-rest-init t c = skipping_first _ _ _ _ _ _ c.requires.1.0 c.requires.1.1
+pub skips-loop-init : goal.skips-loop-init
+skips-loop-init t c = let e : c.args.count - 0 ≡ c.args.count = omega arith in rw e (skipping_first _ _ _ _ _ _ c.requires.1.0 c.requires.1.1)
 
-pub skips-literal_words-k-requires : goal.skips-literal_words-k-requires
-skips-literal_words-k-requires t c = c.requires.0
+pub skips-literal_words-requires : goal.skips-literal_words-requires
+skips-literal_words-requires t c = c.requires.0
 
 pub skips-overflow_add-q : goal.skips-overflow_add-q
-skips-overflow_add-q t c = let s = c.literal_words-k.ensures c.if-k-ne0.true (split_by c.args.m) _ c.loop-rest.invariant.low in omega (arith, s.inside)
+skips-overflow_add-q t c = let s = c.in-Some.ensures (split_by c.args.m) _ c.loop.invariant.low in omega (arith, s.inside)
 
-pub skips-loop-rest-preserved-then-k-ne0 : goal.skips-loop-rest-preserved-then-k-ne0
-skips-loop-rest-preserved-then-k-ne0 t c = skipping_next _ _ _ _ _ _ _ _ _ _ _ c.loop-rest.invariant c.loop-rest-test.true (c.literal_words-k.ensures c.if-k-ne0.true _ _ c.loop-rest.invariant.low)
+pub skips-loop-preserved-in-Some : goal.skips-loop-preserved-in-Some
+skips-loop-preserved-in-Some t c = let e : c.args.count - (c.loop.counter + 1) ≡ c.args.count - c.loop.counter - 1 = omega arith in rw e (skipping_next _ _ _ _ _ _ _ _ _ _ _ c.loop.invariant (omega arith) (c.in-Some.ensures _ _ c.loop.invariant.low))
 
 pub skips-skip-s-requires : goal.skips-skip-s-requires
-skips-skip-s-requires t c = (omega (arith, c.decreases), (c.requires.0, (c.loop-rest.invariant.inside, c.loop-rest.invariant.low)))
+skips-skip-s-requires t c = (omega (arith, c.decreases), (c.requires.0, (c.loop.invariant.inside, c.loop.invariant.low)))
 
-pub skips-loop-rest-preserved : goal.skips-loop-rest-preserved
-skips-loop-rest-preserved t c = skipping_next _ _ _ _ _ _ _ _ _ _ _ c.loop-rest.invariant c.loop-rest-test.true c.skip-s.ensures
+pub skips-loop-preserved : goal.skips-loop-preserved
+skips-loop-preserved t c = let e : c.args.count - (c.loop.counter + 1) ≡ c.args.count - c.loop.counter - 1 = omega arith in rw e (skipping_next _ _ _ _ _ _ _ _ _ _ _ c.loop.invariant (omega arith) c.skip-s.ensures)
 
 pub skips-returns : goal.skips-returns
-skips-returns t c = skipping_last _ _ _ _ _ _ _ _ _ c.loop-rest.invariant c.loop-rest-test.false
+skips-returns t c = skipping_last _ _ _ _ _ _ _ _ _ c.loop.invariant (omega arith)

@@ -1,4 +1,4 @@
-use Prim.Native.Nat.{◌+◌, ◌*◌}
+use Prim.Native.Nat.{◌+◌, ◌-◌, ◌*◌}
 use Rattle.walk.specs.Decode.{read_part}
 use Rattle.scan.specs.Skip.{split_by, Skipping, TermSkipping}
 use Rattle.scan.proofs.+skip.Given as goal
@@ -15,14 +15,8 @@ decreases-skip_terms l = 2 * l.left + 1
 abbrev pub decreases-skips : goal.decreases-skips
 decreases-skips l = 2 * l.left + 1
 
-abbrev pub invariant-skip_terms-loop-rest : goal.invariant-skip_terms-loop-rest
-invariant-skip_terms-loop-rest l = TermSkipping (read_part l.work) l.left (split_by l.m) l.count l.at l.base l.rest l.q l.b
+abbrev pub invariant-skip_terms-loop : goal.invariant-skip_terms-loop
+invariant-skip_terms-loop l = TermSkipping (read_part l.work) l.left (split_by l.m) l.count l.at l.base (l.count - l.counter) l.q l.b
 
-abbrev pub decreases-skip_terms-loop-rest : goal.decreases-skip_terms-loop-rest
-decreases-skip_terms-loop-rest l = l.rest
-
-abbrev pub invariant-skips-loop-rest : goal.invariant-skips-loop-rest
-invariant-skips-loop-rest l = Skipping (read_part l.work) l.left (split_by l.m) l.count l.at l.base l.rest l.q l.b
-
-abbrev pub decreases-skips-loop-rest : goal.decreases-skips-loop-rest
-decreases-skips-loop-rest l = l.rest
+abbrev pub invariant-skips-loop : goal.invariant-skips-loop
+invariant-skips-loop l = Skipping (read_part l.work) l.left (split_by l.m) l.count l.at l.base (l.count - l.counter) l.q l.b

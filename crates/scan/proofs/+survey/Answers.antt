@@ -1,7 +1,7 @@
 use mathlib.Core.Bool.{not}
 use Rattle.syntax.specs.Words.{max_bools, max_ints}
-use Prim.Native.Nat.{◌+◌}
-use mathlib.Core.Path.{refl, sym, ap, ◌∙◌}
+use Prim.Native.Nat.{◌+◌, ◌-◌}
+use mathlib.Core.Path.{◌≡◌, refl, sym, ap, ◌∙◌}
 use native.Mathlib.Omega.{arith}
 use Rattle.walk.proofs.Steps.{below_lt}
 use Rattle.walk.proofs.NumberingSteps.{part_length}
@@ -135,29 +135,29 @@ survey_int-returns-else-is_passed t c = ints_made c.args.work.now c.requires.0 _
 pub survey_int-returns-in_default : goal.survey_int-returns-in_default
 survey_int-returns-in_default t c = ints_const c.args.work.now c.requires.0 _ _ _ _ c.args.n c.requires.1.1.1 _ c.if-left-eq0.false refl _ c.word.ensures _ _ c.in_default.in_default-own.rest.0.0.1 c.in_default.in_default-own.rest.0.1 c.in_default.in_default-own.rest.1 (int_leaf c.args.work.now c.requires.0 _ _ _ _ c.requires.1.0 c.requires.1.1.0 _ c.if-left-eq0.false refl _ _ c.word.ensures c.in_default.in_default-own.rest.0.1 c.in_default.in_default-own.rest.1 c.within-two.ensures) c.behind_of-in_default.ensures
 
-pub survey_terms-loop-rest-init : goal.survey_terms-loop-rest-init
-survey_terms-loop-rest-init t c = terms_none c.args.work.now _ _ _ _ _ c.args.n c.requires.1.0 c.requires.1.1.0 c.requires.1.1.1
+pub survey_terms-loop-init : goal.survey_terms-loop-init
+survey_terms-loop-init t c = let e : c.args.count - 0 ≡ c.args.count = omega arith in rw e (terms_none c.args.work.now _ _ _ _ _ c.args.n c.requires.1.0 c.requires.1.1.0 c.requires.1.1.1)
 
 pub survey_terms-survey_int-r-requires : goal.survey_terms-survey_int-r-requires
-survey_terms-survey_int-r-requires t c = let i = c.loop-rest.invariant in (omega (arith, c.decreases), (c.requires.0, (omega (arith, c.within-p.ensures), (i.skips.low, i.low))))
+survey_terms-survey_int-r-requires t c = let i = c.loop.invariant in (omega (arith, c.decreases), (c.requires.0, (omega (arith, c.within-p.ensures), (i.skips.low, i.low))))
 
-pub survey_terms-loop-rest-preserved : goal.survey_terms-loop-rest-preserved
-survey_terms-loop-rest-preserved t c = terms_more _ _ _ _ _ _ _ c.requires.0 _ _ _ _ c.loop-rest.invariant c.loop-rest-test.true c.within-p.ensures c.survey_int-r.ensures
+pub survey_terms-loop-preserved : goal.survey_terms-loop-preserved
+survey_terms-loop-preserved t c = let e : c.args.count - (c.loop.counter + 1) ≡ c.args.count - c.loop.counter - 1 = omega arith in rw e (terms_more _ _ _ _ _ _ _ c.requires.0 _ _ _ _ c.loop.invariant (omega arith) c.within-p.ensures c.survey_int-r.ensures)
 
 pub survey_terms-returns : goal.survey_terms-returns
-survey_terms-returns t c = terms_done _ _ _ _ _ _ _ _ _ c.loop-rest.invariant c.loop-rest-test.false
+survey_terms-returns t c = terms_done _ _ _ _ _ _ _ _ _ c.loop.invariant (omega arith)
 
-pub surveys-loop-rest-init : goal.surveys-loop-rest-init
-surveys-loop-rest-init t c = sofar_none c.args.work.now _ _ _ _ _ _ _ c.args.n c.requires.1.0 c.requires.1.1.0 c.requires.1.1.1
+pub surveys-loop-init : goal.surveys-loop-init
+surveys-loop-init t c = let e : c.args.count - 0 ≡ c.args.count = omega arith in rw e (sofar_none c.args.work.now _ _ _ _ _ _ _ c.args.n c.requires.1.0 c.requires.1.1.0 c.requires.1.1.1)
 
 pub surveys-survey-s-requires : goal.surveys-survey-s-requires
-surveys-survey-s-requires t c = let i = c.loop-rest.invariant in (omega (arith, c.decreases), (c.requires.0, (i.skips.inside, (i.skips.low, i.low))))
+surveys-survey-s-requires t c = let i = c.loop.invariant in (omega (arith, c.decreases), (c.requires.0, (i.skips.inside, (i.skips.low, i.low))))
 
 pub surveys-add_member-r-requires : goal.surveys-add_member-r-requires
-surveys-add_member-r-requires t c = let i = c.loop-rest.invariant in let s = c.survey-s.ensures in omega (arith, i.room, s.found.room, s.skips.inside)
+surveys-add_member-r-requires t c = let i = c.loop.invariant in let s = c.survey-s.ensures in omega (arith, i.room, s.found.room, s.skips.inside)
 
-pub surveys-loop-rest-preserved : goal.surveys-loop-rest-preserved
-surveys-loop-rest-preserved t c = sofar_more _ _ _ _ _ _ _ _ _ _ _ _ _ _ c.loop-rest.invariant c.loop-rest-test.true c.survey-s.ensures c.add_member-r.ensures
+pub surveys-loop-preserved : goal.surveys-loop-preserved
+surveys-loop-preserved t c = let e : c.args.count - (c.loop.counter + 1) ≡ c.args.count - c.loop.counter - 1 = omega arith in rw e (sofar_more _ _ _ _ _ _ _ _ _ _ _ _ _ _ c.loop.invariant (omega arith) c.survey-s.ensures c.add_member-r.ensures)
 
 pub surveys-returns : goal.surveys-returns
-surveys-returns t c = sofar_done _ _ _ _ _ _ _ _ _ _ _ _ c.loop-rest.invariant c.loop-rest-test.false
+surveys-returns t c = sofar_done _ _ _ _ _ _ _ _ _ _ _ _ c.loop.invariant (omega arith)

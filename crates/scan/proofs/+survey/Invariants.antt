@@ -1,4 +1,4 @@
-use Prim.Native.Nat.{◌+◌, ◌*◌}
+use Prim.Native.Nat.{◌+◌, ◌-◌, ◌*◌}
 use Rattle.walks.specs.Item.{counters}
 use Rattle.scan.specs.Skip.{split_by}
 use Rattle.scan.specs.SurveyLaws.{scanned, Sofar, TermsSofar}
@@ -19,14 +19,8 @@ decreases-survey_terms l = 2 * l.left + 1
 abbrev pub decreases-surveys : goal.decreases-surveys
 decreases-surveys l = 2 * l.left + 1
 
-abbrev pub invariant-survey_terms-loop-rest : goal.invariant-survey_terms-loop-rest
-invariant-survey_terms-loop-rest l = TermsSofar l.work l.left (split_by l.m) l.count l.at l.base l.initial.r.n l.rest l.r
+abbrev pub invariant-survey_terms-loop : goal.invariant-survey_terms-loop
+invariant-survey_terms-loop l = TermsSofar l.work l.left (split_by l.m) l.count l.at l.base l.initial.r.n (l.count - l.counter) l.r
 
-abbrev pub decreases-survey_terms-loop-rest : goal.decreases-survey_terms-loop-rest
-decreases-survey_terms-loop-rest l = l.rest
-
-abbrev pub invariant-surveys-loop-rest : goal.invariant-surveys-loop-rest
-invariant-surveys-loop-rest l = Sofar l.work l.left (split_by l.m) l.h l.count l.g l.at l.base (counters l.initial.r.n l.initial.ints) (scanned l.r l.ints) l.rest l.turned
-
-abbrev pub decreases-surveys-loop-rest : goal.decreases-surveys-loop-rest
-decreases-surveys-loop-rest l = l.rest
+abbrev pub invariant-surveys-loop : goal.invariant-surveys-loop
+invariant-surveys-loop l = Sofar l.work l.left (split_by l.m) l.h l.count l.g l.at l.base (counters l.initial.r.n l.initial.ints) (scanned l.r l.ints) (l.count - l.counter) l.turned

@@ -5,6 +5,6 @@ pub returns-then-f : goal.returns-then-f
 unfolding swapped
 returns-then-f c = rw c.if-f.true
 
-pub returns : goal.returns
+pub returns-else-f : goal.returns-else-f
 unfolding swapped
-returns c = rw c.if-f.false
+returns-else-f c = rw c.if-f.false

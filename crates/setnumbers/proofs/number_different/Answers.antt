@@ -9,10 +9,10 @@ pub skip_int-s-requires : goal.skip_int-s-requires
 skip_int-s-requires c = (omega (arith, c.requires.1.long, c.loop-rest.invariant.1.kept.size), (c.loop-rest.invariant.0, omega arith))
 
 pub number_row-d-requires : goal.number_row-d-requires
-number_row-d-requires c = (c.loop-rest.invariant.0, (c.skip_int-s.ensures.inside, row_asks _ _ _ _ _ _ _ _ c.loop-rest-test.true c.loop-rest.invariant _ _ c.skip_int-s.ensures c.requires.1))
+number_row-d-requires c = (c.loop-rest.invariant.0, (c.skip_int-s.ensures.inside, row_asks _ _ _ _ _ _ _ _ (omega arith) c.loop-rest.invariant _ _ c.skip_int-s.ensures c.requires.1))
 
 pub loop-rest-preserved : goal.loop-rest-preserved
-loop-rest-preserved c = pairs_next _ _ _ _ _ _ _ _ c.loop-rest-test.true c.loop-rest.invariant _ _ c.skip_int-s.ensures _ c.number_row-d.ensures
+loop-rest-preserved c = pairs_next _ _ _ _ _ _ _ _ (omega arith) c.loop-rest.invariant _ _ c.skip_int-s.ensures _ c.number_row-d.ensures
 
 pub shape_of-work : goal.shape_of-work
 shape_of-work c = c.loop-rest.invariant.1.kept.size
@@ -21,4 +21,4 @@ pub shape_of-out : goal.shape_of-out
 shape_of-out c = c.loop-rest.invariant.1.kept.room
 
 pub returns : goal.returns
-returns c = pairs_last _ _ _ _ _ _ _ _ c.loop-rest-test.false c.loop-rest.invariant
+returns c = pairs_last _ _ _ _ _ _ _ _ (omega arith) c.loop-rest.invariant

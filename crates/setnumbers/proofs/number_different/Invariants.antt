@@ -4,6 +4,3 @@ use Rattle.setnumbers.proofs.number_different.Given as goal
 
 abbrev pub invariant-loop-rest : goal.invariant-loop-rest
 invariant-loop-rest l = Pairs l.room.records l.room.cap l.count l.at (state_of l.initial.work l.initial.out l.initial.d) l.rest l.p (state_of l.work l.out l.d)
-
-abbrev pub decreases-loop-rest : goal.decreases-loop-rest
-decreases-loop-rest l = l.rest

@@ -1,9 +1,7 @@
+use Prim.Native.Nat.{◌-◌}
 use Rattle.numbering.specs.Task.{state_of}
 use Rattle.setnumbers.proofs.Numbering.{Row}
 use Rattle.setnumbers.proofs.number_row.Given as goal
 
-abbrev pub invariant-loop-rest : goal.invariant-loop-rest
-invariant-loop-rest l = Row l.room.records l.room.cap l.p l.count l.at (state_of l.initial.work l.initial.out l.initial.d) l.rest l.q (state_of l.work l.out l.d)
-
-abbrev pub decreases-loop-rest : goal.decreases-loop-rest
-decreases-loop-rest l = l.rest
+abbrev pub invariant-loop : goal.invariant-loop
+invariant-loop l = Row l.room.records l.room.cap l.p l.count l.at (state_of l.initial.work l.initial.out l.initial.d) (l.count - l.counter) l.q (state_of l.work l.out l.d)

@@ -1,5 +1,4 @@
 use native.Mathlib.Omega.{arith}
-use Prim.Native.Nat.{◌-◌}
 use Rattle.stmtwords.proofs.Ends.{ends_later}
 use Rattle.setnumbers.proofs.Statements.{walking_first, stmt_asks, stmt_some, walking_next, walking_full, walking_last}
 use Rattle.setnumbers.proofs.number_statements.Goals as goal
