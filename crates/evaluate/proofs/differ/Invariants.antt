@@ -1,5 +1,4 @@
 use mathlib.Core.Bool.{Bool}
-use Prim.Native.Nat.{◌-◌}
 use Rattle.evaluate.specs.Contract.{WordsAt, DifferPost}
 use Rattle.evaluate.proofs.differ.Given as goal
 
