@@ -185,17 +185,6 @@ unfolding checked_of first_broken
 stmts_none ws values nb at n k z ds [] b r = refl
 stmts_none ws values nb at n k z ds (s ∷ ss) b r = absurd (let t : n ≡ suc (length ss) = r.size in omega arith)
 
-stmts_long : (ss : List Stmt) → length ss ≤ length (flat (map encode_stmt ss))
-stmts_long [] = omega arith
-stmts_long (s ∷ ss) = omega (arith, stmt_some s, stmts_long ss, length-append (encode_stmt s) (flat (map encode_stmt ss)))
-
-pub stmts_few : (ws values : List ℤ) (nb at n : ℕ) (work : List ℤ) → ReadyStmts ws values nb at n work → n ≤ length ws
-stmts_few ws values nb at n work r = go r.them r.reads
-  where
-    go : (ss : List Stmt) → StmtsAt nb r.ds ws at n ss → n ≤ length ws
-    go [] y = omega (arith, y.size)
-    go (s ∷ ss) y = omega (arith, y.size, stmts_long (s ∷ ss), has_fits ws at (flat (map encode_stmt (s ∷ ss))) y.words (omega (arith, stmts_long (s ∷ ss))))
-
 module _ (ws values : List ℤ) (nb at n : ℕ) (z : n ≡ 0 → ⊥) where
   the_stmt : {X : Type 0} (ds : List Domain) (ss : List Stmt) → StmtsAt nb ds ws at n ss
       → ((s : Stmt) (us : List Stmt) → ss ≡ s ∷ us → StmtAt nb ds ws at s → StmtsAt nb ds ws (at + length (encode_stmt s)) (n - 1) us → X) → X

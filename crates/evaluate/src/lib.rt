@@ -9,6 +9,8 @@ ghost use Rattle.domains.specs.Declared.{DomainAt};
 ghost use Rattle.verdict.specs.Roster.{is_bit, check_roster};
 ghost use Rattle.evaluate.specs.Contract.{ReadyInt, ReadyTerms, IntPost, TermsPost, ReadyBool, ReadyMembers, side_value, BoolPost, MembersPost, ReadyColumns, ColumnsPost, ReadyRow, ReadyRows, word_permits, RowPost, RowsPost, ReadyStmt, ReadyStmts, StmtPost, BrokenPost, WordsAt, ListedPost, DifferPost, DomainPost, ReadyDomains, InsidePost, checked_of, Checks};
 
+use syntax::Values;
+
 #[derive(Drop)]
 pub enum Checked {
     Yes,
@@ -32,13 +34,10 @@ fn terms_value(set: &[i32], values: &[i32], nb: usize, at: usize, n: usize) -> V
 {
     let mut next = at;
     let mut value = 0;
-    let mut rest = n;
-    while rest != 0 {
+    for _ in 0..n {
         let t = int_value(set, values, nb, next + 1);
-        let k = set[next];
-        value = value + k * t.value;
+        value += set[next] * t.value;
         next = t.next;
-        rest = rest - 1;
     }
     Valued { next, value }
 }
@@ -55,9 +54,10 @@ fn if_value(set: &[i32], values: &[i32], nb: usize, at: usize) -> Valued
         return int_value(set, values, nb, f);
     }
     let t = int_value(set, values, nb, c.next);
-    let next = passes::skip_int(set, t.next);
-    let value = t.value;
-    Valued { next, value }
+    Valued {
+        next: passes::skip_int(set, t.next),
+        value: t.value,
+    }
 }
 
 #[cycle(holds)]
@@ -67,10 +67,9 @@ fn int_value(set: &[i32], values: &[i32], nb: usize, at: usize) -> Valued
 {
     let code = domains::number(set, at);
     if code == 20 {
-        let c = set[at + 1];
         return Valued {
             next: at + 2,
-            value: c,
+            value: set[at + 1],
         };
     }
     if code == 23 {
@@ -78,10 +77,9 @@ fn int_value(set: &[i32], values: &[i32], nb: usize, at: usize) -> Valued
     }
     let v = domains::number(set, at + 1);
     if code == 21 {
-        let x = values[nb + v];
         return Valued {
             next: at + 2,
-            value: x,
+            value: values[nb + v],
         };
     }
     terms_value(set, values, nb, at + 2, v)
@@ -116,8 +114,10 @@ fn comparison_holds(set: &[i32], values: &[i32], nb: usize, at: usize) -> Held
     let op = domains::number(set, at + 1);
     let a = int_value(set, values, nb, at + 2);
     let b = int_value(set, values, nb, a.next);
-    let held = compares(op, a.value, b.value);
-    Held { next: b.next, held }
+    Held {
+        next: b.next,
+        held: compares(op, a.value, b.value),
+    }
 }
 
 // A constant or a variable.
@@ -126,27 +126,18 @@ fn leaf_holds(set: &[i32], values: &[i32], nb: usize, at: usize, code: usize) ->
     ensures { BoolPost set.now values.now nb at (at + 2) result }
 {
     let v = domains::number(set, at + 1);
-    if code == 10 {
-        return v == 1;
-    }
-    let x = values[v];
-    x == 1
+    if code == 10 { v == 1 } else { values[v] == 1 }
 }
 
 // Xor, Iff or Imp of two sides.
 fn sides_hold(code: usize, a: bool, b: bool) -> bool
     ensures { result ≡ side_value code a b }
 {
-    if code == 15 {
-        return a != b;
+    match code {
+        15 => a != b,
+        16 => a == b,
+        _ => !a || b,
     }
-    if code == 16 {
-        return a == b;
-    }
-    if a {
-        return b;
-    }
-    true
 }
 
 // As many members as `n` says: whether one is `stop`, which decides. What lies behind it is passed over.
@@ -156,18 +147,15 @@ fn members_hold(set: &[i32], values: &[i32], nb: usize, at: usize, n: usize, sto
     ensures { MembersPost set.now values.now nb at n stop result.next result.held }
 {
     let mut next = at;
-    let mut rest = n;
-    while rest != 0 {
+    for rest in (0..n).rev() {
         let m = bool_holds(set, values, nb, next);
         if m.held == stop {
-            let end = passes::skip_members(set, m.next, rest - 1);
             return Held {
-                next: end,
+                next: passes::skip_members(set, m.next, rest),
                 held: stop,
             };
         }
         next = m.next;
-        rest = rest - 1;
     }
     Held { next, held: !stop }
 }
@@ -179,8 +167,10 @@ fn bool_holds(set: &[i32], values: &[i32], nb: usize, at: usize) -> Held
 {
     let code = domains::number(set, at);
     if code < 12 {
-        let held = leaf_holds(set, values, nb, at, code);
-        return Held { next: at + 2, held };
+        return Held {
+            next: at + 2,
+            held: leaf_holds(set, values, nb, at, code),
+        };
     }
     if code < 14 {
         let n = domains::number(set, at + 1);
@@ -188,16 +178,20 @@ fn bool_holds(set: &[i32], values: &[i32], nb: usize, at: usize) -> Held
     }
     if code == 14 {
         let a = bool_holds(set, values, nb, at + 1);
-        let held = !a.held;
-        return Held { next: a.next, held };
+        return Held {
+            next: a.next,
+            held: !a.held,
+        };
     }
     if code == 18 {
         return comparison_holds(set, values, nb, at);
     }
     let a = bool_holds(set, values, nb, at + 1);
     let b = bool_holds(set, values, nb, a.next);
-    let held = sides_hold(code, a.held, b.held);
-    Held { next: b.next, held }
+    Held {
+        next: b.next,
+        held: sides_hold(code, a.held, b.held),
+    }
 }
 
 // ---- tables
@@ -215,15 +209,10 @@ fn column_values(
     ensures { ColumnsPost set.now values.now nb at n work.old 0 work.new result }
 {
     let mut next = at;
-    let mut i = 0;
-    let mut rest = n;
-    while rest != 0 {
+    for i in 0..n {
         let c = int_value(set, values, nb, next);
-        let x = c.value;
-        work[i] = x;
+        work[i] = c.value;
         next = c.next;
-        i = i + 1;
-        rest = rest - 1;
     }
     next
 }
@@ -231,28 +220,17 @@ fn column_values(
 fn permits(cell: i32, x: i32) -> bool
     ensures { result ≡ word_permits cell x }
 {
-    if cell == -2147483648 {
-        return true;
-    }
-    cell == x
+    cell == -2147483648 || cell == x
 }
 
 fn row_holds(set: &[i32], at: usize, n: usize, work: &[i32]) -> bool
     requires { ReadyRow set.now at n work.now 0 }
     ensures { RowPost set.now at n work.now 0 result }
 {
-    let mut p = at;
-    let mut i = 0;
-    let mut rest = n;
-    while rest != 0 {
-        let cell = set[p];
-        let x = work[i];
-        if !permits(cell, x) {
+    for i in 0..n {
+        if !permits(set[at + i], work[i]) {
             return false;
         }
-        p = p + 1;
-        i = i + 1;
-        rest = rest - 1;
     }
     true
 }
@@ -262,13 +240,11 @@ fn rows_hold(set: &[i32], at: usize, n: usize, k: usize, work: &[i32]) -> bool
     ensures { RowsPost set.now at n k work.now result }
 {
     let mut p = at;
-    let mut rest = k;
-    while rest != 0 {
+    for _ in 0..k {
         if row_holds(set, p, n, work) {
             return true;
         }
-        p = p + n;
-        rest = rest - 1;
+        p += n;
     }
     false
 }
@@ -280,10 +256,9 @@ fn table_holds(set: &[i32], values: &[i32], nb: usize, at: usize, work: &mut [i3
     let n = domains::number(set, at + 1);
     let k = domains::number(set, at + 2);
     let p = column_values(set, values, nb, at + 3, n, work);
-    let held = rows_hold(set, p, n, k, work);
     Held {
         next: p + n * k,
-        held,
+        held: rows_hold(set, p, n, k, work),
     }
 }
 
@@ -294,13 +269,8 @@ fn differ(work: &[i32], n: usize) -> bool
     requires { WordsAt work.now 0 n }
     ensures { DifferPost work.now 0 n result }
 {
-    let mut i = 0;
-    let mut later = n;
-    while later != 0 {
-        let x = work[i];
-        i = i + 1;
-        later = later - 1;
-        if listed(work, i, later, x) {
+    for i in 0..n {
+        if work[i + 1..n].contains(&work[i]) {
             return false;
         }
     }
@@ -313,8 +283,10 @@ fn different_holds(set: &[i32], values: &[i32], nb: usize, at: usize, work: &mut
 {
     let n = domains::number(set, at + 1);
     let next = column_values(set, values, nb, at + 2, n, work);
-    let held = differ(work, n);
-    Held { next, held }
+    Held {
+        next,
+        held: differ(work, n),
+    }
 }
 
 // ---- statements
@@ -324,13 +296,11 @@ fn statement_holds(set: &[i32], values: &[i32], nb: usize, at: usize, work: &mut
     ensures { StmtPost set.now values.now nb at result.next result.held }
 {
     let code = domains::number(set, at);
-    if code == 1 {
-        return bool_holds(set, values, nb, at + 1);
+    match code {
+        1 => bool_holds(set, values, nb, at + 1),
+        2 => table_holds(set, values, nb, at, work),
+        _ => different_holds(set, values, nb, at, work),
     }
-    if code == 2 {
-        return table_holds(set, values, nb, at, work);
-    }
-    different_holds(set, values, nb, at, work)
 }
 
 // The number, from 1, of the first of n statements that is broken; nothing behind it is looked at.
@@ -346,55 +316,26 @@ fn first_broken(
     ensures { BrokenPost set.now values.now nb at n 1 result }
 {
     let mut next = at;
-    let mut k = 1;
-    let mut rest = n;
-    while rest != 0 {
+    for k in 0..n {
         let s = statement_holds(set, values, nb, next, work);
         if !s.held {
-            return Checked::Broken(k);
+            return Checked::Broken(k + 1);
         }
         next = s.next;
-        k = k + 1;
-        rest = rest - 1;
     }
     Checked::Yes
 }
 
 // ---- values in their domains
 
-// Whether x is among n words.
-fn listed(set: &[i32], at: usize, n: usize, x: i32) -> bool
-    requires { WordsAt set.now at n }
-    ensures { ListedPost set.now at n x result }
-{
-    let mut p = at;
-    let mut rest = n;
-    while rest != 0 {
-        let y = set[p];
-        if x == y {
-            return true;
-        }
-        p = p + 1;
-        rest = rest - 1;
-    }
-    false
-}
-
 fn in_domain(set: &[i32], at: usize, x: i32) -> bool
     requires { DomainAt set.now at }
     ensures { DomainPost set.now at x result }
 {
-    let kind = domains::number(set, at);
-    if kind == 0 {
-        let low = set[at + 1];
-        let high = set[at + 2];
-        if low <= x {
-            return x <= high;
-        }
-        return false;
+    match domains::domain_at(set, at) {
+        Values::Range(low, high) => low <= x && x <= high,
+        Values::Enumerative(values) => values.contains(&x),
     }
-    let n = domains::number(set, at + 1);
-    listed(set, at + 2, n, x)
 }
 
 // The n values from p on, each in the domain that stands next.
@@ -403,16 +344,11 @@ fn ints_inside(set: &[i32], at: usize, n: usize, values: &[i32], p: usize) -> bo
     ensures { InsidePost set.now at n values.now p result }
 {
     let mut next = at;
-    let mut q = p;
-    let mut rest = n;
-    while rest != 0 {
-        let x = values[q];
-        if !in_domain(set, next, x) {
+    for q in p..p + n {
+        if !in_domain(set, next, values[q]) {
             return false;
         }
         next = domains::domain_end(set, next);
-        q = q + 1;
-        rest = rest - 1;
     }
     true
 }
@@ -420,23 +356,17 @@ fn ints_inside(set: &[i32], at: usize, n: usize, values: &[i32], p: usize) -> bo
 fn bit(x: i32) -> bool
     ensures { result ≡ is_bit x }
 {
-    if x == 0 {
-        return true;
-    }
-    x == 1
+    x == 0 || x == 1
 }
 
 fn bools_inside(values: &[i32], nb: usize) -> bool
     requires { nb ≤ length values.now }
     ensures { result ≡ all (λ v. is_bit (get_or values.now v (pos 0))) (below nb) }
 {
-    let mut v = 0;
-    while v < nb {
-        let x = values[v];
-        if !bit(x) {
+    for v in 0..nb {
+        if !bit(values[v]) {
             return false;
         }
-        v = v + 1;
     }
     true
 }
@@ -453,10 +383,7 @@ fn judge(set: &[i32], values: &[i32], work: &mut [i32]) -> Checked
             if values.len() != d.bools + d.ints {
                 return Checked::Refused(14);
             }
-            if !bools_inside(values, d.bools) {
-                return Checked::Refused(15);
-            }
-            if !ints_inside(set, 2, d.ints, values, d.bools) {
+            if !bools_inside(values, d.bools) || !ints_inside(set, 2, d.ints, values, d.bools) {
                 return Checked::Refused(15);
             }
             first_broken(set, values, d.bools, d.at, d.stmts, work)

@@ -15,13 +15,14 @@ use Rattle.syntax.specs.Words.{max_bools}
 use Rattle.syntax.specs.Syntax.{CmpOp, encode_op, IntExpr, BoolExpr, Const, Var, NVar, And, Or, Not, Xor, Iff, Imp, Cmp, Members, mnil, more, count_members, encode_int, encode_bool, encode_members}
 use Rattle.syntax.specs.Written.{EveryOf, None}
 use Rattle.syntax.specs.Codes.{bool_code}
-use Rattle.fold.specs.Fold.{is_const, Op, op_xor, op_iff, op_imp, expr_of, action, act, fold_binary, has_const, keep_member, kept, fold_not, not_of, fold_var, constant_folding_int, constant_folding_bool, constant_folding_members}
-use Rattle.fold.specs.Table.{op_num, action_num, bit, state_num}
-use Rattle.fold.proofs.TableLaws.{op_small, bit_small, state_small}
+use Rattle.fold.specs.Fold.{is_const, Op, op_xor, op_iff, op_imp, expr_of, action, act, fold_binary, is_value, has_const, keep_member, kept, fold_not, not_of, fold_var, constant_folding_int, constant_folding_bool, constant_folding_members}
+use Rattle.fold.specs.Table.{op_num, bit}
+use Rattle.fold.proofs.TableLaws.{op_small}
 use Rattle.fold.proofs.Forms.{list_of, fold_list, list_folding, binary_folding, list_words, binary_words, bit_word, op_word, op_word_is, Declared, declared_list, declared_binary, bool_long, members_long}
 use Rattle.fold.proofs.Kept.{fold_int_size, fold_size, fold_members_size, fold_every, kept_size, fold_list_size, not_size, binary_size}
 use Rattle.domains.specs.Declared.{Plain}
-use Rattle.folding.specs.Steps.{state_of, fixed_of, fixed_in, same_fixed, var_step, not_step, not_state, list_step, list_state, binary_step, binary_state, ReadsInt, ReadyInt, IntPost, Reads, ReadsMembers, Ready, ReadyMembers, FoldPost, MembersPost, var_words, not_words, not_state_is, bit_state, fold_list_words, fold_list_state, act_words, fold_binary_state, hit_one, count_one, kept_fewer, members_count}
+use Rattle.folding.specs.Known.{is_open}
+use Rattle.folding.specs.Steps.{state_of, fixed_of, fixed_in, same_fixed, not_step, not_state, list_step, list_state, binary_step, binary_state, ReadsInt, ReadyInt, IntPost, Reads, ReadsMembers, Ready, ReadyMembers, FoldPost, MembersPost, not_words, not_state_is, fold_list_words, fold_list_state, act_words, fold_binary_state, count_one, kept_fewer, members_count}
 
 -- ---- the form, from the first word
 
@@ -227,13 +228,14 @@ module _ (ws : List ℤ) (d at : ℕ) (out : List ℤ) (o w : ℕ) (hw : get_or 
   two_above : (out' : List ℤ) (end : ℕ) (us : List ℤ) → length us ≡ 2 → Stored out o us out' end → drop (o + 2) out' ≡ drop (o + 2) out
   two_above out' end us l s = let e : end ≡ o + length us = s.pushed.end in let f : o + 2 ≡ end = omega arith in ap (λ n. drop n out') f ∙ s.above ∙ ap (λ n. drop n out) (sym f)
 
-  var_length : (s v : ℕ) → length (var_step s v) ≡ 2
-  unfolding var_step
-  var_length s v = go (eqb s 2)
-    where
-      go : (c : Bool) → length (cond c (pos 11 ∷ pos v ∷ []) (pos 10 ∷ pos s ∷ [])) ≡ 2
-      go true = refl
-      go false = refl
+  var_length : (s : Option Bool) (v : ℕ) → length (encode_bool (fold_var s v)) ≡ 2
+  unfolding encode_bool
+  var_length none v = refl
+  var_length (some b) v = refl
+
+  bit_back : (b : Bool) → some b ≡ some (eqb (bit b) 1)
+  bit_back false = refl
+  bit_back true = refl
 
   -- ---- leaves
 
@@ -243,12 +245,12 @@ module _ (ws : List ℤ) (d at : ℕ) (out : List ℤ) (o w : ℕ) (hw : get_or 
         let t : bool_code e ≡ w = code_is ni e r in
         pos_eq _ _ _ (second_word ws at e (λ a b. omega (arith, code_low max_bools ni e r.vars)) (λ a. t ∙ l (omega arith)) r.words) hv
 
-    pub const_folds : (out' : List ℤ) (end : ℕ) → w ≡ 10 → Stored out o (pos 10 ∷ pos v ∷ []) out' end → FoldPost ws d at out o out' (at + 2) end v
+    pub const_folds : (out' : List ℤ) (end : ℕ) → w ≡ 10 → Stored out o (pos 10 ∷ pos v ∷ []) out' end → FoldPost ws d at out o out' (at + 2) end (some (eqb v 1))
     unfolding encode_bool second constant_folding_bool
     const_folds out' end h s ds e hd r =
         const_inv e (code_is _ e r ∙ h) λ b q.
         let z : bit b ≡ v = rw q at (second_is _ e r (λ l. omega arith)) in
-        rw q (record { nexts = refl; states = sym z ∙ bit_state b; pushed = rw (bit_word b, z) s.pushed; above = two_above out' end _ refl s })
+        rw q (record { nexts = refl; states = rw (← z) (sym (bit_back b)); pushed = rw (bit_word b, z) s.pushed; above = two_above out' end _ refl s })
 
     pub var_below : Ready ws d at out o → w < 12 → (w ≡ 10 → ⊥) → v < max_bools
     unfolding second EveryOf
@@ -260,17 +262,17 @@ module _ (ws : List ℤ) (d at : ℕ) (out : List ℤ) (o w : ℕ) (hw : get_or 
         let u : i < max_bools = rw q at r.reads.vars in
         omega arith
 
-    pub var_folds : (s : ℕ) (out' : List ℤ) (end : ℕ) → Ready ws d at out o → w < 12 → (w ≡ 10 → ⊥) → s ≡ state_num (state_of (get_or out v (pos 0))) → Stored out o (var_step s v) out' end → FoldPost ws d at out o out' (at + 2) end s
+    pub var_folds : (s : Option Bool) (out' : List ℤ) (end : ℕ) → Ready ws d at out o → w < 12 → (w ≡ 10 → ⊥) → s ≡ state_of (get_or out v (pos 0)) → Stored out o (encode_bool (fold_var s v)) out' end → FoldPost ws d at out o out' (at + 2) end s
     unfolding encode_bool second constant_folding_bool
     var_folds s out' end rd h n hs st ds e hd r =
         let t = code_is _ e r in
         let m = low_tag rd in
         var_inv e (omega arith) λ i q.
         let z : i ≡ v = rw q at (second_is _ e r (λ l. omega arith)) in
-        let f : s ≡ state_num (fixed_in out v) = hs ∙ ap state_num (sym (fixed_at out v (var_below rd h n) (omega (arith, rd.low, (ready_inside ws d at out o rd).1)))) in
-        rw (q, z) (record { nexts = refl; states = f ∙ go (fixed_in out v); pushed = rw (← var_words (fixed_in out v) v, ← f) st.pushed; above = two_above out' end _ (var_length s v) st })
+        let f : s ≡ fixed_in out v = hs ∙ sym (fixed_at out v (var_below rd h n) (omega (arith, rd.low, (ready_inside ws d at out o rd).1))) in
+        rw (q, z) (record { nexts = refl; states = f ∙ go (fixed_in out v); pushed = rw (← f) st.pushed; above = two_above out' end _ (var_length s v) st })
       where
-        go : (k : Option Bool) → state_num k ≡ state_num (is_const (fold_var k v))
+        go : (k : Option Bool) → k ≡ is_const (fold_var k v)
         go none = refl
         go (some b) = refl
 
@@ -300,7 +302,7 @@ module _ (ws : List ℤ) (d at : ℕ) (out : List ℤ) (o w : ℕ) (hw : get_or 
           let lo : max_bools ≤ o = r.low in
           (record { ds = r.ds; domains = r.domains; it = b; reads = rw nx rs.1; low = omega arith; room = omega (arith, length-append (encode_int a) (encode_int b), fold_int_size r.ds (fixed_in mid) a) }, omega arith)
 
-      pub cmp_folds : (out' : List ℤ) (next' end' : ℕ) → Ready ws d at out o → length mid ≡ length out → length mid' ≡ length mid → IntPost ws d next mid' end out' next' end' → FoldPost ws d at out o out' next' end' 2
+      pub cmp_folds : (out' : List ℤ) (next' end' : ℕ) → Ready ws d at out o → length mid ≡ length out → length mid' ≡ length mid → IntPost ws d next mid' end out' next' end' → FoldPost ws d at out o out' next' end' none
       unfolding encode_bool second constant_folding_bool
       cmp_folds out' next' end' rd l l' p' ds e hd r =
           cmp_inv e (code_is _ e r ∙ h18) λ x a b q.
@@ -341,8 +343,8 @@ module _ (ws : List ℤ) (d at : ℕ) (out : List ℤ) (o w : ℕ) (hw : get_or 
       let lo : max_bools ≤ o = r.low in
       record { ds = r.ds; domains = r.domains; it = x; reads = reads_not _ ws at x (rw q at r.reads); low = omega arith; room = omega arith }
 
-  module _ (mid : List ℤ) (next end state : ℕ) (p : FoldPost ws d (at + 1) out (o + 1) mid next end state) where
-    pub not_closes : Ready ws d at out o → w ≡ 14 → length mid ≡ length out → (o + 2 ≤ end) × (end ≤ length mid) × (state < 3)
+  module _ (mid : List ℤ) (next end : ℕ) (state : Option Bool) (p : FoldPost ws d (at + 1) out (o + 1) mid next end state) where
+    pub not_closes : Ready ws d at out o → w ≡ 14 → length mid ≡ length out → (o + 2 ≤ end) × (end ≤ length mid)
     unfolding encode_bool
     not_closes r h l =
         not_inv r.it (code_is _ r.it r.reads ∙ h) λ x q.
@@ -351,10 +353,9 @@ module _ (ws : List ℤ) (d at : ℕ) (out : List ℤ) (o w : ℕ) (hw : get_or 
         let y = constant_folding_bool r.ds (fixed_in out) x in
         let e : end ≡ o + 1 + length (encode_bool y) = f.pushed.end in
         let z : o + suc (length (encode_bool x)) ≤ length out = rw q at r.room in
-        let s : state ≡ state_num (is_const y) = f.states in
-        (omega (arith, bool_long max_bools _ y (fold_every None (λ v. v < max_bools) (λ v. v < length r.ds) r.ds (fixed_in out) x rd.vars)), omega (arith, fold_size r.ds (fixed_in out) x), omega (arith, state_small (is_const y)))
+        (omega (arith, bool_long max_bools _ y (fold_every None (λ v. v < max_bools) (λ v. v < length r.ds) r.ds (fixed_in out) x rd.vars)), omega (arith, fold_size r.ds (fixed_in out) x))
 
-    pub not_folds : (out' : List ℤ) (next' end' state' : ℕ) → Ready ws d at out o → w ≡ 14 → next' ≡ next → state' ≡ not_state state → Stored mid o (not_step state (slice (o + 1) end mid)) out' end'
+    pub not_folds : (out' : List ℤ) (next' end' : ℕ) (state' : Option Bool) → Ready ws d at out o → w ≡ 14 → next' ≡ next → state' ≡ not_state state → Stored mid o (not_step state (slice (o + 1) end mid)) out' end'
         → FoldPost ws d at out o out' next' end' state'
     unfolding encode_bool constant_folding_bool fold_not
     not_folds out' next' end' state' rd h hn hs st ds e hd r =
@@ -376,15 +377,19 @@ module _ (ws : List ℤ) (d at : ℕ) (out : List ℤ) (o w : ℕ) (hw : get_or 
   -- ---- And, Or
 
   module _ (l12 : 12 ≤ w) (l14 : w < 14) (v : ℕ) (hv : get_or ws (at + 1) (pos 0) ≡ pos v) where
-    -- the list, the state that settles it, and its members
-    the_list : {X : Type 0} (ni : ℕ) (e : BoolExpr) → Reads ni ws at e → ((b : Bool) (ms : Members) → e ≡ list_of b ms → w - 12 ≡ bit b → ReadsMembers ni ws (at + 2) v ms → count_members ms ≡ v → X) → X
+    settles : (b : Bool) → w ≡ 12 + bit b → eqb w 13 ≡ b
+    settles false h = rw h refl
+    settles true h = rw h refl
+
+    -- the list, the constant that settles it, and its members
+    the_list : {X : Type 0} (ni : ℕ) (e : BoolExpr) → Reads ni ws at e → ((b : Bool) (ms : Members) → e ≡ list_of b ms → eqb w 13 ≡ b → ReadsMembers ni ws (at + 2) v ms → count_members ms ≡ v → X) → X
     unfolding second
     the_list ni e r go =
         let t = code_is ni e r in
         list_inv e (omega arith) (omega arith) λ b ms q tb.
         let s : count_members ms ≡ v = sym (second_list b ms) ∙ sym (ap second q) ∙ second_is v hv ni e r (λ l. absurd (omega arith)) in
         let g = reads_list ni ws at b ms (rw q at r) in
-        go b ms q (omega arith) (record { words = g.words; vars = g.vars; size = sym s }) s
+        go b ms q (settles b (omega arith)) (record { words = g.words; vars = g.vars; size = sym s }) s
       where
         second_list : (b : Bool) (ms : Members) → second (list_of b ms) ≡ count_members ms
         second_list false ms = refl
@@ -397,34 +402,34 @@ module _ (ws : List ℤ) (d at : ℕ) (out : List ℤ) (o w : ℕ) (hw : get_or 
         let lo : max_bools ≤ o = r.low in
         record { ds = r.ds; domains = r.domains; them = ms; reads = g; low = omega arith; room = omega (arith, ap length (list_words b ms)) }
 
-    module _ (mid : List ℤ) (next end : ℕ) (hit : Bool) (size : ℕ) (p : MembersPost ws d (at + 2) v out (o + 2) (w - 12) mid next end hit size) where
-      pub list_closes : Ready ws d at out o → length mid ≡ length out → v < 2147483648 → (o + 2 ≤ end) × (end ≤ length mid) × (w - 12 < 2) × (size < 2147483648)
+    module _ (mid : List ℤ) (next end : ℕ) (hit : Bool) (size : ℕ) (p : MembersPost ws d (at + 2) v out (o + 2) (eqb w 13) mid next end hit size) where
+      pub list_closes : Ready ws d at out o → length mid ≡ length out → v < 2147483648 → (o + 2 ≤ end) × (end ≤ length mid) × (size < 2147483648)
       list_closes r l vs =
           the_list _ r.it r.reads λ b ms q sb g s.
           let z : o + length (encode_bool (list_of b ms)) ≤ length out = rw q at r.room in
-          let f = p r.ds b ms sb r.domains g in
+          let f = p r.ds ms r.domains g in
           let ns = constant_folding_members r.ds (fixed_in out) ms in
           let e : end ≡ o + 2 + length (encode_members (kept ns)) = f.pushed.end in
           let c : size ≡ count_members (kept ns) = f.sizes in
-          (omega arith, omega (arith, kept_size ns, fold_members_size r.ds (fixed_in out) ms, ap length (list_words b ms)), omega (arith, bit_small b), omega (arith, kept_fewer ns, members_count r.ds (fixed_in out) ms))
+          (omega arith, omega (arith, kept_size ns, fold_members_size r.ds (fixed_in out) ms, ap length (list_words b ms)), omega (arith, kept_fewer ns, members_count r.ds (fixed_in out) ms))
 
-      pub list_folds : (out' : List ℤ) (next' end' state' : ℕ) → Ready ws d at out o → next' ≡ next → state' ≡ list_state (w - 12) hit size → Stored mid o (list_step (w - 12) hit size (slice (o + 2) end mid)) out' end'
+      pub list_folds : (out' : List ℤ) (next' end' : ℕ) (state' : Option Bool) → Ready ws d at out o → next' ≡ next → state' ≡ list_state (eqb w 13) hit size → Stored mid o (list_step (eqb w 13) hit size (slice (o + 2) end mid)) out' end'
           → FoldPost ws d at out o out' next' end' state'
       list_folds out' next' end' state' rd hn hs st ds e hd r =
           the_list _ e r λ b ms q sb g s.
-          let f = p ds b ms sb hd g in
+          let f = rw sb at (p ds ms hd g) in
           let ns = constant_folding_members ds (fixed_in out) ms in
           let l : o + 2 ≤ length out = (ready_inside ws d at out o rd).1 in
           let c : slice (o + 2) end mid ≡ encode_members (kept ns) = pushed_slice out (o + 2) (encode_members (kept ns)) mid end f.pushed l in
           let lf = list_folding ds (fixed_in out) b ms in
           let ww : Pushed mid o (encode_bool (fold_list b ns)) out' end' = rw (← fold_list_words b ns, ← c, ← f.hits, ← f.sizes, ← sb) st.pushed in
           let lw : length (encode_bool (list_of b ms)) ≡ suc (suc (length (encode_members ms))) = ap length (list_words b ms) in
-          let ss : state' ≡ state_num (is_const (fold_list b ns)) = hs ∙ rw (sb, f.hits, f.sizes) (fold_list_state b ns) in
+          let ss : state' ≡ is_const (fold_list b ns) = hs ∙ rw (sb, f.hits, f.sizes) (fold_list_state b ns) in
           let po : Pushed out o (encode_bool (fold_list b ns)) out' end' = pushed_over out (o + 2) (encode_members (kept ns)) mid end o _ out' end' f.pushed (omega arith) l ww in
           let nn : next ≡ at + 2 + length (encode_members ms) = f.nexts in
           rw q (record {
             nexts = omega arith;
-            states = ss ∙ ap (λ x. state_num (is_const x)) (sym lf);
+            states = ss ∙ ap is_const (sym lf);
             pushed = subst (λ x. Pushed out o (encode_bool x) out' end') (sym lf) po;
             above = above_both (o + length (encode_bool (list_of b ms))) out mid out' (o + 2 + length (encode_members ms)) end' f.above st.above (omega arith)
                 (let k : end' ≡ o + length (encode_bool (fold_list b ns)) = ww.end in omega (arith, fold_list_size b ns, fold_members_size ds (fixed_in out) ms));
@@ -433,15 +438,29 @@ module _ (ws : List ℤ) (d at : ℕ) (out : List ℤ) (o w : ℕ) (hw : get_or 
   -- ---- Xor, Iff, Imp
 
   module _ (l14 : 14 < w) (n18 : w ≡ 18 → ⊥) where
-    the_binary : {X : Type 0} (ni : ℕ) (e : BoolExpr) → Reads ni ws at e → ((y : Op) (a b : BoolExpr) → e ≡ expr_of y a b → w - 15 ≡ op_num y → Reads ni ws (at + 1) a → Reads ni ws (at + 1 + length (encode_bool a)) b → X) → X
+    the_binary : {X : Type 0} (ni : ℕ) (e : BoolExpr) → Reads ni ws at e → ((y : Op) (a b : BoolExpr) → e ≡ expr_of y a b → w ≡ 15 + op_num y → Reads ni ws (at + 1) a → Reads ni ws (at + 1 + length (encode_bool a)) b → X) → X
     the_binary ni e r go =
         let t = code_is ni e r in
         binary_inv e (omega arith) (λ x. n18 (sym t ∙ x)) λ y a b q ty.
         let g = rw q at r in
         go y a b q (omega arith) (reads_left ni ws at y a b g) (reads_right ni ws at y a b g)
 
+    one_op : (x y : Op) → op_num x ≡ op_num y → x ≡ y
+    one_op op_xor op_xor h = refl
+    one_op op_xor op_iff h = absurd (omega arith)
+    one_op op_xor op_imp h = absurd (omega arith)
+    one_op op_iff op_xor h = absurd (omega arith)
+    one_op op_iff op_iff h = refl
+    one_op op_iff op_imp h = absurd (omega arith)
+    one_op op_imp op_xor h = absurd (omega arith)
+    one_op op_imp op_iff h = absurd (omega arith)
+    one_op op_imp op_imp h = refl
+
     binary_length : (y : Op) (a b : BoolExpr) → length (encode_bool (expr_of y a b)) ≡ suc (length (encode_bool a) + length (encode_bool b))
     binary_length y a b = ap length (binary_words y a b) ∙ ap suc (length-append (encode_bool a) (encode_bool b))
+
+    pub code_high : Ready ws d at out o → w < 18
+    code_high r = the_binary _ r.it r.reads λ y a b q oy ra rb. omega (arith, op_small y)
 
     pub left_ready : Ready ws d at out o → Ready ws d (at + 1) out (o + 1)
     left_ready r =
@@ -450,7 +469,7 @@ module _ (ws : List ℤ) (d at : ℕ) (out : List ℤ) (o w : ℕ) (hw : get_or 
         let lo : max_bools ≤ o = r.low in
         record { ds = r.ds; domains = r.domains; it = a; reads = ra; low = omega arith; room = omega (arith, binary_length y a b) }
 
-    module _ (mid : List ℤ) (next end state : ℕ) (p : FoldPost ws d (at + 1) out (o + 1) mid next end state) where
+    module _ (mid : List ℤ) (next end : ℕ) (state : Option Bool) (p : FoldPost ws d (at + 1) out (o + 1) mid next end state) where
       pub right_ready : Ready ws d at out o → length mid ≡ length out → Ready ws d next mid end × (at + 1 < next)
       right_ready r l =
           the_binary _ r.it r.reads λ y a b q oy ra rb.
@@ -461,9 +480,9 @@ module _ (ws : List ℤ) (d at : ℕ) (out : List ℤ) (o w : ℕ) (hw : get_or 
           let e : end ≡ o + 1 + length (encode_bool (constant_folding_bool r.ds (fixed_in out) a)) = f.pushed.end in
           (record { ds = r.ds; domains = r.domains; it = b; reads = rw n rb; low = omega arith; room = omega (arith, binary_length y a b, fold_size r.ds (fixed_in out) a) }, omega (arith, reads_long _ ws (at + 1) a ra))
 
-      module _ (mid' : List ℤ) (next' end' state' : ℕ) (p' : FoldPost ws d next mid end mid' next' end' state') where
+      module _ (mid' : List ℤ) (next' end' : ℕ) (state' : Option Bool) (p' : FoldPost ws d next mid end mid' next' end' state') where
         pub binary_closes : Ready ws d at out o → length mid ≡ length out → length mid' ≡ length mid
-            → (o + 2 ≤ end) × (end ≤ end') × (end' ≤ length mid') × (w - 15 < 3) × (state < 3) × (state' < 3)
+            → (o + 2 ≤ end) × (end ≤ end') × (end' ≤ length mid')
         binary_closes r l l' =
             the_binary _ r.it r.reads λ y a b q oy ra rb.
             let z : o + length (encode_bool (expr_of y a b)) ≤ length out = rw q at r.room in
@@ -473,24 +492,19 @@ module _ (ws : List ℤ) (d at : ℕ) (out : List ℤ) (o w : ℕ) (hw : get_or 
             let A = constant_folding_bool r.ds (fixed_in out) a in
             let B = constant_folding_bool r.ds (fixed_in mid) b in
             let e : end ≡ o + 1 + length (encode_bool A) = f.pushed.end in
-            let e' : end' ≡ end + length (encode_bool B) = g.pushed.end in
-            let s : state ≡ state_num (is_const A) = f.states in
-            let s' : state' ≡ state_num (is_const B) = g.states in (
+            let e' : end' ≡ end + length (encode_bool B) = g.pushed.end in (
               omega (arith, bool_long max_bools _ A (fold_every None (λ v. v < max_bools) (λ v. v < length r.ds) r.ds (fixed_in out) a ra.vars)),
               omega arith,
               omega (arith, binary_length y a b, fold_size r.ds (fixed_in out) a, fold_size r.ds (fixed_in mid) b),
-              omega (arith, op_small y),
-              omega (arith, state_small (is_const A)),
-              omega (arith, state_small (is_const B)),
             )
 
-        pub binary_folds : (k : ℕ) (out' : List ℤ) (next'' end'' state'' : ℕ) → Ready ws d at out o → length mid ≡ length out
-            → ((y : Op) (x z : Option Bool) → w - 15 ≡ op_num y → state ≡ state_num x → state' ≡ state_num z → k ≡ action_num (action y x z))
-            → next'' ≡ next' → state'' ≡ binary_state k → Stored mid' o (binary_step k (w - 15) (slice (o + 1) end mid') (slice end end' mid')) out' end''
+        pub binary_folds : (x : Op) (out' : List ℤ) (next'' end'' : ℕ) (state'' : Option Bool) → Ready ws d at out o → length mid ≡ length out → w ≡ 15 + op_num x → next'' ≡ next'
+            → state'' ≡ binary_state (action x state state') → Stored mid' o (binary_step (action x state state') x (slice (o + 1) end mid') (slice end end' mid')) out' end''
             → FoldPost ws d at out o out' next'' end'' state''
         unfolding fold_binary
-        binary_folds k out' next'' end'' state'' rd l ha hn hs st ds e hd r =
-            the_binary _ e r λ y a b q oy ra rb.
+        binary_folds y out' next'' end'' state'' rd l hy hn hs st ds e hd r =
+            the_binary _ e r λ x a b q' ox ra rb.
+            let q : e ≡ expr_of y a b = q' ∙ ap (λ o. expr_of o a b) (one_op x y (omega arith)) in
             let f = p ds a hd ra in
             let n : next ≡ at + 1 + length (encode_bool a) = f.nexts in
             let g = p' ds b hd (rw n rb) in
@@ -501,20 +515,20 @@ module _ (ws : List ℤ) (d at : ℕ) (out : List ℤ) (o w : ℕ) (hw : get_or 
             let sf : fixed_in mid ≡ fixed_in out = same_fixed out mid (pushed_below out (o + 1) (encode_bool A) mid end max_bools f.pushed (omega arith) lo) in
             let ef : end ≡ o + 1 + length (encode_bool A) = f.pushed.end in
             let wb : Pushed mid end (encode_bool B) mid' end' = rw sf at g.pushed in
-            let sb : state' ≡ state_num (is_const B) = rw sf at g.states in
+            let sb : state' ≡ is_const B = rw sf at g.states in
+            let ka : action y state state' ≡ action y (is_const A) (is_const B) = rw (f.states, sb) refl in
             let lm : end ≤ length mid = omega (arith, (right_ready rd l).0.room) in
             let cl : slice (o + 1) end mid' ≡ encode_bool A = ap (drop (o + 1)) (pushed_below mid end (encode_bool B) mid' end' end wb (omega arith) lm) ∙ pushed_slice out (o + 1) (encode_bool A) mid end f.pushed lo in
             let cr : slice end end' mid' ≡ encode_bool B = pushed_slice mid end (encode_bool B) mid' end' wb lm in
-            let ka : k ≡ action_num (action y (is_const A) (is_const B)) = ha y (is_const A) (is_const B) oy f.states sb in
             let n' : next' ≡ next + length (encode_bool b) = g.nexts in
             let T = act (action y (is_const A) (is_const B)) y A B in
             let bf : constant_folding_bool ds (fixed_in out) (expr_of y a b) ≡ T = binary_folding ds (fixed_in out) y a b in
-            let ww : Pushed mid' o (encode_bool T) out' end'' = rw (← act_words (action y (is_const A) (is_const B)) y A B, ← cl, ← cr, ← ka, ← oy) st.pushed in
+            let ww : Pushed mid' o (encode_bool T) out' end'' = rw (← act_words (action y (is_const A) (is_const B)) y A B, ← cl, ← cr, ← ka) st.pushed in
             let po : Pushed out o (encode_bool T) out' end'' = pushed_over out (o + 1) (encode_bool A ++ encode_bool B) mid' end' o _ out' end'' (pushed_then out (o + 1) (encode_bool A) mid end (encode_bool B) mid' end' f.pushed wb) (omega arith) lo ww in
-            let ss : state'' ≡ state_num (is_const T) = hs ∙ ap binary_state ka ∙ fold_binary_state y A B in
+            let ss : state'' ≡ is_const T = hs ∙ ap binary_state ka ∙ fold_binary_state y A B in
             rw q (record {
               nexts = omega (arith, binary_length y a b);
-              states = ss ∙ ap (λ x. state_num (is_const x)) (sym bf);
+              states = ss ∙ ap is_const (sym bf);
               pushed = subst (λ x. Pushed out o (encode_bool x) out' end'') (sym bf) po;
               above = above_both (o + length (encode_bool (expr_of y a b))) out mid' out' (o + 1 + length (encode_bool a) + length (encode_bool b)) end''
                   (drop_up (end + length (encode_bool b)) (o + 1 + length (encode_bool a) + length (encode_bool b)) mid' mid g.above (omega (arith, fold_size ds (fixed_in out) a)) ∙ drop_up (o + 1 + length (encode_bool a)) (o + 1 + length (encode_bool a) + length (encode_bool b)) mid out f.above (omega arith))
@@ -524,10 +538,10 @@ module _ (ws : List ℤ) (d at : ℕ) (out : List ℤ) (o w : ℕ) (hw : get_or 
 
 -- ---- members
 
-pub members_none : (ws : List ℤ) (d at n : ℕ) (out : List ℤ) (o b : ℕ) → n ≡ 0 → MembersPost ws d at n out o b out at o false 0
+pub members_none : (ws : List ℤ) (d at n : ℕ) (out : List ℤ) (o : ℕ) (b : Bool) → n ≡ 0 → MembersPost ws d at n out o b out at o false 0
 unfolding encode_members constant_folding_members has_const kept
-members_none ws d at n out o b h ds c mnil hb hd r = record { nexts = omega arith; hits = refl; sizes = refl; pushed = pushed_none out o; above = refl }
-members_none ws d at n out o b h ds c (more e ms) hb hd r = absurd (let s : n ≡ suc (count_members ms) = r.size in omega arith)
+members_none ws d at n out o b h ds mnil hd r = record { nexts = omega arith; hits = refl; sizes = refl; pushed = pushed_none out o; above = refl }
+members_none ws d at n out o b h ds (more e ms) hd r = absurd (let s : n ≡ suc (count_members ms) = r.size in omega arith)
 
 module _ (ws : List ℤ) (d at n : ℕ) (out : List ℤ) (o : ℕ) (z : n ≡ 0 → ⊥) where
   more_inv : {X : Type 0} (ms : Members) → n ≡ count_members ms → ((e : BoolExpr) (ns : Members) → ms ≡ more e ns → X) → X
@@ -541,9 +555,9 @@ module _ (ws : List ℤ) (d at n : ℕ) (out : List ℤ) (o : ℕ) (z : n ≡ 0 
       let w : o + length (encode_bool e ++ encode_members ns) ≤ length out = rw q at r.room in
       record { ds = r.ds; domains = r.domains; it = e; reads = reads_first _ ws at n e ns (rw q at r.reads); low = r.low; room = omega (arith, length-append (encode_bool e) (encode_members ns)) }
 
-  module _ (mid : List ℤ) (next end state : ℕ) (p : FoldPost ws d at out o mid next end state) (from : ℕ) (hf : from ≡ cond (eqb state 2) end o) where
+  module _ (mid : List ℤ) (next end : ℕ) (state : Option Bool) (p : FoldPost ws d at out o mid next end state) (from : ℕ) (hf : from ≡ cond (is_open state) end o) where
     -- the end of what is kept of a member
-    kept_at : (k : Option Bool) (E : BoolExpr) → state ≡ state_num k → Pushed out o (encode_bool E) mid end → o ≤ length out → Pushed out o (encode_members (keep_member k E mnil)) mid from
+    kept_at : (k : Option Bool) (E : BoolExpr) → state ≡ k → Pushed out o (encode_bool E) mid end → o ≤ length out → Pushed out o (encode_members (keep_member k E mnil)) mid from
     unfolding encode_members
     kept_at none E s w l = let g : from ≡ end = hf ∙ rw s refl in rw g (record { end = w.end ∙ omega (arith, length-append (encode_bool E) []); words = w.words ∙ ap (λ x. take o out ++ x) (sym (append-nil (encode_bool E))) })
     kept_at (some false) E s w l = let g : from ≡ o = hf ∙ rw s refl in rw g (record { end = omega arith; words = pushed_below out o (encode_bool E) mid end o w (omega arith) l ∙ sym (append-nil (take o out)) })
@@ -576,10 +590,10 @@ module _ (ws : List ℤ) (d at n : ℕ) (out : List ℤ) (o : ℕ) (z : n ≡ 0 
           omega (arith, reads_long _ ws at e re),
         )
 
-    pub members_more : (b : ℕ) (out' : List ℤ) (next' end' : ℕ) (hit : Bool) (size : ℕ) → MembersPost ws d next (n - 1) mid from b out' next' end' hit size → ReadyMembers ws d at n out o
-        → MembersPost ws d at n out o b out' next' end' (eqb state b || hit) (cond (eqb state 2) (size + 1) size)
+    pub members_more : (b : Bool) (out' : List ℤ) (next' end' : ℕ) (hit : Bool) (size : ℕ) → MembersPost ws d next (n - 1) mid from b out' next' end' hit size → ReadyMembers ws d at n out o
+        → MembersPost ws d at n out o b out' next' end' (is_value b state || hit) (cond (is_open state) (size + 1) size)
     unfolding encode_members constant_folding_members has_const kept
-    members_more b out' next' end' hit size p' rd ds c ms hb hd r =
+    members_more b out' next' end' hit size p' rd ds ms hd r =
         more_inv ms r.size λ e ns q.
         let rr = rw q at r in
         let re = reads_first _ ws at n e ns rr in
@@ -589,16 +603,16 @@ module _ (ws : List ℤ) (d at n : ℕ) (out : List ℤ) (o : ℕ) (z : n ≡ 0 
         let l : o ≤ length out = omega (arith, rd.room) in
         let kf = kept_at (is_const E) E f.states f.pushed l in
         let sf : fixed_in mid ≡ fixed_in out = same_fixed out mid (pushed_below out o (encode_bool E) mid end max_bools f.pushed rd.low l) in
-        let g = p' ds c ns hb hd (rw nx (reads_rest _ ws at n e ns rr)) in
+        let g = p' ds ns hd (rw nx (reads_rest _ ws at n e ns rr)) in
         let N = constant_folding_members ds (fixed_in out) ns in
         let gw : Pushed mid from (encode_members (kept N)) out' end' = rw sf at g.pushed in
-        let gh : hit ≡ has_const c N = rw sf at g.hits in
+        let gh : hit ≡ has_const b N = rw sf at g.hits in
         let gs : size ≡ count_members (kept N) = rw sf at g.sizes in
         let gn : next' ≡ next + length (encode_members ns) = g.nexts in
         let ke : from ≡ o + length (encode_members (keep_member (is_const E) E mnil)) = kf.end in
         rw q (record {
           nexts = omega (arith, length-append (encode_bool e) (encode_members ns));
-          hits = rw (f.states, hb, gh, hit_one (is_const E) c) refl;
+          hits = rw (f.states, gh) refl;
           sizes = rw (f.states, gs) (count_one (is_const E) E (kept N));
           pushed = rw (kept_split (is_const E) E (kept N)) (pushed_then out o (encode_members (keep_member (is_const E) E mnil)) mid from (encode_members (kept N)) out' end' kf gw);
           above = drop_up (from + length (encode_members ns)) (o + length (encode_bool e ++ encode_members ns)) out' mid g.above (omega (arith, length-append (encode_bool e) (encode_members ns), kept_one_size (is_const E) E, fold_size ds (fixed_in out) e))
@@ -606,12 +620,12 @@ module _ (ws : List ℤ) (d at n : ℕ) (out : List ℤ) (o : ℕ) (z : n ≡ 0 
         })
 
 -- what the loop adds up, and what is left
-pub members_sum : (ws : List ℤ) (d at n : ℕ) (out : List ℤ) (o b : ℕ) (out' : List ℤ) (next end : ℕ) (x h h' : Bool) (y k s : ℕ) (hit : Bool) (kept' : ℕ)
-    → hit ≡ (x || h) → kept' ≡ cond (eqb y 2) (k + 1) k → MembersPost ws d at n out o b out' next end (h || (x || h')) (k + cond (eqb y 2) (s + 1) s) → MembersPost ws d at n out o b out' next end (hit || h') (kept' + s)
+pub members_sum : (ws : List ℤ) (d at n : ℕ) (out : List ℤ) (o : ℕ) (b : Bool) (out' : List ℤ) (next end : ℕ) (x h h' : Bool) (y : Option Bool) (k s : ℕ) (hit : Bool) (kept' : ℕ)
+    → hit ≡ (x || h) → kept' ≡ cond (is_open y) (k + 1) k → MembersPost ws d at n out o b out' next end (h || (x || h')) (k + cond (is_open y) (s + 1) s) → MembersPost ws d at n out o b out' next end (hit || h') (kept' + s)
 members_sum ws d at n out o b out' next end x h h' y k s hit kept' e f p =
     let eh : (h || (x || h')) ≡ (hit || h') = rw e (turn h x h') in
-    let ek : k + cond (eqb y 2) (s + 1) s ≡ kept' + s = rw f (add (eqb y 2)) in
-    subst (λ n'. MembersPost ws d at n out o b out' next end (hit || h') n') ek (subst (λ t. MembersPost ws d at n out o b out' next end t (k + cond (eqb y 2) (s + 1) s)) eh p)
+    let ek : k + cond (is_open y) (s + 1) s ≡ kept' + s = rw f (add (is_open y)) in
+    subst (λ n'. MembersPost ws d at n out o b out' next end (hit || h') n') ek (subst (λ t. MembersPost ws d at n out o b out' next end t (k + cond (is_open y) (s + 1) s)) eh p)
   where
     turn : (h x h' : Bool) → (h || (x || h')) ≡ ((x || h) || h')
     turn true true h' = refl
@@ -630,7 +644,7 @@ binary_low w a b = omega arith
 pub members_fit : (ws : List ℤ) (d at n : ℕ) (out : List ℤ) (o : ℕ) → ReadyMembers ws d at n out o → n ≤ length out
 members_fit ws d at n out o r = omega (arith, r.room, r.reads.size, members_long max_bools _ r.them r.reads.vars)
 
-pub members_end : (ws : List ℤ) (d at n : ℕ) (out : List ℤ) (o b : ℕ) (out' : List ℤ) (next end : ℕ) (hit : Bool) (size : ℕ) → MembersPost ws d at n out o b out' next end (hit || false) (size + 0) → MembersPost ws d at n out o b out' next end hit size
+pub members_end : (ws : List ℤ) (d at n : ℕ) (out : List ℤ) (o : ℕ) (b : Bool) (out' : List ℤ) (next end : ℕ) (hit : Bool) (size : ℕ) → MembersPost ws d at n out o b out' next end (hit || false) (size + 0) → MembersPost ws d at n out o b out' next end hit size
 members_end ws d at n out o b out' next end hit size p =
     subst (λ k. MembersPost ws d at n out o b out' next end hit k) (omega arith) (subst (λ t. MembersPost ws d at n out o b out' next end t (size + 0)) (go hit) p)
   where
@@ -638,12 +652,12 @@ members_end ws d at n out o b out' next end hit size p =
     go true = refl
     go false = refl
 
-pub kept_room : (s k n rest k' : ℕ) → k' ≡ cond (eqb s 2) (k + 1) k → (rest ≡ 0 → ⊥) → k + rest ≤ n → k' + (rest - 1) ≤ n
-kept_room s k n rest k' e z h = rw e (go (eqb s 2))
+pub kept_room : (s : Option Bool) (k n rest k' : ℕ) → k' ≡ cond (is_open s) (k + 1) k → (rest ≡ 0 → ⊥) → k + rest ≤ n → k' + (rest - 1) ≤ n
+kept_room s k n rest k' e z h = rw e (go (is_open s))
   where
     go : (c : Bool) → cond c (k + 1) k + (rest - 1) ≤ n
     go true = omega arith
     go false = omega arith
 
-pub members_start : (ws : List ℤ) (d at n : ℕ) (out : List ℤ) (o b : ℕ) (out' : List ℤ) (next end : ℕ) (hit : Bool) (size : ℕ) → MembersPost ws d at n out o b out' next end hit size → MembersPost ws d at n out o b out' next end hit (0 + size)
+pub members_start : (ws : List ℤ) (d at n : ℕ) (out : List ℤ) (o : ℕ) (b : Bool) (out' : List ℤ) (next end : ℕ) (hit : Bool) (size : ℕ) → MembersPost ws d at n out o b out' next end hit size → MembersPost ws d at n out o b out' next end hit (0 + size)
 members_start ws d at n out o b out' next end hit size p = subst (λ k. MembersPost ws d at n out o b out' next end hit k) (omega arith) p

@@ -5,7 +5,6 @@ use mathlib.Core.Bool.{Bool, true, false, cond}
 use mathlib.Core.Option.{Option, none, some}
 use mathlib.Core.List.{List, [], ◌∷◌, ◌++◌}
 use native.Mathlib.Omega.{arith}
-use lib.Dec.{eqb}
 use lib.IntN.{ℤ, pos}
 use lib.ListN.{length, get_or, set, length-set}
 use Rattle.laws.specs.Slices.{has_front, has_back, has_rest, Pushed, pushed_below, pushed_then, pushed_over, Stored, drop_up}
@@ -13,8 +12,8 @@ use Rattle.syntax.specs.Words.{max_bools}
 use Rattle.syntax.specs.Syntax.{IfIsRead, IntExpr, If, BoolExpr, encode_int, encode_bool}
 use Rattle.syntax.specs.Lengths.{int_long}
 use Rattle.syntax.specs.Written.{EveryIntOf}
-use Rattle.fold.specs.Fold.{is_const, fold_if, constant_folding_int, constant_folding_bool}
-use Rattle.fold.specs.Table.{state_num}
+use Rattle.fold.specs.Fold.{is_const, is_value, fold_if, constant_folding_int, constant_folding_bool}
+use Rattle.folding.specs.Known.{is_open}
 use Rattle.fold.proofs.Kept.{if_length, fold_int_size, fold_size}
 use Rattle.folding.specs.Steps.{fixed_in, same_fixed, ReadsInt, ReadyInt, IntPost, Reads, Ready, FoldPost}
 use Rattle.folding.proofs.IntLaws.{stored_one, if_inv, int_inside, code_is}
@@ -26,10 +25,10 @@ place true x y r low high e a b c d = (omega arith, omega arith)
 place false x y r low high e a b c d = (omega arith, omega arith)
 
 -- the words of what is picked, by what is known of the condition
-picked : (out : List ℤ) (o : ℕ) (m1 m2 : List ℤ) (e2 : ℕ) (m3 : List ℤ) (p e3 : ℕ) (m4 : List ℤ) (q e4 end s : ℕ) (i : IfIsRead) (C : BoolExpr) (T E : IntExpr)
+picked : (out : List ℤ) (o : ℕ) (m1 m2 : List ℤ) (e2 : ℕ) (m3 : List ℤ) (p e3 : ℕ) (m4 : List ℤ) (q e4 end : ℕ) (s : Option Bool) (i : IfIsRead) (C : BoolExpr) (T E : IntExpr)
     → Pushed out o (pos 23 ∷ []) m1 (o + 1) → Pushed m1 (o + 1) (encode_bool C) m2 e2 → Pushed m2 p (encode_int T) m3 e3 → Pushed m3 q (encode_int E) m4 e4
-    → p ≡ cond (eqb s 2) e2 o → q ≡ cond (eqb s 0) o e3 → end ≡ cond (eqb s 1) e3 e4 → o ≤ length out → q ≤ length m3
-    → (k : Option Bool) → s ≡ state_num k → Pushed out o (encode_int (fold_if k i C T E)) m4 end
+    → p ≡ cond (is_open s) e2 o → q ≡ cond (is_value false s) o e3 → end ≡ cond (is_value true s) e3 e4 → o ≤ length out → q ≤ length m3
+    → (k : Option Bool) → s ≡ k → Pushed out o (encode_int (fold_if k i C T E)) m4 end
 unfolding encode_int
 picked out o m1 m2 e2 m3 p e3 m4 q e4 end s i C T E w1 w2 w3 w4 hp hq he lo lq none hs =
     let a : p ≡ e2 = hp ∙ rw hs refl in
@@ -75,7 +74,7 @@ module _ (ws : List ℤ) (d at : ℕ) (out : List ℤ) (o : ℕ) (hw : get_or ws
         let low : max_bools ≤ o = r.low in
         record { ds = r.ds; domains = r.domains; it = c; reads = rc; low = omega arith; room = omega (arith, if_length i c t f, same_room) }
 
-    module _ (m2 : List ℤ) (n2 e2 s : ℕ) (p2 : FoldPost ws d (at + 1) m1 (o + 1) m2 n2 e2 s) (l2 : length m2 ≡ length m1) (p : ℕ) (hp : p ≡ cond (eqb s 2) e2 o) where
+    module _ (m2 : List ℤ) (n2 e2 : ℕ) (s : Option Bool) (p2 : FoldPost ws d (at + 1) m1 (o + 1) m2 n2 e2 s) (l2 : length m2 ≡ length m1) (p : ℕ) (hp : p ≡ cond (is_open s) e2 o) where
       pub then_ready : ReadyInt ws d at out o → ReadyInt ws d n2 m2 p × (at + 1 < n2)
       then_ready r =
           the_if _ r.it r.reads λ i c t f x rc rt rf.
@@ -84,10 +83,10 @@ module _ (ws : List ℤ) (d at : ℕ) (out : List ℤ) (o : ℕ) (hw : get_or ws
           let y = p2 r.ds c r.domains rc in
           let n : n2 ≡ at + 1 + length (encode_bool c) = y.nexts in
           let e : e2 ≡ o + 1 + length (encode_bool (constant_folding_bool r.ds (fixed_in m1) c)) = y.pushed.end in
-          let b = place (eqb s 2) e2 o p o (o + 1 + length (encode_bool c)) hp (omega arith) (omega (arith, fold_size r.ds (fixed_in m1) c)) (omega arith) (omega arith) in
+          let b = place (is_open s) e2 o p o (o + 1 + length (encode_bool c)) hp (omega arith) (omega (arith, fold_size r.ds (fixed_in m1) c)) (omega arith) (omega arith) in
           (record { ds = r.ds; domains = r.domains; it = t; reads = rw n rt; low = omega (arith, b.0); room = omega (arith, b.1, if_length i c t f, same_room) }, omega (arith, reads_long _ ws (at + 1) c rc))
 
-      module _ (m3 : List ℤ) (n3 e3 : ℕ) (p3 : IntPost ws d n2 m2 p m3 n3 e3) (l3 : length m3 ≡ length m2) (q : ℕ) (hq : q ≡ cond (eqb s 0) o e3) where
+      module _ (m3 : List ℤ) (n3 e3 : ℕ) (p3 : IntPost ws d n2 m2 p m3 n3 e3) (l3 : length m3 ≡ length m2) (q : ℕ) (hq : q ≡ cond (is_value false s) o e3) where
         pub else_ready : ReadyInt ws d at out o → ReadyInt ws d n3 m3 q × (at + 1 < n3)
         else_ready r =
             the_if _ r.it r.reads λ i c t f x rc rt rf.
@@ -96,15 +95,15 @@ module _ (ws : List ℤ) (d at : ℕ) (out : List ℤ) (o : ℕ) (hw : get_or ws
             let y = p2 r.ds c r.domains rc in
             let n : n2 ≡ at + 1 + length (encode_bool c) = y.nexts in
             let e : e2 ≡ o + 1 + length (encode_bool (constant_folding_bool r.ds (fixed_in m1) c)) = y.pushed.end in
-            let b = place (eqb s 2) e2 o p o (o + 1 + length (encode_bool c)) hp (omega arith) (omega (arith, fold_size r.ds (fixed_in m1) c)) (omega arith) (omega arith) in
+            let b = place (is_open s) e2 o p o (o + 1 + length (encode_bool c)) hp (omega arith) (omega (arith, fold_size r.ds (fixed_in m1) c)) (omega arith) (omega arith) in
             let y' = p3 r.ds t r.domains (rw n rt) in
             let n' : n3 ≡ n2 + length (encode_int t) = y'.nexts in
             let n'' : n3 ≡ at + 1 + length (encode_bool c) + length (encode_int t) = omega arith in
             let e' : e3 ≡ p + length (encode_int (constant_folding_int r.ds (fixed_in m2) t)) = y'.pushed.end in
-            let b' = place (eqb s 0) o e3 q o (p + length (encode_int t)) hq (omega arith) (omega (arith, b.0)) (omega (arith, b.0)) (omega (arith, fold_int_size r.ds (fixed_in m2) t)) in
+            let b' = place (is_value false s) o e3 q o (p + length (encode_int t)) hq (omega arith) (omega (arith, b.0)) (omega (arith, b.0)) (omega (arith, fold_int_size r.ds (fixed_in m2) t)) in
             (record { ds = r.ds; domains = r.domains; it = f; reads = rw n'' rf; low = omega (arith, b'.0); room = omega (arith, b.1, b'.1, if_length i c t f, same_room) }, omega (arith, int_long t))
 
-        pub if_folds : (m4 : List ℤ) (n4 e4 : ℕ) → IntPost ws d n3 m3 q m4 n4 e4 → (end : ℕ) → end ≡ cond (eqb s 1) e3 e4 → ReadyInt ws d at out o → IntPost ws d at out o m4 n4 end
+        pub if_folds : (m4 : List ℤ) (n4 e4 : ℕ) → IntPost ws d n3 m3 q m4 n4 e4 → (end : ℕ) → end ≡ cond (is_value true s) e3 e4 → ReadyInt ws d at out o → IntPost ws d at out o m4 n4 end
         unfolding constant_folding_int
         if_folds m4 n4 e4 p4 end he rd ds e hd r =
             the_if _ e r λ i c t f x rc rt rf.
@@ -120,17 +119,17 @@ module _ (ws : List ℤ) (d at : ℕ) (out : List ℤ) (o : ℕ) (hw : get_or ws
             let y2 = p2 ds c hd rc in
             let n : n2 ≡ at + 1 + length (encode_bool c) = y2.nexts in
             let w2 : Pushed m1 (o + 1) (encode_bool C) m2 e2 = rw f1 at y2.pushed in
-            let s2 : s ≡ state_num (is_const C) = rw f1 at y2.states in
+            let s2 : s ≡ is_const C = rw f1 at y2.states in
             let g2 : e2 ≡ o + 1 + length (encode_bool C) = w2.end in
             let f2 : fixed_in m2 ≡ fixed_in out = same_fixed m1 m2 (pushed_below m1 (o + 1) (encode_bool C) m2 e2 max_bools w2 (omega arith) (omega (arith, same_room))) ∙ f1 in
-            let b = place (eqb s 2) e2 o p o (o + 1 + length (encode_bool c)) hp (omega arith) (omega (arith, fold_size ds (fixed_in out) c)) (omega arith) (omega arith) in
+            let b = place (is_open s) e2 o p o (o + 1 + length (encode_bool c)) hp (omega arith) (omega (arith, fold_size ds (fixed_in out) c)) (omega arith) (omega arith) in
             let y3 = p3 ds t hd (rw n rt) in
             let n' : n3 ≡ n2 + length (encode_int t) = y3.nexts in
             let n'' : n3 ≡ at + 1 + length (encode_bool c) + length (encode_int t) = omega arith in
             let w3 : Pushed m2 p (encode_int T) m3 e3 = rw f2 at y3.pushed in
             let g3 : e3 ≡ p + length (encode_int T) = w3.end in
             let f3 : fixed_in m3 ≡ fixed_in out = same_fixed m2 m3 (pushed_below m2 p (encode_int T) m3 e3 max_bools w3 (omega (arith, b.0)) lp) ∙ f2 in
-            let b' = place (eqb s 0) o e3 q o (p + length (encode_int t)) hq (omega arith) (omega (arith, b.0)) (omega (arith, b.0)) (omega (arith, fold_int_size ds (fixed_in out) t)) in
+            let b' = place (is_value false s) o e3 q o (p + length (encode_int t)) hq (omega arith) (omega (arith, b.0)) (omega (arith, b.0)) (omega (arith, fold_int_size ds (fixed_in out) t)) in
             let y4 = p4 ds f hd (rw n'' rf) in
             let n4' : n4 ≡ n3 + length (encode_int f) = y4.nexts in
             let w4 : Pushed m3 q (encode_int E) m4 e4 = rw f3 at y4.pushed in

@@ -9,9 +9,9 @@ use borrow.Author.Tests.{ne_eqb}
 use Rattle.laws.specs.Ints.{eqZ}
 use Rattle.laws.specs.Signed.{value_is}
 use Rattle.folding.specs.Steps.{state_of}
-use Rattle.fold.specs.Table.{state_num}
+use mathlib.Core.Option.{none}
 
-pub state_else : (z : ℤ) → (of_z w32 z ≡ 0 → ⊥) → (of_z w32 z ≡ 1 → ⊥) → 2 ≡ state_num (state_of z)
+pub state_else : (z : ℤ) → (of_z w32 z ≡ 0 → ⊥) → (of_z w32 z ≡ 1 → ⊥) → none ≡ state_of z
 unfolding state_of
 state_else (pos zero) a b = absurd (a refl)
 state_else (pos (suc zero)) a b = absurd (b refl)

@@ -1,15 +1,16 @@
 -- What the code's contracts say: the words that a closing step writes, as functions of numbers and words; and what folding asks and gives.
-use Rattle.std.specs.Prelude.{ℕ, zero, suc, ◌+◌, ◌-◌, ◌≤◌, ◌<◌, ◌≡◌, refl, Bool, true, false, not, cond, List, [], ◌∷◌, ◌++◌, eqb, ltb, ℤ, pos, negsuc, length, take, drop, get_or}
-use Rattle.std.proofs.Common.{sym, ap, ◌∙◌, append-nil, arith, add-one, ne_eqb}
+use Rattle.std.specs.Prelude.{ℕ, zero, suc, ◌+◌, ◌≤◌, ◌<◌, ◌≡◌, refl, Bool, true, false, not, cond, List, [], ◌∷◌, ◌++◌, eqb, ℤ, pos, negsuc, length, take, drop, get_or}
+use Rattle.std.proofs.Common.{sym, ap, append-nil, arith, add-one, ne_eqb}
 use Rattle.std.proofs.Math.Option.{Option, none, some}
 use Rattle.laws.specs.Ints.{eqZ}
 use Rattle.laws.specs.Slices.{Has, Pushed, Stored}
 use Rattle.syntax.specs.Words.{max_bools}
 use Rattle.syntax.specs.Syntax.{Domain, as_constant, domain_of, IntExpr, Terms, BoolExpr, Const, Members, mnil, more, count_terms, count_members, encode_int, encode_terms, encode_bool, encode_members}
 use Rattle.domains.specs.Declared.{Domains}
-use Rattle.fold.specs.Fold.{Fixed, is_const, Op, op_xor, op_iff, op_imp, Action, be_false, be_true, left, not_left, right, not_right, keep, action, act, fold_binary, is_value, has_const, keep_member, kept, not_of, fold_var, fold_int_var, constant_folding_int, constant_folding_terms, constant_folding_bool, constant_folding_members}
+use Rattle.fold.specs.Fold.{Fixed, is_const, Op, op_xor, op_iff, op_imp, Action, be_false, be_true, left, not_left, right, not_right, keep, action, act, fold_binary, has_const, keep_member, kept, not_of, fold_int_var, constant_folding_int, constant_folding_terms, constant_folding_bool, constant_folding_members}
 use Rattle.fold.proofs.Refold.{const_or}
-use Rattle.fold.specs.Table.{op_num, action_num, bit, state_num}
+use Rattle.fold.specs.Table.{op_num, bit}
+use Rattle.folding.specs.Known.{is_open}
 use Rattle.fold.proofs.Forms.{list_of, join, fold_list, list_words, binary_words, bit_word, IntIsDeclared, DeclaredTerms, Declared, DeclaredMembers}
 
 -- ---- the fixed values: 0 false, 1 true, else open
@@ -34,32 +35,37 @@ same_fixed out out' h = ap fixed_of h
 
 -- ---- the words of each closing step
 
-unfoldable pub var_step : ℕ → ℕ → List ℤ
-var_step s v = cond (eqb s 2) (pos 11 ∷ pos v ∷ []) (pos 10 ∷ pos s ∷ [])
+unfoldable pub not_step : Option Bool → List ℤ → List ℤ
+not_step none l = pos 14 ∷ l
+not_step (some b) l = pos 10 ∷ pos (bit (not b)) ∷ []
 
-unfoldable pub not_step : ℕ → List ℤ → List ℤ
-not_step s l = cond (eqb s 2) (pos 14 ∷ l) (pos 10 ∷ pos (1 - s) ∷ [])
+abbrev pub not_state : Option Bool → Option Bool
+not_state none = none
+not_state (some b) = some (not b)
 
-unfoldable pub not_state : ℕ → ℕ
-not_state s = cond (eqb s 2) 2 (1 - s)
+unfoldable pub list_step : Bool → Bool → ℕ → List ℤ → List ℤ
+list_step b hit k l = cond hit (pos 10 ∷ pos (bit b) ∷ []) (cond (eqb k 0) (pos 10 ∷ pos (bit (not b)) ∷ []) (cond (eqb k 1) l (pos (12 + bit b) ∷ pos k ∷ l)))
 
-unfoldable pub list_step : ℕ → Bool → ℕ → List ℤ → List ℤ
-list_step b hit k l = cond hit (pos 10 ∷ pos b ∷ []) (cond (eqb k 0) (pos 10 ∷ pos (1 - b) ∷ []) (cond (eqb k 1) l (pos (12 + b) ∷ pos k ∷ l)))
+unfoldable pub list_state : Bool → Bool → ℕ → Option Bool
+list_state b hit k = cond hit (some b) (cond (eqb k 0) (some (not b)) none)
 
-unfoldable pub list_state : ℕ → Bool → ℕ → ℕ
-list_state b hit k = cond hit b (cond (eqb k 0) (1 - b) 2)
+unfoldable pub binary_step : Action → Op → List ℤ → List ℤ → List ℤ
+binary_step be_false o l r = pos 10 ∷ pos 0 ∷ []
+binary_step be_true o l r = pos 10 ∷ pos 1 ∷ []
+binary_step left o l r = l
+binary_step not_left o l r = pos 14 ∷ l
+binary_step right o l r = r
+binary_step not_right o l r = pos 14 ∷ r
+binary_step keep o l r = pos (15 + op_num o) ∷ (l ++ r)
 
-unfoldable pub binary_step : ℕ → ℕ → List ℤ → List ℤ → List ℤ
-binary_step k op l r =
-    cond (ltb k 2) (pos 10 ∷ pos k ∷ [])
-    (cond (eqb k 2) l
-    (cond (eqb k 3) (pos 14 ∷ l)
-    (cond (eqb k 4) r
-    (cond (eqb k 5) (pos 14 ∷ r)
-    (pos (15 + op) ∷ (l ++ r))))))
-
-unfoldable pub binary_state : ℕ → ℕ
-binary_state k = cond (ltb k 2) k 2
+abbrev pub binary_state : Action → Option Bool
+binary_state be_false = some false
+binary_state be_true = some true
+binary_state left = none
+binary_state not_left = none
+binary_state right = none
+binary_state not_right = none
+binary_state keep = none
 
 -- ---- integers: what stands in the words above the fixed values, and what is written for it
 
@@ -141,9 +147,9 @@ pub record ReadyMembers (ws : List ℤ) (d at n : ℕ) (out : List ℤ) (o : ℕ
   pub room : o + length (encode_members them) ≤ length out
 
 -- what is written at o, whether it is a constant, and where reading and writing went on; nothing above the room is touched
-pub record Folds (ds : List Domain) (out : List ℤ) (at o : ℕ) (e : BoolExpr) (out' : List ℤ) (next end state : ℕ) : Type 0 where
+pub record Folds (ds : List Domain) (out : List ℤ) (at o : ℕ) (e : BoolExpr) (out' : List ℤ) (next end : ℕ) (state : Option Bool) : Type 0 where
   pub nexts : next ≡ at + length (encode_bool e)
-  pub states : state ≡ state_num (is_const (constant_folding_bool ds (fixed_in out) e))
+  pub states : state ≡ is_const (constant_folding_bool ds (fixed_in out) e)
   pub pushed : Pushed out o (encode_bool (constant_folding_bool ds (fixed_in out) e)) out' end
   pub above : drop (o + length (encode_bool e)) out' ≡ drop (o + length (encode_bool e)) out
 
@@ -155,51 +161,35 @@ pub record FoldsMembers (ds : List Domain) (out : List ℤ) (at o : ℕ) (b : Bo
   pub pushed : Pushed out o (encode_members (kept (constant_folding_members ds (fixed_in out) ms))) out' end
   pub above : drop (o + length (encode_members ms)) out' ≡ drop (o + length (encode_members ms)) out
 
-abbrev pub FoldPost : List ℤ → ℕ → ℕ → List ℤ → ℕ → List ℤ → ℕ → ℕ → ℕ → Type 0
+abbrev pub FoldPost : List ℤ → ℕ → ℕ → List ℤ → ℕ → List ℤ → ℕ → ℕ → Option Bool → Type 0
 FoldPost ws d at out o out' next end state = (ds : List Domain) (e : BoolExpr) → Domains ws d ds → Reads (length ds) ws at e → Folds ds out at o e out' next end state
 
-abbrev pub MembersPost : List ℤ → ℕ → ℕ → ℕ → List ℤ → ℕ → ℕ → List ℤ → ℕ → ℕ → Bool → ℕ → Type 0
-MembersPost ws d at n out o b out' next end hit size = (ds : List Domain) (c : Bool) (ms : Members) → b ≡ bit c → Domains ws d ds → ReadsMembers (length ds) ws at n ms → FoldsMembers ds out at o c ms out' next end hit size
+abbrev pub MembersPost : List ℤ → ℕ → ℕ → ℕ → List ℤ → ℕ → Bool → List ℤ → ℕ → ℕ → Bool → ℕ → Type 0
+MembersPost ws d at n out o b out' next end hit size = (ds : List Domain) (ms : Members) → Domains ws d ds → ReadsMembers (length ds) ws at n ms → FoldsMembers ds out at o b ms out' next end hit size
 
 -- ---- the closing steps' words are the words of what folding makes
 
-pub var_words : (k : Option Bool) (v : ℕ) → var_step (state_num k) v ≡ encode_bool (fold_var k v)
-unfolding var_step encode_bool
-var_words none v = refl
-var_words (some false) v = refl
-var_words (some true) v = refl
-
-pub not_words : (k : Option Bool) (e : BoolExpr) → not_step (state_num k) (encode_bool e) ≡ encode_bool (not_of k e)
+pub not_words : (k : Option Bool) (e : BoolExpr) → not_step k (encode_bool e) ≡ encode_bool (not_of k e)
 unfolding not_step encode_bool
 not_words none e = refl
 not_words (some false) e = refl
 not_words (some true) e = refl
 
-pub not_state_is : (k : Option Bool) (e : BoolExpr) → not_state (state_num k) ≡ state_num (is_const (not_of k e))
-unfolding not_state
+pub not_state_is : (k : Option Bool) (e : BoolExpr) → not_state k ≡ is_const (not_of k e)
 not_state_is none e = refl
-not_state_is (some false) e = refl
-not_state_is (some true) e = refl
+not_state_is (some b) e = refl
 
-one_bit : (b : Bool) → 1 - bit b ≡ bit (not b)
-one_bit false = refl
-one_bit true = refl
-
-pub bit_state : (b : Bool) → bit b ≡ state_num (some b)
-bit_state false = refl
-bit_state true = refl
-
-join_words : (b : Bool) (ms : Members) → list_step (bit b) false (count_members ms) (encode_members ms) ≡ encode_bool (join b ms)
+join_words : (b : Bool) (ms : Members) → list_step b false (count_members ms) (encode_members ms) ≡ encode_bool (join b ms)
 unfolding list_step encode_bool
-join_words b mnil = rw (one_bit b, bit_word (not b)) refl
+join_words b mnil = rw (bit_word (not b)) refl
 join_words b (more e mnil) = append-nil (encode_bool e)
 join_words b (more e (more f ms)) = rw (ne_eqb (suc (suc (count_members ms))) 0 (λ h. omega arith), ne_eqb (suc (suc (count_members ms))) 1 (λ h. omega arith), list_words b (more e (more f ms))) refl
 
-pub fold_list_words : (b : Bool) (ms : Members) → list_step (bit b) (has_const b ms) (count_members (kept ms)) (encode_members (kept ms)) ≡ encode_bool (fold_list b ms)
+pub fold_list_words : (b : Bool) (ms : Members) → list_step b (has_const b ms) (count_members (kept ms)) (encode_members (kept ms)) ≡ encode_bool (fold_list b ms)
 unfolding fold_list list_step encode_bool
 fold_list_words b ms = go (has_const b ms)
   where
-    go : (c : Bool) → list_step (bit b) c (count_members (kept ms)) (encode_members (kept ms)) ≡ encode_bool (cond c (Const b) (join b (kept ms)))
+    go : (c : Bool) → list_step b c (count_members (kept ms)) (encode_members (kept ms)) ≡ encode_bool (cond c (Const b) (join b (kept ms)))
     go true = rw (bit_word b) refl
     go false = join_words b (kept ms)
 
@@ -213,21 +203,21 @@ list_no_const : (b : Bool) (ms : Members) → is_const (list_of b ms) ≡ none
 list_no_const false ms = refl
 list_no_const true ms = refl
 
-join_state : (b : Bool) (ms : Members) → ((e : BoolExpr) → ms ≡ more e mnil → is_const e ≡ none) → list_state (bit b) false (count_members ms) ≡ state_num (is_const (join b ms))
+join_state : (b : Bool) (ms : Members) → ((e : BoolExpr) → ms ≡ more e mnil → is_const e ≡ none) → list_state b false (count_members ms) ≡ is_const (join b ms)
 unfolding list_state
-join_state b mnil h = one_bit b ∙ bit_state (not b)
+join_state b mnil h = refl
 join_state b (more e mnil) h = rw (h e refl) refl
 join_state b (more e (more f ms)) h = rw (ne_eqb (suc (suc (count_members ms))) 0 (λ h. omega arith), list_no_const b (more e (more f ms))) refl
 
-pub fold_list_state : (b : Bool) (ms : Members) → list_state (bit b) (has_const b ms) (count_members (kept ms)) ≡ state_num (is_const (fold_list b ms))
+pub fold_list_state : (b : Bool) (ms : Members) → list_state b (has_const b ms) (count_members (kept ms)) ≡ is_const (fold_list b ms)
 unfolding fold_list list_state
 fold_list_state b ms = go (has_const b ms)
   where
-    go : (c : Bool) → list_state (bit b) c (count_members (kept ms)) ≡ state_num (is_const (cond c (Const b) (join b (kept ms))))
-    go true = bit_state b
+    go : (c : Bool) → list_state b c (count_members (kept ms)) ≡ is_const (cond c (Const b) (join b (kept ms)))
+    go true = refl
     go false = join_state b (kept ms) (one_kept ms)
 
-pub act_words : (k : Action) (o : Op) (a b : BoolExpr) → binary_step (action_num k) (op_num o) (encode_bool a) (encode_bool b) ≡ encode_bool (act k o a b)
+pub act_words : (k : Action) (o : Op) (a b : BoolExpr) → binary_step k o (encode_bool a) (encode_bool b) ≡ encode_bool (act k o a b)
 unfolding binary_step encode_bool
 act_words be_false o a b = refl
 act_words be_true o a b = refl
@@ -238,8 +228,7 @@ act_words not_right o a b = refl
 act_words keep o a b = sym (binary_words o a b)
 
 -- where an action hands a side on, the side is no constant
-binary_state_at : (o : Op) (k l : Option Bool) (a b : BoolExpr) → is_const a ≡ k → is_const b ≡ l → binary_state (action_num (action o k l)) ≡ state_num (is_const (act (action o k l) o a b))
-unfolding binary_state
+binary_state_at : (o : Op) (k l : Option Bool) (a b : BoolExpr) → is_const a ≡ k → is_const b ≡ l → binary_state (action o k l) ≡ is_const (act (action o k l) o a b)
 binary_state_at op_xor (some false) (some false) a b p q = refl
 binary_state_at op_xor (some false) (some true) a b p q = refl
 binary_state_at op_xor (some false) none a b p q = rw q refl
@@ -268,21 +257,13 @@ binary_state_at op_imp none (some false) a b p q = refl
 binary_state_at op_imp none (some true) a b p q = refl
 binary_state_at op_imp none none a b p q = refl
 
-pub fold_binary_state : (o : Op) (a b : BoolExpr) → binary_state (action_num (action o (is_const a) (is_const b))) ≡ state_num (is_const (fold_binary o a b))
+pub fold_binary_state : (o : Op) (a b : BoolExpr) → binary_state (action o (is_const a) (is_const b)) ≡ is_const (fold_binary o a b)
 unfolding fold_binary
 fold_binary_state o a b = binary_state_at o (is_const a) (is_const b) a b refl refl
 
 -- ---- a member
 
-pub hit_one : (k : Option Bool) (b : Bool) → eqb (state_num k) (bit b) ≡ is_value b k
-hit_one none false = refl
-hit_one none true = refl
-hit_one (some false) false = refl
-hit_one (some false) true = refl
-hit_one (some true) false = refl
-hit_one (some true) true = refl
-
-pub count_one : (k : Option Bool) (e : BoolExpr) (ms : Members) → cond (eqb (state_num k) 2) (count_members ms + 1) (count_members ms) ≡ count_members (keep_member k e ms)
+pub count_one : (k : Option Bool) (e : BoolExpr) (ms : Members) → cond (is_open k) (count_members ms + 1) (count_members ms) ≡ count_members (keep_member k e ms)
 count_one none e ms = add-one (count_members ms)
 count_one (some false) e ms = refl
 count_one (some true) e ms = refl

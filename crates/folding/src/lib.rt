@@ -2,34 +2,57 @@
 // The fixed values are the first words of the work slice: 0 false, 1 true, else open. `d` is the place of the set's first domain.
 #![tactic(auto)]
 
-ghost use Rattle.std.specs.Prelude.{◌≡◌, Bool, cond, ◌||◌, [], ◌∷◌, ◌+◌, ◌*◌, ◌-◌, ◌≤◌, ◌<◌, pos, eqb, length, get_or, set};
-ghost use Rattle.std.proofs.Math.Option.{Option};
+ghost use Rattle.std.specs.Prelude.{◌≡◌, Bool, cond, ◌||◌, [], ◌∷◌, ◌+◌, ◌*◌, ◌-◌, ◌≤◌, ◌<◌, pos, length, get_or, set};
 ghost use Rattle.std.proofs.Math.Seq.{slice};
 ghost use Rattle.laws.specs.Slices.{Stored};
-ghost use Rattle.fold.specs.Fold.{Op, action as action-of};
-ghost use Rattle.fold.specs.Table.{op_num, action_num, state_num};
+ghost use Rattle.syntax.specs.Syntax.{encode_bool};
+ghost use Rattle.fold.specs.Fold.{action as action_at, fold_var, is_value};
+ghost use Rattle.fold.specs.Table.{op_num};
 ghost use Rattle.domains.specs.Declared.{DomainBelow};
-ghost use Rattle.folding.specs.Steps.{state_of, var_step, not_step, not_state, list_step, list_state, binary_step, binary_state, single_of, IntVarPost, ReadyInt, ReadyTerms, IntPost, TermsPost, Ready, ReadyMembers, FoldPost, MembersPost};
+ghost use Rattle.folding.specs.Known.{known, is_open, op_of, action_of};
+ghost use Rattle.folding.specs.Steps.{state_of, not_step, not_state, list_step, list_state, binary_step, binary_state, single_of, IntVarPost, ReadyInt, ReadyTerms, IntPost, TermsPost, Ready, ReadyMembers, FoldPost, MembersPost};
 
-#[derive(Drop)]
+// Where reading and writing go on.
+#[derive(Clone, Copy)]
 pub struct Span {
     pub next: usize,
     pub end: usize,
 }
 
-#[derive(Drop)]
+// The same of a Boolean expression, and which constant it became.
+#[derive(Clone, Copy)]
 pub struct Folded {
     pub next: usize,
     pub end: usize,
-    pub state: usize,
+    pub state: Option<bool>,
 }
 
-#[derive(Drop)]
-pub struct Listed {
-    pub next: usize,
-    pub end: usize,
-    pub hit: bool,
-    pub kept: usize,
+// The same of a list's members, whether one of them settles the list, and how many are kept.
+#[derive(Clone, Copy)]
+struct Listed {
+    next: usize,
+    end: usize,
+    hit: bool,
+    kept: usize,
+}
+
+// The operators with two sides, each with its code.
+#[derive(Clone, Copy)]
+enum Op {
+    Xor = 15,
+    Iff = 16,
+    Imp = 17,
+}
+
+// What an operator and its two sides become.
+#[derive(Clone, Copy)]
+enum Becomes {
+    Constant(bool),
+    Left,
+    NotLeft,
+    Right,
+    NotRight,
+    Keep,
 }
 
 // ---- the leaves that know of signs
@@ -41,18 +64,16 @@ pub fn put(work: &mut [i32], o: usize, v: usize)
     work[o] = v as i32;
 }
 
-pub fn state_at(work: &[i32], v: usize) -> usize
+#[tactic(auto, unfolding(crate::specs::Steps::state_of))]
+pub fn state_at(work: &[i32], v: usize) -> Option<bool>
     requires { v < length work.now }
-    ensures { result ≡ state_num (state_of (get_or work.now v (pos 0))) }
+    ensures { known result ≡ state_of (get_or work.now v (pos 0)) }
 {
-    let w = work[v];
-    if w == 0 {
-        return 0;
+    match work[v] {
+        0 => Some(false),
+        1 => Some(true),
+        _ => None,
     }
-    if w == 1 {
-        return 1;
-    }
-    2
 }
 
 // The words from `from` up to `end`, moved down to `to`.
@@ -66,17 +87,38 @@ fn shift(work: &mut [i32], from: usize, end: usize, to: usize) -> usize
 
 // ---- the table
 
-// One number for each operator (Xor, Iff, Imp), three bits to an action: octal digit 3 * left + right, counted from the last, is the action for these sides.
-// Sides: 0 false, 1 true, 2 unknown. Actions: 0 false, 1 true, 2 left, 3 not left, 4 right, 5 not right, 6 keep.
-const ACTIONS: [u32; 3] = [0o632501410, 0o623410501, 0o613410111];
-
-fn action(op: usize, a: usize, b: usize) -> usize
-    requires { (op < 3) × (a < 3) × (b < 3) }
-    ensures { (o : Op) (x y : Option Bool) → op ≡ op_num o → a ≡ state_num x → b ≡ state_num y → result ≡ action_num (action-of o x y) }
+fn op_at(code: usize) -> Op
+    requires { (14 < code) × (code < 18) }
+    ensures { code ≡ 15 + op_num (op_of result) }
 {
-    let n = ACTIONS[op];
-    let k = 9 * a + 3 * b;
-    ((n >> k) % 8) as usize
+    match code {
+        15 => Op::Xor,
+        16 => Op::Iff,
+        _ => Op::Imp,
+    }
+}
+
+fn action(op: Op, left: Option<bool>, right: Option<bool>) -> Becomes
+    ensures { action_of result ≡ action_at (op_of op) (known left) (known right) }
+{
+    match (op, left, right) {
+        (_, None, None) => Becomes::Keep,
+        (Op::Xor, Some(a), Some(b)) => Becomes::Constant(a != b),
+        (Op::Xor, Some(false), None) => Becomes::Right,
+        (Op::Xor, Some(true), None) => Becomes::NotRight,
+        (Op::Xor, None, Some(false)) => Becomes::Left,
+        (Op::Xor, None, Some(true)) => Becomes::NotLeft,
+        (Op::Iff, Some(a), Some(b)) => Becomes::Constant(a == b),
+        (Op::Iff, Some(false), None) => Becomes::NotRight,
+        (Op::Iff, Some(true), None) => Becomes::Right,
+        (Op::Iff, None, Some(false)) => Becomes::NotLeft,
+        (Op::Iff, None, Some(true)) => Becomes::Left,
+        (Op::Imp, Some(false), _) => Becomes::Constant(true),
+        (Op::Imp, _, Some(true)) => Becomes::Constant(true),
+        (Op::Imp, Some(true), Some(false)) => Becomes::Constant(false),
+        (Op::Imp, Some(true), None) => Becomes::Right,
+        (Op::Imp, None, Some(false)) => Becomes::NotLeft,
+    }
 }
 
 // ---- closing: the sides or members stand behind the place of the header
@@ -90,146 +132,138 @@ pub fn put_two(work: &mut [i32], o: usize, u: usize, v: usize) -> usize
     o + 2
 }
 
-fn put_var(work: &mut [i32], o: usize, s: usize, v: usize) -> usize
-    requires { (o + 2 ≤ length work.old) × (s < 3) × (v < 2147483648) }
-    ensures { Stored work.old o (var_step s v) work.new result }
+#[tactic(auto, unfolding(syntax::specs::Syntax::encode_bool))]
+fn put_var(work: &mut [i32], o: usize, s: Option<bool>, v: usize) -> usize
+    requires { (o + 2 ≤ length work.old) × (v < 2147483648) }
+    ensures { Stored work.old o (encode_bool (fold_var (known s) v)) work.new result }
 {
-    if s == 2 {
-        return put_two(work, o, 11, v);
-    }
-    put_two(work, o, 10, s)
-}
-
-fn close_not(work: &mut [i32], o: usize, next: usize, e: usize, s: usize) -> Folded
-    requires { (o + 2 ≤ e) × (e ≤ length work.old) × (s < 3) }
-    ensures { (result.next ≡ next) × (result.state ≡ not_state s) × Stored work.old o (not_step s (slice (o + 1) e work.old)) work.new result.end }
-{
-    if s == 2 {
-        put(work, o, 14);
-        return Folded {
-            next,
-            end: e,
-            state: 2,
-        };
-    }
-    let end = put_two(work, o, 10, 1 - s);
-    Folded {
-        next,
-        end,
-        state: 1 - s,
+    match s {
+        Some(b) => put_two(work, o, 10, b as usize),
+        None => put_two(work, o, 11, v),
     }
 }
 
-// The words of a list whose kept members stand behind its header.
-fn put_list(work: &mut [i32], o: usize, e: usize, b: usize, hit: bool, kept: usize) -> usize
-    requires { (o + 2 ≤ e) × (e ≤ length work.old) × (b < 2) × (kept < 2147483648) }
+#[tactic(auto, unfolding(crate::specs::Steps::not_step))]
+fn close_not(work: &mut [i32], o: usize, inner: Folded) -> Folded
+    requires { (o + 2 ≤ inner.end) × (inner.end ≤ length work.old) }
+    ensures { (result.next ≡ inner.next) × (known result.state ≡ not_state (known inner.state)) × Stored work.old o (not_step (known inner.state) (slice (o + 1) inner.end work.old)) work.new result.end }
+{
+    match inner.state {
+        Some(b) => {
+            let end = put_two(work, o, 10, !b as usize);
+            Folded {
+                next: inner.next,
+                end,
+                state: Some(!b),
+            }
+        }
+        None => {
+            put(work, o, 14);
+            inner
+        }
+    }
+}
+
+// The words of a list whose kept members stand behind its header; b is the constant that settles it.
+#[tactic(auto, unfolding(crate::specs::Steps::list_step))]
+fn put_list(work: &mut [i32], o: usize, e: usize, b: bool, hit: bool, kept: usize) -> usize
+    requires { (o + 2 ≤ e) × (e ≤ length work.old) × (kept < 2147483648) }
     ensures { Stored work.old o (list_step b hit kept (slice (o + 2) e work.old)) work.new result }
 {
     if hit {
-        return put_two(work, o, 10, b);
+        return put_two(work, o, 10, b as usize);
     }
     if kept == 0 {
-        return put_two(work, o, 10, 1 - b);
+        return put_two(work, o, 10, !b as usize);
     }
     if kept == 1 {
         return shift(work, o + 2, e, o);
     }
-    put(work, o, 12 + b);
+    put(work, o, 12 + b as usize);
     put(work, o + 1, kept);
     e
 }
 
-fn list_state(b: usize, hit: bool, kept: usize) -> usize
-    requires { b < 2 }
-    ensures { result ≡ list_state b hit kept }
+#[tactic(auto, unfolding(crate::specs::Steps::list_state))]
+fn list_state(b: bool, hit: bool, kept: usize) -> Option<bool>
+    ensures { known result ≡ list_state b hit kept }
 {
     if hit {
-        return b;
+        return Some(b);
     }
-    if kept == 0 { 1 - b } else { 2 }
+    if kept == 0 { Some(!b) } else { None }
 }
 
-fn close_list(
-    work: &mut [i32],
-    o: usize,
-    next: usize,
-    e: usize,
-    b: usize,
-    hit: bool,
-    kept: usize,
-) -> Folded
-    requires { (o + 2 ≤ e) × (e ≤ length work.old) × (b < 2) × (kept < 2147483648) }
-    ensures { (result.next ≡ next) × (result.state ≡ list_state b hit kept) × Stored work.old o (list_step b hit kept (slice (o + 2) e work.old)) work.new result.end }
+fn close_list(work: &mut [i32], o: usize, m: Listed, b: bool) -> Folded
+    requires { (o + 2 ≤ m.end) × (m.end ≤ length work.old) × (m.kept < 2147483648) }
+    ensures { (result.next ≡ m.next) × (known result.state ≡ list_state b m.hit m.kept) × Stored work.old o (list_step b m.hit m.kept (slice (o + 2) m.end work.old)) work.new result.end }
 {
-    let end = put_list(work, o, e, b, hit, kept);
-    let state = list_state(b, hit, kept);
-    Folded { next, end, state }
+    let end = put_list(work, o, m.end, b, m.hit, m.kept);
+    let state = list_state(b, m.hit, m.kept);
+    Folded {
+        next: m.next,
+        end,
+        state,
+    }
 }
 
 // The words of an action on two sides that stand behind the header.
-fn put_binary(work: &mut [i32], o: usize, m: usize, e: usize, op: usize, k: usize) -> usize
-    requires { (o + 2 ≤ m) × (m ≤ e) × (e ≤ length work.old) × (op < 3) }
-    ensures { Stored work.old o (binary_step k op (slice (o + 1) m work.old) (slice m e work.old)) work.new result }
+#[tactic(auto, unfolding(crate::specs::Steps::binary_step))]
+fn put_binary(work: &mut [i32], o: usize, m: usize, e: usize, op: Op, k: Becomes) -> usize
+    requires { (o + 2 ≤ m) × (m ≤ e) × (e ≤ length work.old) }
+    ensures { Stored work.old o (binary_step (action_of k) (op_of op) (slice (o + 1) m work.old) (slice m e work.old)) work.new result }
 {
-    if k < 2 {
-        return put_two(work, o, 10, k);
+    match k {
+        Becomes::Constant(b) => put_two(work, o, 10, b as usize),
+        Becomes::Left => shift(work, o + 1, m, o),
+        Becomes::NotLeft => {
+            put(work, o, 14);
+            m
+        }
+        Becomes::Right => shift(work, m, e, o),
+        Becomes::NotRight => {
+            put(work, o, 14);
+            shift(work, m, e, o + 1)
+        }
+        Becomes::Keep => {
+            put(work, o, op as usize);
+            e
+        }
     }
-    if k == 2 {
-        return shift(work, o + 1, m, o);
-    }
-    if k == 3 {
-        put(work, o, 14);
-        return m;
-    }
-    if k == 4 {
-        return shift(work, m, e, o);
-    }
-    if k == 5 {
-        put(work, o, 14);
-        return shift(work, m, e, o + 1);
-    }
-    put(work, o, 15 + op);
-    e
 }
 
-fn binary_state(k: usize) -> usize
-    ensures { result ≡ binary_state k }
+fn binary_state(k: Becomes) -> Option<bool>
+    ensures { known result ≡ binary_state (action_of k) }
 {
-    if k < 2 { k } else { 2 }
+    match k {
+        Becomes::Constant(b) => Some(b),
+        _ => None,
+    }
 }
 
-fn close_binary(
-    work: &mut [i32],
-    o: usize,
-    next: usize,
-    m: usize,
-    e: usize,
-    op: usize,
-    k: usize,
-) -> Folded
-    requires { (o + 2 ≤ m) × (m ≤ e) × (e ≤ length work.old) × (op < 3) }
-    ensures { (result.next ≡ next) × (result.state ≡ binary_state k) × Stored work.old o (binary_step k op (slice (o + 1) m work.old) (slice m e work.old)) work.new result.end }
+fn close_binary(work: &mut [i32], o: usize, left: Folded, right: Folded, op: Op) -> Folded
+    requires { (o + 2 ≤ left.end) × (left.end ≤ right.end) × (right.end ≤ length work.old) }
+    ensures { let k = action_at (op_of op) (known left.state) (known right.state) in (result.next ≡ right.next) × (known result.state ≡ binary_state k) × Stored work.old o (binary_step k (op_of op) (slice (o + 1) left.end work.old) (slice left.end right.end work.old)) work.new result.end }
 {
-    let end = put_binary(work, o, m, e, op, k);
+    let k = action(op, left.state, right.state);
+    let end = put_binary(work, o, left.end, right.end, op, k);
     let state = binary_state(k);
-    Folded { next, end, state }
+    Folded {
+        next: right.next,
+        end,
+        state,
+    }
 }
 
 // ---- integer expressions
 
 // A sum of one term, with coefficient 1.
+#[tactic(auto, unfolding(crate::specs::Steps::single_of))]
 fn is_single(words: &[i32], at: usize, n: usize) -> bool
     requires { n ≡ 1 → at < length words.now }
     ensures { result ≡ single_of n (get_or words.now at (pos 0)) }
 {
-    if n == 1 {
-        let w = words[at];
-        if w == 1 {
-            return true;
-        }
-        return false;
-    }
-    false
+    n == 1 && words[at] == 1
 }
 
 fn put_int_var(words: &[i32], d: usize, work: &mut [i32], o: usize, v: usize) -> usize
@@ -317,38 +351,38 @@ fn fold_if(words: &[i32], d: usize, at: usize, work: &mut [i32], o: usize) -> Sp
     let c = constant_folding_bool(words, d, at + 1, work, o + 1);
     let p = kept_end(c.state, o, c.end);
     let t = constant_folding_int(words, d, c.next, work, p);
-    let q = at_state(c.state, 0, o, t.end);
+    let q = at_state(c.state, false, o, t.end);
     let e = constant_folding_int(words, d, t.next, work, q);
-    let end = at_state(c.state, 1, t.end, e.end);
+    let end = at_state(c.state, true, t.end, e.end);
     Span { next: e.next, end }
 }
 
 // ---- a member that is no constant is kept
 
-fn kept_end(state: usize, o: usize, end: usize) -> usize
-    ensures { result ≡ cond (eqb state 2) end o }
+fn kept_end(state: Option<bool>, o: usize, end: usize) -> usize
+    ensures { result ≡ cond (is_open (known state)) end o }
 {
-    if state == 2 { end } else { o }
+    if state.is_none() { end } else { o }
 }
 
-fn kept_count(state: usize, n: usize) -> usize
+fn kept_count(state: Option<bool>, n: usize) -> usize
     requires { n < 4611686018427387904 }
-    ensures { result ≡ cond (eqb state 2) (n + 1) n }
+    ensures { result ≡ cond (is_open (known state)) (n + 1) n }
 {
-    if state == 2 { n + 1 } else { n }
+    if state.is_none() { n + 1 } else { n }
 }
 
-fn hits(state: usize, b: usize, hit: bool) -> bool
-    ensures { result ≡ (eqb state b || hit) }
+fn hits(state: Option<bool>, b: bool, hit: bool) -> bool
+    ensures { result ≡ (is_value b (known state) || hit) }
 {
-    if state == b { true } else { hit }
+    state == Some(b) || hit
 }
 
 // One place in one state, another in the others.
-fn at_state(state: usize, s: usize, a: usize, b: usize) -> usize
-    ensures { result ≡ cond (eqb state s) a b }
+fn at_state(state: Option<bool>, s: bool, a: usize, b: usize) -> usize
+    ensures { result ≡ cond (is_value s (known state)) a b }
 {
-    if state == s { a } else { b }
+    if state == Some(s) { a } else { b }
 }
 
 // ---- Boolean expressions
@@ -357,7 +391,7 @@ fn at_state(state: usize, s: usize, a: usize, b: usize) -> usize
 fn fold_leaf(words: &[i32], d: usize, at: usize, work: &mut [i32], o: usize, w: usize) -> Folded
     requires ready { Ready words.now d at work.old o }
     requires pos_value { (get_or words.now at (pos 0) ≡ pos w) × (w < 12) }
-    ensures { FoldPost words.now d at work.old o work.new result.next result.end result.state }
+    ensures { FoldPost words.now d at work.old o work.new result.next result.end (known result.state) }
 {
     let v = domains::number(words, at + 1);
     if w == 10 {
@@ -365,7 +399,7 @@ fn fold_leaf(words: &[i32], d: usize, at: usize, work: &mut [i32], o: usize, w: 
         return Folded {
             next: at + 2,
             end,
-            state: v,
+            state: Some(v == 1),
         };
     }
     let s = state_at(work, v);
@@ -382,7 +416,7 @@ fn fold_leaf(words: &[i32], d: usize, at: usize, work: &mut [i32], o: usize, w: 
 fn fold_comparison(words: &[i32], d: usize, at: usize, work: &mut [i32], o: usize) -> Folded
     requires ready { Ready words.now d at work.old o }
     requires pos_value { get_or words.now at (pos 0) ≡ pos 18 }
-    ensures { FoldPost words.now d at work.old o work.new result.next result.end result.state }
+    ensures { FoldPost words.now d at work.old o work.new result.next result.end (known result.state) }
 {
     let v = domains::number(words, at + 1);
     let m = put_two(work, o, 18, v);
@@ -391,7 +425,7 @@ fn fold_comparison(words: &[i32], d: usize, at: usize, work: &mut [i32], o: usiz
     Folded {
         next: b.next,
         end: b.end,
-        state: 2,
+        state: None,
     }
 }
 
@@ -399,7 +433,7 @@ fn fold_comparison(words: &[i32], d: usize, at: usize, work: &mut [i32], o: usiz
 #[cycle(constant_folding)]
 fn fold_side(words: &[i32], d: usize, at: usize, work: &mut [i32], o: usize) -> Folded
     requires { Ready words.now d at work.old o }
-    ensures { FoldPost words.now d at work.old o work.new result.next result.end result.state }
+    ensures { FoldPost words.now d at work.old o work.new result.next result.end (known result.state) }
 {
     let w = domains::number(words, at);
     if w < 12 {
@@ -408,7 +442,7 @@ fn fold_side(words: &[i32], d: usize, at: usize, work: &mut [i32], o: usize) -> 
     constant_folding_bool(words, d, at, work, o)
 }
 
-// As many members as `count` says, of which those that are no constant are written; b is the state that settles the list.
+// As many members as `count` says, of which those that are no constant are written; b is the constant that settles the list.
 #[cycle(constant_folding)]
 fn constant_folding_members(
     words: &[i32],
@@ -417,7 +451,7 @@ fn constant_folding_members(
     count: usize,
     work: &mut [i32],
     o: usize,
-    b: usize,
+    b: bool,
 ) -> Listed
     requires { ReadyMembers words.now d at count work.old o }
     ensures { MembersPost words.now d at count work.old o b work.new result.next result.end result.hit result.kept }
@@ -450,7 +484,7 @@ pub fn constant_folding_bool(
     o: usize,
 ) -> Folded
     requires { Ready words.now d at work.old o }
-    ensures { FoldPost words.now d at work.old o work.new result.next result.end result.state }
+    ensures { FoldPost words.now d at work.old o work.new result.next result.end (known result.state) }
 {
     let w = domains::number(words, at);
     if w < 12 {
@@ -461,15 +495,14 @@ pub fn constant_folding_bool(
     }
     if w == 14 {
         let a = constant_folding_bool(words, d, at + 1, work, o + 1);
-        return close_not(work, o, a.next, a.end, a.state);
+        return close_not(work, o, a);
     }
     if w < 14 {
         let n = domains::number(words, at + 1);
-        let m = constant_folding_members(words, d, at + 2, n, work, o + 2, w - 12);
-        return close_list(work, o, m.next, m.end, w - 12, m.hit, m.kept);
+        let m = constant_folding_members(words, d, at + 2, n, work, o + 2, w == 13);
+        return close_list(work, o, m, w == 13);
     }
     let a = fold_side(words, d, at + 1, work, o + 1);
     let b = fold_side(words, d, a.next, work, a.end);
-    let k = action(w - 15, a.state, b.state);
-    close_binary(work, o, b.next, a.end, b.end, w - 15, k)
+    close_binary(work, o, a, b, op_at(w))
 }

@@ -1,5 +1,5 @@
 -- What requiring asks and gives at each step, over variables. Assumes nothing.
-use Prim.Native.Nat.{ℕ, zero, suc, ◌+◌, ◌-◌, ◌≤◌, ◌<◌, max}
+use Prim.Native.Nat.{ℕ, suc, ◌+◌, ◌-◌, ◌≤◌, ◌<◌, max}
 use mathlib.Core.Path.{◌≡◌, refl, sym, ap, ◌∙◌, subst}
 use mathlib.Core.Bool.{Bool, true, false, ◌||◌, cond}
 use mathlib.Core.Option.{Option, none, some}
@@ -23,7 +23,7 @@ use Rattle.fold.proofs.Forms.{list_of, list_words, binary_words}
 use Rattle.domains.specs.Declared.{Plain}
 use Rattle.folding.specs.Steps.{state_of, Reads, ReadsMembers}
 use Rattle.folding.proofs.BoolLaws.{const_inv, var_inv, cmp_inv, not_inv, list_inv, binary_inv, first_word, second, second_word, code_low, inside, reads_long, reads_not, reads_list, reads_left, reads_right, reads_first, reads_rest, reads_sides}
-use Rattle.passes.specs.Want.{prop_want, members_want, flip, member_want, left_want, right_want, want_not, want_list, want_binary, want_more, status_num, worst_num, clash_num, set_status, set_words, flip_num, member_num, left_num, right_num, flip_is, member_is, left_is, right_is, status_small, worst_two, worst_is, Values, Propagates}
+use Rattle.passes.specs.Want.{prop_want, members_want, flip, member_want, left_want, right_want, want_not, want_list, want_binary, want_more, status_num, worst_num, clash_status, set_status, set_words, status_small, worst_two, worst_is, Values, Propagates}
 use Rattle.passes.specs.Skip.{SomeInt, SkipPost}
 use Rattle.passes.specs.Contract.{Stands, StandMembers, ComparisonPost, PropPost, MembersPost}
 
@@ -85,13 +85,6 @@ reads_up ni out out' at e d h r = record { words = has_up out out' at (encode_bo
 members_up : (ni : ℕ) (out out' : List ℤ) (at n : ℕ) (ms : Members) → drop max_bools out' ≡ drop max_bools out → max_bools ≤ at → ReadsMembers ni out at n ms → ReadsMembers ni out' at n ms
 members_up ni out out' at n ms d h r = record { words = has_up out out' at (encode_members ms) d h r.words; vars = r.vars; size = r.size }
 
--- a want as an option
-want_of : {X : Type 0} (w : ℕ) → w < 3 → ((k : Option Bool) → w ≡ state_num k → X) → X
-want_of zero h go = go (some false) refl
-want_of (suc zero) h go = go (some true) refl
-want_of (suc (suc zero)) h go = go none refl
-want_of (suc (suc (suc w))) h go = absurd (omega arith)
-
 -- ---- leaves
 
 pub state_back : (k : Option Bool) → state_of (pos (state_num k)) ≡ k
@@ -117,7 +110,7 @@ set_values out f v b vs h l = record { cells = λ u k. cell u k (eqb u v) refl; 
     other u k false t = rw t (vs.others u k)
 
 module _ (out : List ℤ) (f : Fixed) (vs : Values out f) (v : ℕ) (h : v < max_bools) (l : v < length out) where
-  sets : (k s : Option Bool) → f v ≡ s → Propagates (prop_want k (Var v) f) out (set_words (state_num s) v (state_num k) out) (set_status (state_num s) (state_num k))
+  sets : (k s : Option Bool) → f v ≡ s → Propagates (prop_want k (Var v) f) out (set_words s v k out) (set_status s k)
   unfolding constant_prop_bool set_words set_status
   sets none s e = still out f vs
   sets (some true) none e = rw e (record { statuses = refl; after = fix f v true; values = set_values out f v true vs h l; same = λ c g w. updated_same true c _ g w; high = drop-set-lt max_bools out v _ h })
@@ -147,15 +140,19 @@ module _ (out : List ℤ) (at w : ℕ) (hw : get_or out at (pos 0) ≡ pos w) wh
         let t : bool_code e ≡ w = code_is ni e r in
         pos_eq _ _ _ (second_word out at e (λ a b. omega (arith, code_low max_bools ni e r.vars)) (λ a. t ∙ l (omega arith)) r.words) hv
 
-    pub const_props : (want s : ℕ) → w ≡ 10 → s ≡ clash_num v want → PropPost out at want out (at + 2) s
-    unfolding second encode_bool constant_prop_bool clash_num
-    const_props want s h hs ni f e k vs r lo hk =
+    bit_back : (b : Bool) → eqb (bit b) 1 ≡ b
+    bit_back false = refl
+    bit_back true = refl
+
+    pub const_props : (want : Option Bool) (s : ℕ) → w ≡ 10 → s ≡ clash_status (eqb v 1) want → PropPost out at want out (at + 2) s
+    unfolding second encode_bool constant_prop_bool clash_status
+    const_props want s h hs ni f e vs r lo =
         const_inv e (code_is ni e r ∙ h) λ b q.
         let z : bit b ≡ v = rw q at (second_is ni e r (λ l. omega arith)) in
-        let c : s ≡ clash_num (bit b) (state_num k) = hs ∙ rw (z, hk) refl in
-        rw q (record { nexts = refl; props = rw c (go b k) })
+        let c : s ≡ clash_status b want = hs ∙ rw (← z, bit_back b) refl in
+        rw q (record { nexts = refl; props = rw c (go b want) })
       where
-        go : (b : Bool) (k : Option Bool) → Propagates (prop_want k (Const b) f) out out (clash_num (bit b) (state_num k))
+        go : (b : Bool) (k : Option Bool) → Propagates (prop_want k (Const b) f) out out (clash_status b k)
         go b none = still out f vs
         go true (some true) = agrees out f vs true
         go true (some false) = agrees out f vs false
@@ -175,13 +172,13 @@ module _ (out : List ℤ) (at w : ℕ) (hw : get_or out at (pos 0) ≡ pos w) wh
     pub var_below : Stands out at → w < 12 → (w ≡ 10 → ⊥) → v < length out
     var_below s h n = omega (arith, (leaf_var _ s.it s.reads h n).1, (stands_inside s).1)
 
-    pub var_props : (want : ℕ) (out' : List ℤ) (s : ℕ) → Stands out at → w < 12 → (w ≡ 10 → ⊥) → s ≡ set_status (state_num (state_of (get_or out v (pos 0)))) want → out' ≡ set_words (state_num (state_of (get_or out v (pos 0)))) v want out → PropPost out at want out' (at + 2) s
+    pub var_props : (want : Option Bool) (out' : List ℤ) (s : ℕ) → Stands out at → w < 12 → (w ≡ 10 → ⊥) → s ≡ set_status (state_of (get_or out v (pos 0))) want → out' ≡ set_words (state_of (get_or out v (pos 0))) v want out → PropPost out at want out' (at + 2) s
     unfolding encode_bool
-    var_props want out' s st h n hs ho ni f e k vs r lo hk =
+    var_props want out' s st h n hs ho ni f e vs r lo =
         let q = leaf_var ni e r h n in
         let c : state_of (get_or out v (pos 0)) ≡ f v = ap state_of (vs.cells v q.1) ∙ state_back (f v) in
-        let p : Propagates (prop_want k (Var v) f) out (set_words (state_num (f v)) v (state_num k) out) (set_status (state_num (f v)) (state_num k)) = sets out f vs v q.1 (var_below st h n) k (f v) refl in
-        let p' : Propagates (prop_want k (Var v) f) out out' s = rw (hs, ho, c, hk) p in
+        let p : Propagates (prop_want want (Var v) f) out (set_words (f v) v want out) (set_status (f v) want) = sets out f vs v q.1 (var_below st h n) want (f v) refl in
+        let p' : Propagates (prop_want want (Var v) f) out out' s = rw (hs, ho, c) p in
         rw q.0 (record { nexts = refl; props = p' })
 
   -- ---- comparisons
@@ -207,12 +204,12 @@ module _ (out : List ℤ) (at w : ℕ) (hw : get_or out at (pos 0) ≡ pos w) wh
           let er : r ≡ m + length (encode_int b) = p' max_bools ni b (record { words = rw em g.1.words; vars = g.1.vars }) in
           rw q (omega (arith, length-append (encode_int a) (encode_int b)))
 
-    pub cmp_props : (want next : ℕ) → ComparisonPost out at next → PropPost out at want out next 0
+    pub cmp_props : (want : Option Bool) (next : ℕ) → ComparisonPost out at next → PropPost out at want out next 0
     unfolding constant_prop_bool
-    cmp_props want next p ni f e k vs r lo hk =
+    cmp_props want next p ni f e vs r lo =
         let n : next ≡ at + length (encode_bool e) = p ni e r in
         cmp_inv e (code_is ni e r ∙ h18) λ o a b q.
-        record { nexts = n; props = rw q (go k o a b) }
+        record { nexts = n; props = rw q (go want o a b) }
       where
         go : (k : Option Bool) (o : CmpOp) (a b : IntExpr) → Propagates (prop_want k (Cmp o a b) f) out out 0
         go none o a b = still out f vs
@@ -225,24 +222,28 @@ module _ (out : List ℤ) (at w : ℕ) (hw : get_or out at (pos 0) ≡ pos w) wh
       not_inv s.it (code_is _ s.it s.reads ∙ h) λ x q.
       record { fixed = s.fixed; values = s.values; ints = s.ints; it = x; reads = reads_not _ out at x (rw q at s.reads); low = omega (arith, s.low) }
 
-  pub not_props : (want k' : ℕ) (out' : List ℤ) (next s : ℕ) → w ≡ 14 → k' ≡ flip_num want → PropPost out (at + 1) k' out' next s → PropPost out at want out' next s
+  pub not_props : (want k : Option Bool) (out' : List ℤ) (next s : ℕ) → w ≡ 14 → k ≡ flip want → PropPost out (at + 1) k out' next s → PropPost out at want out' next s
   unfolding encode_bool
-  not_props want k' out' next s h hk' p ni f e k vs r lo hk =
+  not_props want k out' next s h hk p ni f e vs r lo =
       not_inv e (code_is ni e r ∙ h) λ x q.
-      let g = p ni f x (flip k) vs (reads_not ni out at x (rw q at r)) (omega arith) (hk' ∙ rw hk (flip_is k)) in
-      rw q (record { nexts = g.nexts ∙ omega arith; props = as_status _ _ out out' s (want_not k x f) g.props })
+      let g = rw hk at (p ni f x vs (reads_not ni out at x (rw q at r)) (omega arith)) in
+      rw q (record { nexts = g.nexts ∙ omega arith; props = as_status _ _ out out' s (want_not want x f) g.props })
 
   -- ---- And, Or
 
   module _ (l12 : 12 ≤ w) (l14 : w < 14) (v : ℕ) (hv : get_or out (at + 1) (pos 0) ≡ pos v) where
-    the_list : {X : Type 0} (ni : ℕ) (e : BoolExpr) → Reads ni out at e → ((b : Bool) (ms : Members) → e ≡ list_of b ms → w - 12 ≡ bit b → ReadsMembers ni out (at + 2) v ms → X) → X
+    settles : (b : Bool) → w ≡ 12 + bit b → eqb w 13 ≡ b
+    settles false h = rw h refl
+    settles true h = rw h refl
+
+    the_list : {X : Type 0} (ni : ℕ) (e : BoolExpr) → Reads ni out at e → ((b : Bool) (ms : Members) → e ≡ list_of b ms → eqb w 13 ≡ b → ReadsMembers ni out (at + 2) v ms → X) → X
     unfolding second
     the_list ni e r go =
         let t = code_is ni e r in
         list_inv e (omega arith) (omega arith) λ b ms q tb.
         let s : count_members ms ≡ v = sym (second_list b ms) ∙ sym (ap second q) ∙ second_is v hv ni e r (λ l. absurd (omega arith)) in
         let g = reads_list ni out at b ms (rw q at r) in
-        go b ms q (omega arith) (record { words = g.words; vars = g.vars; size = sym s })
+        go b ms q (settles b (omega arith)) (record { words = g.words; vars = g.vars; size = sym s })
       where
         second_list : (b : Bool) (ms : Members) → second (list_of b ms) ≡ count_members ms
         second_list false ms = refl
@@ -251,17 +252,17 @@ module _ (out : List ℤ) (at w : ℕ) (hw : get_or out at (pos 0) ≡ pos w) wh
     pub list_stand : Stands out at → StandMembers out (at + 2) v
     list_stand s = the_list _ s.it s.reads λ b ms q sb g. record { fixed = s.fixed; values = s.values; ints = s.ints; them = ms; reads = g; low = omega (arith, s.low) }
 
-    pub list_props : (want k' : ℕ) (out' : List ℤ) (next s : ℕ) → k' ≡ member_num (w - 12) want → MembersPost out (at + 2) v k' out' next s → PropPost out at want out' next s
-    list_props want k' out' next s hk' p ni f e k vs r lo hk =
+    pub list_props : (want k : Option Bool) (out' : List ℤ) (next s : ℕ) → k ≡ member_want (eqb w 13) want → MembersPost out (at + 2) v k out' next s → PropPost out at want out' next s
+    list_props want k out' next s hk p ni f e vs r lo =
         the_list ni e r λ b ms q sb g.
-        let y = p ni f ms (member_want b k) vs g (omega arith) (hk' ∙ rw (sb, hk) (member_is b k)) in
+        let y = rw (hk, sb) at (p ni f ms vs g (omega arith)) in
         let n : next ≡ at + 2 + length (encode_members ms) = y.nexts in
-        rw q (record { nexts = omega (arith, ap length (list_words b ms)); props = as_status _ _ out out' s (want_list k b ms f) y.props })
+        rw q (record { nexts = omega (arith, ap length (list_words b ms)); props = as_status _ _ out out' s (want_list want b ms f) y.props })
 
   -- ---- Xor, Iff, Imp
 
   module _ (l14 : 14 < w) (n18 : w ≡ 18 → ⊥) where
-    the_binary : {X : Type 0} (ni : ℕ) (e : BoolExpr) → Reads ni out at e → ((y : Op) (a b : BoolExpr) → e ≡ expr_of y a b → 15 + op_num y ≡ w → Reads ni out (at + 1) a → Reads ni out (at + 1 + length (encode_bool a)) b → X) → X
+    the_binary : {X : Type 0} (ni : ℕ) (e : BoolExpr) → Reads ni out at e → ((y : Op) (a b : BoolExpr) → e ≡ expr_of y a b → w ≡ 15 + op_num y → Reads ni out (at + 1) a → Reads ni out (at + 1 + length (encode_bool a)) b → X) → X
     the_binary ni e r go =
         let t = code_is ni e r in
         binary_inv e (omega arith) (λ x. n18 (sym t ∙ x)) λ y a b q ty.
@@ -271,36 +272,35 @@ module _ (out : List ℤ) (at w : ℕ) (hw : get_or out at (pos 0) ≡ pos w) wh
     pub left_stands : Stands out at → Stands out (at + 1)
     left_stands s = the_binary _ s.it s.reads λ y a b q ty ra rb. record { fixed = s.fixed; values = s.values; ints = s.ints; it = a; reads = ra; low = omega (arith, s.low) }
 
-    module _ (want l : ℕ) (hl : l ≡ left_num w want) (mid : List ℤ) (next s : ℕ) (p : PropPost out (at + 1) l mid next s) where
-      pub right_stands : Stands out at → want < 3 → Stands mid next × (at + 1 < next)
-      right_stands d hw3 =
+    module _ (want l : Option Bool) (hl : (o : Op) → w ≡ 15 + op_num o → l ≡ left_want o want) (mid : List ℤ) (next s : ℕ) (p : PropPost out (at + 1) l mid next s) where
+      pub right_stands : Stands out at → Stands mid next × (at + 1 < next)
+      right_stands d =
           the_binary _ d.it d.reads λ y a b q ty ra rb.
-          want_of want hw3 λ k hk.
-          let g = p d.ints d.fixed a (left_want y k) d.values ra (omega (arith, d.low)) (hl ∙ rw (← ty, hk) (left_is y k)) in
+          let g = p d.ints d.fixed a d.values ra (omega (arith, d.low)) in
           let n : next ≡ at + 1 + length (encode_bool a) = g.nexts in
           (record { fixed = g.props.after; values = g.props.values; ints = d.ints; it = b; reads = rw n (reads_up _ out mid (at + 1 + length (encode_bool a)) b g.props.high (omega (arith, d.low)) rb); low = omega (arith, d.low) }, omega (arith, reads_long _ out (at + 1) a ra))
 
-      pub binary_props : (m : ℕ) (out' : List ℤ) (next' s' s'' : ℕ) → m ≡ right_num w want → PropPost mid next m out' next' s' → s'' ≡ worst_num s s' → PropPost out at want out' next' s''
-      binary_props m out' next' s' s'' hm p' hs ni f e k vs r lo hk =
+      pub binary_props : (m : Option Bool) (out' : List ℤ) (next' s' s'' : ℕ) → ((o : Op) → w ≡ 15 + op_num o → m ≡ right_want o want) → PropPost mid next m out' next' s' → s'' ≡ worst_num s s' → PropPost out at want out' next' s''
+      binary_props m out' next' s' s'' hm p' hs ni f e vs r lo =
           the_binary ni e r λ y a b q ty ra rb.
-          let g = p ni f a (left_want y k) vs ra (omega arith) (hl ∙ rw (← ty, hk) (left_is y k)) in
+          let g = rw (hl y ty) at (p ni f a vs ra (omega arith)) in
           let n : next ≡ at + 1 + length (encode_bool a) = g.nexts in
-          let g' = p' ni g.props.after b (right_want y k) g.props.values (rw n (reads_up ni out mid (at + 1 + length (encode_bool a)) b g.props.high (omega arith) rb)) (omega arith) (hm ∙ rw (← ty, hk) (right_is y k)) in
+          let g' = rw (hm y ty) at (p' ni g.props.after b g.props.values (rw n (reads_up ni out mid (at + 1 + length (encode_bool a)) b g.props.high (omega arith) rb)) (omega arith)) in
           let n' : next' ≡ next + length (encode_bool b) = g'.nexts in
           rw q (record {
             nexts = omega (arith, ap length (binary_words y a b), length-append (encode_bool a) (encode_bool b));
-            props = as_status _ _ out out' s'' (want_binary k y a b f) (then_props out mid out' s s' (prop_want (right_want y k) b) (prop_want (left_want y k) a f) g.props s'' g'.props hs);
+            props = as_status _ _ out out' s'' (want_binary want y a b f) (then_props out mid out' s s' (prop_want (right_want y want) b) (prop_want (left_want y want) a f) g.props s'' g'.props hs);
           })
 
 -- ---- members
 
-pub members_none : (out : List ℤ) (at n want : ℕ) → n ≡ 0 → MembersPost out at n want out at 0
+pub members_none : (out : List ℤ) (at n : ℕ) (want : Option Bool) → n ≡ 0 → MembersPost out at n want out at 0
 unfolding constant_prop_members encode_members
-members_none out at n want h ni f mnil none vs r lo hk = record { nexts = omega arith; props = still out f vs }
-members_none out at n want h ni f mnil (some b) vs r lo hk = record { nexts = omega arith; props = still out f vs }
-members_none out at n want h ni f (more e ms) k vs r lo hk = absurd (let s : n ≡ suc (count_members ms) = r.size in omega arith)
+members_none out at n none h ni f mnil vs r lo = record { nexts = omega arith; props = still out f vs }
+members_none out at n (some b) h ni f mnil vs r lo = record { nexts = omega arith; props = still out f vs }
+members_none out at n want h ni f (more e ms) vs r lo = absurd (let s : n ≡ suc (count_members ms) = r.size in omega arith)
 
-module _ (out : List ℤ) (at n want : ℕ) (z : n ≡ 0 → ⊥) where
+module _ (out : List ℤ) (at n : ℕ) (want : Option Bool) (z : n ≡ 0 → ⊥) where
   more_inv : {X : Type 0} (ms : Members) → n ≡ count_members ms → ((e : BoolExpr) (ns : Members) → ms ≡ more e ns → X) → X
   more_inv mnil h go = absurd (z h)
   more_inv (more e ns) h go = go e ns refl
@@ -309,29 +309,28 @@ module _ (out : List ℤ) (at n want : ℕ) (z : n ≡ 0 → ⊥) where
   first_stands s = more_inv s.them s.reads.size λ e ns q. record { fixed = s.fixed; values = s.values; ints = s.ints; it = e; reads = reads_first _ out at n e ns (rw q at s.reads); low = s.low }
 
   module _ (mid : List ℤ) (next s : ℕ) (p : PropPost out at want mid next s) where
-    pub rest_stand : StandMembers out at n → want < 3 → StandMembers mid next (n - 1) × (at < next)
-    rest_stand d hw3 =
+    pub rest_stand : StandMembers out at n → StandMembers mid next (n - 1) × (at < next)
+    rest_stand d =
         more_inv d.them d.reads.size λ e ns q.
-        want_of want hw3 λ k hk.
         let rd = rw q at d.reads in
         let re = reads_first _ out at n e ns rd in
-        let g = p d.ints d.fixed e k d.values re d.low hk in
+        let g = p d.ints d.fixed e d.values re d.low in
         let nx : next ≡ at + length (encode_bool e) = g.nexts in
         (record { fixed = g.props.after; values = g.props.values; ints = d.ints; them = ns; reads = rw nx (members_up _ out mid (at + length (encode_bool e)) (n - 1) ns g.props.high (omega (arith, d.low)) (reads_rest _ out at n e ns rd)); low = omega (arith, d.low) }, omega (arith, reads_long _ out at e re))
 
     pub members_more : (out' : List ℤ) (next' s' : ℕ) → MembersPost mid next (n - 1) want out' next' s' → MembersPost out at n want out' next' (worst_num s s')
     unfolding encode_members
-    members_more out' next' s' p' ni f ms k vs r lo hk =
+    members_more out' next' s' p' ni f ms vs r lo =
         more_inv ms r.size λ e ns q.
         let rd = rw q at r in
         let re = reads_first ni out at n e ns rd in
-        let g = p ni f e k vs re lo hk in
+        let g = p ni f e vs re lo in
         let nx : next ≡ at + length (encode_bool e) = g.nexts in
-        let g' = p' ni g.props.after ns k g.props.values (rw nx (members_up ni out mid (at + length (encode_bool e)) (n - 1) ns g.props.high (omega arith) (reads_rest ni out at n e ns rd))) (omega arith) hk in
+        let g' = p' ni g.props.after ns g.props.values (rw nx (members_up ni out mid (at + length (encode_bool e)) (n - 1) ns g.props.high (omega arith) (reads_rest ni out at n e ns rd))) (omega arith) in
         let n' : next' ≡ next + length (encode_members ns) = g'.nexts in
         rw q (record {
           nexts = omega (arith, length-append (encode_bool e) (encode_members ns));
-          props = as_status _ _ out out' (worst_num s s') (want_more k e ns f) (then_props out mid out' s s' (members_want k ns) (prop_want k e f) g.props (worst_num s s') g'.props refl);
+          props = as_status _ _ out out' (worst_num s s') (want_more want e ns f) (then_props out mid out' s s' (members_want want ns) (prop_want want e f) g.props (worst_num s s') g'.props refl);
         })
 
 pub binary_low : (w : ℕ) → (w ≡ 14 → ⊥) → 14 ≤ w → 14 < w
@@ -355,7 +354,7 @@ worst_zero s = worst_max 0 s ∙ omega arith
 pub worst_none : (t : ℕ) → worst_num t 0 ≡ t
 worst_none t = worst_max t 0 ∙ omega arith
 
-module _ (out : List ℤ) (at n want : ℕ) (out' : List ℤ) (next : ℕ) where
+module _ (out : List ℤ) (at n : ℕ) (want : Option Bool) (out' : List ℤ) (next : ℕ) where
   pub status_start : (s : ℕ) → MembersPost out at n want out' next s → MembersPost out at n want out' next (worst_num 0 s)
   status_start s p = subst (MembersPost out at n want out' next) (sym (worst_zero s)) p
 
@@ -367,25 +366,3 @@ module _ (out : List ℤ) (at n want : ℕ) (out' : List ℤ) (next : ℕ) where
 
 pub stands_first : (out : List ℤ) (at : ℕ) → Stands out at → Plain out at
 stands_first out at s = record { inside = omega (arith, inside s.ints out at s.it s.reads, reads_long _ out at s.it s.reads); value = bool_code s.it; is = first_word max_bools _ out at s.it s.reads.vars s.reads.words }
-
--- ---- a part's want is a want
-
-pick_small : (t : Bool) (a b : ℕ) → a < 3 → b < 3 → cond t a b < 3
-pick_small true a b h k = h
-pick_small false a b h k = k
-
-pub flip_small : (want k : ℕ) → want < 3 → k ≡ flip_num want → k < 3
-unfolding flip_num
-flip_small want k h e = rw e (pick_small (eqb want 2) 2 (1 - want) (omega arith) (omega arith))
-
-pub member_small : (b want k : ℕ) → want < 3 → k ≡ member_num b want → k < 3
-unfolding member_num
-member_small b want k h e = rw e (pick_small (eqb want b) 2 want (omega arith) h)
-
-pub left_small : (w want k : ℕ) → k ≡ left_num w want → k < 3
-unfolding left_num
-left_small w want k e = rw e (pick_small (eqb w 17) (cond (eqb want 0) 1 2) 2 (pick_small (eqb want 0) 1 2 (omega arith) (omega arith)) (omega arith))
-
-pub right_small : (w want k : ℕ) → k ≡ right_num w want → k < 3
-unfolding right_num
-right_small w want k e = rw e (pick_small (eqb w 17) (cond (eqb want 0) 0 2) 2 (pick_small (eqb want 0) 0 2 (omega arith) (omega arith)) (omega arith))

@@ -109,11 +109,11 @@ module _ (out : List ℤ) (at : ℕ) where
     pub rule_stands : StandsStmt out at → w ≡ 1 → Stands out (at + 1)
     rule_stands s h = rule_inv _ out at s.it s.reads w hw h λ e q re. record { fixed = s.fixed; values = s.values; ints = s.ints; it = e; reads = re; low = omega (arith, s.low) }
 
-    pub rule_props : (out' : List ℤ) (next st : ℕ) → w ≡ 1 → PropPost out (at + 1) 1 out' next st → PropStmtPost out at out' next st
+    pub rule_props : (out' : List ℤ) (next st : ℕ) → w ≡ 1 → PropPost out (at + 1) (some true) out' next st → PropStmtPost out at out' next st
     unfolding encode_stmt
     rule_props out' next st h p ni f s vs r lo =
         rule_inv ni out at s r w hw h λ e q re.
-        let g = p ni f e (some true) vs re (omega arith) refl in
+        let g = p ni f e vs re (omega arith) in
         rw q (record { nexts = g.nexts ∙ omega arith; props = g.props })
 
   -- what is no rule fixes nothing

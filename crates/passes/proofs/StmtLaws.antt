@@ -1,6 +1,8 @@
 -- What folding of statements asks and gives at each step, over variables. Assumes nothing.
 use Prim.Native.Nat.{ℕ, suc, ◌+◌, ◌-◌, ◌*◌, ◌≤◌, ◌<◌}
 use mathlib.Core.Path.{◌≡◌, refl, sym, ap, ◌∙◌}
+use mathlib.Core.Option.{Option}
+use mathlib.Core.Bool.{Bool}
 use mathlib.Core.List.{List, [], ◌∷◌, ◌++◌, map}
 use native.Mathlib.Omega.{arith}
 use lib.IntN.{ℤ, pos}
@@ -160,7 +162,7 @@ module _ (ws : List ℤ) (d at : ℕ) (out : List ℤ) (o : ℕ) where
         let lo : max_bools ≤ o = r.low in
         record { ds = r.ds; domains = r.domains; it = e; reads = re; low = omega arith; room = omega arith }
 
-    pub rule_folds : (out' : List ℤ) (next end state : ℕ) → ReadyStmt ws d at out o → FoldPost ws d (at + 1) mid (o + 1) out' next end state → StmtPost ws d at out o out' next end
+    pub rule_folds : (out' : List ℤ) (next end : ℕ) (state : Option Bool) → ReadyStmt ws d at out o → FoldPost ws d (at + 1) mid (o + 1) out' next end state → StmtPost ws d at out o out' next end
     unfolding encode_stmt constant_folding_stmt
     rule_folds out' next end state rd p ds s hd r =
         rule_inv _ ws at s r w hw h1 λ e q re.

@@ -4,7 +4,6 @@ use Rattle.std.proofs.Math.Option.{Option}
 use Rattle.syntax.specs.Words.{max_bools}
 use Rattle.syntax.specs.Syntax.{BoolExpr, Members, encode_bool, encode_members}
 use Rattle.fold.specs.Fold.{Fixed}
-use Rattle.fold.specs.Table.{state_num}
 use Rattle.folding.specs.Steps.{Reads, ReadsMembers}
 use Rattle.passes.specs.Want.{prop_want, members_want, Values, Propagates}
 
@@ -37,8 +36,8 @@ pub record RequiresMembers (f : Fixed) (k : Option Bool) (ms : Members) (out : L
   pub nexts : next ≡ at + length (encode_members ms)
   pub props : Propagates (members_want k ms f) out out' status
 
-abbrev pub PropPost : List ℤ → ℕ → ℕ → List ℤ → ℕ → ℕ → Type 0
-PropPost out at want out' next status = (ni : ℕ) (f : Fixed) (e : BoolExpr) (k : Option Bool) → Values out f → Reads ni out at e → max_bools ≤ at → want ≡ state_num k → Requires f k e out at out' next status
+abbrev pub PropPost : List ℤ → ℕ → Option Bool → List ℤ → ℕ → ℕ → Type 0
+PropPost out at want out' next status = (ni : ℕ) (f : Fixed) (e : BoolExpr) → Values out f → Reads ni out at e → max_bools ≤ at → Requires f want e out at out' next status
 
-abbrev pub MembersPost : List ℤ → ℕ → ℕ → ℕ → List ℤ → ℕ → ℕ → Type 0
-MembersPost out at n want out' next status = (ni : ℕ) (f : Fixed) (ms : Members) (k : Option Bool) → Values out f → ReadsMembers ni out at n ms → max_bools ≤ at → want ≡ state_num k → RequiresMembers f k ms out at out' next status
+abbrev pub MembersPost : List ℤ → ℕ → ℕ → Option Bool → List ℤ → ℕ → ℕ → Type 0
+MembersPost out at n want out' next status = (ni : ℕ) (f : Fixed) (ms : Members) → Values out f → ReadsMembers ni out at n ms → max_bools ≤ at → RequiresMembers f want ms out at out' next status

@@ -1,14 +1,14 @@
 -- Requiring with a third want, nothing, under which the walk only passes over an expression; its status in numbers; and the fixed
 -- values as the first words of the work slice.
-use Rattle.std.specs.Prelude.{ℕ, ◌+◌, ◌-◌, ◌≤◌, ◌<◌, ◌≡◌, refl, Bool, true, false, not, cond, List, eqb, ltb, ℤ, pos, drop, get_or, set}
+use Rattle.std.specs.Prelude.{ℕ, ◌≤◌, ◌<◌, ◌≡◌, refl, Bool, true, false, not, cond, List, ltb, ℤ, pos, drop, get_or, set}
 use Rattle.std.specs.Bool.{beq}
 use Rattle.std.proofs.Math.Option.{Option, none, some}
 use Rattle.std.proofs.Common.{arith, le-ltb}
 use Rattle.syntax.specs.Words.{max_bools}
 use Rattle.syntax.specs.Syntax.{BoolExpr, Not, Members, more}
-use Rattle.fold.specs.Fold.{Fixed, Op, op_xor, op_iff, op_imp, expr_of}
+use Rattle.fold.specs.Fold.{Fixed, is_value, Op, op_xor, op_iff, op_imp, expr_of}
 use Rattle.fold.specs.Optimize.{Status, unsatisfiable, updated, worst, and_then, constant_prop_bool, constant_prop_members}
-use Rattle.fold.specs.Table.{op_num, bit, state_num}
+use Rattle.fold.specs.Table.{bit, state_num}
 use Rattle.fold.proofs.Forms.{list_of}
 
 -- ---- what is required, or nothing
@@ -81,57 +81,18 @@ status_num (updated c f) = bit c
 abbrev pub worst_num : ℕ → ℕ → ℕ
 worst_num a b = cond (ltb a b) b a
 
-unfoldable pub clash_num : ℕ → ℕ → ℕ
-clash_num v want = cond (eqb want 2) 0 (cond (eqb v want) 0 2)
+unfoldable pub clash_status : Bool → Option Bool → ℕ
+clash_status b want = cond (is_value (not b) want) 2 0
 
-unfoldable pub set_status : ℕ → ℕ → ℕ
-set_status s want = cond (eqb want 2) 0 (cond (eqb s 2) 1 (cond (eqb s want) 0 2))
+unfoldable pub set_status : Option Bool → Option Bool → ℕ
+set_status s none = 0
+set_status none (some b) = 1
+set_status (some c) (some b) = cond (beq c b) 0 2
 
-unfoldable pub set_words : ℕ → ℕ → ℕ → List ℤ → List ℤ
-set_words s v want l = cond (eqb want 2) l (cond (eqb s 2) (set l v (pos want)) l)
-
-unfoldable pub flip_num : ℕ → ℕ
-flip_num want = cond (eqb want 2) 2 (1 - want)
-
-unfoldable pub member_num : ℕ → ℕ → ℕ
-member_num b want = cond (eqb want b) 2 want
-
-unfoldable pub left_num : ℕ → ℕ → ℕ
-left_num w want = cond (eqb w 17) (cond (eqb want 0) 1 2) 2
-
-unfoldable pub right_num : ℕ → ℕ → ℕ
-right_num w want = cond (eqb w 17) (cond (eqb want 0) 0 2) 2
-
-pub flip_is : (k : Option Bool) → flip_num (state_num k) ≡ state_num (flip k)
-unfolding flip_num
-flip_is none = refl
-flip_is (some false) = refl
-flip_is (some true) = refl
-
-pub member_is : (b : Bool) (k : Option Bool) → member_num (bit b) (state_num k) ≡ state_num (member_want b k)
-unfolding member_num
-member_is false none = refl
-member_is true none = refl
-member_is false (some false) = refl
-member_is false (some true) = refl
-member_is true (some false) = refl
-member_is true (some true) = refl
-
-pub left_is : (o : Op) (k : Option Bool) → left_num (15 + op_num o) (state_num k) ≡ state_num (left_want o k)
-unfolding left_num
-left_is op_imp none = refl
-left_is op_imp (some false) = refl
-left_is op_imp (some true) = refl
-left_is op_xor k = refl
-left_is op_iff k = refl
-
-pub right_is : (o : Op) (k : Option Bool) → right_num (15 + op_num o) (state_num k) ≡ state_num (right_want o k)
-unfolding right_num
-right_is op_imp none = refl
-right_is op_imp (some false) = refl
-right_is op_imp (some true) = refl
-right_is op_xor k = refl
-right_is op_iff k = refl
+unfoldable pub set_words : Option Bool → ℕ → Option Bool → List ℤ → List ℤ
+set_words s v none l = l
+set_words none v (some b) l = set l v (pos (bit b))
+set_words (some c) v (some b) l = l
 
 pub status_small : (s : Status) → status_num s ≤ 2
 status_small unsatisfiable = omega arith

@@ -1,22 +1,20 @@
 // Folding statements and requiring (constant_prop_bool): the folded statements stand in the work slice above the fixed values.
-// `want` is 0, 1, or 2 for nothing; a status is 0 (nothing changed), 1 (a variable was fixed) or 2 (unsatisfiable).
+// A want of None requires nothing; a status is 0 (nothing changed), 1 (a variable was fixed) or 2 (unsatisfiable).
 #![tactic(auto)]
 
 ghost use Rattle.std.specs.Prelude.{◌≡◌, ◌+◌, ◌*◌, ◌-◌, ◌<◌, pos, length, get_or};
-ghost use Rattle.fold.specs.Table.{state_num};
+ghost use Rattle.fold.specs.Fold.{Op};
+ghost use Rattle.fold.specs.Table.{op_num};
+ghost use Rattle.folding.specs.Known.{known};
 ghost use Rattle.folding.specs.Steps.{state_of};
-ghost use Rattle.passes.specs.Want.{worst_num, clash_num, set_status, set_words, flip_num, member_num, left_num, right_num};
+ghost use Rattle.passes.specs.Want.{worst_num, clash_status, set_status, set_words, flip, member_want as want_of_member, left_want as want_of_left, right_want as want_of_right};
 ghost use Rattle.passes.specs.Skip.{SomeInt, SomeTerms, SomeBool, SomeMembers, IntStepPost, SkipPost, SkipTermsPost, BoolStepPost, SkipMembersPost};
 ghost use Rattle.passes.specs.Contract.{Stands, StandMembers, ComparisonPost, PropPost, MembersPost};
 ghost use Rattle.passes.specs.Statements.{ReadyColumns, ColumnsPost, ReadyStmt, StmtPost, ReadyStmts, StmtsPost, StandsStmt, PropStmtPost, StandStmts, PropStmtsPost, SomeColumns, SkipColumnsPost, SkipStmtPost};
 
-#[derive(Drop)]
-pub struct Span {
-    pub next: usize,
-    pub end: usize,
-}
+use folding::Span;
 
-#[derive(Drop)]
+#[derive(Clone, Copy)]
 pub struct Required {
     pub next: usize,
     pub status: usize,
@@ -25,10 +23,10 @@ pub struct Required {
 // ---- passing over expressions
 
 // The place behind an expression's own words, and how many expressions that stand in it follow there.
-#[derive(Drop)]
-pub struct Step {
-    pub next: usize,
-    pub inner: usize,
+#[derive(Clone, Copy)]
+struct Step {
+    next: usize,
+    inner: usize,
 }
 
 // Over all of an If's words, of any other integer expression's own two: how many terms follow.
@@ -155,87 +153,79 @@ fn worst(a: usize, b: usize) -> usize
     if a < b { b } else { a }
 }
 
-fn clash(v: usize, want: usize) -> usize
-    ensures { result ≡ clash_num v want }
+#[tactic(auto, unfolding(crate::specs::Want::clash_status))]
+fn clash(b: bool, want: Option<bool>) -> usize
+    ensures { result ≡ clash_status b (known want) }
 {
-    if want == 2 {
-        return 0;
-    }
-    if v == want { 0 } else { 2 }
+    if want == Some(!b) { 2 } else { 0 }
 }
 
-fn flip(want: usize) -> usize
-    requires { want < 3 }
-    ensures { result ≡ flip_num want }
+fn flip(want: Option<bool>) -> Option<bool>
+    ensures { known result ≡ flip (known want) }
 {
-    if want == 2 { 2 } else { 1 - want }
+    want.map(|b| !b)
 }
 
-fn member_want(b: usize, want: usize) -> usize
-    ensures { result ≡ member_num b want }
+// Of each member of a list that b settles.
+fn member_want(b: bool, want: Option<bool>) -> Option<bool>
+    ensures { known result ≡ want_of_member b (known want) }
 {
-    if want == b { 2 } else { want }
+    if want == Some(b) { None } else { want }
 }
 
-fn left_want(w: usize, want: usize) -> usize
-    ensures { result ≡ left_num w want }
+fn left_want(w: usize, want: Option<bool>) -> Option<bool>
+    ensures { (o : Op) → w ≡ 15 + op_num o → known result ≡ want_of_left o (known want) }
 {
-    if w == 17 {
-        if want == 0 { 1 } else { 2 }
+    if w == 17 && want == Some(false) {
+        Some(true)
     } else {
-        2
+        None
     }
 }
 
-fn right_want(w: usize, want: usize) -> usize
-    ensures { result ≡ right_num w want }
+fn right_want(w: usize, want: Option<bool>) -> Option<bool>
+    ensures { (o : Op) → w ≡ 15 + op_num o → known result ≡ want_of_right o (known want) }
 {
-    if w == 17 {
-        if want == 0 { 0 } else { 2 }
+    if w == 17 && want == Some(false) {
+        Some(false)
     } else {
-        2
+        None
     }
 }
 
 // ---- requiring
 
-fn set_infeasible(work: &mut [i32], v: usize, want: usize) -> usize
-    requires { (v < length work.old) × (want < 3) }
-    ensures { (result ≡ set_status (state_num (state_of (get_or work.old v (pos 0)))) want) × (work.new ≡ set_words (state_num (state_of (get_or work.old v (pos 0)))) v want work.old) }
+#[tactic(auto, unfolding(crate::specs::Want::set_status, crate::specs::Want::set_words))]
+fn set_infeasible(work: &mut [i32], v: usize, want: Option<bool>) -> usize
+    requires { v < length work.old }
+    ensures { (result ≡ set_status (state_of (get_or work.old v (pos 0))) (known want)) × (work.new ≡ set_words (state_of (get_or work.old v (pos 0))) v (known want) work.old) }
 {
-    if want == 2 {
+    let Some(b) = want else {
         return 0;
+    };
+    match folding::state_at(work, v) {
+        None => {
+            folding::put(work, v, b as usize);
+            1
+        }
+        Some(s) => { if s == b { 0 } else { 2 } }
     }
-    let s = folding::state_at(work, v);
-    if s == 2 {
-        folding::put(work, v, want);
-        return 1;
-    }
-    if s == want {
-        return 0;
-    }
-    2
 }
 
 // A constant or a variable, whose code is w.
-fn prop_leaf(work: &mut [i32], at: usize, w: usize, want: usize) -> Required
+fn prop_leaf(work: &mut [i32], at: usize, w: usize, want: Option<bool>) -> Required
     requires stands { Stands work.old at }
-    requires pos_value { (get_or work.old at (pos 0) ≡ pos w) × (w < 12) × (want < 3) }
-    ensures { PropPost work.old at want work.new result.next result.status }
+    requires pos_value { (get_or work.old at (pos 0) ≡ pos w) × (w < 12) }
+    ensures { PropPost work.old at (known want) work.new result.next result.status }
 {
     let v = domains::number(work, at + 1);
+    let next = at + 2;
     if w == 10 {
-        let s = clash(v, want);
-        return Required {
-            next: at + 2,
-            status: s,
-        };
+        let status = clash(v == 1, want);
+        return Required { next, status };
     }
-    let s = set_infeasible(work, v, want);
-    Required {
-        next: at + 2,
-        status: s,
-    }
+    let status = set_infeasible(work, v, want);
+    Required { next, status }
 }
 
 fn skip_comparison(words: &[i32], at: usize) -> usize
@@ -249,10 +239,9 @@ fn skip_comparison(words: &[i32], at: usize) -> usize
 
 // As many members as `count` says.
 #[cycle(constant_prop)]
-fn constant_prop_members(work: &mut [i32], at: usize, count: usize, want: usize) -> Required
-    requires stand_members { StandMembers work.old at count }
-    requires want_bound { want < 3 }
-    ensures { MembersPost work.old at count want work.new result.next result.status }
+fn constant_prop_members(work: &mut [i32], at: usize, count: usize, want: Option<bool>) -> Required
+    requires { StandMembers work.old at count }
+    ensures { MembersPost work.old at count (known want) work.new result.next result.status }
 {
     let mut next = at;
     let mut status = 0;
@@ -265,10 +254,9 @@ fn constant_prop_members(work: &mut [i32], at: usize, count: usize, want: usize)
 }
 
 #[cycle(constant_prop)]
-fn constant_prop_bool(work: &mut [i32], at: usize, want: usize) -> Required
-    requires stands { Stands work.old at }
-    requires want_bound { want < 3 }
-    ensures { PropPost work.old at want work.new result.next result.status }
+fn constant_prop_bool(work: &mut [i32], at: usize, want: Option<bool>) -> Required
+    requires { Stands work.old at }
+    ensures { PropPost work.old at (known want) work.new result.next result.status }
 {
     let w = domains::number(work, at);
     if w < 12 {
@@ -283,7 +271,7 @@ fn constant_prop_bool(work: &mut [i32], at: usize, want: usize) -> Required
         return constant_prop_bool(work, at + 1, k);
     }
     if w < 14 {
-        let k = member_want(w - 12, want);
+        let k = member_want(w == 13, want);
         let n = domains::number(work, at + 1);
         return constant_prop_members(work, at + 2, n, k);
     }
@@ -424,7 +412,7 @@ pub fn prop_stmt(work: &mut [i32], at: usize) -> Required
 {
     let w = domains::number(work, at);
     if w == 1 {
-        return constant_prop_bool(work, at + 1, 1);
+        return constant_prop_bool(work, at + 1, Some(true));
     }
     if w == 2 {
         let next = skip_table(work, at);

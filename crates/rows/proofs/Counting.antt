@@ -4,6 +4,7 @@ use mathlib.Core.Bool.{Bool, true, false}
 use mathlib.Core.List.{List, [], ◌∷◌}
 use Prim.Native.Nat.{ℕ, zero, suc, ◌+◌, ◌-◌, ◌*◌, ◌<◌, ◌≤◌}
 use native.Mathlib.Omega.{arith}
+use native.Mathlib.Numerals.{add-one}
 use lib.IntN.{ℤ, pos}
 use lib.ListN.{length, get_or, drop, drop_of_length-le}
 use lib.Seq.{drop-cons, drop-drop}
@@ -16,30 +17,27 @@ use Rattle.syntax.specs.Words.{star_word}
 use Rattle.tables.specs.Tables.{Row}
 use Rattle.sorting.specs.Rows.{rows_of, row_at}
 use Rattle.rows.specs.Stars.{is_value, values_in, is_free, is_single, is_longer, count_rows}
-use Rattle.sorting.proofs.Sorting.{length_rows, row_is, row_from, row_done}
+use Rattle.sorting.proofs.Sorting.{length_rows, row_is}
 
 -- ---- the values of a row
 
-module _ (s : List ℤ) (a n i : ℕ) (f : a + n ≤ length s) where
-  abbrev from : ℕ → ℕ
-  from j = values_in (drop j (row_at n a s))
-
-  pub values_end : n ≤ i → from i ≡ 0
+module _ (r : Row) (i : ℕ) where
+  pub values_end : length r ≤ i → values_in (drop i r) ≡ 0
   unfolding values_in
-  values_end h = rw (row_done n a i s f h) refl
+  values_end h = rw (drop_of_length-le r h) refl
 
-  module _ (h : i < n) (fw : SFits w32 (get_or s (a + i) (pos 0))) where
-    values_step : from i ≡ length (keep_if (is_value (get_or s (a + i) (pos 0))) (get_or s (a + i) (pos 0)) (select is_value (drop (i + 1) (row_at n a s))))
+  module _ (h : i < length r) (fw : SFits w32 (get_or r i (pos 0))) where
+    values_step : values_in (drop i r) ≡ length (keep_if (is_value (get_or r i (pos 0))) (get_or r i (pos 0)) (select is_value (drop (i + 1) r)))
     unfolding values_in
-    values_step = rw (row_from n a i s f h) refl
+    values_step = rw (drop-cons r i (pos 0) h, add-one i) refl
 
-    pub values_star : of_z w32 (get_or s (a + i) (pos 0)) ≡ 2147483648 → from i ≡ from (i + 1)
+    pub values_star : of_z w32 (get_or r i (pos 0)) ≡ 2147483648 → values_in (drop i r) ≡ values_in (drop (i + 1) r)
     unfolding values_in
-    values_star e = values_step ∙ rw (is_eqZ (get_or s (a + i) (pos 0)) star_word (sym (to_z-of_z fw) ∙ ap (to_z w32) e)) refl
+    values_star e = values_step ∙ rw (is_eqZ (get_or r i (pos 0)) star_word (sym (to_z-of_z fw) ∙ ap (to_z w32) e)) refl
 
-    pub values_one : (of_z w32 (get_or s (a + i) (pos 0)) ≡ 2147483648 → ⊥) → from i ≡ suc (from (i + 1))
+    pub values_one : (of_z w32 (get_or r i (pos 0)) ≡ 2147483648 → ⊥) → values_in (drop i r) ≡ suc (values_in (drop (i + 1) r))
     unfolding values_in
-    values_one e = values_step ∙ rw (not_eqZ (get_or s (a + i) (pos 0)) star_word (λ z. e (ap (of_z w32) z))) refl
+    values_one e = values_step ∙ rw (not_eqZ (get_or r i (pos 0)) star_word (λ z. e (ap (of_z w32) z))) refl
 
 -- ---- the rows
 

@@ -21,7 +21,7 @@ use Rattle.clauses.specs.Clause.{LinearLit, clause}
 use Rattle.answer.specs.Answer.{linear_words, clause_words}
 use Rattle.tables.specs.Tables.{Row, cell_at, linear_eq, linear_ne, takes, variable, differs, column_clause}
 use Rattle.tables.proofs.ValuesLaws.{after}
-use Rattle.rows.specs.declared.Best.TheVariants.{Nothing, Value}
+use Rattle.std.specs.Prelude.{Some, None}
 use Rattle.sorting.specs.Rows.{rows_of}
 use Rattle.sorting.specs.Columns.{word, vars_of}
 use Rattle.rows.specs.Next.{next_of, Holds}
@@ -137,7 +137,7 @@ module _ (n m i : ℕ) (t : List ℤ) (out₀ : List ℤ) (o v : ℕ) where
     pub rest : (ds : List ℤ) → Holds ds i g → (out' : List ℤ) (q' : ℕ) → Wrote out q (equals (after (takes i g) last ds)) out' q' → Wrote out₀ o (equals (select (takes i g) ds)) out' q'
 
   -- z is x, as the code has it
-  pub values_next : (last x z y op : ℤ) (out out' : List ℤ) (q q' : ℕ) → z ≡ x → next_of last i g ≡ Value x → y ≡ x → op ≡ pos 0 → Wrote out q (comparison op v y) out' q' → Values last out q → Values z out' q'
+  pub values_next : (last x z y op : ℤ) (out out' : List ℤ) (q q' : ℕ) → z ≡ x → next_of last i g ≡ Some x → y ≡ x → op ≡ pos 0 → Wrote out q (comparison op v y) out' q' → Values last out q → Values z out' q'
   values_next last x z y op out out' q q' ez e ey eo w r = record {
     room = room_after r.room w;
     on = omega (arith, r.on, wrote_on w r.room.low);
@@ -148,7 +148,7 @@ module _ (n m i : ℕ) (t : List ℤ) (out₀ : List ℤ) (o v : ℕ) where
         r.rest ds a out'' q'' (wrote_to c (wrote_then r.room.room w u));
   }
 
-  pub values_end : (last : ℤ) (out : List ℤ) (q : ℕ) → next_of last i g ≡ Nothing → Values last out q → (ds : List ℤ) → Holds ds i g → Wrote out₀ o (equals (select (takes i g) ds)) out q
+  pub values_end : (last : ℤ) (out : List ℤ) (q : ℕ) → next_of last i g ≡ None → Values last out q → (ds : List ℤ) → Holds ds i g → Wrote out₀ o (equals (select (takes i g) ds)) out q
   values_end last out q e r ds a = r.rest ds a out q (wrote_to (ap equals (sym (left_none last i g ds e))) (wrote_none out q r.room.low))
 
 pub values_start : (n m i : ℕ) (t : List ℤ) → length t ≡ m * n → i < n → Starless t → (out : List ℤ) (o v : ℕ) → Open out o → Values n m i t out o v star_word out o

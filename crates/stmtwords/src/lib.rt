@@ -25,12 +25,8 @@ pub fn columns_end(work: &[i32], at: usize, count: usize) -> usize
     ensures { (result ≡ columns-end-in (read_part work.now) count at) × (result ≤ folded_end) }
 {
     let mut q = at;
-    let mut rest = count;
-    while rest != 0 {
-        let from = q;
-        let s = scan::skip_int(work, from, 64, 0, 0);
-        q = s.at;
-        rest = rest - 1;
+    for _ in 0..count {
+        q = scan::skip_int(work, q, 64, 0, 0).at;
     }
     q
 }
@@ -50,9 +46,7 @@ pub fn statement_end(work: &[i32], at: usize) -> usize
         return columns_end(work, at + 2, n);
     }
     let k = word(work, at + 2);
-    let p = columns_end(work, at + 3, n);
-    let cells = k * n;
-    p + cells
+    columns_end(work, at + 3, n) + k * n
 }
 
 // ---- a table's rows
@@ -93,12 +87,10 @@ fn clear_members(work: &mut [i32], at: usize, left: usize, count: usize, base: u
 {
     let mut q = at;
     let mut b = base;
-    let mut rest = count;
-    while rest != 0 {
+    for _ in 0..count {
         let s = clear_bool(work, q, left, b);
         q = s.at;
         b = s.base;
-        rest = rest - 1;
     }
     Skipped { at: q, base: b }
 }
@@ -110,11 +102,11 @@ fn clear_bool(work: &mut [i32], at: usize, left: usize, base: usize) -> Skipped
     ensures { Clears (read_part work.old) left at base result.at result.base work.old work.new }
 {
     if left == 0 {
-        return Skipped { at: at, base: base };
+        return Skipped { at, base };
     }
     let under = left - 1;
     match node_at(work, false, at) {
-        Node::Var(_, q) => Skipped { at: q, base: base },
+        Node::Var(_, q) => Skipped { at: q, base },
         Node::Cmp(_, q) => {
             let a = clear_int(work, q, under, base);
             clear_int(work, a.at, under, a.base)
@@ -133,13 +125,11 @@ fn clear_terms(work: &mut [i32], at: usize, left: usize, count: usize, base: usi
 {
     let mut q = at;
     let mut b = base;
-    let mut rest = count;
-    while rest != 0 {
+    for _ in 0..count {
         let p = within(q + 1);
         let s = clear_int(work, p, left, b);
         q = s.at;
         b = s.base;
-        rest = rest - 1;
     }
     Skipped { at: q, base: b }
 }
@@ -151,7 +141,7 @@ fn clear_int(work: &mut [i32], at: usize, left: usize, base: usize) -> Skipped
     ensures { IntClears (read_part work.old) left at base result.at result.base work.old work.new }
 {
     if left == 0 {
-        return Skipped { at: at, base: base };
+        return Skipped { at, base };
     }
     let under = left - 1;
     let x = word(work, at + 1);
@@ -166,10 +156,7 @@ fn clear_int(work: &mut [i32], at: usize, left: usize, base: usize) -> Skipped
             clear_cell(work, at, base, f.base);
             f
         }
-        _ => Skipped {
-            at: two,
-            base: base,
-        },
+        _ => Skipped { at: two, base },
     }
 }
 

@@ -7,14 +7,8 @@ use Rattle.accept.proofs.+mark.Goals as goal
 pub mark_head-number-code-requires : goal.mark_head-number-code-requires
 mark_head-number-code-requires t c = head_plain c.args.set.now c.args.at c.args.n c.requires.0
 
-pub mark_head-overflow_add-result : goal.mark_head-overflow_add-result
-mark_head-overflow_add-result t c = let q = head_inside c.args.set.now c.args.at c.args.n c.requires.0 in omega (arith, c.well_formed.0.0)
-
 pub mark_head-returns-then-code-eq20 : goal.mark_head-returns-then-code-eq20
 mark_head-returns-then-code-eq20 t c = head_const c.args.set.now c.args.at c.args.n c.args.marks.now _ c.number-code.ensures.0 c.requires.2 c.if-code-eq20.true
-
-pub mark_head-overflow_add-at : goal.mark_head-overflow_add-at
-mark_head-overflow_add-at t c = let q = head_inside c.args.set.now c.args.at c.args.n c.requires.0 in omega (arith, c.well_formed.0.0)
 
 pub mark_head-skip_members-t-requires : goal.mark_head-skip_members-t-requires
 mark_head-skip_members-t-requires t c = head_condition c.args.set.now c.args.at c.args.n c.args.marks.now _ c.number-code.ensures.0 c.if-code-eq23.true c.requires.0
@@ -40,12 +34,6 @@ mark_head-overflow_add-at-2 t c = let q = head_inside c.args.set.now c.args.at c
 pub mark_head-number-v-requires : goal.mark_head-number-v-requires
 mark_head-number-v-requires t c = head_second c.args.set.now c.args.at c.args.n c.args.marks.now _ c.number-code.ensures.0 c.requires.0 c.if-code-eq20.false c.if-code-eq23.false
 
-pub mark_head-mark-count-requires : goal.mark_head-mark-count-requires
-mark_head-mark-count-requires t c = (c.requires.1, c.requires.2)
-
-pub mark_head-overflow_add-result-then-code-eq21 : goal.mark_head-overflow_add-result-then-code-eq21
-mark_head-overflow_add-result-then-code-eq21 t c = let q = head_inside c.args.set.now c.args.at c.args.n c.requires.0 in omega (arith, c.well_formed.0.0)
-
 pub mark_head-returns-then-code-eq21 : goal.mark_head-returns-then-code-eq21
 mark_head-returns-then-code-eq21 t c = head_var c.args.set.now c.args.at c.args.n c.args.marks.now _ c.number-code.ensures.0 _ c.number-v.ensures.0 c.if-code-eq21.true _ _ c.mark-count.ensures
 
@@ -54,9 +42,6 @@ mark_head-overflow_add-result-2 t c = let q = head_inside c.args.set.now c.args.
 
 pub mark_head-returns : goal.mark_head-returns
 mark_head-returns t c = head_sum c.args.set.now c.args.at c.args.n c.args.marks.now _ c.number-code.ensures.0 _ c.number-v.ensures.0 c.requires.2 c.if-code-eq20.false c.if-code-eq21.false c.if-code-eq23.false
-
-pub mark_written-overflow_sub-next : goal.mark_written-overflow_sub-next
-mark_written-overflow_sub-next t c = omega (arith, c.requires.0.behind)
 
 pub mark_written-loop-rest-init : goal.mark_written-loop-rest-init
 mark_written-loop-rest-init t c = (omega (arith, c.requires.0.behind), start_pending c.args.set.now c.args.at c.args.n c.requires.0, c.requires.2, none_counted c.args.marks.now c.args.n c.args.at c.requires.0.behind, λ m y r p. subst (λ i. WrittenPost c.args.set.now c.args.at c.args.n c.args.marks.now m y i) (omega arith) (start_post c.args.set.now c.args.at c.args.n c.requires.0 c.args.marks.now m y r p))

@@ -33,17 +33,8 @@ if_range-returns t c = let f1 : SFits w32 c.int_range-t.result.low = search rule
 pub int_range-number-code-requires : goal.int_range-number-code-requires
 int_range-number-code-requires t c = range_first_word c.args.set.now c.args.work.now c.args.at c.requires
 
-pub int_range-overflow_add-c : goal.int_range-overflow_add-c
-int_range-overflow_add-c t c = let q = range_inside c.args.set.now c.args.work.now c.args.at c.requires in omega (arith, c.well_formed.0.0)
-
-pub int_range-offset_bounds-set-at : goal.int_range-offset_bounds-set-at
-int_range-offset_bounds-set-at t c = let q = range_inside c.args.set.now c.args.work.now c.args.at c.requires in search rules
-
 pub int_range-bounds-set-at : goal.int_range-bounds-set-at
 int_range-bounds-set-at t c = let q = range_inside c.args.set.now c.args.work.now c.args.at c.requires in search rules
-
-pub int_range-overflow_add-result : goal.int_range-overflow_add-result
-int_range-overflow_add-result t c = let q = range_inside c.args.set.now c.args.work.now c.args.at c.requires in omega (arith, c.well_formed.0.0)
 
 pub int_range-returns-then-code-eq20 : goal.int_range-returns-then-code-eq20
 int_range-returns-then-code-eq20 t c = let f : SFits w32 (get_or c.args.set.now (c.args.at + 1) (pos 0)) = sfits_of c.c-1.given in const_range c.args.set.now c.args.work.now c.args.at _ c.number-code.ensures.0 _ c.if-code-eq20.true (to_z-of_z f)
@@ -60,35 +51,11 @@ int_range-overflow_add-at t c = let q = range_inside c.args.set.now c.args.work.
 pub int_range-number-v-requires : goal.int_range-number-v-requires
 int_range-number-v-requires t c = range_second c.args.set.now c.args.work.now c.args.at _ c.number-code.ensures.0 c.requires c.if-code-eq20.false c.if-code-eq23.false
 
-pub int_range-overflow_mul-low : goal.int_range-overflow_mul-low
-int_range-overflow_mul-low t c = let q = var_inside _ _ (range_var c.args.set.now c.args.work.now c.args.at _ c.number-code.ensures.0 _ c.number-v.ensures.0 c.requires c.if-code-eq21.true) in search rules
-
-pub int_range-overflow_add-low : goal.int_range-overflow_add-low
-int_range-overflow_add-low t c = let q = var_inside _ _ (range_var c.args.set.now c.args.work.now c.args.at _ c.number-code.ensures.0 _ c.number-v.ensures.0 c.requires c.if-code-eq21.true) in search rules
-
-pub int_range-offset_bounds-work-v : goal.int_range-offset_bounds-work-v
-int_range-offset_bounds-work-v t c = let q = var_inside _ _ (range_var c.args.set.now c.args.work.now c.args.at _ c.number-code.ensures.0 _ c.number-v.ensures.0 c.requires c.if-code-eq21.true) in search rules
-
 pub int_range-bounds-work-v : goal.int_range-bounds-work-v
 int_range-bounds-work-v t c = let q = var_inside _ _ (range_var c.args.set.now c.args.work.now c.args.at _ c.number-code.ensures.0 _ c.number-v.ensures.0 c.requires c.if-code-eq21.true) in search rules
 
-pub int_range-overflow_mul-high : goal.int_range-overflow_mul-high
-int_range-overflow_mul-high t c = let q = var_inside _ _ (range_var c.args.set.now c.args.work.now c.args.at _ c.number-code.ensures.0 _ c.number-v.ensures.0 c.requires c.if-code-eq21.true) in search rules
-
-pub int_range-overflow_add-high : goal.int_range-overflow_add-high
-int_range-overflow_add-high t c = let q = var_inside _ _ (range_var c.args.set.now c.args.work.now c.args.at _ c.number-code.ensures.0 _ c.number-v.ensures.0 c.requires c.if-code-eq21.true) in search rules
-
-pub int_range-overflow_add-high-then-code-eq21 : goal.int_range-overflow_add-high-then-code-eq21
-int_range-overflow_add-high-then-code-eq21 t c = let q = var_inside _ _ (range_var c.args.set.now c.args.work.now c.args.at _ c.number-code.ensures.0 _ c.number-v.ensures.0 c.requires c.if-code-eq21.true) in search rules
-
-pub int_range-offset_bounds-work-v-then-code-eq21 : goal.int_range-offset_bounds-work-v-then-code-eq21
-int_range-offset_bounds-work-v-then-code-eq21 t c = let q = var_inside _ _ (range_var c.args.set.now c.args.work.now c.args.at _ c.number-code.ensures.0 _ c.number-v.ensures.0 c.requires c.if-code-eq21.true) in search rules
-
 pub int_range-bounds-work-v-then-code-eq21 : goal.int_range-bounds-work-v-then-code-eq21
 int_range-bounds-work-v-then-code-eq21 t c = let q = var_inside _ _ (range_var c.args.set.now c.args.work.now c.args.at _ c.number-code.ensures.0 _ c.number-v.ensures.0 c.requires c.if-code-eq21.true) in search rules
-
-pub int_range-overflow_add-result-then-code-eq21 : goal.int_range-overflow_add-result-then-code-eq21
-int_range-overflow_add-result-then-code-eq21 t c = let q = range_inside c.args.set.now c.args.work.now c.args.at c.requires in omega (arith, c.well_formed.0.0)
 
 pub int_range-returns-then-code-eq21 : goal.int_range-returns-then-code-eq21
 int_range-returns-then-code-eq21 t c = let f : SFits w32 (get_or c.args.work.now (bounds + 2 * c.number-v.result) (pos 0)) = sfits_of c.low-1.given in let g : SFits w32 (get_or c.args.work.now (bounds + (2 * c.number-v.result + 1)) (pos 0)) = sfits_of c.high-1.given in var_range c.args.set.now c.args.work.now c.args.at _ c.number-code.ensures.0 _ c.number-v.ensures.0 _ _ c.if-code-eq21.true (to_z-of_z f) (to_z-of_z g)
@@ -101,9 +68,6 @@ int_range-terms_range-requires t c = let q = range_inside c.args.set.now c.args.
 
 pub int_range-returns : goal.int_range-returns
 int_range-returns t c = sum_range c.args.set.now c.args.work.now c.args.at _ c.number-code.ensures.0 _ c.number-v.ensures.0 c.if-code-eq20.false c.if-code-eq21.false c.if-code-eq23.false _ _ _ c.terms_range.ensures
-
-pub terms_range-loop-init : goal.terms_range-loop-init
-terms_range-loop-init t c = let e : c.args.n - 0 ≡ c.args.n = omega arith in rw e (c.requires, omega arith, λ next' low' high' x. x)
 
 pub terms_range-overflow_add-next : goal.terms_range-overflow_add-next
 terms_range-overflow_add-next t c = let q = ranges_inside _ _ _ _ _ _ (omega (arith, c.loop-test.true)) c.loop.invariant.0 in search rules

@@ -11,12 +11,9 @@ use borrow.Author.Rules.{sfits_of}
 use Rattle.accept.specs.Limit.{hit}
 use Rattle.accept.proofs.FirstLaws.{hit_most}
 use Rattle.accept.proofs.Laws.{int_first, int_inside, deep_inside, deep_if, deep_if_done, deep_second, deep_terms, deep_sum, if_rule, if_inside, if_left, if_right, if_branches, if_done, terms_none, term_ready, term_inside, rest_ready, terms_more, joined_under}
-use Rattle.accept.proofs.TestLaws.{pair_left, pair_inside, pair_right, pair_behind, pair_totals, pair_done}
+use Rattle.accept.proofs.TestLaws.{pair_inside, pair_right, pair_behind, pair_totals, pair_done}
 use Rattle.accept.proofs.RuleLaws.{bool_inside, bool_plain, step_leaf, list_plain, step_list, step_not, step_two, cmp_ready, step_cmp, rules_none, rule_first, rules_ready, rules_rest, rules_room}
 use Rattle.accept.proofs.+total.Goals as goal
-
-pub comparison-int_total-a-requires : goal.comparison-int_total-a-requires
-comparison-int_total-a-requires t c = (omega (arith, c.decreases), (pair_left c.args.set.now c.args.work.now c.args.at c.args.ni c.requires.0, c.requires.1))
 
 pub comparison-int_total-b-requires : goal.comparison-int_total-b-requires
 comparison-int_total-b-requires t c = let q = pair_inside c.args.set.now c.args.work.now c.args.at c.args.ni c.requires.0 in let s = pair_right c.args.set.now c.args.work.now c.args.at c.args.ni _ _ _ c.int_total-a.ensures c.requires.0 in (omega (arith, c.decreases, s.1), (s.0, c.requires.1))
@@ -39,14 +36,8 @@ deep_total-if_total-requires t c = (omega (arith, c.decreases), (deep_if c.args.
 pub deep_total-returns-then-code-eq23 : goal.deep_total-returns-then-code-eq23
 deep_total-returns-then-code-eq23 t c = deep_if_done c.args.set.now c.args.work.now c.args.at c.args.code c.args.ni c.requires.0 _ _ _ c.if-code-eq23.true c.if_total.ensures
 
-pub deep_total-overflow_add-at : goal.deep_total-overflow_add-at
-deep_total-overflow_add-at t c = let q = deep_inside c.args.set.now c.args.work.now c.args.at c.args.code c.args.ni c.requires.0 in omega (arith, c.well_formed.0.0)
-
 pub deep_total-number-n-requires : goal.deep_total-number-n-requires
 deep_total-number-n-requires t c = deep_second c.args.set.now c.args.work.now c.args.at c.args.code c.args.ni c.requires.0 c.if-code-eq23.false
-
-pub deep_total-overflow_add-at-2 : goal.deep_total-overflow_add-at-2
-deep_total-overflow_add-at-2 t c = let q = deep_inside c.args.set.now c.args.work.now c.args.at c.args.code c.args.ni c.requires.0 in omega (arith, c.well_formed.0.0)
 
 pub deep_total-terms_total-requires : goal.deep_total-terms_total-requires
 deep_total-terms_total-requires t c = let q = deep_inside c.args.set.now c.args.work.now c.args.at c.args.code c.args.ni c.requires.0 in (omega (arith, c.decreases), (deep_terms c.args.set.now c.args.work.now c.args.at c.args.code c.args.ni c.requires.0 c.if-code-eq23.false _ c.number-n.ensures.0, c.requires.1))
@@ -75,20 +66,11 @@ if_total-returns t c = if_done c.args.set.now c.args.work.now c.args.at c.args.n
 pub int_total-number-code-requires : goal.int_total-number-code-requires
 int_total-number-code-requires t c = int_first c.args.set.now c.args.work.now c.args.at c.args.ni c.requires.0
 
-pub int_total-leaf_total-total-requires : goal.int_total-leaf_total-total-requires
-int_total-leaf_total-total-requires t c = record { ni = c.args.ni; int = c.requires.0; word = c.number-code.ensures.0; low = c.if-code-lt22.true }
-
 pub int_total-overflow_add-result : goal.int_total-overflow_add-result
 int_total-overflow_add-result t c = let q = int_inside c.args.set.now c.args.work.now c.args.at c.args.ni c.requires.0 in omega (arith, c.well_formed.0.0)
 
 pub int_total-returns-then-code-lt22 : goal.int_total-returns-then-code-lt22
 int_total-returns-then-code-lt22 t c = c.leaf_total-total.ensures c.args.ni
-
-pub int_total-deep_total-requires : goal.int_total-deep_total-requires
-int_total-deep_total-requires t c = (omega (arith, c.decreases), (record { int = c.requires.0; word = c.number-code.ensures.0; high = c.if-code-lt22.false }, c.requires.1))
-
-pub int_total-returns : goal.int_total-returns
-int_total-returns t c = c.deep_total.ensures
 
 pub rule_step-number-code-requires : goal.rule_step-number-code-requires
 rule_step-number-code-requires t c = bool_plain c.args.set.now c.args.work.now c.args.at c.args.ni c.requires.0
@@ -99,41 +81,23 @@ rule_step-overflow_add-result t c = let q = bool_inside c.args.set.now c.args.wo
 pub rule_step-returns-then-code-lt12 : goal.rule_step-returns-then-code-lt12
 rule_step-returns-then-code-lt12 t c = step_leaf c.args.set.now c.args.work.now c.args.at c.args.ni _ c.number-code.ensures.0 c.if-code-lt12.true
 
-pub rule_step-overflow_add-at : goal.rule_step-overflow_add-at
-rule_step-overflow_add-at t c = let q = bool_inside c.args.set.now c.args.work.now c.args.at c.args.ni c.requires.0 in omega (arith, c.well_formed.0.0)
-
 pub rule_step-number-n-requires : goal.rule_step-number-n-requires
 rule_step-number-n-requires t c = list_plain c.args.set.now c.args.work.now c.args.at c.args.ni _ c.number-code.ensures.0 (λ l. omega (arith, l, c.if-code-lt12.false)) c.if-code-lt14.true c.requires.0
-
-pub rule_step-overflow_add-result-then-code-lt14 : goal.rule_step-overflow_add-result-then-code-lt14
-rule_step-overflow_add-result-then-code-lt14 t c = let q = bool_inside c.args.set.now c.args.work.now c.args.at c.args.ni c.requires.0 in omega (arith, c.well_formed.0.0)
 
 pub rule_step-returns-then-code-lt14 : goal.rule_step-returns-then-code-lt14
 rule_step-returns-then-code-lt14 t c = step_list c.args.set.now c.args.work.now c.args.at c.args.ni _ c.number-code.ensures.0 (λ l. omega (arith, l, c.if-code-lt12.false)) c.if-code-lt14.true _ c.number-n.ensures.0
 
-pub rule_step-overflow_add-result-then-code-eq14 : goal.rule_step-overflow_add-result-then-code-eq14
-rule_step-overflow_add-result-then-code-eq14 t c = let q = bool_inside c.args.set.now c.args.work.now c.args.at c.args.ni c.requires.0 in omega (arith, c.well_formed.0.0)
-
 pub rule_step-returns-then-code-eq14 : goal.rule_step-returns-then-code-eq14
 rule_step-returns-then-code-eq14 t c = step_not c.args.set.now c.args.work.now c.args.at c.args.ni _ c.number-code.ensures.0 c.if-code-eq14.true
 
-pub rule_step-overflow_add-result-then-code-lt18 : goal.rule_step-overflow_add-result-then-code-lt18
-rule_step-overflow_add-result-then-code-lt18 t c = let q = bool_inside c.args.set.now c.args.work.now c.args.at c.args.ni c.requires.0 in omega (arith, c.well_formed.0.0)
-
 pub rule_step-returns-then-code-lt18 : goal.rule_step-returns-then-code-lt18
 rule_step-returns-then-code-lt18 t c = step_two c.args.set.now c.args.work.now c.args.at c.args.ni _ c.number-code.ensures.0 (λ l. omega (arith, l, c.if-code-lt14.false)) c.if-code-eq14.false c.if-code-lt18.true
-
-pub rule_step-overflow_add-at-2 : goal.rule_step-overflow_add-at-2
-rule_step-overflow_add-at-2 t c = let q = bool_inside c.args.set.now c.args.work.now c.args.at c.args.ni c.requires.0 in omega (arith, c.well_formed.0.0)
 
 pub rule_step-comparison-t-requires : goal.rule_step-comparison-t-requires
 rule_step-comparison-t-requires t c = let q = bool_inside c.args.set.now c.args.work.now c.args.at c.args.ni c.requires.0 in (omega (arith, c.decreases), (cmp_ready c.args.set.now c.args.work.now c.args.at c.args.ni _ c.number-code.ensures.0 (λ l. omega (arith, l, c.if-code-lt18.false)) c.requires.0, c.requires.1))
 
 pub rule_step-returns : goal.rule_step-returns
 rule_step-returns t c = step_cmp c.args.set.now c.args.work.now c.args.at c.args.ni _ c.number-code.ensures.0 (λ l. omega (arith, l, c.if-code-lt18.false)) _ _ c.comparison-t.ensures
-
-pub rules-loop-rest-init : goal.rules-loop-rest-init
-rules-loop-rest-init t c = (c.requires.0, omega arith, λ y r x. x)
 
 pub rules-rule_step-s-requires : goal.rules-rule_step-s-requires
 rules-rule_step-s-requires t c = (omega (arith, c.decreases, c.loop-rest.invariant.1), (rule_first c.args.set.now c.args.work.now c.loop-rest.next c.loop-rest.rest c.args.ni c.loop-rest-test.true c.loop-rest.invariant.0, c.requires.1))

@@ -1,9 +1,6 @@
 use native.Mathlib.Omega.{arith}
-use Rattle.accept.proofs.TestLaws.{column_int, column_root, column_done}
+use Rattle.accept.proofs.TestLaws.{column_root, column_done}
 use Rattle.accept.proofs.column.Goals as goal
-
-pub int_total-a-requires : goal.int_total-a-requires
-int_total-a-requires c = (column_int c.args.set.now c.args.work.now c.args.at c.args.ni c.requires.0, c.requires.1)
 
 pub overflow_sub-a : goal.overflow_sub-a
 overflow_sub-a c = omega (arith, (column_root c.args.set.now c.args.work.now c.args.at c.args.ni _ _ _ c.int_total-a.ensures c.requires.0).1)

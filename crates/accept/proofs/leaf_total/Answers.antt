@@ -11,12 +11,6 @@ use Rattle.accept.proofs.Laws.{leaf_inside, leaf_second, leaf_const, leaf_ready,
 use borrow.Author.Rules.{rules}
 use Rattle.accept.proofs.leaf_total.Goals as goal
 
-pub overflow_add-c : goal.overflow_add-c
-overflow_add-c c = let q = leaf_inside c.args.set.now c.args.work.now c.args.at c.args.code c.requires in omega (arith, c.well_formed.0.0)
-
-pub offset_bounds-set-at : goal.offset_bounds-set-at
-offset_bounds-set-at c = let q = leaf_inside c.args.set.now c.args.work.now c.args.at c.args.code c.requires in search rules
-
 pub bounds-set-at : goal.bounds-set-at
 bounds-set-at c = let q = leaf_inside c.args.set.now c.args.work.now c.args.at c.args.code c.requires in search rules
 

@@ -4,9 +4,6 @@ use native.Mathlib.Omega.{arith}
 use Rattle.accept.proofs.DifferentLaws.{among_none, among_first, among_behind, among_inside, among_next, among_hit, among_rest}
 use Rattle.accept.proofs.many_among.Goals as goal
 
-pub loop-init : goal.loop-init
-loop-init c = let e : c.args.n - 0 ≡ c.args.n = omega arith in rw e (c.requires.0, λ r x. x)
-
 pub skip_int-end-requires : goal.skip_int-end-requires
 skip_int-end-requires c = among_first c.args.set.now c.args.a c.args.words c.loop.next (c.args.n - c.loop.counter) c.args.ni (omega (arith, c.loop-test.true)) c.loop.invariant.0
 

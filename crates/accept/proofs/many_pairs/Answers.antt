@@ -4,9 +4,6 @@ use native.Mathlib.Omega.{arith}
 use Rattle.accept.proofs.DifferentLaws.{pairs_none, pairs_first, pairs_beside, pairs_next, pairs_hit, pairs_rest}
 use Rattle.accept.proofs.many_pairs.Goals as goal
 
-pub loop-k-init : goal.loop-k-init
-loop-k-init c = let e : c.args.n - 0 ≡ c.args.n = omega arith in rw e (c.requires.0, λ r x. x)
-
 pub skip_int-end-requires : goal.skip_int-end-requires
 skip_int-end-requires c = pairs_first c.args.set.now c.args.at c.args.n c.loop-k.next (c.args.n - c.loop-k.k) c.args.ni (omega (arith, c.loop-k-test.true)) c.loop-k.invariant.0
 

@@ -3,15 +3,12 @@ use lib.IntN.{nat_abs, ◌-ℤ◌}
 use mir.Syntax.{w32}
 use mir.Val.{SFits}
 use mir.Facts.{to_z-of_z}
-use Rattle.accept.proofs.TestLaws.{root_behind, root_heavy, root_ready, root_many, root_wide, root_none}
+use Rattle.accept.proofs.TestLaws.{root_heavy, root_ready, root_many, root_wide, root_none}
 use borrow.Author.Rules.{rules}
 use Rattle.accept.proofs.root.Goals as goal
 
 pub returns-then-total-gt1073741823 : goal.returns-then-total-gt1073741823
 returns-then-total-gt1073741823 c = root_heavy c.args.set.now c.args.work.now c.args.at c.args.words c.args.total c.args.ni c.if-total-gt1073741823.true
-
-pub many_column-requires : goal.many_column-requires
-many_column-requires c = (root_behind c.args.set.now c.args.work.now c.args.at c.args.words c.args.total c.args.ni c.requires.0, c.requires.1)
 
 pub returns-then-many_column : goal.returns-then-many_column
 returns-then-many_column c = root_many c.args.set.now c.args.work.now c.args.at c.args.words c.args.total c.args.ni c.if-total-gt1073741823.false _ c.many_column.ensures c.if-many_column.true

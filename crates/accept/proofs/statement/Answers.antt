@@ -1,12 +1,9 @@
-use Rattle.accept.proofs.StatementLaws.{stmt_inside, stmt_plain, rule_ready, rule_post, stmt_second, different_inside, different_ready, different_post, table_inside, table_second, table_ready, table_room, table_post}
+use Rattle.accept.proofs.StatementLaws.{stmt_inside, stmt_plain, rule_ready, rule_post, stmt_second, different_ready, different_post, table_inside, table_second, table_ready, table_room, table_post}
 use borrow.Author.Rules.{rules}
 use Rattle.accept.proofs.statement.Goals as goal
 
 pub number-code-requires : goal.number-code-requires
 number-code-requires c = stmt_plain c.args.set.now c.args.work.now c.args.at c.args.ni c.requires.0
-
-pub overflow_add-at : goal.overflow_add-at
-overflow_add-at c = let q = stmt_inside c.args.set.now c.args.work.now c.args.at c.args.ni c.requires.0 in search rules
 
 pub rules-requires : goal.rules-requires
 rules-requires c = (rule_ready c.args.set.now c.args.work.now c.args.at c.args.ni _ c.number-code.ensures.0 c.if-code-eq1.true c.requires.0, c.requires.1)
@@ -19,9 +16,6 @@ overflow_add-at-2 c = let q = stmt_inside c.args.set.now c.args.work.now c.args.
 
 pub number-n-requires : goal.number-n-requires
 number-n-requires c = stmt_second c.args.set.now c.args.work.now c.args.at c.args.ni _ c.number-code.ensures.0 c.if-code-eq1.false c.requires.0
-
-pub overflow_add-at-then-code-eq3 : goal.overflow_add-at-then-code-eq3
-overflow_add-at-then-code-eq3 c = let q = different_inside c.args.set.now c.args.work.now c.args.at c.args.ni _ c.number-code.ensures.0 c.if-code-eq3.true c.requires.0 in search rules
 
 pub all_different-requires : goal.all_different-requires
 all_different-requires c = (different_ready c.args.set.now c.args.work.now c.args.at c.args.ni _ c.number-code.ensures.0 c.if-code-eq3.true _ c.number-n.ensures.0 c.requires.0, c.requires.1)
@@ -40,9 +34,6 @@ overflow_add-at-4 c = let q = table_inside c.args.set.now c.args.work.now c.args
 
 pub columns-t-requires : goal.columns-t-requires
 columns-t-requires c = (table_ready c.args.set.now c.args.work.now c.args.at c.args.ni _ c.number-code.ensures.0 c.if-code-eq1.false c.if-code-eq3.false _ c.number-n.ensures.0 _ c.number-k.ensures.0 c.requires.0, c.requires.1)
-
-pub overflow_mul-result : goal.overflow_mul-result
-overflow_mul-result c = let q = table_room c.args.set.now c.args.work.now c.args.at c.args.ni _ c.number-code.ensures.0 c.if-code-eq1.false c.if-code-eq3.false _ c.number-n.ensures.0 _ c.number-k.ensures.0 _ _ c.columns-t.ensures c.requires.0 in search rules
 
 pub overflow_add-result : goal.overflow_add-result
 overflow_add-result c = let q = table_room c.args.set.now c.args.work.now c.args.at c.args.ni _ c.number-code.ensures.0 c.if-code-eq1.false c.if-code-eq3.false _ c.number-n.ensures.0 _ c.number-k.ensures.0 _ _ c.columns-t.ensures c.requires.0 in search rules

@@ -6,9 +6,6 @@ use Rattle.accept.specs.Limit.{hit}
 use Rattle.accept.proofs.FirstLaws.{hit_most}
 use Rattle.accept.proofs.statements.Goals as goal
 
-pub loop-init : goal.loop-init
-loop-init c = let e : c.args.n - 0 ≡ c.args.n = omega arith in rw e (c.requires.0, λ r x. x)
-
 pub statement-t-requires : goal.statement-t-requires
 statement-t-requires c = (stmt_first c.args.set.now c.args.work.now c.loop.next (c.args.n - c.loop.counter) c.args.ni (omega (arith, c.loop-test.true)) c.loop.invariant.0, c.requires.1)
 

@@ -1,5 +1,4 @@
-use Prim.Native.Nat.{ℕ}
-use Prim.Native.Nat.{◌+◌, ◌-◌, ◌*◌, ◌≤◌}
+use Prim.Native.Nat.{ℕ, ◌+◌, ◌-◌, ◌*◌, ◌≤◌}
 use mathlib.Core.Bool.{Bool}
 use lib.IntN.{ℤ, pos}
 use lib.ListN.{length}
@@ -27,11 +26,5 @@ decreases-terms_value l = 3 * (length l.set.now - l.at)
 abbrev pub invariant-members_hold-loop-rest : goal.invariant-members_hold-loop-rest
 invariant-members_hold-loop-rest l = ReadyMembers l.set l.values l.nb l.next l.rest × (l.at ≤ l.next) × ((next' : ℕ) (h : Bool) → MembersPost l.set l.values l.nb l.next l.rest l.stop next' h → MembersPost l.set l.values l.nb l.at l.n l.stop next' h)
 
-abbrev pub decreases-members_hold-loop-rest : goal.decreases-members_hold-loop-rest
-decreases-members_hold-loop-rest l = l.rest
-
-abbrev pub invariant-terms_value-loop-rest : goal.invariant-terms_value-loop-rest
-invariant-terms_value-loop-rest l = ReadyTerms l.set l.values l.nb l.next l.rest l.value × (l.at ≤ l.next) × ((next' : ℕ) (x' : ℤ) → TermsPost l.set l.values l.nb l.next l.rest l.value next' x' → TermsPost l.set l.values l.nb l.at l.n (pos 0) next' x')
-
-abbrev pub decreases-terms_value-loop-rest : goal.decreases-terms_value-loop-rest
-decreases-terms_value-loop-rest l = l.rest
+abbrev pub invariant-terms_value-loop : goal.invariant-terms_value-loop
+invariant-terms_value-loop l = ReadyTerms l.set l.values l.nb l.next (l.n - l.counter) l.value × (l.at ≤ l.next) × ((next' : ℕ) (x' : ℤ) → TermsPost l.set l.values l.nb l.next (l.n - l.counter) l.value next' x' → TermsPost l.set l.values l.nb l.at l.n (pos 0) next' x')

@@ -9,6 +9,3 @@ use Rattle.evaluate.proofs.bools_inside.Given as goal
 
 abbrev pub invariant-loop-v : goal.invariant-loop-v
 invariant-loop-v l = let v = l.v in (v ≤ l.nb) × ((r : Bool) → r ≡ all (λ v. is_bit (get_or l.values v (pos 0))) (from v (l.nb - v)) → r ≡ all (λ v. is_bit (get_or l.values v (pos 0))) (below l.nb))
-
-abbrev pub decreases-loop-v : goal.decreases-loop-v
-decreases-loop-v l = l.nb - l.v

@@ -1,3 +1,4 @@
+use native.Mathlib.Omega.{arith}
 use mathlib.Core.Path.{refl, ap}
 use mathlib.Core.Bool.{not}
 use mir.Facts.{to_z-of_z}
@@ -20,4 +21,4 @@ pub returns-in-4 : goal.returns-in-4
 returns-in-4 c = rw (c.in-4.is, to_z-of_z c.ranges.x, to_z-of_z c.ranges.y) refl
 
 pub returns-in_default : goal.returns-in_default
-returns-in_default c = rw (op_last c.args.op c.in_default.in_default-own.rest.0.0.0.0.1 c.in_default.in_default-own.rest.0.0.0.1 c.in_default.in_default-own.rest.0.0.1 c.in_default.in_default-own.rest.0.1 c.in_default.in_default-own.rest.1, to_z-of_z c.ranges.x, to_z-of_z c.ranges.y) refl
+returns-in_default c = rw (op_last c.args.op (omega arith) (omega arith) (omega arith) (omega arith) (omega arith), to_z-of_z c.ranges.x, to_z-of_z c.ranges.y) refl

@@ -1,33 +1,26 @@
 use Prim.Native.Nat.{◌+◌, ◌-◌}
+use native.Mathlib.Omega.{arith}
+use mathlib.Core.Path.{◌≡◌}
 use lib.IntN.{pos}
 use lib.ListN.{get_or}
-use mir.Syntax.{w32}
-use mir.Val.{SFits}
-use mir.Facts.{to_z-of_z}
-use borrow.Author.Rules.{rules, sfits_of}
-use Rattle.evaluate.proofs.ValueLaws.{listed_same, word_inside, words_rest, differ_none, differ_stop, differ_more}
+use Rattle.evaluate.specs.Contract.{ListedPost}
+use Rattle.evaluate.proofs.ValueLaws.{listed, words_rest, differ_none, differ_stop, differ_more}
 use Rattle.evaluate.proofs.differ.Goals as goal
 
-pub loop-later-init : goal.loop-later-init
-loop-later-init c = (c.requires, λ r p. p)
+pub loop-i-init : goal.loop-i-init
+loop-i-init c = let e : c.args.n - 0 ≡ c.args.n = omega arith in rw e (c.requires, λ r p. p)
 
-pub offset_bounds-work-i : goal.offset_bounds-work-i
-offset_bounds-work-i c = let q = word_inside c.args.work.now c.loop-later.i c.loop-later.later (pos 0) c.loop-later-test.true c.loop-later.invariant.0 in search rules
+pub returns-then-contains : goal.returns-then-contains
+returns-then-contains c =
+    let m : c.args.n - (c.loop-i.i + 1) ≡ c.args.n - c.loop-i.i - 1 = omega arith in
+    let p : ListedPost c.args.work.now (c.loop-i.i + 1) (c.args.n - c.loop-i.i - 1) (get_or c.args.work.now c.loop-i.i (pos 0)) c.contains.result = listed c.args.work.now _ _ _ _ _ m c.contains.ensures.value in
+    c.loop-i.invariant.1 _ (differ_stop c.args.work.now c.loop-i.i (c.args.n - c.loop-i.i) (omega arith) _ p c.if-contains.true)
 
-pub bounds-work-i : goal.bounds-work-i
-bounds-work-i c = let q = word_inside c.args.work.now c.loop-later.i c.loop-later.later (pos 0) c.loop-later-test.true c.loop-later.invariant.0 in search rules
-
-pub overflow_add-i : goal.overflow_add-i
-overflow_add-i c = let q = word_inside c.args.work.now c.loop-later.i c.loop-later.later (pos 0) c.loop-later-test.true c.loop-later.invariant.0 in search rules
-
-pub listed-requires : goal.listed-requires
-listed-requires c = words_rest c.args.work.now c.loop-later.i c.loop-later.later (pos 0) c.loop-later-test.true c.loop-later.invariant.0
-
-pub returns-then-listed : goal.returns-then-listed
-returns-then-listed c = let f : SFits w32 (get_or c.args.work.now c.loop-later.i (pos 0)) = sfits_of c.x-1.given in c.loop-later.invariant.1 _ (differ_stop c.args.work.now c.loop-later.i c.loop-later.later c.loop-later-test.true _ (listed_same c.args.work.now (c.loop-later.i + 1) (c.loop-later.later - 1) _ _ _ (to_z-of_z f) c.listed.ensures) c.if-listed.true)
-
-pub loop-later-preserved : goal.loop-later-preserved
-loop-later-preserved c = let f : SFits w32 (get_or c.args.work.now c.loop-later.i (pos 0)) = sfits_of c.x-1.given in (words_rest c.args.work.now c.loop-later.i c.loop-later.later (pos 0) c.loop-later-test.true c.loop-later.invariant.0, λ r p. c.loop-later.invariant.1 r (differ_more c.args.work.now c.loop-later.i c.loop-later.later c.loop-later-test.true _ (listed_same c.args.work.now (c.loop-later.i + 1) (c.loop-later.later - 1) _ _ _ (to_z-of_z f) c.listed.ensures) c.if-listed.false r p))
+pub loop-i-preserved : goal.loop-i-preserved
+loop-i-preserved c =
+    let m : c.args.n - (c.loop-i.i + 1) ≡ c.args.n - c.loop-i.i - 1 = omega arith in
+    let p : ListedPost c.args.work.now (c.loop-i.i + 1) (c.args.n - c.loop-i.i - 1) (get_or c.args.work.now c.loop-i.i (pos 0)) c.contains.result = listed c.args.work.now _ _ _ _ _ m c.contains.ensures.value in
+    rw m (words_rest c.args.work.now c.loop-i.i (c.args.n - c.loop-i.i) (omega arith) c.loop-i.invariant.0, λ r x. c.loop-i.invariant.1 r (differ_more c.args.work.now c.loop-i.i (c.args.n - c.loop-i.i) (omega arith) _ p c.if-contains.false r x))
 
 pub returns : goal.returns
-returns c = c.loop-later.invariant.1 _ (differ_none c.args.work.now c.loop-later.i c.loop-later.later c.loop-later-test.false)
+returns c = c.loop-i.invariant.1 _ (differ_none c.args.work.now c.loop-i.i (c.args.n - c.loop-i.i) (omega arith))

@@ -14,8 +14,8 @@ overflow_add-at-2 c = let q = different_inside _ _ _ _ _ c.requires.1 c.requires
 pub column_values-next-requires : goal.column_values-next-requires
 column_values-next-requires c = different_columns _ _ _ _ _ c.requires.1 _ c.number-n.ensures.0 c.requires.0
 
-pub differ-held-requires : goal.differ-held-requires
-differ-held-requires c = different_values _ _ _ _ _ c.requires.1 _ c.number-n.ensures.0 _ _ c.column_values-next.ensures c.requires.0
+pub differ-requires : goal.differ-requires
+differ-requires c = different_values _ _ _ _ _ c.requires.1 _ c.number-n.ensures.0 _ _ c.column_values-next.ensures c.requires.0
 
 pub returns : goal.returns
-returns c = different_held _ _ _ _ _ c.requires.1 _ c.number-n.ensures.0 _ _ c.column_values-next.ensures c.requires.0.room _ c.differ-held.ensures
+returns c = different_held _ _ _ _ _ c.requires.1 _ c.number-n.ensures.0 _ _ c.column_values-next.ensures c.requires.0.room _ c.differ.ensures

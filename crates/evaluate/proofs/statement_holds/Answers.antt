@@ -1,3 +1,4 @@
+use native.Mathlib.Omega.{arith}
 use mathlib.Core.Path.{◌∙◌, ap}
 use lib.IntN.{pos}
 use Rattle.evaluate.proofs.StmtLaws.{stmt_inside, stmt_first, rule_ready, rule_held, different_code}
@@ -11,19 +12,13 @@ pub overflow_add-at : goal.overflow_add-at
 overflow_add-at c = let q = stmt_inside _ _ _ _ _ c.requires in search rules
 
 pub bool_holds-requires : goal.bool_holds-requires
-bool_holds-requires c = rule_ready _ _ _ _ _ _ c.number-code.ensures.0 c.if-code-eq1.true c.requires
+bool_holds-requires c = rule_ready _ _ _ _ _ _ c.number-code.ensures.0 c.in-1.is c.requires
 
-pub returns-then-code-eq1 : goal.returns-then-code-eq1
-returns-then-code-eq1 c = rule_held _ _ _ _ c.args.work.now _ c.number-code.ensures.0 c.if-code-eq1.true _ _ c.bool_holds.ensures
+pub returns-in-1 : goal.returns-in-1
+returns-in-1 c = rule_held _ _ _ _ c.args.work.now _ c.number-code.ensures.0 c.in-1.is _ _ c.bool_holds.ensures
 
 pub table_holds-requires : goal.table_holds-requires
-table_holds-requires c = (c.requires, c.number-code.ensures.0 ∙ ap pos c.if-code-eq2.true)
-
-pub returns-then-code-eq2 : goal.returns-then-code-eq2
-returns-then-code-eq2 c = c.table_holds.ensures
+table_holds-requires c = (c.requires, c.number-code.ensures.0 ∙ ap pos c.in-2.is)
 
 pub different_holds-requires : goal.different_holds-requires
-different_holds-requires c = (c.requires, different_code _ _ _ _ _ c.requires _ c.number-code.ensures.0 c.if-code-eq1.false c.if-code-eq2.false)
-
-pub returns : goal.returns
-returns c = c.different_holds.ensures
+different_holds-requires c = (c.requires, different_code _ _ _ _ _ c.requires _ c.number-code.ensures.0 (omega arith) (omega arith))

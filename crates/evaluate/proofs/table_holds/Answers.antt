@@ -20,8 +20,8 @@ overflow_add-at-3 c = let q = table_inside _ _ _ _ _ c.requires.1 c.requires.0 i
 pub column_values-p-requires : goal.column_values-p-requires
 column_values-p-requires c = columns_start _ _ _ _ _ c.requires.1 _ c.number-n.ensures.0 _ c.number-k.ensures.0 c.requires.0
 
-pub rows_hold-held-requires : goal.rows_hold-held-requires
-rows_hold-held-requires c = (rows_start _ _ _ _ _ c.requires.1 _ c.number-n.ensures.0 _ c.number-k.ensures.0 _ _ c.column_values-p.ensures c.requires.0).0
+pub rows_hold-requires : goal.rows_hold-requires
+rows_hold-requires c = (rows_start _ _ _ _ _ c.requires.1 _ c.number-n.ensures.0 _ c.number-k.ensures.0 _ _ c.column_values-p.ensures c.requires.0).0
 
 pub overflow_mul-result : goal.overflow_mul-result
 overflow_mul-result c = let q = (rows_start _ _ _ _ _ c.requires.1 _ c.number-n.ensures.0 _ c.number-k.ensures.0 _ _ c.column_values-p.ensures c.requires.0).1 in search rules
@@ -30,4 +30,4 @@ pub overflow_add-result : goal.overflow_add-result
 overflow_add-result c = let q = (rows_start _ _ _ _ _ c.requires.1 _ c.number-n.ensures.0 _ c.number-k.ensures.0 _ _ c.column_values-p.ensures c.requires.0).1 in search rules
 
 pub returns : goal.returns
-returns c = table_held _ _ _ _ _ c.requires.1 _ c.number-n.ensures.0 _ c.number-k.ensures.0 _ _ c.column_values-p.ensures c.requires.0.room _ c.rows_hold-held.ensures
+returns c = table_held _ _ _ _ _ c.requires.1 _ c.number-n.ensures.0 _ c.number-k.ensures.0 _ _ c.column_values-p.ensures c.requires.0.room _ c.rows_hold.ensures

@@ -1,10 +1,11 @@
 use mathlib.Core.Path.{refl, sym, ◌∙◌, ◌≡◌}
 use Prim.Native.Nat.{◌+◌, ◌-◌}
 use native.Mathlib.Omega.{arith}
-use lib.Dec.{eqb}
+use Rattle.fold.specs.Fold.{is_value}
+use Rattle.folding.specs.Known.{known}
 use Rattle.folding.proofs.IntLaws.{int_inside, int_first, int_second, const_folds, var_below, var_folds, empty_folds, single_inside, single_ready, single_folds, many_ready, many_folds, terms_none, term_inside, term_ready, rest_ready as terms-rest, terms_more}
 use Rattle.folding.proofs.IfLaws.{condition_ready, then_ready, else_ready, if_folds}
-use Rattle.folding.proofs.BoolLaws.{ready_inside, ready_first, ready_second, left_side, right_side, cmp_folds, not_ready, not_closes, not_folds, list_ready, list_closes, list_folds, left_ready, right_ready, binary_closes, binary_folds, members_none, first_ready, rest_ready, members_more, members_sum, binary_low, members_fit, members_start, members_end, kept_room}
+use Rattle.folding.proofs.BoolLaws.{ready_inside, ready_first, ready_second, left_side, right_side, cmp_folds, not_ready, not_closes, not_folds, list_ready, list_closes, list_folds, left_ready, right_ready, code_high, binary_closes, binary_folds, members_none, first_ready, rest_ready, members_more, members_sum, binary_low, members_fit, members_start, members_end, kept_room}
 use Rattle.folding.proofs.+constant_folding.Goals as goal
 
 pub constant_folding_bool-number-w-requires : goal.constant_folding_bool-number-w-requires
@@ -82,23 +83,17 @@ constant_folding_bool-fold_side-a-requires t c = let q = (ready_inside _ _ _ _ _
 pub constant_folding_bool-fold_side-b-requires : goal.constant_folding_bool-fold_side-b-requires
 constant_folding_bool-fold_side-b-requires t c = let q = (ready_inside _ _ _ _ _ c.requires) in let s = right_ready _ _ _ _ _ _ c.number-w.ensures.0 (binary_low _ c.if-w-eq14.false c.if-w-lt14.false) c.if-w-eq18.false _ _ _ _ c.fold_side-a.ensures c.requires c.fold_side-a.auto.work in (omega (arith, c.decreases, s.1), s.0)
 
-pub constant_folding_bool-overflow_sub-w-2 : goal.constant_folding_bool-overflow_sub-w-2
-constant_folding_bool-overflow_sub-w-2 t c = let q = (binary_low _ c.if-w-eq14.false c.if-w-lt14.false) in omega arith
-
-pub constant_folding_bool-action-k-requires : goal.constant_folding_bool-action-k-requires
-constant_folding_bool-action-k-requires t c = let q = (binary_closes _ _ _ _ _ _ c.number-w.ensures.0 (binary_low _ c.if-w-eq14.false c.if-w-lt14.false) c.if-w-eq18.false _ _ _ _ c.fold_side-a.ensures _ _ _ _ c.fold_side-b.ensures c.requires c.fold_side-a.auto.work c.fold_side-b.auto.work) in (q.3, q.4, q.5)
-
-pub constant_folding_bool-overflow_sub-w-3 : goal.constant_folding_bool-overflow_sub-w-3
-constant_folding_bool-overflow_sub-w-3 t c = let q = (binary_low _ c.if-w-eq14.false c.if-w-lt14.false) in omega arith
+pub constant_folding_bool-op_at-requires : goal.constant_folding_bool-op_at-requires
+constant_folding_bool-op_at-requires t c = let q = binary_low _ c.if-w-eq14.false c.if-w-lt14.false in (q, code_high _ _ _ _ _ _ c.number-w.ensures.0 q c.if-w-eq18.false c.requires)
 
 pub constant_folding_bool-close_binary-requires : goal.constant_folding_bool-close_binary-requires
-constant_folding_bool-close_binary-requires t c = let q = (binary_closes _ _ _ _ _ _ c.number-w.ensures.0 (binary_low _ c.if-w-eq14.false c.if-w-lt14.false) c.if-w-eq18.false _ _ _ _ c.fold_side-a.ensures _ _ _ _ c.fold_side-b.ensures c.requires c.fold_side-a.auto.work c.fold_side-b.auto.work) in (q.0, q.1, q.2, q.3)
+constant_folding_bool-close_binary-requires t c = binary_closes _ _ _ _ _ _ c.number-w.ensures.0 (binary_low _ c.if-w-eq14.false c.if-w-lt14.false) c.if-w-eq18.false _ _ _ _ c.fold_side-a.ensures _ _ _ _ c.fold_side-b.ensures c.requires c.fold_side-a.auto.work c.fold_side-b.auto.work
 
 pub constant_folding_bool-shape_of-work : goal.constant_folding_bool-shape_of-work
 constant_folding_bool-shape_of-work t c = c.close_binary.auto.work ∙ c.fold_side-b.auto.work ∙ c.fold_side-a.auto.work
 
 pub constant_folding_bool-returns : goal.constant_folding_bool-returns
-constant_folding_bool-returns t c = binary_folds _ _ _ _ _ _ c.number-w.ensures.0 (binary_low _ c.if-w-eq14.false c.if-w-lt14.false) c.if-w-eq18.false _ _ _ _ c.fold_side-a.ensures _ _ _ _ c.fold_side-b.ensures _ _ _ _ _ c.requires c.fold_side-a.auto.work c.action-k.ensures c.close_binary.ensures.0 c.close_binary.ensures.1 c.close_binary.ensures.2
+constant_folding_bool-returns t c = binary_folds _ _ _ _ _ _ c.number-w.ensures.0 (binary_low _ c.if-w-eq14.false c.if-w-lt14.false) c.if-w-eq18.false _ _ _ _ c.fold_side-a.ensures _ _ _ _ c.fold_side-b.ensures _ _ _ _ _ c.requires c.fold_side-a.auto.work c.op_at.ensures c.close_binary.ensures.0 c.close_binary.ensures.1 c.close_binary.ensures.2
 
 pub constant_folding_int-number-w-requires : goal.constant_folding_int-number-w-requires
 constant_folding_int-number-w-requires t c = int_first _ _ _ _ _ c.requires
@@ -215,7 +210,7 @@ pub constant_folding_members-kept_count-kept-requires : goal.constant_folding_me
 constant_folding_members-kept_count-kept-requires t c = let q = members_fit _ _ _ _ _ _ c.requires in omega (arith, c.loop.invariant.2, c.well_formed.1.1.1.1.0.0)
 
 pub constant_folding_members-loop-preserved : goal.constant_folding_members-loop-preserved
-constant_folding_members-loop-preserved t c = let e : c.args.count - (c.loop.counter + 1) ≡ c.args.count - c.loop.counter - 1 = omega arith in rw e (let s = rest_ready _ _ _ _ _ _ (omega arith) _ _ _ _ c.constant_folding_bool-f.ensures _ c.kept_end-end.ensures c.loop.invariant.3 c.constant_folding_bool-f.auto.work in (omega (arith, s.1, c.loop.invariant.0), c.constant_folding_bool-f.auto.work ∙ c.loop.invariant.1, kept_room c.constant_folding_bool-f.result.state _ _ _ _ c.kept_count-kept.ensures (omega arith) c.loop.invariant.2, s.0, λ out' next' end' hit' size p. members_sum _ _ _ _ _ _ _ _ _ _ (eqb c.constant_folding_bool-f.result.state c.args.b) c.loop.hit hit' c.constant_folding_bool-f.result.state c.loop.kept size _ _ c.hits-hit.ensures c.kept_count-kept.ensures (c.loop.invariant.4 out' next' end' _ _ (members_more _ _ _ _ _ _ (omega arith) _ _ _ _ c.constant_folding_bool-f.ensures _ c.kept_end-end.ensures _ _ _ _ _ _ p c.loop.invariant.3))))
+constant_folding_members-loop-preserved t c = let e : c.args.count - (c.loop.counter + 1) ≡ c.args.count - c.loop.counter - 1 = omega arith in rw e (let s = rest_ready _ _ _ _ _ _ (omega arith) _ _ _ _ c.constant_folding_bool-f.ensures _ c.kept_end-end.ensures c.loop.invariant.3 c.constant_folding_bool-f.auto.work in (omega (arith, s.1, c.loop.invariant.0), c.constant_folding_bool-f.auto.work ∙ c.loop.invariant.1, kept_room (known c.constant_folding_bool-f.result.state) _ _ _ _ c.kept_count-kept.ensures (omega arith) c.loop.invariant.2, s.0, λ out' next' end' hit' size p. members_sum _ _ _ _ _ _ _ _ _ _ (is_value c.args.b (known c.constant_folding_bool-f.result.state)) c.loop.hit hit' (known c.constant_folding_bool-f.result.state) c.loop.kept size _ _ c.hits-hit.ensures c.kept_count-kept.ensures (c.loop.invariant.4 out' next' end' _ _ (members_more _ _ _ _ _ _ (omega arith) _ _ _ _ c.constant_folding_bool-f.ensures _ c.kept_end-end.ensures _ _ _ _ _ _ p c.loop.invariant.3))))
 
 pub constant_folding_members-shape_of-work : goal.constant_folding_members-shape_of-work
 constant_folding_members-shape_of-work t c = c.loop.invariant.1

@@ -1,8 +1,4 @@
 use native.Mathlib.Omega.{arith}
-use lib.IntN.{pos}
-use lib.ListN.{get_or}
-use Rattle.folding.specs.Steps.{state_of}
-use Rattle.fold.proofs.TableLaws.{state_small}
 use Rattle.folding.proofs.BoolLaws.{ready_inside, ready_second, const_folds, var_below, var_folds}
 use Rattle.folding.proofs.fold_leaf.Goals as goal
 
@@ -25,7 +21,7 @@ pub state_at-s-requires : goal.state_at-s-requires
 state_at-s-requires c = let q = (ready_inside _ _ _ _ _ c.requires.ready) in let v = (var_below _ _ _ _ _ _ c.requires.pos_value.0 _ c.number-v.ensures.0 c.requires.ready c.requires.pos_value.1 c.if-w-eq10.false) in omega (arith, c.requires.ready.low)
 
 pub put_var-end-requires : goal.put_var-end-requires
-put_var-end-requires c = ((ready_inside _ _ _ _ _ c.requires.ready).1, omega (arith, state_small (state_of (get_or c.args.work.now c.number-v.result (pos 0))), c.state_at-s.ensures), c.number-v.ensures.1)
+put_var-end-requires c = ((ready_inside _ _ _ _ _ c.requires.ready).1, c.number-v.ensures.1)
 
 pub overflow_add-result-2 : goal.overflow_add-result-2
 overflow_add-result-2 c = let q = (ready_inside _ _ _ _ _ c.requires.ready) in omega (arith, c.well_formed.0.0)

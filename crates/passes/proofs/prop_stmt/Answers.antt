@@ -10,7 +10,7 @@ pub overflow_add-at : goal.overflow_add-at
 overflow_add-at c = let q = stmt_fits _ _ c.requires in omega (arith, c.well_formed.0.0)
 
 pub constant_prop_bool-requires : goal.constant_prop_bool-requires
-constant_prop_bool-requires c = record { stands = rule_stands _ _ _ c.number-w.ensures.0 c.requires c.if-w-eq1.true; want_bound = omega arith }
+constant_prop_bool-requires c = rule_stands _ _ _ c.number-w.ensures.0 c.requires c.if-w-eq1.true
 
 pub shape_of-work-then-w-eq1 : goal.shape_of-work-then-w-eq1
 shape_of-work-then-w-eq1 c = c.constant_prop_bool.auto.work

@@ -1,5 +1,5 @@
-use Prim.Native.Nat.{◌+◌}
-use mathlib.Core.Path.{refl, sym, ◌∙◌}
+use Prim.Native.Nat.{◌+◌, ◌-◌}
+use mathlib.Core.Path.{◌≡◌, refl, sym, ◌∙◌}
 use mathlib.Core.Bool.{false}
 use native.Mathlib.Omega.{arith}
 use Rattle.scan.specs.Nodes.{okay_at}
@@ -88,32 +88,32 @@ clear_int-returns-in-23 t c = int_clears_if c.args.work.now (omega (arith, c.req
 pub clear_int-returns-in_default : goal.clear_int-returns-in_default
 clear_int-returns-in_default t c = int_clears_leaf c.args.work.now (omega (arith, c.requires.0)) _ _ _ c.requires.1.0 c.requires.1.1 _ c.if-left-eq0.false refl _ _ c.word.ensures c.in_default.in_default-own.rest.0.1 c.in_default.in_default-own.rest.1 c.within-two.ensures
 
-pub clear_members-loop-rest-init : goal.clear_members-loop-rest-init
-clear_members-loop-rest-init t c = clearing_first _ _ _ _ _ c.requires.1.0 c.requires.1.1
+pub clear_members-loop-init : goal.clear_members-loop-init
+clear_members-loop-init t c = let e : c.args.count - 0 ≡ c.args.count = omega arith in rw e (clearing_first _ _ _ _ _ c.requires.1.0 c.requires.1.1)
 
 pub clear_members-clear_bool-s-requires : goal.clear_members-clear_bool-s-requires
-clear_members-clear_bool-s-requires t c = (omega (arith, c.decreases), (omega (arith, c.requires.0, c.loop-rest.invariant.size), (c.loop-rest.invariant.skipping.inside, c.loop-rest.invariant.skipping.low)))
+clear_members-clear_bool-s-requires t c = (omega (arith, c.decreases), (omega (arith, c.requires.0, c.loop.invariant.size), (c.loop.invariant.skipping.inside, c.loop.invariant.skipping.low)))
 
-pub clear_members-loop-rest-preserved : goal.clear_members-loop-rest-preserved
-clear_members-loop-rest-preserved t c = clearing_next _ _ _ _ _ _ _ _ _ _ _ _ c.loop-rest.invariant c.loop-rest-test.true c.clear_bool-s.ensures
+pub clear_members-loop-preserved : goal.clear_members-loop-preserved
+clear_members-loop-preserved t c = let e : c.args.count - (c.loop.counter + 1) ≡ c.args.count - c.loop.counter - 1 = omega arith in rw e (clearing_next _ _ _ _ _ _ _ _ _ _ _ _ c.loop.invariant (omega arith) c.clear_bool-s.ensures)
 
 pub clear_members-shape_of-work : goal.clear_members-shape_of-work
-clear_members-shape_of-work t c = c.loop-rest.invariant.size
+clear_members-shape_of-work t c = c.loop.invariant.size
 
 pub clear_members-returns : goal.clear_members-returns
-clear_members-returns t c = clearing_last _ _ _ _ _ _ _ _ _ c.loop-rest.invariant c.loop-rest-test.false
+clear_members-returns t c = clearing_last _ _ _ _ _ _ _ _ _ c.loop.invariant (omega arith)
 
-pub clear_terms-loop-rest-init : goal.clear_terms-loop-rest-init
-clear_terms-loop-rest-init t c = term_clearing_first _ _ _ _ _ c.requires.1.0 c.requires.1.1
+pub clear_terms-loop-init : goal.clear_terms-loop-init
+clear_terms-loop-init t c = let e : c.args.count - 0 ≡ c.args.count = omega arith in rw e (term_clearing_first _ _ _ _ _ c.requires.1.0 c.requires.1.1)
 
 pub clear_terms-clear_int-s-requires : goal.clear_terms-clear_int-s-requires
-clear_terms-clear_int-s-requires t c = (omega (arith, c.decreases), (omega (arith, c.requires.0, c.loop-rest.invariant.size), (omega (arith, c.within-p.ensures), c.loop-rest.invariant.skipping.low)))
+clear_terms-clear_int-s-requires t c = (omega (arith, c.decreases), (omega (arith, c.requires.0, c.loop.invariant.size), (omega (arith, c.within-p.ensures), c.loop.invariant.skipping.low)))
 
-pub clear_terms-loop-rest-preserved : goal.clear_terms-loop-rest-preserved
-clear_terms-loop-rest-preserved t c = term_clearing_next _ _ _ _ _ (omega (arith, c.requires.0)) _ _ _ _ _ _ _ _ c.loop-rest.invariant c.loop-rest-test.true c.within-p.ensures c.clear_int-s.ensures
+pub clear_terms-loop-preserved : goal.clear_terms-loop-preserved
+clear_terms-loop-preserved t c = let e : c.args.count - (c.loop.counter + 1) ≡ c.args.count - c.loop.counter - 1 = omega arith in rw e (term_clearing_next _ _ _ _ _ (omega (arith, c.requires.0)) _ _ _ _ _ _ _ _ c.loop.invariant (omega arith) c.within-p.ensures c.clear_int-s.ensures)
 
 pub clear_terms-shape_of-work : goal.clear_terms-shape_of-work
-clear_terms-shape_of-work t c = c.loop-rest.invariant.size
+clear_terms-shape_of-work t c = c.loop.invariant.size
 
 pub clear_terms-returns : goal.clear_terms-returns
-clear_terms-returns t c = term_clearing_last _ _ _ _ _ _ _ _ _ c.loop-rest.invariant c.loop-rest-test.false
+clear_terms-returns t c = term_clearing_last _ _ _ _ _ _ _ _ _ c.loop.invariant (omega arith)

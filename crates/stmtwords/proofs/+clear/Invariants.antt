@@ -1,4 +1,4 @@
-use Prim.Native.Nat.{◌+◌, ◌*◌}
+use Prim.Native.Nat.{◌+◌, ◌-◌, ◌*◌}
 use Rattle.stmtwords.proofs.Clearing.{Clearing, TermClearing}
 use Rattle.stmtwords.proofs.+clear.Given as goal
 
@@ -14,14 +14,8 @@ decreases-clear_members l = 2 * l.left + 1
 abbrev pub decreases-clear_terms : goal.decreases-clear_terms
 decreases-clear_terms l = 2 * l.left + 1
 
-abbrev pub invariant-clear_members-loop-rest : goal.invariant-clear_members-loop-rest
-invariant-clear_members-loop-rest l = Clearing l.initial.work l.left l.count l.at l.base l.rest l.q l.b l.work
+abbrev pub invariant-clear_members-loop : goal.invariant-clear_members-loop
+invariant-clear_members-loop l = Clearing l.initial.work l.left l.count l.at l.base (l.count - l.counter) l.q l.b l.work
 
-abbrev pub decreases-clear_members-loop-rest : goal.decreases-clear_members-loop-rest
-decreases-clear_members-loop-rest l = l.rest
-
-abbrev pub invariant-clear_terms-loop-rest : goal.invariant-clear_terms-loop-rest
-invariant-clear_terms-loop-rest l = TermClearing l.initial.work l.left l.count l.at l.base l.rest l.q l.b l.work
-
-abbrev pub decreases-clear_terms-loop-rest : goal.decreases-clear_terms-loop-rest
-decreases-clear_terms-loop-rest l = l.rest
+abbrev pub invariant-clear_terms-loop : goal.invariant-clear_terms-loop
+invariant-clear_terms-loop l = TermClearing l.initial.work l.left l.count l.at l.base (l.count - l.counter) l.q l.b l.work

@@ -31,18 +31,18 @@ overflow_add-at-3 c = omega (arith, table_inside _ _ (some_table _ _ _ c.word-ki
 pub overflow_add-at-4 : goal.overflow_add-at-4
 overflow_add-at-4 c = omega (arith, table_inside _ _ (some_table _ _ _ c.word-kind.ensures c.requires.0 c.if-kind-eq1.false c.if-kind-eq3.false))
 
-pub columns_end-p-requires : goal.columns_end-p-requires
-columns_end-p-requires c = (c.requires.1, table_inside _ _ (some_table _ _ _ c.word-kind.ensures c.requires.0 c.if-kind-eq1.false c.if-kind-eq3.false))
+pub columns_end-requires-2 : goal.columns_end-requires-2
+columns_end-requires-2 c = (c.requires.1, table_inside _ _ (some_table _ _ _ c.word-kind.ensures c.requires.0 c.if-kind-eq1.false c.if-kind-eq3.false))
 
-pub overflow_mul-cells : goal.overflow_mul-cells
-overflow_mul-cells c =
+pub overflow_mul-result : goal.overflow_mul-result
+overflow_mul-result c =
     let t : SomeTable _ _ = some_table _ _ _ c.word-kind.ensures c.requires.0 c.if-kind-eq1.false c.if-kind-eq3.false in
-    omega (arith, table_room _ _ t.columns t.cells t.stands _ _ _ c.word-n.ensures c.word-k.ensures c.columns_end-p.ensures.0)
+    omega (arith, table_room _ _ t.columns t.cells t.stands _ _ _ c.word-n.ensures c.word-k.ensures c.columns_end-2.ensures.0)
 
 pub overflow_add-result : goal.overflow_add-result
 overflow_add-result c =
     let t : SomeTable _ _ = some_table _ _ _ c.word-kind.ensures c.requires.0 c.if-kind-eq1.false c.if-kind-eq3.false in
-    omega (arith, table_room _ _ t.columns t.cells t.stands _ _ _ c.word-n.ensures c.word-k.ensures c.columns_end-p.ensures.0)
+    omega (arith, table_room _ _ t.columns t.cells t.stands _ _ _ c.word-n.ensures c.word-k.ensures c.columns_end-2.ensures.0)
 
 pub returns : goal.returns
-returns c = table_ends _ _ _ c.word-kind.ensures _ _ _ c.if-kind-eq1.false c.if-kind-eq3.false c.word-n.ensures c.word-k.ensures c.columns_end-p.ensures.0
+returns c = table_ends _ _ _ c.word-kind.ensures _ _ _ c.if-kind-eq1.false c.if-kind-eq3.false c.word-n.ensures c.word-k.ensures c.columns_end-2.ensures.0
