@@ -1,4 +1,5 @@
 use mathlib.Core.Bool.{Bool}
+use Prim.Native.Nat.{◌-◌}
 use Rattle.evaluate.specs.Contract.{WordsAt, DifferPost}
 use Rattle.evaluate.proofs.differ.Given as goal
 
