@@ -10,6 +10,8 @@ use Rattle.fold.specs.Fold.{Fixed, is_value, Op, op_xor, op_iff, op_imp, expr_of
 use Rattle.fold.specs.Optimize.{Status, unsatisfiable, updated, worst, and_then, constant_prop_bool, constant_prop_members}
 use Rattle.fold.specs.Table.{bit, state_num}
 use Rattle.fold.proofs.Forms.{list_of}
+use Rattle.passes.specs.declared.Status.{Status as Code-status}
+use Rattle.passes.specs.declared.Status.TheVariants.{Unchanged, Updated, Unsatisfiable}
 
 -- ---- what is required, or nothing
 
@@ -77,6 +79,12 @@ want_more (some b) e ms f = refl
 abbrev pub status_num : Status → ℕ
 status_num unsatisfiable = 2
 status_num (updated c f) = bit c
+
+-- the code's statuses, the worse the greater
+abbrev pub rank : Code-status → ℕ
+rank Unchanged = 0
+rank Updated = 1
+rank Unsatisfiable = 2
 
 abbrev pub worst_num : ℕ → ℕ → ℕ
 worst_num a b = cond (ltb a b) b a

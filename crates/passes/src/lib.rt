@@ -1,5 +1,5 @@
 // Folding statements and requiring (constant_prop_bool): the folded statements stand in the work slice above the fixed values.
-// A want of None requires nothing; a status is 0 (nothing changed), 1 (a variable was fixed) or 2 (unsatisfiable).
+// A want of None requires nothing.
 #![tactic(auto)]
 
 ghost use Rattle.std.specs.Prelude.{◌≡◌, ◌+◌, ◌*◌, ◌-◌, ◌<◌, pos, length, get_or};
@@ -7,17 +7,25 @@ ghost use Rattle.fold.specs.Fold.{Op};
 ghost use Rattle.fold.specs.Table.{op_num};
 ghost use Rattle.folding.specs.Known.{known};
 ghost use Rattle.folding.specs.Steps.{state_of};
-ghost use Rattle.passes.specs.Want.{worst_num, clash_status, set_status, set_words, flip, member_want as want_of_member, left_want as want_of_left, right_want as want_of_right};
+ghost use Rattle.passes.specs.Want.{worst_num, clash_status, set_status, set_words, flip, member_want as want_of_member, left_want as want_of_left, right_want as want_of_right, rank};
 ghost use Rattle.passes.specs.Skip.{SomeInt, SomeTerms, SomeBool, SomeMembers, IntStepPost, SkipPost, SkipTermsPost, BoolStepPost, SkipMembersPost};
 ghost use Rattle.passes.specs.Contract.{Stands, StandMembers, ComparisonPost, PropPost, MembersPost};
 ghost use Rattle.passes.specs.Statements.{ReadyColumns, ColumnsPost, ReadyStmt, StmtPost, ReadyStmts, StmtsPost, StandsStmt, PropStmtPost, StandStmts, PropStmtsPost, SomeColumns, SkipColumnsPost, SkipStmtPost};
 
 use folding::Span;
 
+// What requiring comes to, the worse the greater.
+#[derive(Clone, Copy, PartialEq, Eq, PartialOrd, Ord)]
+pub enum Status {
+    Unchanged,
+    Updated,
+    Unsatisfiable,
+}
+
 #[derive(Clone, Copy)]
 pub struct Required {
     pub next: usize,
-    pub status: usize,
+    pub status: Status,
 }
 
 // ---- passing over expressions
@@ -147,17 +155,21 @@ pub fn skip_int(words: &[i32], at: usize) -> usize
 
 // ---- the wants of parts
 
-fn worst(a: usize, b: usize) -> usize
-    ensures { result ≡ worst_num a b }
+fn worst(a: Status, b: Status) -> Status
+    ensures { rank result ≡ worst_num (rank a) (rank b) }
 {
-    if a < b { b } else { a }
+    a.max(b)
 }
 
 #[tactic(auto, unfolding(crate::specs::Want::clash_status))]
-fn clash(b: bool, want: Option<bool>) -> usize
-    ensures { result ≡ clash_status b (known want) }
+fn clash(b: bool, want: Option<bool>) -> Status
+    ensures { rank result ≡ clash_status b (known want) }
 {
-    if want == Some(!b) { 2 } else { 0 }
+    if want == Some(!b) {
+        Status::Unsatisfiable
+    } else {
+        Status::Unchanged
+    }
 }
 
 fn flip(want: Option<bool>) -> Option<bool>
@@ -196,19 +208,20 @@ fn right_want(w: usize, want: Option<bool>) -> Option<bool>
 // ---- requiring
 
 #[tactic(auto, unfolding(crate::specs::Want::set_status, crate::specs::Want::set_words))]
-fn set_infeasible(work: &mut [i32], v: usize, want: Option<bool>) -> usize
+fn set_infeasible(work: &mut [i32], v: usize, want: Option<bool>) -> Status
     requires { v < length work.old }
-    ensures { (result ≡ set_status (state_of (get_or work.old v (pos 0))) (known want)) × (work.new ≡ set_words (state_of (get_or work.old v (pos 0))) v (known want) work.old) }
+    ensures { (rank result ≡ set_status (state_of (get_or work.old v (pos 0))) (known want)) × (work.new ≡ set_words (state_of (get_or work.old v (pos 0))) v (known want) work.old) }
 {
     let Some(b) = want else {
-        return 0;
+        return Status::Unchanged;
     };
     match folding::state_at(work, v) {
         None => {
             folding::put(work, v, b as usize);
-            1
+            Status::Updated
         }
-        Some(s) => { if s == b { 0 } else { 2 } }
+        Some(s) if s == b => Status::Unchanged,
+        Some(_) => Status::Unsatisfiable,
     }
 }
 
@@ -216,7 +229,7 @@ fn set_infeasible(work: &mut [i32], v: usize, want: Option<bool>) -> usize
 fn prop_leaf(work: &mut [i32], at: usize, w: usize, want: Option<bool>) -> Required
     requires stands { Stands work.old at }
     requires pos_value { (get_or work.old at (pos 0) ≡ pos w) × (w < 12) }
-    ensures { PropPost work.old at (known want) work.new result.next result.status }
+    ensures { PropPost work.old at (known want) work.new result.next (rank result.status) }
 {
     let v = domains::number(work, at + 1);
     let next = at + 2;
@@ -241,10 +254,10 @@ fn skip_comparison(words: &[i32], at: usize) -> usize
 #[cycle(constant_prop)]
 fn constant_prop_members(work: &mut [i32], at: usize, count: usize, want: Option<bool>) -> Required
     requires { StandMembers work.old at count }
-    ensures { MembersPost work.old at count (known want) work.new result.next result.status }
+    ensures { MembersPost work.old at count (known want) work.new result.next (rank result.status) }
 {
     let mut next = at;
-    let mut status = 0;
+    let mut status = Status::Unchanged;
     for _ in 0..count {
         let a = constant_prop_bool(work, next, want);
         next = a.next;
@@ -256,7 +269,7 @@ fn constant_prop_members(work: &mut [i32], at: usize, count: usize, want: Option
 #[cycle(constant_prop)]
 fn constant_prop_bool(work: &mut [i32], at: usize, want: Option<bool>) -> Required
     requires { Stands work.old at }
-    ensures { PropPost work.old at (known want) work.new result.next result.status }
+    ensures { PropPost work.old at (known want) work.new result.next (rank result.status) }
 {
     let w = domains::number(work, at);
     if w < 12 {
@@ -264,7 +277,10 @@ fn constant_prop_bool(work: &mut [i32], at: usize, want: Option<bool>) -> Requir
     }
     if w == 18 {
         let next = skip_comparison(work, at);
-        return Required { next, status: 0 };
+        return Required {
+            next,
+            status: Status::Unchanged,
+        };
     }
     if w == 14 {
         let k = flip(want);
@@ -408,7 +424,7 @@ fn skip_different(words: &[i32], at: usize) -> usize
 
 pub fn prop_stmt(work: &mut [i32], at: usize) -> Required
     requires { StandsStmt work.old at }
-    ensures { PropStmtPost work.old at work.new result.next result.status }
+    ensures { PropStmtPost work.old at work.new result.next (rank result.status) }
 {
     let w = domains::number(work, at);
     if w == 1 {
@@ -416,19 +432,25 @@ pub fn prop_stmt(work: &mut [i32], at: usize) -> Required
     }
     if w == 2 {
         let next = skip_table(work, at);
-        return Required { next, status: 0 };
+        return Required {
+            next,
+            status: Status::Unchanged,
+        };
     }
     let next = skip_different(work, at);
-    Required { next, status: 0 }
+    Required {
+        next,
+        status: Status::Unchanged,
+    }
 }
 
 // As many statements as `count` says; the worst status counts.
-pub fn constant_prop_stmts(work: &mut [i32], at: usize, count: usize) -> usize
+pub fn constant_prop_stmts(work: &mut [i32], at: usize, count: usize) -> Status
     requires { StandStmts work.old at count }
-    ensures { PropStmtsPost work.old at count work.new result }
+    ensures { PropStmtsPost work.old at count work.new (rank result) }
 {
     let mut next = at;
-    let mut status = 0;
+    let mut status = Status::Unchanged;
     for _ in 0..count {
         let a = prop_stmt(work, next);
         next = a.next;

@@ -4,12 +4,15 @@
 
 ghost use Rattle.std.specs.Prelude.{◌≡◌, ◌≤◌, ◌<◌, pos, length, get_or};
 ghost use Rattle.syntax.specs.Words.{max_bools};
+ghost use Rattle.passes.specs.Want.{rank};
 ghost use Rattle.propagate.specs.Optimized.{SomeDomains, DomainsEndPost, Opened, ReadyPasses, PassesPost, Accepted, OptimizePost};
 ghost use Rattle.propagate.specs.Worklist.{Only, ReadyStep, StepPost, NextPost, ReadyWorklist, Moves, WorklistPost, AfterPost, Places};
 
+pub use passes::Status;
+
 #[derive(Drop)]
 pub struct Optimized {
-    pub status: usize,
+    pub status: Status,
     pub end: usize,
 }
 
@@ -18,14 +21,14 @@ pub struct Optimized {
 pub struct Stepped {
     pub next: usize,
     pub end: usize,
-    pub status: usize,
+    pub status: Status,
 }
 
 // How many statements were put into the queue, those taken from it included.
 #[derive(Drop)]
 pub struct Moved {
     pub count: usize,
-    pub status: usize,
+    pub status: Status,
 }
 
 // ---- numbers kept in arrays
@@ -156,7 +159,7 @@ fn push_fixed(work: &[i32], end: usize, watches: &mut [i32], queued: usize) -> u
 // The statement at `at`, folded under the values fixed so far, and required.
 fn step(words: &[i32], at: usize, work: &mut [i32]) -> Stepped
     requires { ReadyStep words.now at work.old }
-    ensures { StepPost words.now at work.old work.new result.end result.status × NextPost words.now at result.next }
+    ensures { StepPost words.now at work.old work.new result.end (rank result.status) × NextPost words.now at result.next }
 {
     let a = passes::fold_stmt(words, 2, at, work, memory::FOLDED);
     let b = passes::prop_stmt(work, memory::FOLDED);
@@ -192,12 +195,12 @@ fn watch_statement(
 }
 
 // After a step of this status.
-fn push_after(work: &[i32], end: usize, status: usize, watches: &mut [i32], count: usize) -> usize
+fn push_after(work: &[i32], end: usize, status: Status, watches: &mut [i32], count: usize) -> usize
     requires count_bound { count ≤ 2048 }
     requires end_in_bounds { end ≤ length work.now }
     ensures { result ≤ 2048 }
 {
-    if status != 1 {
+    if status != Status::Updated {
         return count;
     }
     push_fixed(work, end, watches, count)
@@ -214,21 +217,26 @@ fn sweep(
 ) -> Moved
     requires ready_passes { ReadyPasses words.now at statements work.old }
     requires places { Places words.now at statements places.old }
-    ensures { WorklistPost words.now at statements work.old work.new result.status × Places words.now at statements places.new × (result.count ≤ 2048) }
+    ensures { WorklistPost words.now at statements work.old work.new (rank result.status) × Places words.now at statements places.new × (result.count ≤ 2048) }
 {
     let mut next = at;
     let mut count = 0;
     for i in 0..statements {
         let a = step(words, next, work);
-        let status = a.status;
-        if status == 2 {
-            return Moved { count: 0, status };
+        if a.status == Status::Unsatisfiable {
+            return Moved {
+                count: 0,
+                status: a.status,
+            };
         }
         watch_statement(words, next, a.next, i, work, a.end, places, watches);
-        count = push_after(work, a.end, status, watches, count);
+        count = push_after(work, a.end, a.status, watches, count);
         next = a.next;
     }
-    Moved { count, status: 0 }
+    Moved {
+        count,
+        status: Status::Unchanged,
+    }
 }
 
 // A statement that fixes nothing any more is forgotten.
@@ -251,11 +259,14 @@ fn again(
 ) -> Moved
     requires ready_worklist { ReadyWorklist words.now work.old places.old }
     requires count_bound { count ≤ 2048 }
-    ensures { Moves words.now work.old places.old work.new places.new result.status × (result.count ≤ 2048) }
+    ensures { Moves words.now work.old places.old work.new places.new (rank result.status) × (result.count ≤ 2048) }
 {
     let at = entry(places, i);
     if at == 0 {
-        return Moved { count, status: 0 };
+        return Moved {
+            count,
+            status: Status::Unchanged,
+        };
     }
     let a = step(words, at, work);
     forget_done(work, a.end, places, i);
@@ -273,10 +284,10 @@ fn run_queue(
     places: &mut [i32],
     watches: &mut [i32],
     queued: usize,
-) -> usize
+) -> Status
     requires ready_worklist { ReadyWorklist words.now work.old places.old }
     requires queued_bound { queued ≤ 2048 }
-    ensures { Moves words.now work.old places.old work.new places.new result }
+    ensures { Moves words.now work.old places.old work.new places.new (rank result) }
 {
     let mut k = 0;
     let mut count = queued;
@@ -284,27 +295,25 @@ fn run_queue(
         let i = entry(watches, 6658 + k);
         store(watches, 4610 + i, 0);
         let a = again(words, i, work, places, watches, count);
-        let status = a.status;
-        if status == 2 {
-            return 2;
+        if a.status == Status::Unsatisfiable {
+            return a.status;
         }
         count = a.count;
         k += 1;
     }
-    1
+    Status::Updated
 }
 
-// Statements one by one, each again once one of its variables was fixed. 1: go on; 2: unsatisfiable.
-fn run_worklist(words: &[i32], at: usize, statements: usize, work: &mut [i32]) -> usize
+// Statements one by one, each again once one of its variables was fixed. What is not unsatisfiable goes on.
+fn run_worklist(words: &[i32], at: usize, statements: usize, work: &mut [i32]) -> Status
     requires { ReadyPasses words.now at statements work.old }
-    ensures { WorklistPost words.now at statements work.old work.new result }
+    ensures { WorklistPost words.now at statements work.old work.new (rank result) }
 {
     let mut places = [0i32; 2048];
     let mut watches = [0i32; 8706];
     let a = sweep(words, at, statements, work, &mut places, &mut watches);
-    let status = a.status;
-    if status == 2 {
-        return 2;
+    if a.status == Status::Unsatisfiable {
+        return a.status;
     }
     run_queue(words, work, &mut places, &mut watches, a.count)
 }
@@ -337,20 +346,20 @@ fn after_pass(
     at: usize,
     count: usize,
     work: &mut [i32],
-    status: usize,
+    status: Status,
     end: usize,
     left: usize,
 ) -> Optimized
     requires { ReadyPasses words.now at count work.old }
-    ensures { AfterPost words.now at count work.old status end work.new result.status result.end }
+    ensures { AfterPost words.now at count work.old (rank status) end work.new (rank result.status) result.end }
 {
-    if status != 1 || left != 0 {
+    if status != Status::Updated || left != 0 {
         return Optimized { status, end };
     }
     let s = run_worklist(words, at, count, work);
-    if s == 2 {
+    if s == Status::Unsatisfiable {
         return Optimized {
-            status: 2,
+            status: Status::Unsatisfiable,
             end: memory::FOLDED,
         };
     }
@@ -360,12 +369,12 @@ fn after_pass(
 // Fold every statement of the set under the values fixed so far, require each rule, and again while a variable was fixed.
 fn run_passes(words: &[i32], at: usize, count: usize, work: &mut [i32]) -> Optimized
     requires { ReadyPasses words.now at count work.old }
-    ensures { PassesPost words.now at count work.old work.new result.status result.end }
+    ensures { PassesPost words.now at count work.old work.new (rank result.status) result.end }
 {
-    let mut status = 1;
+    let mut status = Status::Updated;
     let mut end = memory::FOLDED;
     let mut left = 3usize;
-    while status == 1 {
+    while status == Status::Updated {
         left = left.saturating_sub(1);
         let a = passes::fold_stmts(words, 2, at, count, work, memory::FOLDED);
         let s = passes::constant_prop_stmts(work, memory::FOLDED, count);
@@ -376,10 +385,10 @@ fn run_passes(words: &[i32], at: usize, count: usize, work: &mut [i32]) -> Optim
     Optimized { status, end }
 }
 
-// Status 0: the fixed values and the folded statements stand in the work slice. Any other: the set is inconsistent.
+// Unchanged: the fixed values and the folded statements stand in the work slice. Any other: the set is inconsistent.
 pub fn optimize(words: &[i32], work: &mut [i32]) -> Optimized
     requires { Accepted words.now work.old }
-    ensures { OptimizePost words.now work.old work.new result.status result.end }
+    ensures { OptimizePost words.now work.old work.new (rank result.status) result.end }
 {
     let ni = domains::number(words, 1);
     let at = domains_end(words, 2, ni);

@@ -5,6 +5,12 @@ ghost use Rattle.std.specs.Prelude.{◌≡◌, ◌≤◌, length};
 ghost use Rattle.memory.specs.Places.{maps_end};
 ghost use Rattle.settle.specs.Settle.{SomeTaken, FoldPost, maps_empty, SettlePost};
 
+<<<<<<< HEAD
+=======
+use propagate::Status;
+use reader::Set;
+
+>>>>>>> 94ba39e5a2e0427901bd0ce12b287c779250f744
 // Where the folded statements end, and how many variables the set declares.
 #[derive(Drop)]
 pub struct Places {
@@ -26,15 +32,14 @@ fn fold_taken(set: &[i32], work: &mut [i32], bools: usize, ints: usize) -> Settl
     ensures { FoldPost set.now work.old bools ints work.new result }
 {
     let o = propagate::optimize(set, work);
-    let status = o.status;
-    if status != 0 {
+    if o.status != Status::Unchanged {
         memory::clear(work);
         return Settling::Contradiction;
     }
     Settling::Folded(Places {
         end: o.end,
-        bools: bools,
-        ints: ints,
+        bools,
+        ints,
     })
 }
 

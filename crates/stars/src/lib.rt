@@ -23,8 +23,7 @@ fn put_literal(mode: Mode, m: usize, j: usize, out: &mut [i32], o: usize) -> usi
     ensures { Wrote out.old o (counted_lits (extra mode m [] j)) out.new result }
 {
     match mode {
-        Mode::Pool => output::put(out, o, 0),
-        Mode::One => output::put(out, o, 0),
+        Mode::Pool | Mode::One => output::put(out, o, 0),
         Mode::Two => {
             let a = output::put(out, o, 1);
             output::put(out, a, output::word_of(m + 1, j == 0))
@@ -50,10 +49,7 @@ fn put_equality(
     requires { (m ≤ limit) × (j ≤ max_count) × (v < 2147483648) × Behind out.old o c }
     ensures { Lines out.old o c (row_lines (extra mode m [] j) (v ∷ []) (x ∷ [])) out.new result.at result.clauses }
 {
-    if x == -2147483648 {
-        return Written { at: o, clauses: c };
-    }
-    if o == memory::CAP {
+    if x == i32::MIN || o == memory::CAP {
         return Written { at: o, clauses: c };
     }
     let a = put_literal(mode, m, j, out, o);
@@ -81,20 +77,13 @@ fn put_row(
     requires { RowAt work.now a n cols × (m ≤ limit) × (j ≤ max_count) × Behind out.old o c }
     ensures { Lines out.old o c (row_lines (extra mode m [] j) (vars_of n (drop cols work.now)) (row_at n a work.now)) out.new result.at result.clauses }
 {
-    let mut p = a;
-    let mut col = cols;
-    let mut rest = n;
     let mut q = o;
     let mut d = c;
-    while rest != 0 {
-        let x = work[p];
-        let v = sorting::number_at(work, col);
-        let w = put_equality(mode, m, j, v, x, out, q, d);
+    for i in 0..n {
+        let v = sorting::number_at(work, cols + 3 * i);
+        let w = put_equality(mode, m, j, v, work[a + i], out, q, d);
         q = w.at;
         d = w.clauses;
-        p += 1;
-        col += 3;
-        rest -= 1;
     }
     Written { at: q, clauses: d }
 }
@@ -115,15 +104,11 @@ fn put_long_rows(
     requires { RowsAt work.now at n k cols × (m ≤ limit) × Behind out.old o c }
     ensures { Lines out.old o c (long_lines mode m (vars_of n (drop cols work.now)) (rows_of n k (drop at work.now)) 0) out.new result.at result.clauses }
 {
-    let mut p = at;
-    let mut left = k;
     let mut j = 0;
     let mut q = o;
     let mut d = c;
-    while left != 0 {
-        let a = p;
-        p += n;
-        left -= 1;
+    for i in 0..k {
+        let a = at + i * n;
         if rows::row_values(work, a, n) < 2 {
             continue;
         }
@@ -142,7 +127,7 @@ fn put_value(v: usize, x: i32, out: &mut [i32], o: usize) -> usize
     requires { (v < 2147483648) × Open out.old o }
     ensures { Wrote out.old o (linears_words (row_linears (v ∷ []) (x ∷ []))) out.new result }
 {
-    if x == -2147483648 {
+    if x == i32::MIN {
         return o;
     }
     rows::put_cmp(out, o, 0, v, x)
@@ -153,17 +138,10 @@ fn put_values(work: &[i32], a: usize, n: usize, cols: usize, out: &mut [i32], o:
     requires { RowAt work.now a n cols × Open out.old o }
     ensures { Wrote out.old o (linears_words (row_linears (vars_of n (drop cols work.now)) (row_at n a work.now))) out.new result }
 {
-    let mut p = a;
-    let mut col = cols;
-    let mut left = n;
     let mut q = o;
-    while left != 0 {
-        let x = work[p];
-        let v = sorting::number_at(work, col);
-        q = put_value(v, x, out, q);
-        p += 1;
-        col += 3;
-        left -= 1;
+    for j in 0..n {
+        let v = sorting::number_at(work, cols + 3 * j);
+        q = put_value(v, work[a + j], out, q);
     }
     q
 }
@@ -181,13 +159,9 @@ fn put_single_rows(
     requires { RowsAt work.now at n k cols × Open out.old o }
     ensures { Wrote out.old o (linears_words (single_linears (vars_of n (drop cols work.now)) (rows_of n k (drop at work.now)))) out.new result }
 {
-    let mut p = at;
-    let mut left = k;
     let mut q = o;
-    while left != 0 {
-        let a = p;
-        p += n;
-        left -= 1;
+    for i in 0..k {
+        let a = at + i * n;
         if rows::row_values(work, a, n) == 1 {
             q = put_values(work, a, n, cols, out, q);
         }
@@ -248,9 +222,7 @@ pub fn put_stars(
     let mode = survey::mode_of(x, 0, y);
     let w = put_long_rows(work, at, n, k, cols, mode, m, out, o, c);
     match mode {
-        Mode::Pool => put_pool(work, at, n, k, cols, m, x, y, out, w.at, w.clauses),
-        Mode::One => w,
-        Mode::Two => w,
-        Mode::Each => put_pool(work, at, n, k, cols, m, x, y, out, w.at, w.clauses),
+        Mode::Pool | Mode::Each => put_pool(work, at, n, k, cols, m, x, y, out, w.at, w.clauses),
+        Mode::One | Mode::Two => w,
     }
 }

@@ -5,7 +5,7 @@ use Prim.Native.Nat.{◌+◌, ◌-◌, ◌*◌, ◌≤◌}
 use lib.IntN.{ℤ}
 use lib.ListN.{length}
 use Rattle.folding.specs.Known.{known}
-use Rattle.passes.specs.Want.{worst_num}
+use Rattle.passes.specs.Want.{worst_num, rank}
 use Rattle.passes.specs.Contract.{StandMembers, MembersPost}
 use Rattle.passes.proofs.+constant_prop.Given as goal
 
@@ -16,4 +16,4 @@ abbrev pub decreases-constant_prop_members : goal.decreases-constant_prop_member
 decreases-constant_prop_members l = 2 * (length l.work.now - l.at) + 1
 
 abbrev pub invariant-constant_prop_members-loop : goal.invariant-constant_prop_members-loop
-invariant-constant_prop_members-loop l = (l.at ≤ l.next) × (length l.work ≡ length l.initial.work) × StandMembers l.work l.next (l.count - l.counter) × ((out' : List ℤ) (next' s : ℕ) → MembersPost l.work l.next (l.count - l.counter) (known l.want) out' next' s → MembersPost l.initial.work l.at l.count (known l.want) out' next' (worst_num l.status s))
+invariant-constant_prop_members-loop l = (l.at ≤ l.next) × (length l.work ≡ length l.initial.work) × StandMembers l.work l.next (l.count - l.counter) × ((out' : List ℤ) (next' s : ℕ) → MembersPost l.work l.next (l.count - l.counter) (known l.want) out' next' s → MembersPost l.initial.work l.at l.count (known l.want) out' next' (worst_num (rank l.status) s))

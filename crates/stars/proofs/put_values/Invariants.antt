@@ -1,3 +1,4 @@
+use Prim.Native.Nat.{◌+◌, ◌-◌, ◌*◌}
 use lib.ListN.{drop}
 use Rattle.sorting.specs.Rows.{row_at}
 use Rattle.sorting.specs.Columns.{vars_of}
@@ -7,8 +8,5 @@ use Rattle.stars.specs.Stars.{RowAt}
 use Rattle.stars.proofs.Laws.{Left}
 use Rattle.stars.proofs.put_values.Given as goal
 
-abbrev pub invariant-loop-left : goal.invariant-loop-left
-invariant-loop-left l = RowAt l.work l.p l.left l.col × Left l.initial.out l.o (linears_words (row_linears (vars_of l.n (drop l.cols l.work)) (row_at l.n l.a l.work))) (linears_words (row_linears (vars_of l.left (drop l.col l.work)) (row_at l.left l.p l.work))) l.out l.q
-
-abbrev pub decreases-loop-left : goal.decreases-loop-left
-decreases-loop-left l = l.left
+abbrev pub invariant-loop-j : goal.invariant-loop-j
+invariant-loop-j l = RowAt l.work (l.a + l.j) (l.n - l.j) (l.cols + 3 * l.j) × Left l.initial.out l.o (linears_words (row_linears (vars_of l.n (drop l.cols l.work)) (row_at l.n l.a l.work))) (linears_words (row_linears (vars_of (l.n - l.j) (drop (l.cols + 3 * l.j) l.work)) (row_at (l.n - l.j) (l.a + l.j) l.work))) l.out l.q
