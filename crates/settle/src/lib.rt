@@ -5,12 +5,8 @@ ghost use Rattle.std.specs.Prelude.{◌≡◌, ◌≤◌, length};
 ghost use Rattle.memory.specs.Places.{maps_end};
 ghost use Rattle.settle.specs.Settle.{SomeTaken, FoldPost, maps_empty, SettlePost};
 
-<<<<<<< HEAD
-=======
 use propagate::Status;
-use reader::Set;
 
->>>>>>> 94ba39e5a2e0427901bd0ce12b287c779250f744
 // Where the folded statements end, and how many variables the set declares.
 #[derive(Drop)]
 pub struct Places {
