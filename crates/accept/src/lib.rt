@@ -1,5 +1,6 @@
 // Refusals 1 to 11 over a set's words. `work` holds the table of bounds from 7936 on.
 // A walk that tests what it passes answers with the place behind, and with the first limit that is passed.
+// The codes that words are compared with are numbers of document 01, which callers in C write.
 #![tactic(auto)]
 
 ghost use Rattle.std.specs.Prelude.{◌≡◌, false, ◌||◌, ◌<◌, ◌≤◌, min, max, eqb, pos, nat_abs, ◌-ℤ◌, length};
@@ -13,6 +14,17 @@ ghost use Rattle.accept.specs.Walk.{ReadyVar, VarPost, ReadyInt, ReadyTerms, Rea
 
 use reader::Declared;
 use words::Refusal;
+
+// ---- what a walk reads
+
+// A set's words, the work slice with the table of bounds, and how many integer variables are declared.
+#[derive(Clone, Copy)]
+pub struct Walk<'a> {
+    set: &'a [i32],
+    work: &'a [i32],
+    ints: usize,
+    ghost few: { ints ≤ max_ints },
+}
 
 // ---- refusals 9, 10 and 11
 
@@ -163,6 +175,7 @@ fn mark_written(set: &[i32], at: usize, n: usize, marks: &mut [bool; 256]) -> Ma
     let mut next = at - 1;
     let mut rest = 1;
     let mut count = 0;
+    // what is pending grows on the way, so nothing is counted
     while rest != 0 {
         let h = mark_head(set, next + 1, n, marks);
         count += h.count;
@@ -175,52 +188,53 @@ fn mark_written(set: &[i32], at: usize, n: usize, marks: &mut [bool; 256]) -> Ma
 // ---- the tests of refusal 10: each variable and each If has two words at least
 
 // Whether two integer expressions of so many words write over 64 variables; below 128 words they cannot.
-fn many_comparison(set: &[i32], a: usize, b: usize, words: usize, ni: usize) -> bool
-    requires { Behind set.now a ni × Behind set.now b ni × (ni ≤ max_ints) }
-    ensures { ManyPost set.now a b words ni result }
+fn many_comparison(walk: &Walk<'_>, a: usize, b: usize, words: usize) -> bool
+    requires { Behind walk.now.set.now a walk.now.ints × Behind walk.now.set.now b walk.now.ints }
+    ensures { ManyPost walk.now.set.now a b words walk.now.ints result }
 {
     if words < 128 {
         return false;
     }
     let mut marks: [bool; 256] = [false; 256];
-    let x = mark_written(set, a, ni, &mut marks);
-    let y = mark_written(set, b, ni, &mut marks);
+    let x = mark_written(walk.set, a, walk.ints, &mut marks);
+    let y = mark_written(walk.set, b, walk.ints, &mut marks);
     x.count + y.count > 64
 }
 
 // Whether a column or a branch of so many words writes over 63 variables; below 128 words it cannot.
-fn many_column(set: &[i32], at: usize, words: usize, ni: usize) -> bool
-    requires { Behind set.now at ni × (ni ≤ max_ints) }
-    ensures { ManyOnePost set.now at words ni result }
+// One function for this and the last would loop over an array of one or two places, with an invariant.
+fn many_column(walk: &Walk<'_>, at: usize, words: usize) -> bool
+    requires { Behind walk.now.set.now at walk.now.ints }
+    ensures { ManyOnePost walk.now.set.now at words walk.now.ints result }
 {
     if words < 128 {
         return false;
     }
     let mut marks: [bool; 256] = [false; 256];
-    let x = mark_written(set, at, ni, &mut marks);
+    let x = mark_written(walk.set, at, walk.ints, &mut marks);
     x.count > 63
 }
 
 // An If's branches, from t to f and from f to `end`, but for their weights.
-fn branches(set: &[i32], t: usize, f: usize, end: usize, ni: usize) -> Option<Limit>
-    requires { ReadyBranches set.now t f end ni × (ni ≤ max_ints) }
-    ensures { BranchesPost set.now t f end ni (hit result) }
+fn branches(walk: &Walk<'_>, t: usize, f: usize, end: usize) -> Option<Limit>
+    requires { ReadyBranches walk.now.set.now t f end walk.now.ints }
+    ensures { BranchesPost walk.now.set.now t f end walk.now.ints (hit result) }
 {
-    if many_column(set, t, f - t, ni) || many_column(set, f, end - f, ni) {
+    if many_column(walk, t, f - t) || many_column(walk, f, end - f) {
         return Some(Limit::Variables);
     }
     None
 }
 
 // Two integer expressions of so many words, whose totals are added.
-fn compared(set: &[i32], a: usize, b: usize, words: usize, sum: usize, ni: usize) -> Option<Limit>
-    requires { Behind set.now a ni × Behind set.now b ni × (ni ≤ max_ints) }
-    ensures { ComparedPost set.now a b words sum ni (hit result) }
+fn compared(walk: &Walk<'_>, a: usize, b: usize, words: usize, sum: usize) -> Option<Limit>
+    requires { Behind walk.now.set.now a walk.now.ints × Behind walk.now.set.now b walk.now.ints }
+    ensures { ComparedPost walk.now.set.now a b words sum walk.now.ints (hit result) }
 {
     if sum > 1073741823 {
         return Some(Limit::Weight);
     }
-    if many_comparison(set, a, b, words, ni) {
+    if many_comparison(walk, a, b, words) {
         return Some(Limit::Variables);
     }
     None
@@ -250,16 +264,16 @@ pub struct Step {
 
 // As many terms as `terms` says.
 #[cycle(total)]
-fn terms_total(set: &[i32], work: &[i32], at: usize, terms: usize, ni: usize) -> Total
-    requires { ReadyTerms set.now work.now at terms ni × (ni ≤ max_ints) }
-    ensures { TermsPost set.now work.now at terms ni 0 12 result.next result.total (hit result.refusal) }
+fn terms_total(walk: &Walk<'_>, at: usize, terms: usize) -> Total
+    requires { ReadyTerms walk.now.set.now walk.now.work.now at terms walk.now.ints }
+    ensures { TermsPost walk.now.set.now walk.now.work.now at terms walk.now.ints 0 12 result.next result.total (hit result.refusal) }
 {
     let mut next = at;
     let mut total = 0;
     let mut refusal = None;
     for _ in 0..terms {
-        let t = int_total(set, work, next + 1, ni);
-        let k = set[next];
+        let t = int_total(walk, next + 1);
+        let k = walk.set[next];
         total = add_term(k, t.total, total);
         refusal = first(refusal, t.refusal);
         next = t.next;
@@ -273,14 +287,14 @@ fn terms_total(set: &[i32], work: &[i32], at: usize, terms: usize, ni: usize) ->
 
 // An If: the condition's comparisons, the heavier branch, the tests of both.
 #[cycle(total)]
-fn if_total(set: &[i32], work: &[i32], at: usize, ni: usize) -> Total
-    requires { ReadyIf set.now work.now at ni × (ni ≤ max_ints) }
-    ensures { IfPost set.now work.now at ni result.next result.total (hit result.refusal) }
+fn if_total(walk: &Walk<'_>, at: usize) -> Total
+    requires { ReadyIf walk.now.set.now walk.now.work.now at walk.now.ints }
+    ensures { IfPost walk.now.set.now walk.now.work.now at walk.now.ints result.next result.total (hit result.refusal) }
 {
-    let c = rules(set, work, at + 1, 1, ni);
-    let t = int_total(set, work, c.next, ni);
-    let f = int_total(set, work, t.next, ni);
-    let b = branches(set, c.next, t.next, f.next, ni);
+    let c = rules(walk, at + 1, 1);
+    let t = int_total(walk, c.next);
+    let f = int_total(walk, t.next);
+    let b = branches(walk, c.next, t.next, f.next);
     let total = t.total.max(f.total).max(1);
     let inside = first(t.refusal, f.refusal);
     let refusal = first(c.refusal, first(b, inside));
@@ -292,56 +306,56 @@ fn if_total(set: &[i32], work: &[i32], at: usize, ni: usize) -> Total
 }
 
 // A constant or a variable, whose code is given.
-fn leaf_total(set: &[i32], work: &[i32], at: usize, code: usize) -> usize
-    requires { ReadyLeaf set.now work.now at code }
-    ensures { LeafPost set.now work.now at result }
+fn leaf_total(walk: &Walk<'_>, at: usize, code: usize) -> usize
+    requires { ReadyLeaf walk.now.set.now walk.now.work.now at code }
+    ensures { LeafPost walk.now.set.now walk.now.work.now at result }
 {
     if code == 20 {
-        let c = set[at + 1];
+        let c = walk.set[at + 1];
         return constant_total(c);
     }
-    let v = domains::number(set, at + 1);
-    variable_total(work, v)
+    let v = domains::number(walk.set, at + 1);
+    variable_total(walk.work, v)
 }
 
 // An If or a sum, whose code is given.
 #[cycle(total)]
-fn deep_total(set: &[i32], work: &[i32], at: usize, code: usize, ni: usize) -> Total
-    requires { ReadyDeep set.now work.now at code ni × (ni ≤ max_ints) }
-    ensures { IntPost set.now work.now at ni result.next result.total (hit result.refusal) }
+fn deep_total(walk: &Walk<'_>, at: usize, code: usize) -> Total
+    requires { ReadyDeep walk.now.set.now walk.now.work.now at code walk.now.ints }
+    ensures { IntPost walk.now.set.now walk.now.work.now at walk.now.ints result.next result.total (hit result.refusal) }
 {
     if code == 23 {
-        return if_total(set, work, at, ni);
+        return if_total(walk, at);
     }
-    let n = domains::number(set, at + 1);
-    terms_total(set, work, at + 2, n, ni)
+    let n = domains::number(walk.set, at + 1);
+    terms_total(walk, at + 2, n)
 }
 
 #[cycle(total)]
-fn int_total(set: &[i32], work: &[i32], at: usize, ni: usize) -> Total
-    requires { ReadyInt set.now work.now at ni × (ni ≤ max_ints) }
-    ensures { IntPost set.now work.now at ni result.next result.total (hit result.refusal) }
+fn int_total(walk: &Walk<'_>, at: usize) -> Total
+    requires { ReadyInt walk.now.set.now walk.now.work.now at walk.now.ints }
+    ensures { IntPost walk.now.set.now walk.now.work.now at walk.now.ints result.next result.total (hit result.refusal) }
 {
-    let code = domains::number(set, at);
+    let code = domains::number(walk.set, at);
     if code < 22 {
-        let total = leaf_total(set, work, at, code);
+        let total = leaf_total(walk, at, code);
         return Total {
             next: at + 2,
             total,
             refusal: None,
         };
     }
-    deep_total(set, work, at, code, ni)
+    deep_total(walk, at, code)
 }
 
 #[cycle(total)]
-fn comparison(set: &[i32], work: &[i32], at: usize, ni: usize) -> Tested
-    requires { ReadyPair set.now work.now at ni × (ni ≤ max_ints) }
-    ensures { PairPost set.now work.now at ni result.next (hit result.refusal) }
+fn comparison(walk: &Walk<'_>, at: usize) -> Tested
+    requires { ReadyPair walk.now.set.now walk.now.work.now at walk.now.ints }
+    ensures { PairPost walk.now.set.now walk.now.work.now at walk.now.ints result.next (hit result.refusal) }
 {
-    let a = int_total(set, work, at, ni);
-    let b = int_total(set, work, a.next, ni);
-    let own = compared(set, at, a.next, b.next - at, a.total + b.total, ni);
+    let a = int_total(walk, at);
+    let b = int_total(walk, a.next);
+    let own = compared(walk, at, a.next, b.next - at, a.total + b.total);
     let inside = first(a.refusal, b.refusal);
     let refusal = first(own, inside);
     Tested {
@@ -351,11 +365,11 @@ fn comparison(set: &[i32], work: &[i32], at: usize, ni: usize) -> Tested
 }
 
 #[cycle(total)]
-fn rule_step(set: &[i32], work: &[i32], at: usize, ni: usize) -> Step
-    requires { ReadyBool set.now work.now at ni × (ni ≤ max_ints) }
-    ensures { StepPost set.now work.now at ni result.next result.members (hit result.refusal) }
+fn rule_step(walk: &Walk<'_>, at: usize) -> Step
+    requires { ReadyBool walk.now.set.now walk.now.work.now at walk.now.ints }
+    ensures { StepPost walk.now.set.now walk.now.work.now at walk.now.ints result.next result.members (hit result.refusal) }
 {
-    let code = domains::number(set, at);
+    let code = domains::number(walk.set, at);
     if code < 12 {
         return Step {
             next: at + 2,
@@ -364,7 +378,7 @@ fn rule_step(set: &[i32], work: &[i32], at: usize, ni: usize) -> Step
         };
     }
     if code < 14 {
-        let n = domains::number(set, at + 1);
+        let n = domains::number(walk.set, at + 1);
         return Step {
             next: at + 2,
             members: n,
@@ -385,7 +399,7 @@ fn rule_step(set: &[i32], work: &[i32], at: usize, ni: usize) -> Step
             refusal: None,
         };
     }
-    let t = comparison(set, work, at + 2, ni);
+    let t = comparison(walk, at + 2);
     Step {
         next: t.next,
         members: 0,
@@ -394,15 +408,16 @@ fn rule_step(set: &[i32], work: &[i32], at: usize, ni: usize) -> Step
 }
 
 #[cycle(total)]
-fn rules(set: &[i32], work: &[i32], at: usize, n: usize, ni: usize) -> Tested
-    requires { ReadyBools set.now work.now at n ni × (ni ≤ max_ints) }
-    ensures { BoolsPost set.now work.now at n ni 12 result.next (hit result.refusal) }
+fn rules(walk: &Walk<'_>, at: usize, n: usize) -> Tested
+    requires { ReadyBools walk.now.set.now walk.now.work.now at n walk.now.ints }
+    ensures { BoolsPost walk.now.set.now walk.now.work.now at n walk.now.ints 12 result.next (hit result.refusal) }
 {
     let mut next = at;
     let mut refusal = None;
     let mut rest = n;
+    // as in `mark_written`
     while rest != 0 {
-        let s = rule_step(set, work, next, ni);
+        let s = rule_step(walk, next);
         refusal = first(refusal, s.refusal);
         next = s.next;
         rest = rest - 1 + s.members;
@@ -420,16 +435,16 @@ pub struct Range {
 }
 
 #[cycle(range)]
-fn terms_range(set: &[i32], work: &[i32], at: usize, n: usize) -> Range
-    requires { ReadyRanges set.now work.now at n (pos 0) (pos 0) }
-    ensures { RangesPost set.now work.now at n (pos 0) (pos 0) result.next result.low result.high }
+fn terms_range(walk: &Walk<'_>, at: usize, n: usize) -> Range
+    requires { ReadyRanges walk.now.set.now walk.now.work.now at n (pos 0) (pos 0) }
+    ensures { RangesPost walk.now.set.now walk.now.work.now at n (pos 0) (pos 0) result.next result.low result.high }
 {
     let mut next = at;
     let mut low = 0;
     let mut high = 0;
     for _ in 0..n {
-        let r = int_range(set, work, next + 1);
-        let k = set[next];
+        let r = int_range(walk, next + 1);
+        let k = walk.set[next];
         low += domains::times_low(k, r.low, r.high);
         high += domains::times_low(k, r.high, r.low);
         next = r.next;
@@ -439,13 +454,13 @@ fn terms_range(set: &[i32], work: &[i32], at: usize, n: usize) -> Range
 
 // An If: the lower and the higher end of both branches.
 #[cycle(range)]
-fn if_range(set: &[i32], work: &[i32], at: usize) -> Range
-    requires { ReadyIfRange set.now work.now at }
-    ensures { IfRangePost set.now work.now at result.next result.low result.high }
+fn if_range(walk: &Walk<'_>, at: usize) -> Range
+    requires { ReadyIfRange walk.now.set.now walk.now.work.now at }
+    ensures { IfRangePost walk.now.set.now walk.now.work.now at result.next result.low result.high }
 {
-    let c = passes::skip_members(set, at + 1, 1);
-    let t = int_range(set, work, c);
-    let f = int_range(set, work, t.next);
+    let c = passes::skip_members(walk.set, at + 1, 1);
+    let t = int_range(walk, c);
+    let f = int_range(walk, t.next);
     Range {
         next: f.next,
         low: t.low.min(f.low),
@@ -454,13 +469,13 @@ fn if_range(set: &[i32], work: &[i32], at: usize) -> Range
 }
 
 #[cycle(range)]
-fn int_range(set: &[i32], work: &[i32], at: usize) -> Range
-    requires { ReadyRange set.now work.now at }
-    ensures { RangePost set.now work.now at result.next result.low result.high }
+fn int_range(walk: &Walk<'_>, at: usize) -> Range
+    requires { ReadyRange walk.now.set.now walk.now.work.now at }
+    ensures { RangePost walk.now.set.now walk.now.work.now at result.next result.low result.high }
 {
-    let code = domains::number(set, at);
+    let code = domains::number(walk.set, at);
     if code == 20 {
-        let c = set[at + 1];
+        let c = walk.set[at + 1];
         return Range {
             next: at + 2,
             low: c,
@@ -468,42 +483,35 @@ fn int_range(set: &[i32], work: &[i32], at: usize) -> Range
         };
     }
     if code == 23 {
-        return if_range(set, work, at);
+        return if_range(walk, at);
     }
-    let v = domains::number(set, at + 1);
+    let v = domains::number(walk.set, at + 1);
     if code == 21 {
-        let low = work[memory::BOUNDS + 2 * v];
-        let high = work[memory::BOUNDS + (2 * v + 1)];
+        let low = walk.work[memory::BOUNDS + 2 * v];
+        let high = walk.work[memory::BOUNDS + (2 * v + 1)];
         return Range {
             next: at + 2,
             low,
             high,
         };
     }
-    terms_range(set, work, at + 2, v)
+    terms_range(walk, at + 2, v)
 }
 
 // ---- columns
 
 // A column of so many words with this total, but for what stands inside.
-fn root(
-    set: &[i32],
-    work: &[i32],
-    at: usize,
-    words: usize,
-    total: usize,
-    ni: usize,
-) -> Option<Limit>
-    requires { ReadyRoot set.now work.now at total ni × (ni ≤ max_ints) }
-    ensures { RootPost set.now work.now at words total ni (hit result) }
+fn root(walk: &Walk<'_>, at: usize, words: usize, total: usize) -> Option<Limit>
+    requires { ReadyRoot walk.now.set.now walk.now.work.now at total walk.now.ints }
+    ensures { RootPost walk.now.set.now walk.now.work.now at words total walk.now.ints (hit result) }
 {
     if total > 1073741823 {
         return Some(Limit::Weight);
     }
-    if many_column(set, at, words, ni) {
+    if many_column(walk, at, words) {
         return Some(Limit::Variables);
     }
-    let r = int_range(set, work, at);
+    let r = int_range(walk, at);
     let d = r.high.abs_diff(r.low);
     if d > 4095 {
         return Some(Limit::Span);
@@ -511,12 +519,12 @@ fn root(
     None
 }
 
-fn column(set: &[i32], work: &[i32], at: usize, ni: usize) -> Tested
-    requires { ReadyColumn set.now work.now at ni × (ni ≤ max_ints) }
-    ensures { ColumnPost set.now work.now at ni result.next (hit result.refusal) }
+fn column(walk: &Walk<'_>, at: usize) -> Tested
+    requires { ReadyColumn walk.now.set.now walk.now.work.now at walk.now.ints }
+    ensures { ColumnPost walk.now.set.now walk.now.work.now at walk.now.ints result.next (hit result.refusal) }
 {
-    let a = int_total(set, work, at, ni);
-    let own = root(set, work, at, a.next - at, a.total, ni);
+    let a = int_total(walk, at);
+    let own = root(walk, at, a.next - at, a.total);
     let refusal = first(own, a.refusal);
     Tested {
         next: a.next,
@@ -524,14 +532,14 @@ fn column(set: &[i32], work: &[i32], at: usize, ni: usize) -> Tested
     }
 }
 
-fn columns(set: &[i32], work: &[i32], at: usize, n: usize, ni: usize) -> Tested
-    requires { ReadyColumns set.now work.now at n ni × (ni ≤ max_ints) }
-    ensures { ColumnsPost set.now work.now at n ni 12 result.next (hit result.refusal) }
+fn columns(walk: &Walk<'_>, at: usize, n: usize) -> Tested
+    requires { ReadyColumns walk.now.set.now walk.now.work.now at n walk.now.ints }
+    ensures { ColumnsPost walk.now.set.now walk.now.work.now at n walk.now.ints 12 result.next (hit result.refusal) }
 {
     let mut next = at;
     let mut refusal = None;
     for _ in 0..n {
-        let t = column(set, work, next, ni);
+        let t = column(walk, next);
         refusal = first(refusal, t.refusal);
         next = t.next;
     }
@@ -548,16 +556,16 @@ pub struct Weighed {
 }
 
 // 9: the largest total so far with the next one; the first comes beside 0. And what stands inside each.
-fn heavy_pairs(set: &[i32], work: &[i32], at: usize, n: usize, ni: usize) -> Weighed
-    requires { ReadyColumns set.now work.now at n ni × (ni ≤ max_ints) }
-    ensures { OverPost set.now work.now at n ni 0 false 12 result.next result.heavy (hit result.refusal) }
+fn heavy_pairs(walk: &Walk<'_>, at: usize, n: usize) -> Weighed
+    requires { ReadyColumns walk.now.set.now walk.now.work.now at n walk.now.ints }
+    ensures { OverPost walk.now.set.now walk.now.work.now at n walk.now.ints 0 false 12 result.next result.heavy (hit result.refusal) }
 {
     let mut next = at;
     let mut top = 0;
     let mut heavy = false;
     let mut refusal = None;
     for _ in 0..n {
-        let t = int_total(set, work, next, ni);
+        let t = int_total(walk, next);
         heavy |= top + t.total > 1073741823;
         top = top.max(t.total);
         refusal = first(refusal, t.refusal);
@@ -571,14 +579,14 @@ fn heavy_pairs(set: &[i32], work: &[i32], at: usize, n: usize, ni: usize) -> Wei
 }
 
 // 10: whether the expression at `a`, of so many words, writes over 64 variables with one of the n.
-fn many_among(set: &[i32], a: usize, words: usize, at: usize, n: usize, ni: usize) -> bool
-    requires { ReadyAmong set.now a words at n ni × (ni ≤ max_ints) }
-    ensures { AmongPost set.now a words at n ni result }
+fn many_among(walk: &Walk<'_>, a: usize, words: usize, at: usize, n: usize) -> bool
+    requires { ReadyAmong walk.now.set.now a words at n walk.now.ints }
+    ensures { AmongPost walk.now.set.now a words at n walk.now.ints result }
 {
     let mut next = at;
     for _ in 0..n {
-        let end = passes::skip_int(set, next);
-        if many_comparison(set, a, next, words + (end - next), ni) {
+        let end = passes::skip_int(walk.set, next);
+        if many_comparison(walk, a, next, words + (end - next)) {
             return true;
         }
         next = end;
@@ -587,26 +595,26 @@ fn many_among(set: &[i32], a: usize, words: usize, at: usize, n: usize, ni: usiz
 }
 
 // 10: the expression from `a` to `end` with the k from `at` on before it and the n behind it. Of two with 128 words one has 64, and asks.
-fn many_beside(set: &[i32], a: usize, end: usize, at: usize, k: usize, n: usize, ni: usize) -> bool
-    requires { ReadyBeside set.now a end at k n ni × (ni ≤ max_ints) }
-    ensures { BesidePost set.now a end at k n ni result }
+fn many_beside(walk: &Walk<'_>, a: usize, end: usize, at: usize, k: usize, n: usize) -> bool
+    requires { ReadyBeside walk.now.set.now a end at k n walk.now.ints }
+    ensures { BesidePost walk.now.set.now a end at k n walk.now.ints result }
 {
     let words = end - a;
     if words < 64 {
         return false;
     }
-    many_among(set, a, words, at, k, ni) || many_among(set, a, words, end, n, ni)
+    many_among(walk, a, words, at, k) || many_among(walk, a, words, end, n)
 }
 
 // 10.
-fn many_pairs(set: &[i32], at: usize, n: usize, ni: usize) -> bool
-    requires { ReadySplit set.now at n at n ni × (ni ≤ max_ints) }
-    ensures { CrowdedPost set.now at n at n ni result }
+fn many_pairs(walk: &Walk<'_>, at: usize, n: usize) -> bool
+    requires { ReadySplit walk.now.set.now at n at n walk.now.ints }
+    ensures { CrowdedPost walk.now.set.now at n at n walk.now.ints result }
 {
     let mut next = at;
     for k in 0..n {
-        let end = passes::skip_int(set, next);
-        if many_beside(set, next, end, at, k, n - k - 1, ni) {
+        let end = passes::skip_int(walk.set, next);
+        if many_beside(walk, next, end, at, k, n - k - 1) {
             return true;
         }
         next = end;
@@ -615,25 +623,25 @@ fn many_pairs(set: &[i32], at: usize, n: usize, ni: usize) -> bool
 }
 
 // Expressions that differ, but for what stands inside.
-fn differ(set: &[i32], at: usize, n: usize, heavy: bool, ni: usize) -> Option<Limit>
-    requires { ReadySplit set.now at n at n ni × (ni ≤ max_ints) }
-    ensures { DifferPost set.now at n heavy ni (hit result) }
+fn differ(walk: &Walk<'_>, at: usize, n: usize, heavy: bool) -> Option<Limit>
+    requires { ReadySplit walk.now.set.now at n at n walk.now.ints }
+    ensures { DifferPost walk.now.set.now at n heavy walk.now.ints (hit result) }
 {
     if heavy {
         return Some(Limit::Weight);
     }
-    if many_pairs(set, at, n, ni) {
+    if many_pairs(walk, at, n) {
         return Some(Limit::Variables);
     }
     None
 }
 
-fn all_different(set: &[i32], work: &[i32], at: usize, n: usize, ni: usize) -> Tested
-    requires { ReadyColumns set.now work.now at n ni × (ni ≤ max_ints) }
-    ensures { DifferentPost set.now work.now at n ni result.next (hit result.refusal) }
+fn all_different(walk: &Walk<'_>, at: usize, n: usize) -> Tested
+    requires { ReadyColumns walk.now.set.now walk.now.work.now at n walk.now.ints }
+    ensures { DifferentPost walk.now.set.now walk.now.work.now at n walk.now.ints result.next (hit result.refusal) }
 {
-    let w = heavy_pairs(set, work, at, n, ni);
-    let own = differ(set, at, n, w.heavy, ni);
+    let w = heavy_pairs(walk, at, n);
+    let own = differ(walk, at, n, w.heavy);
     let refusal = first(own, w.refusal);
     Tested {
         next: w.next,
@@ -648,30 +656,35 @@ pub fn statement(set: &[i32], work: &[i32], at: usize, ni: usize) -> Tested
     requires { ReadyStmt set.now work.now at ni × (ni ≤ max_ints) }
     ensures { StmtPost set.now work.now at ni result.next (hit result.refusal) }
 {
+    let walk = &Walk {
+        set,
+        work,
+        ints: ni,
+    };
     let code = domains::number(set, at);
     if code == 1 {
-        return rules(set, work, at + 1, 1, ni);
+        return rules(walk, at + 1, 1);
     }
     let n = domains::number(set, at + 1);
     if code == 3 {
-        return all_different(set, work, at + 2, n, ni);
+        return all_different(walk, at + 2, n);
     }
     let k = domains::number(set, at + 2);
-    let t = columns(set, work, at + 3, n, ni);
+    let t = columns(walk, at + 3, n);
     Tested {
         next: t.next + n * k,
         refusal: t.refusal,
     }
 }
 
-fn statements(set: &[i32], work: &[i32], at: usize, n: usize, ni: usize) -> Option<Limit>
-    requires { ReadyStmts set.now work.now at n ni × (ni ≤ max_ints) }
-    ensures { StmtsPost set.now work.now at n ni 12 (hit result) }
+fn statements(walk: &Walk<'_>, at: usize, n: usize) -> Option<Limit>
+    requires { ReadyStmts walk.now.set.now walk.now.work.now at n walk.now.ints }
+    ensures { StmtsPost walk.now.set.now walk.now.work.now at n walk.now.ints 12 (hit result) }
 {
     let mut next = at;
     let mut refusal = None;
     for _ in 0..n {
-        let t = statement(set, work, next, ni);
+        let t = statement(walk.set, walk.work, next, walk.ints);
         refusal = first(refusal, t.refusal);
         next = t.next;
     }
@@ -683,7 +696,12 @@ fn check(set: &[i32], work: &[i32], at: usize, n: usize, ni: usize) -> Result<()
     requires { ReadyStmts set.now work.now at n ni × (ni ≤ max_ints) }
     ensures { CheckPost set.now work.now at n ni (refusal_or_0 result) }
 {
-    match statements(set, work, at, n, ni) {
+    let walk = &Walk {
+        set,
+        work,
+        ints: ni,
+    };
+    match statements(walk, at, n) {
         Some(limit) => Err(Refusal::from(limit)),
         None => Ok(()),
     }

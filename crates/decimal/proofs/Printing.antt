@@ -2,15 +2,13 @@
 use mathlib.Core.Path.{◌≡◌, refl, sym, ap, ◌∙◌}
 use mathlib.Core.Bool.{true}
 use mathlib.Core.List.{List, [], ◌∷◌}
-use Prim.Native.Nat.{ℕ, suc, ◌+◌, ◌-◌, ◌/◌, ◌%◌, ◌≤◌, ◌<◌}
+use Prim.Native.Nat.{ℕ, ◌+◌, ◌/◌, ◌%◌, ◌≤◌, ◌<◌}
 use native.Mathlib.Omega.{arith}
-use lib.IntN.{ℤ, pos, negsuc, nat_abs, ◌-ℤ◌}
+use lib.IntN.{ℤ, pos, negsuc, nat_abs}
 use lib.Dec.{T}
-use lib.Signed.{lt_z, non_neg, mag}
+use lib.Signed.{lt_z, non_neg}
 use lib.ListN.{length, drop, get_or, drop_of_length-le}
-use borrow.Author.Tests.{ltb-true, le-ltb}
-use mir.Syntax.{w32, w64}
-use mir.Val.{SFits, Fits}
+use borrow.Author.Tests.{ltb-true}
 use Rattle.decimal.specs.Bytes.{minus}
 use Rattle.decimal.specs.Decimal.{print_natural, print_number}
 use Rattle.decimal.specs.Widths.{natural_small, natural_large}
@@ -34,35 +32,17 @@ put_small n h w = puts_as (print_natural n) (natural_small n h) w
 pub put_large : {out mid out' : List ℕ} {at m r : ℕ} (n : ℕ) → 10 ≤ n → Puts out at (print_natural (n / 10)) mid m → Puts mid m ((48 + n % 10) ∷ []) out' r → Puts out at (print_natural n) out' r
 put_large n h x y = puts_as (print_natural n) (natural_large n h) (puts_then x y)
 
-number_negative : (z : ℤ) → lt_z z (pos 0) ≡ true → minus ∷ print_natural (nat_abs (negsuc 0 -ℤ z) + 1) ≡ print_number z
+number_negative : (z : ℤ) → lt_z z (pos 0) ≡ true → minus ∷ print_natural (nat_abs z) ≡ print_number z
 unfolding print_number
 number_negative (pos n) h = absurd (let l = ltb-true n 0 h in omega arith)
-number_negative (negsuc n) h = ap (λ k. minus ∷ print_natural k) (less n)
-  where
-    less : (n : ℕ) → nat_abs (negsuc 0 -ℤ negsuc n) + 1 ≡ suc n
-    less n = rw (le-ltb (suc n) 1 (omega arith)) (omega arith)
+number_negative (negsuc n) h = refl
 
 number_plain : (z : ℤ) → T (non_neg z) → print_natural (nat_abs z) ≡ print_number z
 unfolding print_number
 number_plain (pos n) h = refl
 number_plain (negsuc n) h = absurd h
 
--- the code's -1 - z
-flip : (z : ℤ) → lt_z z (pos 0) ≡ true → negsuc 0 -ℤ z ≡ pos (mag z)
-flip (pos n) h = absurd (let l = ltb-true n 0 h in omega arith)
-flip (negsuc n) h = rw (le-ltb (suc n) 1 (omega arith)) (ap pos (let e : suc n - 1 ≡ n = omega arith in e))
-
-module _ (z : ℤ) (h : lt_z z (pos 0) ≡ true) (f : SFits w32 z) where
-  pub flip_fits : SFits w32 (negsuc 0 -ℤ z)
-  flip_fits = rw (flip z h) (record { sfits = f.sfits })
-
-  pub flip_plain : T (non_neg (negsuc 0 -ℤ z))
-  flip_plain = rw (flip z h) tt
-
-  pub flip_more : Fits w64 (nat_abs (negsuc 0 -ℤ z) + 1)
-  flip_more = rw (flip z h) (record { fits = let l = f.sfits in omega arith })
-
-pub put_negative : {out mid out' : List ℕ} {at m r : ℕ} (z : ℤ) → lt_z z (pos 0) ≡ true → Puts out at (minus ∷ []) mid m → (n : ℕ) → n ≡ nat_abs (negsuc 0 -ℤ z) + 1 → Puts mid m (print_natural n) out' r → Puts out at (print_number z) out' r
+pub put_negative : {out mid out' : List ℕ} {at m r : ℕ} (z : ℤ) → lt_z z (pos 0) ≡ true → Puts out at (minus ∷ []) mid m → (n : ℕ) → n ≡ nat_abs z → Puts mid m (print_natural n) out' r → Puts out at (print_number z) out' r
 put_negative z h x n e y = puts_as (print_number z) (rw e (number_negative z h)) (puts_then x y)
 
 pub put_plain : {out out' : List ℕ} {at r : ℕ} (z : ℤ) → T (non_neg z) → (n : ℕ) → n ≡ nat_abs z → Puts out at (print_natural n) out' r → Puts out at (print_number z) out' r

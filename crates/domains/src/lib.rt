@@ -75,6 +75,7 @@ pub fn lower_bound(words: &[i32], at: usize) -> i32
     }
 }
 
+// No twin of `lower_bound` in one function: the choice would be as long.
 pub fn upper_bound(words: &[i32], at: usize) -> i32
     requires { DomainAt words.now at }
     ensures { (dm : Domain) → Has words.now at (encode_domain dm) → result ≡ upper_bound dm }

@@ -20,15 +20,16 @@ pub enum Checked {
 
 // ---- integer expressions
 
+// What was worked out, and the place behind its words.
 #[derive(Drop)]
-pub struct Valued {
+pub struct Valued<T> {
     pub next: usize,
-    pub value: i32,
+    pub value: T,
 }
 
 // As many terms as `n` says.
 #[cycle(holds)]
-fn terms_value(set: &[i32], values: &[i32], nb: usize, at: usize, n: usize) -> Valued
+fn terms_value(set: &[i32], values: &[i32], nb: usize, at: usize, n: usize) -> Valued<i32>
     requires { ReadyTerms set.now values.now nb at n (pos 0) }
     ensures { TermsPost set.now values.now nb at n (pos 0) result.next result.value }
 {
@@ -44,12 +45,12 @@ fn terms_value(set: &[i32], values: &[i32], nb: usize, at: usize, n: usize) -> V
 
 // The condition decides which branch is evaluated; the other one is passed over.
 #[cycle(holds)]
-fn if_value(set: &[i32], values: &[i32], nb: usize, at: usize) -> Valued
+fn if_value(set: &[i32], values: &[i32], nb: usize, at: usize) -> Valued<i32>
     requires { ReadyInt set.now values.now nb at × (get_or set.now at (pos 0) ≡ pos 23) }
     ensures { IntPost set.now values.now nb at result.next result.value }
 {
     let c = bool_holds(set, values, nb, at + 1);
-    if !c.held {
+    if !c.value {
         let f = passes::skip_int(set, c.next);
         return int_value(set, values, nb, f);
     }
@@ -61,7 +62,7 @@ fn if_value(set: &[i32], values: &[i32], nb: usize, at: usize) -> Valued
 }
 
 #[cycle(holds)]
-fn int_value(set: &[i32], values: &[i32], nb: usize, at: usize) -> Valued
+fn int_value(set: &[i32], values: &[i32], nb: usize, at: usize) -> Valued<i32>
     requires { ReadyInt set.now values.now nb at }
     ensures { IntPost set.now values.now nb at result.next result.value }
 {
@@ -87,12 +88,6 @@ fn int_value(set: &[i32], values: &[i32], nb: usize, at: usize) -> Valued
 
 // ---- Boolean expressions
 
-#[derive(Drop)]
-pub struct Held {
-    pub next: usize,
-    pub held: bool,
-}
-
 fn compares(op: usize, x: i32, y: i32) -> bool
     ensures { result ≡ compare (op_at op) x y }
 {
@@ -107,16 +102,16 @@ fn compares(op: usize, x: i32, y: i32) -> bool
 }
 
 #[cycle(holds)]
-fn comparison_holds(set: &[i32], values: &[i32], nb: usize, at: usize) -> Held
+fn comparison_holds(set: &[i32], values: &[i32], nb: usize, at: usize) -> Valued<bool>
     requires { ReadyBool set.now values.now nb at × (get_or set.now at (pos 0) ≡ pos 18) }
-    ensures { BoolPost set.now values.now nb at result.next result.held }
+    ensures { BoolPost set.now values.now nb at result.next result.value }
 {
     let op = domains::number(set, at + 1);
     let a = int_value(set, values, nb, at + 2);
     let b = int_value(set, values, nb, a.next);
-    Held {
+    Valued {
         next: b.next,
-        held: compares(op, a.value, b.value),
+        value: compares(op, a.value, b.value),
     }
 }
 
@@ -142,34 +137,41 @@ fn sides_hold(code: usize, a: bool, b: bool) -> bool
 
 // As many members as `n` says: whether one is `stop`, which decides. What lies behind it is passed over.
 #[cycle(holds)]
-fn members_hold(set: &[i32], values: &[i32], nb: usize, at: usize, n: usize, stop: bool) -> Held
+fn members_hold(
+    set: &[i32],
+    values: &[i32],
+    nb: usize,
+    at: usize,
+    n: usize,
+    stop: bool,
+) -> Valued<bool>
     requires { ReadyMembers set.now values.now nb at n }
-    ensures { MembersPost set.now values.now nb at n stop result.next result.held }
+    ensures { MembersPost set.now values.now nb at n stop result.next result.value }
 {
     let mut next = at;
     for rest in (0..n).rev() {
         let m = bool_holds(set, values, nb, next);
-        if m.held == stop {
-            return Held {
+        if m.value == stop {
+            return Valued {
                 next: passes::skip_members(set, m.next, rest),
-                held: stop,
+                value: stop,
             };
         }
         next = m.next;
     }
-    Held { next, held: !stop }
+    Valued { next, value: !stop }
 }
 
 #[cycle(holds)]
-fn bool_holds(set: &[i32], values: &[i32], nb: usize, at: usize) -> Held
+fn bool_holds(set: &[i32], values: &[i32], nb: usize, at: usize) -> Valued<bool>
     requires { ReadyBool set.now values.now nb at }
-    ensures { BoolPost set.now values.now nb at result.next result.held }
+    ensures { BoolPost set.now values.now nb at result.next result.value }
 {
     let code = domains::number(set, at);
     if code < 12 {
-        return Held {
+        return Valued {
             next: at + 2,
-            held: leaf_holds(set, values, nb, at, code),
+            value: leaf_holds(set, values, nb, at, code),
         };
     }
     if code < 14 {
@@ -178,9 +180,9 @@ fn bool_holds(set: &[i32], values: &[i32], nb: usize, at: usize) -> Held
     }
     if code == 14 {
         let a = bool_holds(set, values, nb, at + 1);
-        return Held {
+        return Valued {
             next: a.next,
-            held: !a.held,
+            value: !a.value,
         };
     }
     if code == 18 {
@@ -188,9 +190,9 @@ fn bool_holds(set: &[i32], values: &[i32], nb: usize, at: usize) -> Held
     }
     let a = bool_holds(set, values, nb, at + 1);
     let b = bool_holds(set, values, nb, a.next);
-    Held {
+    Valued {
         next: b.next,
-        held: sides_hold(code, a.held, b.held),
+        value: sides_hold(code, a.value, b.value),
     }
 }
 
@@ -227,6 +229,7 @@ fn row_holds(set: &[i32], at: usize, n: usize, work: &[i32]) -> bool
     requires { ReadyRow set.now at n work.now 0 }
     ensures { RowPost set.now at n work.now 0 result }
 {
+    // no chain with `all`: its proof did not close
     for i in 0..n {
         if !permits(set[at + i], work[i]) {
             return false;
@@ -249,16 +252,16 @@ fn rows_hold(set: &[i32], at: usize, n: usize, k: usize, work: &[i32]) -> bool
     false
 }
 
-fn table_holds(set: &[i32], values: &[i32], nb: usize, at: usize, work: &mut [i32]) -> Held
+fn table_holds(set: &[i32], values: &[i32], nb: usize, at: usize, work: &mut [i32]) -> Valued<bool>
     requires { ReadyStmt set.now values.now nb at work.old × (get_or set.now at (pos 0) ≡ pos 2) }
-    ensures { StmtPost set.now values.now nb at result.next result.held }
+    ensures { StmtPost set.now values.now nb at result.next result.value }
 {
     let n = domains::number(set, at + 1);
     let k = domains::number(set, at + 2);
     let p = column_values(set, values, nb, at + 3, n, work);
-    Held {
+    Valued {
         next: p + n * k,
-        held: rows_hold(set, p, n, k, work),
+        value: rows_hold(set, p, n, k, work),
     }
 }
 
@@ -277,23 +280,35 @@ fn differ(work: &[i32], n: usize) -> bool
     true
 }
 
-fn different_holds(set: &[i32], values: &[i32], nb: usize, at: usize, work: &mut [i32]) -> Held
+fn different_holds(
+    set: &[i32],
+    values: &[i32],
+    nb: usize,
+    at: usize,
+    work: &mut [i32],
+) -> Valued<bool>
     requires { ReadyStmt set.now values.now nb at work.old × (get_or set.now at (pos 0) ≡ pos 3) }
-    ensures { StmtPost set.now values.now nb at result.next result.held }
+    ensures { StmtPost set.now values.now nb at result.next result.value }
 {
     let n = domains::number(set, at + 1);
     let next = column_values(set, values, nb, at + 2, n, work);
-    Held {
+    Valued {
         next,
-        held: differ(work, n),
+        value: differ(work, n),
     }
 }
 
 // ---- statements
 
-fn statement_holds(set: &[i32], values: &[i32], nb: usize, at: usize, work: &mut [i32]) -> Held
+fn statement_holds(
+    set: &[i32],
+    values: &[i32],
+    nb: usize,
+    at: usize,
+    work: &mut [i32],
+) -> Valued<bool>
     requires { ReadyStmt set.now values.now nb at work.old }
-    ensures { StmtPost set.now values.now nb at result.next result.held }
+    ensures { StmtPost set.now values.now nb at result.next result.value }
 {
     let code = domains::number(set, at);
     match code {
@@ -318,7 +333,7 @@ fn first_broken(
     let mut next = at;
     for k in 0..n {
         let s = statement_holds(set, values, nb, next, work);
-        if !s.held {
+        if !s.value {
             return Checked::Broken(k + 1);
         }
         next = s.next;
@@ -363,6 +378,7 @@ fn bools_inside(values: &[i32], nb: usize) -> bool
     requires { nb ≤ length values.now }
     ensures { result ≡ all (λ v. is_bit (get_or values.now v (pos 0))) (below nb) }
 {
+    // no chain with `all`: its proof did not close
     for v in 0..nb {
         if !bit(values[v]) {
             return false;

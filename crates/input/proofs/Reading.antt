@@ -1,15 +1,17 @@
 -- A law for each answer of the functions that read lines, over variables. Assumes nothing.
 use mathlib.Core.Path.{◌≡◌, refl, sym, ap, ◌∙◌, subst}
-use mathlib.Core.Bool.{Bool, true, false, cond}
-use mathlib.Core.List.{List, [], ◌∷◌, ◌++◌}
+use mathlib.Core.Bool.{Bool, true, false, cond, not, ◌&&◌}
+use mathlib.Core.List.{List, [], ◌∷◌}
 use mathlib.Core.Option.{Option, none, some}
+use Rattle.std.specs.Prelude.{Some, None}
+use Rattle.std.specs.Prelude as code
 use Prim.Native.Nat.{ℕ, suc, ◌+◌, ◌-◌, ◌≤◌, ◌<◌}
 use native.Mathlib.Omega.{arith}
 use lib.IntN.{ℤ}
 use lib.Dec.{eqb, ltb}
-use lib.ListN.{length, take, drop, get_or, set, length-append, length-take, length-drop, length-set, drop_of_length-le}
-use lib.Seq.{take-suc, get_or-drop, sets, set_out, take_all}
-use borrow.Author.Tests.{ltb-true, ltb-false, eq-eqb, ne_eqb}
+use lib.ListN.{length, take, drop, set, length-append, length-take, length-drop, length-set, drop_of_length-le}
+use lib.Seq.{drop-drop, sets, set_out, take_all}
+use borrow.Author.Tests.{ltb-true, ltb-false, eq-eqb, ne_eqb, eqb-true, eqb-false}
 use mir.Syntax.{w32}
 use mir.Val.{SFits, of_z, to_z}
 use mir.Facts.{to_z-of_z}
@@ -17,97 +19,107 @@ use Rattle.laws.specs.Writes.{sets_append}
 use Rattle.decimal.specs.Bytes.{comma, line_feed}
 use Rattle.decimal.specs.Decimal.{read_number}
 use Rattle.input.specs.ReadText.{onto, split, after, join, single, read_numbers, Reader, one_number, count_line, lines}
-use Rattle.decimal.specs.Numbers.{number_of, number_read}
+use Rattle.decimal.specs.Numbers.{option_of}
+use Rattle.std.specs.List.{position_or_len, position, starts_with}
+use Rattle.std.specs.Cmp.Lexicographic.{pointwise}
+use Rattle.std.specs.Bool.{◌==◌}
 use Rattle.input.specs.Input.{fill, filled, Found, left_at, left_step, left_line, InWords, Filled, Stepped, Lined}
-use Rattle.decimal.specs.declared.Number.{Number}
-use Rattle.decimal.specs.declared.Number.TheVariants as number
-use Rattle.input.specs.declared.Words.{Words}
-use Rattle.input.specs.declared.Words.TheVariants as words
-use Rattle.input.specs.declared.Line.TheVariants as line
-use Rattle.input.specs.declared.Step.{Step}
-use Rattle.input.specs.declared.Step.TheVariants as step
-use Rattle.decimal.specs.Puts.{cons_at}
 
 differ : {X : Type 0} → ◌≡◌ {A = ℕ} 0 1 → X
 differ z = absurd (omega arith)
 
--- ---- finding a byte: xs is what lies before it
+-- ---- finding a byte
 
-pub before : List ℕ → List (List ℕ) → List (List ℕ)
-before [] ps = ps
-before (x ∷ xs) ps = onto x (before xs ps)
+split_at : (s : ℕ) (xs : List ℕ) → position_or_len (λ b. b == s) xs < length xs
+    → split s xs ≡ take (position_or_len (λ b. b == s) xs) xs ∷ split s (drop (position_or_len (λ b. b == s) xs + 1) xs)
+unfolding split
+split_at s [] h = absurd (omega arith)
+split_at s (x ∷ xs) h = go (eqb x s) h (λ q. split_at s xs q)
+  where
+    go : (t : Bool) → cond (not t) (1 + position_or_len (λ b. b == s) xs) 0 < suc (length xs)
+        → (position_or_len (λ b. b == s) xs < length xs → split s xs ≡ take (position_or_len (λ b. b == s) xs) xs ∷ split s (drop (position_or_len (λ b. b == s) xs + 1) xs))
+        → cond t ([] ∷ split s xs) (onto x (split s xs)) ≡ take (cond (not t) (1 + position_or_len (λ b. b == s) xs) 0) (x ∷ xs) ∷ split s (drop (cond (not t) (1 + position_or_len (λ b. b == s) xs) 0 + 1) (x ∷ xs))
+    go true h f = refl
+    go false h f =
+        let n = position_or_len (λ b. b == s) xs in
+        let e : 1 + n ≡ suc n = omega arith in
+        let d : suc n + 1 ≡ suc (n + 1) = omega arith in
+        rw (f (omega arith), e, d) refl
 
-before_snoc : (xs : List ℕ) (x : ℕ) (ps : List (List ℕ)) → before (xs ++ (x ∷ [])) ps ≡ before xs (onto x ps)
-unfolding before
-before_snoc [] x ps = refl
-before_snoc (y ∷ xs) x ps = ap (onto y) (before_snoc xs x ps)
+split_none : (s : ℕ) (xs : List ℕ) → length xs ≤ position_or_len (λ b. b == s) xs → split s xs ≡ xs ∷ []
+unfolding split
+split_none s [] h = refl
+split_none s (x ∷ xs) h = go (eqb x s) h (λ q. split_none s xs q)
+  where
+    go : (t : Bool) → suc (length xs) ≤ cond (not t) (1 + position_or_len (λ b. b == s) xs) 0
+        → (length xs ≤ position_or_len (λ b. b == s) xs → split s xs ≡ xs ∷ [])
+        → cond t ([] ∷ split s xs) (onto x (split s xs)) ≡ (x ∷ xs) ∷ []
+    go true h f = absurd (omega arith)
+    go false h f = rw (f (omega arith)) refl
 
-before_part : (xs : List ℕ) (ps : List (List ℕ)) → before xs ([] ∷ ps) ≡ xs ∷ ps
-unfolding before
-before_part [] ps = refl
-before_part (x ∷ xs) ps = rw (before_part xs ps) refl
+-- a part that is lent to the end
+part_all : (n : ℕ) (l : List ℕ) → take (length l - n) (drop n l) ≡ drop n l
+part_all n l = take_all (length l - n) (drop n l) (omega (arith, length-drop n l))
 
--- from `at` to i no byte is s
-pub record Absent (s : ℕ) (text : List ℕ) (at i : ℕ) : Type 0 where
-  pub low : at ≤ i
-  pub high : i ≤ length text
-  pub parts : split s (drop at text) ≡ before (take (i - at) (drop at text)) (split s (drop i text))
+module _ (s : ℕ) (text : List ℕ) (at : ℕ) (h : at ≤ length text) where
+  abbrev rest : List ℕ
+  rest = drop at text
 
-module _ (s : ℕ) (text : List ℕ) (at : ℕ) where
-  pub absent_none : at ≤ length text → Absent s text at at
-  unfolding before
-  absent_none h = record { low = omega arith; high = h; parts = let e : at - at ≡ 0 = omega arith in rw e refl }
+  abbrev first_place : ℕ
+  first_place = position_or_len (λ b. b == s) rest
 
-  pub absent_more : (i : ℕ) → Absent s text at i → i < length text → (get_or text i 0 ≡ s → ⊥) → Absent s text at (i + 1)
-  unfolding split
-  absent_more i p h z =
-      let l : at ≤ i = p.low in
-      let e : i + 1 - at ≡ suc (i - at) = omega arith in
-      let g : get_or (drop at text) (i - at) 0 ≡ get_or text i 0 = get_or-drop at text (i - at) 0 ∙ ap (λ n. get_or text n 0) (omega arith) in
-      let t : take (suc (i - at)) (drop at text) ≡ take (i - at) (drop at text) ++ (get_or text i 0 ∷ []) = rw (← g) (take-suc (drop at text) (i - at) 0 (omega (arith, length-drop at text))) in
-      let q : split s (drop i text) ≡ onto (get_or text i 0) (split s (drop (i + 1) text)) = rw (cons_at text i h, ne_eqb (get_or text i 0) s z) refl in
-      record { low = omega arith; high = omega arith; parts = p.parts ∙ ap (before (take (i - at) (drop at text))) q ∙ rw (e, t) (sym (before_snoc (take (i - at) (drop at text)) (get_or text i 0) (split s (drop (i + 1) text)))) }
-
-  pub found_at : (i : ℕ) → Absent s text at i → i < length text → get_or text i 0 ≡ s → Found s text at i
-  unfolding split
-  found_at i p h z =
-      let q : split s (drop i text) ≡ [] ∷ split s (drop (i + 1) text) = rw (cons_at text i h, eq-eqb (get_or text i 0) s z) refl in
+  found_at : first_place < length rest → Found s text at (at + first_place)
+  found_at l =
+      let n = length-drop at text in
+      let e : at + first_place - at ≡ first_place = omega arith in
+      let d : at + (first_place + 1) ≡ at + first_place + 1 = omega arith in
       record {
-        low = p.low;
-        high = p.high;
-        more = λ l. p.parts ∙ ap (before (take (i - at) (drop at text))) q ∙ before_part (take (i - at) (drop at text)) (split s (drop (i + 1) text));
-        last = λ e. absurd (omega arith);
+        low = omega arith;
+        high = omega arith;
+        more = λ q. rw e (split_at s rest l ∙ ap (λ r. take first_place rest ∷ split s r) (drop-drop (first_place + 1) at text ∙ ap (λ j. drop j text) d));
+        last = λ q. absurd (omega arith);
       }
 
-  pub found_none : (i : ℕ) → Absent s text at i → length text ≤ i → Found s text at i
-  unfolding split
-  found_none i p h =
-      let q : split s (drop i text) ≡ [] ∷ [] = rw (drop_of_length-le text h) refl in
+  found_none : length rest ≤ first_place → Found s text at (length text)
+  found_none l =
       record {
-        low = p.low;
-        high = p.high;
-        more = λ l. absurd (omega arith);
-        last = λ e. p.parts ∙ ap (before (take (i - at) (drop at text))) q ∙ before_part (take (i - at) (drop at text)) [];
+        low = h;
+        high = omega arith;
+        more = λ q. absurd (omega arith);
+        last = λ q. split_none s rest l ∙ rw (take_all (length text - at) rest (omega (arith, length-drop at text))) refl;
       }
+
+  pub found_some : (r : code.Option ℕ) (i : ℕ) → r ≡ position (λ b. b == s) (take (length text - at) rest) → r ≡ Some i → Found s text at (at + i)
+  found_some r i p q = go (ltb first_place (length rest)) refl (sym q ∙ p ∙ ap (position (λ b. b == s)) (part_all at text))
+    where
+      go : (t : Bool) → ltb first_place (length rest) ≡ t → Some i ≡ cond t (Some first_place) None → Found s text at (at + i)
+      go true e q = let z : first_place ≡ i = cc in subst (λ (j : ℕ). Found s text at (at + j)) z (found_at (ltb-true first_place (length rest) e))
+      go false e q = cc
+
+  pub not_found : (r : code.Option ℕ) → r ≡ position (λ b. b == s) (take (length text - at) rest) → r ≡ None → Found s text at (length text)
+  not_found r p q = go (ltb first_place (length rest)) refl (sym q ∙ p ∙ ap (position (λ b. b == s)) (part_all at text))
+    where
+      go : (t : Bool) → ltb first_place (length rest) ≡ t → None ≡ cond t (Some first_place) None → Found s text at (length text)
+      go true e q = cc
+      go false e q = found_none (ltb-false first_place (length rest) e)
 
 -- ---- matching a key
 
-module _ (key line : List ℕ) (i : ℕ) (same : after key line ≡ after (drop i key) (drop i line)) where
-  pub key_short : i < length key → i ≡ length line → after key line ≡ none
-  unfolding after
-  key_short h e = same ∙ rw (cons_at key i h, drop_of_length-le line (let l : length line ≤ i = omega arith in l)) refl
+eqb_comm : (a b : ℕ) → eqb a b ≡ eqb b a
+eqb_comm a b = go (eqb a b) refl
+  where
+    go : (t : Bool) → eqb a b ≡ t → t ≡ eqb b a
+    go true e = sym (eq-eqb b a (sym (eqb-true a b e)))
+    go false e = sym (ne_eqb b a (λ q. eqb-false a b e (sym q)))
 
-  pub key_differs : i < length key → i < length line → (get_or line i 0 ≡ get_or key i 0 → ⊥) → after key line ≡ none
-  unfolding after
-  key_differs h l z = same ∙ rw (cons_at key i h, cons_at line i l, ne_eqb (get_or line i 0) (get_or key i 0) z) refl
+key_tested : (key line : List ℕ) → after key line ≡ cond (pointwise eqb key (take (length key) line)) (some (drop (length key) line)) none
+unfolding after
+key_tested [] line = refl
+key_tested (k ∷ key) [] = refl
+key_tested (k ∷ key) (b ∷ line) = rw (eqb_comm b k) (elim (eqb k b) as (λ t. cond t (after key line) none ≡ cond (t && pointwise eqb key (take (length key) line)) (some (drop (length key) line)) none) [ true ↦ key_tested key line | false ↦ refl ])
 
-  pub key_next : i < length key → i < length line → get_or line i 0 ≡ get_or key i 0 → after key line ≡ after (drop (i + 1) key) (drop (i + 1) line)
-  unfolding after
-  key_next h l z = same ∙ rw (cons_at key i h, cons_at line i l, eq-eqb (get_or line i 0) (get_or key i 0) z) refl
-
-  pub key_whole : i ≡ length key → after key line ≡ some (drop (length key) line)
-  unfolding after
-  key_whole e = same ∙ rw (drop_of_length-le key (let l : length key ≤ i = omega arith in l), e) refl
+pub key_found : (key line : List ℕ) (b : Bool) → b ≡ starts_with eqb line key → after key line ≡ cond b (some (drop (length key) line)) none
+key_found key line b e = rw e (key_tested key line)
 
 -- a key that stands is no longer than its line
 after_length : (key line r : List ℕ) → after key line ≡ some r → length key ≤ length line
@@ -127,22 +139,13 @@ after_empty (k ∷ key) h = refl
 
 -- ---- storing one number
 
-pub stored : (out : List ℤ) (k : ℕ) (z : Number) (w : ℤ) → SFits w32 w → z ≡ number.Value w → Filled out k (single (number_read z)) (k + 1) (set out k (to_z w32 (of_z w32 w))) (words.Count (k + 1))
-unfolding fill filled number_read
-stored out k z w f e = record { size = length-set out k _; words = rw (e, to_z-of_z f) refl; few = omega arith }
+pub stored : (out : List ℤ) (k : ℕ) (w : ℤ) → SFits w32 w → Filled out k (some (w ∷ [])) (k + 1) (set out k (to_z w32 (of_z w32 w))) (Some (k + 1))
+unfolding fill filled
+stored out k w f = record { size = length-set out k _; words = rw (to_z-of_z f) refl; few = omega arith }
 
-pub stored_past : (out : List ℤ) (k : ℕ) (z : Number) (w : ℤ) → length out ≤ k → z ≡ number.Value w → Filled out k (single (number_read z)) (k + 1) out (words.Count (k + 1))
-unfolding fill filled number_read
-stored_past out k z w h e = record { size = refl; words = rw (e, set_out out k w h) refl; few = omega arith }
-
-pub unstored : (out : List ℤ) (k : ℕ) (z : Number) → z ≡ number.Unread → Filled out k (single (number_read z)) (k + 1) out words.Unread
-unfolding fill filled number_read
-unstored out k z e = record { size = refl; words = rw e refl; few = tt }
-
-read_of : (o : Option ℤ) → number_read (number_of o) ≡ o
-unfolding number_read number_of
-read_of none = refl
-read_of (some z) = refl
+pub stored_past : (out : List ℤ) (k : ℕ) (w : ℤ) → length out ≤ k → Filled out k (some (w ∷ [])) (k + 1) out (Some (k + 1))
+unfolding fill filled
+stored_past out k w h = record { size = refl; words = rw (set_out out k w h) refl; few = omega arith }
 
 -- ---- one after another
 
@@ -198,37 +201,37 @@ module _ (text : List ℕ) (at e : ℕ) (f : Found line_feed text at e) (key : L
   abbrev others : List (List ℕ)
   others = split line_feed (drop (e + 1) text)
 
-  pub count_last : e ≡ length text → Stepped (count_line key) text out at k out step.Unread
+  pub count_last : e ≡ length text → Stepped (count_line key) text out at k out None
   unfolding left_at left_step count_line
   count_last l = record { inside = tt; size = refl; left = λ next z. rw (f.last l, z) (fill_ended out k (one_number (after key first))) }
 
   module _ (l : e < length text) where
-    count_other : after key first ≡ none → Stepped (count_line key) text out at k out step.Unread
+    count_other : after key first ≡ none → Stepped (count_line key) text out at k out None
     unfolding left_at left_step count_line fill
     count_other h = record { inside = tt; size = refl; left = λ next z. rw (f.more l, h) refl }
 
     module _ (r : List ℕ) (h : after key first ≡ some r) (out' : List ℤ) (same : length out' ≡ length out) where
-      count_stop : fill out k (single (read_number r)) ≡ none → Stepped (count_line key) text out at k out' step.Unread
+      count_stop : fill out k (single (read_number r)) ≡ none → Stepped (count_line key) text out at k out' None
       unfolding left_at left_step count_line
       count_stop q = record { inside = tt; size = same; left = λ next z. rw (f.more l, h) (fill_stop out k (single (read_number r)) (next others) q) }
 
-      count_next : (m : ℕ) → fill out k (single (read_number r)) ≡ some (out', m) → m ≤ e + 1 → Stepped (count_line key) text out at k out' (step.At (e + 1) m)
+      count_next : (m : ℕ) → fill out k (single (read_number r)) ≡ some (out', m) → m ≤ e + 1 → Stepped (count_line key) text out at k out' (Some (e + 1, m))
       unfolding left_at left_step count_line
       count_next m q b = record { inside = (omega arith, b); size = same; left = λ next z. rw (f.more l, h) (fill_next out k (single (read_number r)) (next others) out' m q) }
 
-      line_stop : fill out k (read_numbers (split comma r)) ≡ none → Lined key text out at k out' line.Unread
+      line_stop : fill out k (read_numbers (split comma r)) ≡ none → Lined key text out at k out' None
       unfolding left_at left_line lines
       line_stop q = record { inside = tt; size = same; left = λ next z. rw (f.more l, h) (fill_stop out k (read_numbers (split comma r)) (lines key next others) q) }
 
-      line_next : (m : ℕ) → fill out k (read_numbers (split comma r)) ≡ some (out', m) → m ≤ e + 1 → Lined key text out at k out' (line.Read (e + 1) m)
+      line_next : (m : ℕ) → fill out k (read_numbers (split comma r)) ≡ some (out', m) → m ≤ e + 1 → Lined key text out at k out' (Some (Some (e + 1, m)))
       unfolding left_at left_line lines
       line_next m q b = record { inside = (let j = f.low in omega arith, (omega arith, b)); size = same; left = λ next z. rw (f.more l, h) (fill_next out k (read_numbers (split comma r)) (lines key next others) out' m q) }
 
-  line_last : (r : List ℕ) → e ≡ length text → after key first ≡ some r → Lined key text out at k out line.Unread
+  line_last : (r : List ℕ) → e ≡ length text → after key first ≡ some r → Lined key text out at k out None
   unfolding left_at left_line lines
   line_last r l h = record { inside = tt; size = refl; left = λ next z. rw (f.last l, h, z) (fill_ended out k (read_numbers (split comma r))) }
 
-  line_other : after key first ≡ none → Lined key text out at k out line.Other
+  line_other : after key first ≡ none → Lined key text out at k out (Some None)
   unfolding left_at left_line lines
   line_other h = record { inside = tt; size = refl; left = λ next z. go next (ltb e (length text)) refl }
     where
@@ -244,60 +247,52 @@ lines_end text key next out i n h l = rw (drop_of_length-le text l, after_empty 
 -- ---- readers one after another
 
 module _ (text : List ℕ) (out mid : List ℤ) (at k : ℕ) (f : Reader → Reader) where
-  pub step_stop : (g : Reader → Reader) → ((next : Reader) → next [] ≡ none → g next [] ≡ none) → Stepped f text out at k mid step.Unread → Stepped (λ next. f (g next)) text out at k mid step.Unread
+  pub step_stop : (g : Reader → Reader) → ((next : Reader) → next [] ≡ none → g next [] ≡ none) → Stepped f text out at k mid None → Stepped (λ next. f (g next)) text out at k mid None
   unfolding left_step
   step_stop g h s = record { inside = tt; size = s.size; left = λ next z. s.left (g next) (h next z) }
 
-  pub step_then : (g : Reader → Reader) (a m : ℕ) (out' : List ℤ) (r : Step) → ((next : Reader) → next [] ≡ none → g next [] ≡ none) → Stepped f text out at k mid (step.At a m) → Stepped g text mid a m out' r
+  pub step_then : (g : Reader → Reader) (a m : ℕ) (out' : List ℤ) (r : code.Option (ℕ × ℕ)) → ((next : Reader) → next [] ≡ none → g next [] ≡ none) → Stepped f text out at k mid (Some (a, m)) → Stepped g text mid a m out' r
       → Stepped (λ next. f (g next)) text out at k out' r
   unfolding left_step
   step_then g a m out' r h s t = record { inside = t.inside; size = t.size ∙ s.size; left = λ next z. s.left (g next) (h next z) ∙ t.left next z }
 
 -- ---- the code's answers
 
-few_words : (most : ℕ) (r : Words) (m : ℕ) → InWords most r → r ≡ words.Count m → m ≤ most
-few_words most r m h e = subst (λ (s : Words). InWords most s) e h
+few_words : (most : ℕ) (r : code.Option ℕ) (m : ℕ) → InWords most r → r ≡ Some m → m ≤ most
+few_words most r m h e = subst (λ (s : code.Option ℕ). InWords most s) e h
 
-module _ (out : List ℤ) (n : ℕ) (z : Number) (p : List ℕ) (out' : List ℤ) (r : Words) (q : z ≡ number_of (read_number p)) (s : Filled out n (single (number_read z)) (n + 1) out' r) where
-  one_words : fill out n (single (read_number p)) ≡ filled out' r
-  one_words = ap (λ o. fill out n (single o)) (sym (ap number_read q ∙ read_of (read_number p))) ∙ s.words
+module _ (out : List ℤ) (n : ℕ) (p : List ℕ) where
+  one_unread : None ≡ option_of (read_number p) → fill out n (single (read_number p)) ≡ none
+  unfolding fill
+  one_unread h = elim (read_number p) as (λ o. None ≡ option_of o → fill out n (single o) ≡ none) [ none ↦ λ e. refl | some z ↦ λ e. cc ] h
 
-  one_unread : r ≡ words.Unread → fill out n (single (read_number p)) ≡ none
+  one_count : (w : ℤ) (out' : List ℤ) (m : ℕ) → Some w ≡ option_of (read_number p) → Filled out n (some (w ∷ [])) (n + 1) out' (Some m) → fill out n (single (read_number p)) ≡ some (out', m)
   unfolding filled
-  one_unread e = one_words ∙ ap (filled out') e
-
-  one_count : (m : ℕ) → r ≡ words.Count m → fill out n (single (read_number p)) ≡ some (out', m)
-  unfolding filled
-  one_count m e = one_words ∙ ap (filled out') e
+  one_count w out' m h s = elim (read_number p) as (λ o. Some w ≡ option_of o → fill out n (single o) ≡ some (out', m)) [ none ↦ λ e. cc | some z ↦ λ e. let q : z ≡ w = cc in ap (λ v. fill out n (some (v ∷ []))) q ∙ s.words ] h
 
 -- numbers parted by commas, after the number from i to e
 module _ (part : List ℕ) (out₀ : List ℤ) (k i e : ℕ) (out : List ℤ) (n : ℕ) (f : Found comma part i e) (size : length out ≡ length out₀)
-    (inv : fill out n (read_numbers (split comma (drop i part))) ≡ fill out₀ k (read_numbers (split comma part)))
-    (z : Number) (out' : List ℤ) (r : Words) (q : z ≡ number_of (read_number (take (e - i) (drop i part)))) (s : Filled out n (single (number_read z)) (n + 1) out' r) where
-  pub numbers_unread : r ≡ words.Unread → Filled out₀ k (read_numbers (split comma part)) (k + length part + 1) out' words.Unread
+    (inv : fill out n (read_numbers (split comma (drop i part))) ≡ fill out₀ k (read_numbers (split comma part))) where
+  pub numbers_unread : None ≡ option_of (read_number (take (e - i) (drop i part))) → Filled out₀ k (read_numbers (split comma part)) (k + length part + 1) out None
   unfolding filled
-  numbers_unread u = record { size = s.size ∙ size; words = sym inv ∙ numbers_stop part i e f out n (one_unread out n z _ out' r q s u); few = tt }
+  numbers_unread u = record { size = size; words = sym inv ∙ numbers_stop part i e f out n (one_unread out n _ u); few = tt }
 
-  module _ (b : n ≤ k + i) (m : ℕ) (u : r ≡ words.Count m) where
-    pub numbers_count : e ≡ length part → Filled out₀ k (read_numbers (split comma part)) (k + length part + 1) out' (words.Count m)
+  module _ (b : n ≤ k + i) (w : ℤ) (out' : List ℤ) (m : ℕ) (u : Some w ≡ option_of (read_number (take (e - i) (drop i part)))) (s : Filled out n (some (w ∷ [])) (n + 1) out' (Some m)) where
+    pub numbers_count : e ≡ length part → Filled out₀ k (read_numbers (split comma part)) (k + length part + 1) out' (Some m)
     unfolding filled
     numbers_count l = record {
       size = s.size ∙ size;
-      words = sym inv ∙ numbers_last part i e f out n out' m l (one_count out n z _ out' r q s m u);
-      few = let j = few_words (n + 1) r m s.few u in let g = f.low in omega arith;
+      words = sym inv ∙ numbers_last part i e f out n out' m l (one_count out n _ w out' m u s);
+      few = let j = s.few in let g = f.low in omega arith;
     }
 
     pub numbers_again : (e ≡ length part → ⊥) → (e + 1 ≤ length part) × (m ≤ k + (e + 1)) × (length out' ≡ length out₀) × (fill out' m (read_numbers (split comma (drop (e + 1) part))) ≡ fill out₀ k (read_numbers (split comma part)))
     numbers_again l =
-        let j = few_words (n + 1) r m s.few u in
+        let j = s.few in
         let g = f.low in
         let h = f.high in
         let o : e < length part = omega arith in
-        (omega arith, omega arith, s.size ∙ size, sym (numbers_more part i e f out n out' m o (one_count out n z _ out' r q s m u)) ∙ inv)
-
--- a part that is lent to the end
-part_all : (n : ℕ) (l : List ℕ) → take (length l - n) (drop n l) ≡ drop n l
-part_all n l = take_all (length l - n) (drop n l) (omega (arith, length-drop n l))
+        (omega arith, omega arith, s.size ∙ size, sym (numbers_more part i e f out n out' m o (one_count out n _ w out' m u s)) ∙ inv)
 
 pub key_fits : (key line : List ℕ) (b : Bool) → after key line ≡ cond b (some (drop (length key) line)) none → b ≡ true → length key ≤ length line
 key_fits key line b h e = after_length key line (drop (length key) line) (h ∙ rw e refl)
@@ -316,36 +311,36 @@ module _ (text : List ℕ) (at e : ℕ) (f : Found line_feed text at e) (key : L
   same : lent ≡ numbers_part
   same = part_all (length key) whole_line
 
-  pub line_not : b ≡ false → Lined key text out at k out line.Other
+  pub line_not : b ≡ false → Lined key text out at k out (Some None)
   line_not t = line_other text at e f key out k (h ∙ rw t refl)
 
-  pub line_open : b ≡ true → e ≡ length text → Lined key text out at k out line.Unread
+  pub line_open : b ≡ true → e ≡ length text → Lined key text out at k out None
   line_open t l = line_last text at e f key out k numbers_part l (h ∙ rw t refl)
 
   module _ (l : e ≡ length text → ⊥) where
     abbrev closed : e < length text
     closed = let g = f.high in omega arith
 
-    pub count_not : b ≡ false → Stepped (count_line key) text out at k out step.Unread
+    pub count_not : b ≡ false → Stepped (count_line key) text out at k out None
     count_not t = count_other text at e f key out k closed (h ∙ rw t refl)
 
-    module _ (t : b ≡ true) (out' : List ℤ) (r : Words) where
-      module _ (z : Number) (q : z ≡ number_of (read_number lent)) (s : Filled out k (single (number_read z)) (k + 1) out' r) where
-        pub count_unread : r ≡ words.Unread → Stepped (count_line key) text out at k out' step.Unread
-        count_unread u = count_stop text at e f key out k closed numbers_part (h ∙ rw t refl) out' s.size (one_unread out k z numbers_part out' r (q ∙ ap (λ p. number_of (read_number p)) same) s u)
+    module _ (t : b ≡ true) where
+      pub count_unread : None ≡ option_of (read_number lent) → Stepped (count_line key) text out at k out None
+      count_unread u = count_stop text at e f key out k closed numbers_part (h ∙ rw t refl) out refl (one_unread out k numbers_part (u ∙ ap (λ p. option_of (read_number p)) same))
 
-        pub count_done : (m : ℕ) → r ≡ words.Count m → k ≤ at → Stepped (count_line key) text out at k out' (step.At (e + 1) m)
-        count_done m u j = count_next text at e f key out k closed numbers_part (h ∙ rw t refl) out' s.size m (one_count out k z numbers_part out' r (q ∙ ap (λ p. number_of (read_number p)) same) s m u) (let g = few_words (k + 1) r m s.few u in let v = f.low in omega arith)
+      pub count_done : (w : ℤ) → Some w ≡ option_of (read_number lent) → (out' : List ℤ) (m : ℕ) → Filled out k (some (w ∷ [])) (k + 1) out' (Some m) → k ≤ at → Stepped (count_line key) text out at k out' (Some (e + 1, m))
+      count_done w u out' m s j = count_next text at e f key out k closed numbers_part (h ∙ rw t refl) out' s.size m (one_count out k numbers_part w out' m (u ∙ ap (λ p. option_of (read_number p)) same) s) (let g = s.few in let v = f.low in omega arith)
 
+    module _ (t : b ≡ true) (out' : List ℤ) (r : code.Option ℕ) where
       module _ (lent-read : Filled out k (read_numbers (split comma lent)) (k + length lent + 1) out' r) where
         s : Filled out k (read_numbers (split comma numbers_part)) (k + length numbers_part + 1) out' r
         s = subst (λ (p : List ℕ). Filled out k (read_numbers (split comma p)) (k + length p + 1) out' r) same lent-read
 
-        pub line_unread : r ≡ words.Unread → Lined key text out at k out' line.Unread
+        pub line_unread : r ≡ None → Lined key text out at k out' None
         unfolding filled
         line_unread u = line_stop text at e f key out k closed numbers_part (h ∙ rw t refl) out' s.size (s.words ∙ ap (filled out') u)
 
-        pub line_done : (m : ℕ) → r ≡ words.Count m → k ≤ at → Lined key text out at k out' (line.Read (e + 1) m)
+        pub line_done : (m : ℕ) → r ≡ Some m → k ≤ at → Lined key text out at k out' (Some (Some (e + 1, m)))
         unfolding filled
         line_done m u j = line_next text at e f key out k closed numbers_part (h ∙ rw t refl) out' s.size m (s.words ∙ ap (filled out') u)
             (let g = few_words (k + length numbers_part + 1) r m s.few u in

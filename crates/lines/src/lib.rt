@@ -28,15 +28,13 @@ pub struct Counted {
 fn put_numbers(out: &mut [u8], at: usize, part: &[i32]) -> usize
     ensures { Puts out.old at (print_numbers part.now) out.new result }
 {
-    if part.len() == 0 {
+    if part.is_empty() {
         return at;
     }
     let mut o = put_number(out, at, part[0]);
-    let mut i = 1;
-    while i < part.len() {
+    for z in &part[1..] {
         o = put_byte(out, o, b',');
-        o = put_number(out, o, part[i]);
-        i += 1;
+        o = put_number(out, o, *z);
     }
     o
 }
@@ -46,24 +44,15 @@ pub fn stop(words: &[i32], from: usize, n: usize) -> usize
     requires { from ≤ length words.now }
     ensures { Stops words.now from n result }
 {
-    if n < words.len() - from {
-        return from + n;
-    }
-    words.len()
+    from + n.min(words.len() - from)
 }
 
-// The count that stands at a place.
+// The count that stands at a place; no word and a negative one count nothing.
 pub fn count_at(words: &[i32], at: usize) -> usize
     ensures { (result ≡ count_word (drop at words.now)) × (result < 2147483648) }
 {
-    if at < words.len() {
-        let w = words[at];
-        if w < 0 {
-            return 0;
-        }
-        return w as usize;
-    }
-    0
+    let w = words.get(at).copied().unwrap_or(0);
+    usize::try_from(w).unwrap_or(0)
 }
 
 // n words, parted by commas.
@@ -90,36 +79,31 @@ pub fn put_line(
 {
     let o = put_bytes(out, at, key);
     let p = put_part(out, o, words, from, n);
-    let i = p.at;
-    let e = p.next;
-    let r = put_byte(out, i, b'\n');
-    Place { at: r, next: e }
+    Place {
+        at: put_byte(out, p.at, b'\n'),
+        next: p.next,
+    }
 }
 
 fn put_domain(out: &mut [u8], at: usize, words: &[i32], from: usize) -> Place
     requires { from ≤ length words.now }
     ensures { Printed (print_domain (drop from words.now)) words.now from out.old at out.new result.at result.next }
 {
-    put_line(out, at, &DOMAIN, words, from, 4)
+    put_line(out, at, DOMAIN, words, from, 4)
 }
 
 pub fn put_domains(out: &mut [u8], at: usize, words: &[i32], from: usize, n: usize) -> Place
     requires { from ≤ length words.now }
     ensures { Printed (times print_domain n (drop from words.now)) words.now from out.old at out.new result.at result.next }
 {
-    let mut o = at;
-    let mut i = from;
-    let mut left = n;
-    while left > 0 {
-        if i == words.len() {
-            return Place { at: o, next: i };
+    let mut p = Place { at, next: from };
+    for _ in 0..n {
+        if p.next == words.len() {
+            return p;
         }
-        let p = put_domain(out, o, words, i);
-        o = p.at;
-        i = p.next;
-        left -= 1;
+        p = put_domain(out, p.at, words, p.next);
     }
-    Place { at: o, next: i }
+    p
 }
 
 fn put_comparison(out: &mut [u8], at: usize, words: &[i32], from: usize) -> Place
@@ -128,15 +112,11 @@ fn put_comparison(out: &mut [u8], at: usize, words: &[i32], from: usize) -> Plac
 {
     let i = put_byte(out, at, b';');
     let p = put_part(out, i, words, from, 1);
-    let j = p.at;
-    let a = p.next;
-    let k = put_byte(out, j, b':');
-    let q = put_part(out, k, words, a, 1);
-    let l = q.at;
-    let b = q.next;
-    let m = put_byte(out, l, b':');
-    let n = count_at(words, b);
-    let c = stop(words, b, 1);
+    let k = put_byte(out, p.at, b':');
+    let q = put_part(out, k, words, p.next, 1);
+    let m = put_byte(out, q.at, b':');
+    let n = count_at(words, q.next);
+    let c = stop(words, q.next, 1);
     put_part(out, m, words, c, n + n)
 }
 
@@ -146,29 +126,24 @@ fn put_comparisons(out: &mut [u8], at: usize, words: &[i32], from: usize) -> Cou
     ensures printed { Printed (print_comparisons (drop from words.now)) words.now from out.old at out.new result.at result.next }
     ensures members_value { (result.members ≡ comparisons_in (count_word (drop from words.now)) (drop 1 (drop from words.now))) × (from + result.members ≤ result.next) }
 {
-    let mut o = at;
-    let mut i = stop(words, from, 1);
-    let mut left = count_at(words, from);
-    let mut count = 0;
-    while left > 0 {
-        if i == words.len() {
-            return Counted {
-                at: o,
-                next: i,
-                members: count,
-            };
+    let n = count_at(words, from);
+    let mut p = Counted {
+        at,
+        next: stop(words, from, 1),
+        members: 0,
+    };
+    for _ in 0..n {
+        if p.next == words.len() {
+            return p;
         }
-        let p = put_comparison(out, o, words, i);
-        o = p.at;
-        i = p.next;
-        count += 1;
-        left -= 1;
+        let q = put_comparison(out, p.at, words, p.next);
+        p = Counted {
+            at: q.at,
+            next: q.next,
+            members: p.members + 1,
+        };
     }
-    Counted {
-        at: o,
-        next: i,
-        members: count,
-    }
+    p
 }
 
 fn put_clause(out: &mut [u8], at: usize, words: &[i32], from: usize) -> Counted
@@ -178,18 +153,13 @@ fn put_clause(out: &mut [u8], at: usize, words: &[i32], from: usize) -> Counted
 {
     let n = count_at(words, from);
     let a = stop(words, from, 1);
-    let i = put_bytes(out, at, &CLAUSE);
+    let i = put_bytes(out, at, CLAUSE);
     let p = put_part(out, i, words, a, n);
-    let j = p.at;
-    let b = p.next;
-    let q = put_comparisons(out, j, words, b);
-    let k = q.at;
-    let c = q.next;
-    let r = put_byte(out, k, b'\n');
+    let q = put_comparisons(out, p.at, words, p.next);
     Counted {
-        at: r,
-        next: c,
-        members: b - a + q.members,
+        at: put_byte(out, q.at, b'\n'),
+        next: q.next,
+        members: p.next - a + q.members,
     }
 }
 
@@ -199,27 +169,20 @@ pub fn put_clauses(out: &mut [u8], at: usize, words: &[i32], from: usize, n: usi
     ensures printed { Printed (times print_clause n (drop from words.now)) words.now from out.old at out.new result.at result.next }
     ensures members_value { result.members ≡ total n (drop from words.now) }
 {
-    let mut o = at;
-    let mut i = from;
-    let mut left = n;
-    let mut sum = 0;
-    while left > 0 {
-        if i == words.len() {
-            return Counted {
-                at: o,
-                next: i,
-                members: sum,
-            };
+    let mut p = Counted {
+        at,
+        next: from,
+        members: 0,
+    };
+    for _ in 0..n {
+        if p.next == words.len() {
+            return p;
         }
-        let p = put_clause(out, o, words, i);
-        o = p.at;
-        i = p.next;
-        sum += p.members;
-        left -= 1;
+        let q = put_clause(out, p.at, words, p.next);
+        p = Counted {
+            members: p.members + q.members,
+            ..q
+        };
     }
-    Counted {
-        at: o,
-        next: i,
-        members: sum,
-    }
+    p
 }

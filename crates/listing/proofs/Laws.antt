@@ -3,6 +3,8 @@ use mathlib.Core.Path.{◌≡◌, refl, sym, ap, ◌∙◌}
 use mathlib.Core.Bool.{true}
 use mathlib.Core.List.{List}
 use mathlib.Core.Option.{Option, none, some}
+use Rattle.std.specs.Prelude.{Some, None}
+use Rattle.std.specs.Prelude as code
 use Prim.Native.Nat.{ℕ, ◌+◌, ◌-◌, ◌≤◌, ◌<◌, min}
 use native.Mathlib.Omega.{arith}
 use lib.IntN.{ℤ, pos}
@@ -17,8 +19,6 @@ use Rattle.call.specs.Call.{Result, compiled, contradiction, refused, unchosen, 
 use Rattle.input.specs.ReadText.{read_text}
 use Rattle.input.specs.Input.{words_of, words_after}
 use Rattle.input.specs.Room.{few_words}
-use Rattle.input.specs.declared.Words.{Words}
-use Rattle.input.specs.declared.Words.TheVariants as read
 use Rattle.lines.specs.Lines.{count_word}
 use Rattle.text.specs.Listing.{print_answer}
 use Rattle.text.specs.declared.Answer.TheVariants as said
@@ -107,12 +107,12 @@ take_sets n ws h =
     let l : 0 + length ws ≤ length (zeros n) = omega (arith, zeros_length n) in
     ap (take (length ws)) (sets-eq ws (zeros n) 0 l) ∙ take-append_seam ws (drop (0 + length ws) (zeros n))
 
-module _ (text : List ℕ) (words words' : List ℤ) (r : Words) (n : ℕ) (long : 32768 ≤ length words) (told : r ≡ words_of (read_text text)) (left : words' ≡ words_after (length words) (read_text text)) (count : r ≡ read.Count n) where
+module _ (text : List ℕ) (words words' : List ℤ) (r : code.Option ℕ) (n : ℕ) (long : 32768 ≤ length words) (told : r ≡ words_of (read_text text)) (left : words' ≡ words_after (length words) (read_text text)) (count : r ≡ Some n) where
   counted : (o : Option (List ℤ)) → read_text text ≡ o → r ≡ words_of o → words' ≡ words_after (length words) o → (n ≤ length words') × (read_text text ≡ some (take n words'))
   unfolding words_of words_after
-  counted none e a b = differ (let q : read.Count n ≡ read.Unread = sym count ∙ a in cc)
+  counted none e a b = differ (let q : Some n ≡ None = sym count ∙ a in cc)
   counted (some ws) e a b =
-      let q : read.Count n ≡ read.Count (length ws) = sym count ∙ a in
+      let q : Some n ≡ Some (length ws) = sym count ∙ a in
       let m : n ≡ length ws = cc in
       let f = few_words text ws e in
       let s : length words' ≡ length words = ap length b ∙ length-sets (zeros (length words)) 0 ws ∙ zeros_length (length words) in
@@ -136,7 +136,7 @@ bytes_inside bs out out' r c e =
     record { within = w; part = sym (length-take-le r out' w) }
 
 module _ (text : List ℕ) (output work : List ℤ) (out out' : List ℕ) (r : ℕ) where
-  pub lists_unread : (q : Words) → q ≡ words_of (read_text text) → q ≡ read.Unread → (ws : List ℤ) → (r ≡ min (length (print_answer said.Unread 0 0 ws)) (length out)) × (out' ≡ sets out 0 (print_answer said.Unread 0 0 ws))
+  pub lists_unread : (q : code.Option ℕ) → q ≡ words_of (read_text text) → q ≡ None → (ws : List ℤ) → (r ≡ min (length (print_answer said.Unread 0 0 ws)) (length out)) × (out' ≡ sets out 0 (print_answer said.Unread 0 0 ws))
       → Lists text output work output work out out' r
   unfolding words_of print_answer list_text list_words output_left work_left
   lists_unread q told e ws h = go (read_text text) refl told
@@ -149,7 +149,7 @@ module _ (text : List ℕ) (output work : List ℤ) (out out' : List ℕ) (r : �
         answered = rw d refl;
         worked = rw d refl;
       }
-      go (some ws) d a = differ (let z : read.Unread ≡ read.Count (length ws) = sym e ∙ a in cc)
+      go (some ws) d a = differ (let z : None ≡ Some (length ws) = sym e ∙ a in cc)
 
   -- the answer's words lie within the output, and the refusal within usize
   typed : (x : Result) (output' : List ℤ) (answer : Answer) → output' ≡ output_after x (length output) → all fitting output' ≡ true → answer ≡ answer_of x → ((k : ℕ) → answer ≡ planned.Refused k → k < 18446744073709551616) → Typed x

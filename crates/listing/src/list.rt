@@ -2,7 +2,7 @@
 ghost use Rattle.std.specs.Prelude.{◌≤◌, length};
 ghost use Rattle.listing.specs.Lists.{SomeAnswered, Prints, Lists};
 
-use input::{Words, words_of_text};
+use input::words_of_text;
 use lines::count_at;
 use text::{Answer, text_of_answer};
 
@@ -45,7 +45,7 @@ fn list_with_room(
     requires { 32768 ≤ length words.old }
     ensures { Lists text.now output.old work.old output.new work.new out.old out.new result }
 {
-    let Words::Count(n) = words_of_text(text, words) else {
+    let Some(n) = words_of_text(text, words) else {
         return text_of_answer(Answer::Unread, 0, 0, &output[..0], out);
     };
     let set = &words[..n];

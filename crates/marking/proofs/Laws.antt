@@ -9,7 +9,7 @@ use lib.ListN.{get_or}
 use lib.Dec.{eqb, leb}
 use mir.Syntax.{w32}
 use mir.Val.{SFits, of_z}
-use borrow.Author.Tests.{ne_eqb, le-leb, lt-leb}
+use borrow.Author.Tests.{eqb-true, eqb-false, ne_eqb, le-leb, lt-leb}
 use Rattle.laws.specs.Bools.{never}
 use Rattle.laws.specs.Signed.{value_is}
 use Rattle.memory.specs.Places.{folded_end}
@@ -87,13 +87,13 @@ module _ (w : List ℤ) (end : ℕ) (inside : end ≤ folded_end) where
         rw (m, s) refl
 
     -- found: what was found before
-    pub code_found : (found : Bool) → SFits w32 Z → of_z w32 Z ≡ 23 → true || has_code F (i + 1) (end - (i + 1)) ≡ found || has_code F i (end - i)
-    code_found true f e = refl
-    code_found false f e = sym (rw (code_is, code_here f e) refl)
-
-    pub code_later : (found : Bool) → (of_z w32 Z ≡ 23 → ⊥) → found || has_code F (i + 1) (end - (i + 1)) ≡ found || has_code F i (end - i)
-    code_later true h = refl
-    code_later false h = sym (rw (code_is, no_code_here h) refl)
+    pub code_next : (found : Bool) → SFits w32 Z → (found || eqb (of_z w32 Z) 23) || has_code F (i + 1) (end - (i + 1)) ≡ found || has_code F i (end - i)
+    code_next true f = refl
+    code_next false f = sym (code_is ∙ ap (λ (b : Bool). b || has_code F (i + 1) (end - (i + 1))) (go (eqb (of_z w32 Z) 23) refl))
+      where
+        go : (b : Bool) → eqb (of_z w32 Z) 23 ≡ b → is_if F i ≡ b
+        go true e = code_here f (eqb-true _ _ e)
+        go false e = no_code_here (eqb-false _ _ e)
 
     pub if_found : SFits w32 Z → of_z w32 Z ≡ 23 → reads_if F i ≡ true → true ≡ finds_if F i (end - i)
     if_found f e r = sym (rw (finds_is, code_here f e, r) refl)

@@ -13,10 +13,7 @@ fn is_code(work: &[i32], q: usize, low: usize, high: usize) -> bool
     ensures { result ≡ is_code (read_part work.now) q low high }
 {
     let c = survey::word(work, q);
-    if c < low {
-        return false;
-    }
-    c <= high
+    low <= c && c <= high
 }
 
 // Whether a condition and two integer expressions stand behind a place.
@@ -40,13 +37,8 @@ fn has_code(work: &[i32], end: usize) -> bool
     ensures { result ≡ has_code (read_part work.now) folded (end - folded) }
 {
     let mut found = false;
-    let mut q = FOLDED;
-    while q < end {
-        let w = work[q];
-        if w == 23 {
-            found = true;
-        }
-        q += 1;
+    for q in FOLDED..end {
+        found |= work[q] == 23;
     }
     found
 }
@@ -56,14 +48,10 @@ fn finds_if(work: &[i32], end: usize) -> bool
     requires { (folded_end ≤ length work.now) × (end ≤ folded_end) }
     ensures { result ≡ finds_if (read_part work.now) folded (end - folded) }
 {
-    let mut i = FOLDED;
-    while i < end {
-        if work[i] == 23 {
-            if reads_if(work, i) {
-                return true;
-            }
+    for i in FOLDED..end {
+        if work[i] == 23 && reads_if(work, i) {
+            return true;
         }
-        i += 1;
     }
     false
 }
@@ -73,10 +61,7 @@ fn any_if(work: &[i32], end: usize) -> bool
     requires { (folded_end ≤ length work.now) × (end ≤ folded_end) }
     ensures { result ≡ finds_if (read_part work.now) folded (end - folded) }
 {
-    if has_code(work, end) {
-        return finds_if(work, end);
-    }
-    false
+    has_code(work, end) && finds_if(work, end)
 }
 
 // The word for Ifs, of the folded statements up to `end`.
@@ -84,9 +69,5 @@ pub fn mark_ifs(work: &mut [i32], end: usize)
     requires { (ifs_word < length work.old) × (end ≤ folded_end) }
     ensures { work.new ≡ marked work.old end }
 {
-    if any_if(work, end) {
-        work[IFS_WORD] = 1;
-        return;
-    }
-    work[IFS_WORD] = 0;
+    work[IFS_WORD] = i32::from(any_if(work, end));
 }

@@ -82,6 +82,7 @@ pub fn entry(work: &[i32], i: usize) -> usize
 pub fn store(slice: &mut [i32], i: usize, x: i32)
     ensures { (slice.new ≡ set slice.old i x) × (length slice.new ≡ length slice.old) }
 {
+    // with `get_mut` it is as long, and the proof did not close
     if i < slice.len() {
         slice[i] = x;
     }
@@ -109,6 +110,7 @@ pub fn clear_words(work: &mut [i32], from: usize, to: usize)
     requires { to ≤ length work.old }
     ensures { work.new ≡ cleared work.old from to }
 {
+    // no `fill`: `from` may lie behind `to`
     for i in from..to {
         work[i] = 0;
     }

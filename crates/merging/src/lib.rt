@@ -58,10 +58,7 @@ fn merge_sides(work: &mut [i32], at: usize, g: bool, n: usize) -> usize
     requires { (at ≤ folded_end + 2) × (n ≤ limit) }
     ensures { Ties (meet_sides (read_part work.old) at g) work.old n work.new result }
 {
-    if survey::word(work, at) != 11 {
-        return n;
-    }
-    if survey::word(work, at + 2) != 11 {
+    if survey::word(work, at) != 11 || survey::word(work, at + 2) != 11 {
         return n;
     }
     let x = survey::word(work, at + 1);
@@ -83,14 +80,11 @@ fn merge_statement(work: &mut [i32], at: usize, n: usize) -> usize
     if survey::word(work, at) != 1 {
         return n;
     }
-    let code = survey::word(work, at + 1);
-    if code == 15 {
-        return merge_sides(work, at + 2, true, n);
+    match survey::word(work, at + 1) {
+        15 => merge_sides(work, at + 2, true, n),
+        16 => merge_sides(work, at + 2, false, n),
+        _ => n,
     }
-    if code == 16 {
-        return merge_sides(work, at + 2, false, n);
-    }
-    n
 }
 
 // All statements from 512 to `end`, in order: how many numbers the map has then.

@@ -1,11 +1,14 @@
 -- The sums and the bounds of an If's branches, as the functions of totals give them.
 use mathlib.Core.Path.{◌≡◌, refl, sym, ap, ◌∙◌, subst}
-use mathlib.Core.Bool.{Bool, true, false, ◌&&◌, cond}
+use mathlib.Core.Bool.{Bool, true, false, not, ◌&&◌, cond}
 use mathlib.Core.List.{List, [], ◌∷◌}
-use Prim.Native.Nat.{ℕ, ◌+◌, ◌≤◌, zero-le}
+use Prim.Native.Nat.{ℕ, ◌≤◌, zero-le}
 use native.Mathlib.Omega.{arith}
 use lib.IntN.{ℤ, nat_abs}
 use lib.Dec.{eqb}
+use lib.Signed.{lt_z}
+use Rattle.std.specs.Int.{int_min, int_max}
+use Rattle.laws.specs.Order.{leZ_not}
 use borrow.Author.Tests.{eq-eqb, ne_eqb}
 use Rattle.laws.specs.Ints.{lower, higher}
 use Rattle.memory.specs.Places.{limit}
@@ -30,11 +33,20 @@ use Rattle.numbering.specs.declared.Progress.{Progress}
 
 -- ---- tests
 
-pub chosen_first : {b : Bool} → b ≡ true → (x y : ℤ) → x ≡ cond b x y
-chosen_first e x y = rw e refl
+-- the lower and the higher of two are what Rust's methods give
+pub lowest_is : (x y : ℤ) {z : ℤ} → z ≡ int_min x y → z ≡ lower x y
+lowest_is x y e = e ∙ rw (leZ_not x y) (go (lt_z y x))
+  where
+    go : (b : Bool) → cond b y x ≡ cond (not b) x y
+    go true = refl
+    go false = refl
 
-pub chosen_second : {b : Bool} → b ≡ false → (x y : ℤ) → y ≡ cond b x y
-chosen_second e x y = rw e refl
+pub highest_is : (x y : ℤ) {z : ℤ} → z ≡ int_max x y → z ≡ higher x y
+highest_is x y e = e ∙ rw (leZ_not x y) (go (lt_z y x))
+  where
+    go : (b : Bool) → cond b x y ≡ cond (not b) y x
+    go true = refl
+    go false = refl
 
 pub counters_are : (w : List ℤ) (c : Progress) {b : Bool} → b ≡ has_ifs w → counters c.bools (cond b c.ints 0) ≡ counters_in w c
 counters_are w c e = ap (λ (b : Bool). counters c.bools (cond b c.ints 0)) e
@@ -63,15 +75,14 @@ module _ (w : List ℤ) (l : ℕ) (m : Splitting) (at base : ℕ) (c : Progress)
 
 -- ---- both
 
-both_constant : (s t : Sum) (l o : LinearSum) → Stands s l → Stands t o → eqb (s.count + t.count) 0 ≡ is_constant l && is_constant o
-both_constant s t (linear_sum c []) (linear_sum d []) h k = eq-eqb (s.count + t.count) 0 (omega (arith, h.size, k.size))
-both_constant s t (linear_sum c []) (linear_sum d (x ∷ xs)) h k = ne_eqb (s.count + t.count) 0 (λ e. omega (arith, k.size))
-both_constant s t (linear_sum c (x ∷ xs)) o h k = ne_eqb (s.count + t.count) 0 (λ e. omega (arith, h.size))
+constant_is : (s : Sum) (l : LinearSum) → Stands s l → eqb s.count 0 ≡ is_constant l
+constant_is s (linear_sum c []) h = eq-eqb s.count 0 (omega (arith, h.size))
+constant_is s (linear_sum c (x ∷ xs)) h = ne_eqb s.count 0 (λ e. omega (arith, h.size))
 
 module _ (w : List ℤ) (l : ℕ) (m : Splitting) (p q i j : ℕ) (n k : Counters) where
   pub sums_are : (s t : Sum) → ((ds : List Domain) → Stands s ((form_int_item ds (int_at w l m p i)).total w n)) → ((ds : List Domain) → Stands t ((form_int_item ds (int_at w l m q j)).total w k))
-      → (ds : List Domain) → SumsAre ds w (int_at w l m p i) (int_at w l m q j) n k (eqb (s.count + t.count) 0) s.constant t.constant
-  sums_are s t g h ds = record { constant = both_constant s t ((form_int_item ds (int_at w l m p i)).total w n) ((form_int_item ds (int_at w l m q j)).total w k) (g ds) (h ds); first = (g ds).const; second = (h ds).const }
+      → (ds : List Domain) → SumsAre ds w (int_at w l m p i) (int_at w l m q j) n k (eqb s.count 0 && eqb t.count 0) s.constant t.constant
+  sums_are s t g h ds = record { constant = let a = constant_is s ((form_int_item ds (int_at w l m p i)).total w n) (g ds) in let b = constant_is t ((form_int_item ds (int_at w l m q j)).total w k) (h ds) in rw (a, b) refl; first = (g ds).const; second = (h ds).const }
 
   module _ (a b c d x y : ℤ) (g : Ranges w l m p i n a b) (h : Ranges w l m q j k c d) (hx : x ≡ lower a c) (hy : y ≡ higher b d) where
     range_is : (ds : List Domain) → Declares ds w → Range x y ≡ either_range (form_int_item ds (int_at w l m p i)) (form_int_item ds (int_at w l m q j)) w n k

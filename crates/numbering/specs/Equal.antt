@@ -1,5 +1,5 @@
 -- Equal Ifs: their words compared one by one, and the first place where one has its number.
-use Rattle.std.specs.Prelude.{◌≡◌, Bool, ◌&&◌, List, ◌∷◌, ℤ, pos, negsuc, length, get_or, take, drop}
+use Rattle.std.specs.Prelude.{Option as Found, None, Some, ◌≡◌, Bool, ◌&&◌, List, ◌∷◌, ℤ, pos, negsuc, length, get_or, take, drop}
 use Rattle.std.proofs.Math.Path.{refl}
 use Rattle.std.proofs.Common.{sym, ap, ◌∙◌, sub-one, length-take, length-drop, drop-cons, get_or-take, leb-true, eqb-true}
 use Rattle.std.proofs.Math.Bool.{true, false, cond}
@@ -18,10 +18,10 @@ use Rattle.walks.specs.Tree.{Place}
 use Rattle.walks.specs.Item.{cell, seen_in, seen}
 use Rattle.walks.specs.Meet.{is_unseen, is_shared, words_at, equal_from, find_equal}
 
--- a place, or none where it is 0
-abbrev pub option_of : ℕ → Option ℕ
-option_of zero = none
-option_of (suc n) = some (suc n)
+-- the place that the code found, as the walk has it
+abbrev pub option_of : Found ℕ → Option ℕ
+option_of None = none
+option_of (Some q) = some q
 
 -- an If of the same n words has its number at q
 abbrev pub equal_at : List ℤ → ℕ → ℕ → ℕ → Bool
@@ -124,11 +124,7 @@ module _ (w : List ℤ) (p : Place) where
   none_left zero q x e = x.rest
   none_left (suc k) q x e = absurd (omega arith)
 
-  some_of : (q : ℕ) → 0 < q → option_of q ≡ some q
-  some_of zero h = absurd (omega arith)
-  some_of (suc q) h = refl
-
-  pub seek_not_whole : p.whole ≡ false → option_of 0 ≡ find_equal w p
+  pub seek_not_whole : p.whole ≡ false → none ≡ find_equal w p
   unfolding find_equal
   seek_not_whole e = go (is_unseen (seen w p)) e
     where
@@ -147,7 +143,7 @@ module _ (w : List ℤ) (p : Place) where
   unseen_is (pos (suc v)) h = absurd (let l = eqb-true (suc v) 0 h in omega arith)
   unseen_is (negsuc v) h = never h
 
-  pub seek_seen : (z : ℤ) → z ≡ cell w (p.at + 1) → eqZ z (pos 0) ≡ false → option_of 0 ≡ find_equal w p
+  pub seek_seen : (z : ℤ) → z ≡ cell w (p.at + 1) → eqZ z (pos 0) ≡ false → none ≡ find_equal w p
   unfolding find_equal seen
   seek_seen z e h = rw (← e, unseen_not z h) refl
 
@@ -156,8 +152,8 @@ module _ (w : List ℤ) (p : Place) where
     unfolding find_equal seen
     unseen_whole = rw (← e, unseen_is z h, whole) refl
 
-    pub seek_found : (k q : ℕ) → Seeking w p k q → (k ≡ 0 → ⊥) → equal_at w p.at q p.size ≡ true → (option_of q ≡ find_equal w p) × (q ≤ folded_end)
-    seek_found k q x y i = (some_of q (omega (arith, x.start)) ∙ found k q x y i ∙ unseen_whole, omega (arith, x.place))
+    pub seek_found : (k q : ℕ) → Seeking w p k q → (k ≡ 0 → ⊥) → equal_at w p.at q p.size ≡ true → (some q ≡ find_equal w p) × (q ≤ folded_end)
+    seek_found k q x y i = (found k q x y i ∙ unseen_whole, omega (arith, x.place))
 
-    pub seek_none : (k q : ℕ) → Seeking w p k q → k ≡ 0 → option_of 0 ≡ find_equal w p
+    pub seek_none : (k q : ℕ) → Seeking w p k q → k ≡ 0 → none ≡ find_equal w p
     seek_none k q x y = none_left k q x y ∙ unseen_whole

@@ -1,9 +1,9 @@
 -- An If in parts: what each function of the walk asks and does of it. Laws for the code.
-use Rattle.std.specs.Prelude.{◌≡◌, Bool, true, ◌||◌, cond, List, ℤ, set, ltb, leb}
+use Rattle.std.specs.Prelude.{◌≡◌, Bool, true, ◌||◌, List, ℤ, set, ltb, leb}
 use Rattle.std.proofs.Math.Path.{refl, ap, subst}
 use Rattle.std.proofs.Common.{sym, ◌∙◌, arith, length-set, drop-set-lt, leb-true, leb-false}
 use Rattle.std.proofs.Math.Bool.{false}
-use Rattle.std.proofs.Math.Option.{none}
+use Rattle.std.proofs.Math.Option.{none, some}
 use Prim.Native.Nat.{ℕ, zero, suc, ◌+◌, ◌-◌, ◌≤◌}
 use Rattle.memory.specs.Places.{folded_end, cells, ifs_word}
 use Rattle.syntax.specs.Syntax.{Domain}
@@ -18,7 +18,6 @@ use Rattle.walks.specs.Meet.{State, set_cells, copied, find_equal, Parts, meet_n
 use Rattle.scan.specs.Skip.{Skips, IntSkips}
 use Rattle.numbering.specs.Task.{state_of, Task, Ready, Kept, kept_same, Done, Starts, starts_same}
 use Rattle.numbering.specs.Fits.{Asks, BranchesFit, parts_of, new_fits, if_fits, form_fits, int_fits, int_task}
-use Rattle.numbering.specs.Equal.{option_of}
 use Rattle.numbering.specs.Members.{IfSkips}
 use Rattle.numbering.specs.declared.IfParts.{IfParts}
 use Rattle.numbering.specs.declared.Progress.{Progress}
@@ -136,24 +135,21 @@ module _ (rec cap u : ℕ) (m : Splitting) (at base : ℕ) (p : IfParts) (w out 
   abbrev place : Place
   place = place_at rec cap u m at base p
 
-  pub choice_found : (q : ℕ) (w' : List ℤ) → false ≡ passes → (q ≡ 0 → ⊥) → option_of q ≡ find_equal w place → w' ≡ copied at q w → Here (state_of w' out c)
+  pub choice_found : (q : ℕ) (w' : List ℤ) → false ≡ passes → some q ≡ find_equal w place → w' ≡ copied at q w → Here (state_of w' out c)
   unfolding meet_if seen
-  choice_found zero w' e z h i = absurd (z refl)
-  choice_found (suc q) w' e z h i = record {
+  choice_found q w' e h i = record {
     state = λ ds d f. rw (← e, ← h, i) refl;
-    kept = rw i (kept_cells w out c c at (cell w (suc q + 1)) (cell w (suc q + 2)) (cell w (suc q + 3)) s.inside);
+    kept = rw i (kept_cells w out c c at (cell w (q + 1)) (cell w (q + 2)) (cell w (q + 3)) s.inside);
     low = record { bools = s.low.bools; ints = s.low.ints; used = s.low.used };
   }
 
-  pub new_starts : (q : ℕ) → false ≡ passes → q ≡ 0 → option_of q ≡ find_equal w place → Starts (new_at rec cap u m at base p (read_part w)) (state_of w out c) rec at base
+  pub new_starts : false ≡ passes → none ≡ find_equal w place → Starts (new_at rec cap u m at base p (read_part w)) (state_of w out c) rec at base
   unfolding if_fits seen
-  new_starts q e z h =
-      let n : none ≡ find_equal w place = ap option_of (sym z) ∙ h in
+  new_starts e n =
       let r = s.ready in
       starts_same s s.inside s.low_base (record { domains = r.domains; declares = r.declares; fits = rw (← e, ← n) at r.fits })
 
-  pub new_done : (q : ℕ) (st' : State) → false ≡ passes → q ≡ 0 → option_of q ≡ find_equal w place → Done (new_at rec cap u m at base p (read_part w)) (state_of w out c) st' → Here st'
+  pub new_done : (st' : State) → false ≡ passes → none ≡ find_equal w place → Done (new_at rec cap u m at base p (read_part w)) (state_of w out c) st' → Here st'
   unfolding if_fits meet_if seen
-  new_done q st' e z h x =
-      let n : none ≡ find_equal w place = ap option_of (sym z) ∙ h in
+  new_done st' e n x =
       record { state = λ ds d f. x.state ds d (rw (← e, ← n) at f) ∙ rw (← e, ← n) refl; kept = x.kept; low = x.low }

@@ -1,5 +1,5 @@
 -- An If that is made: its branches, then by their sums its condition's literal or number, or its own. Laws for the code.
-use Rattle.std.specs.Prelude.{◌≡◌, Bool, true, false, ◌&&◌, cond, List, ℕ, ◌+◌, ◌-◌, ◌≤◌, ℤ, pos, negsuc, nat_abs, get_or, set, drop, ltb}
+use Rattle.std.specs.Prelude.{Option, None, Some, ◌≡◌, Bool, true, false, ◌&&◌, cond, List, ℕ, ◌+◌, ◌≤◌, ℤ, pos, negsuc, nat_abs, get_or, set, drop, ltb}
 use Rattle.std.proofs.Math.Path.{refl, sym, ap, subst}
 use Rattle.std.proofs.Common.{◌∙◌, arith, length-set, drop-set-lt, get_or-drop, SFits, of_z, to_z, to_z-of_z}
 use Rattle.std.specs.Int.{w32}
@@ -218,6 +218,11 @@ pub record SumsAre (ds : List Domain) (w : List ℤ) (t f : IntForm) (n k : Coun
   pub first : x ≡ constant_of ((form_int_item ds t).total w n)
   pub second : y ≡ constant_of ((form_int_item ds f).total w k)
 
+-- both branches' constants, or none where one of them is not constant
+abbrev pub ConstantsAre : List Domain → List ℤ → IntForm → IntForm → Counters → Counters → Option (ℤ × ℤ) → Type 0
+ConstantsAre ds w t f n k None = false ≡ is_constant ((form_int_item ds t).total w n) && is_constant ((form_int_item ds f).total w k)
+ConstantsAre ds w t f n k (Some (x, y)) = SumsAre ds w t f n k true x y
+
 -- for domains that the slice declares
 pub record RangeIs (w : List ℤ) (t f : IntForm) (n k : Counters) (x y : ℤ) : Type 0 where
   pub is : (ds : List Domain) → Declares ds w → BranchesFit ds w t f n k → Range x y ≡ either_range (form_int_item ds t) (form_int_item ds f) w n k
@@ -273,17 +278,18 @@ module _ (rec cap u : ℕ) (m : Splitting) (at base : ℕ) (p : IfParts) (w out 
           let d' : Done (constant_at rec cap u m at base p x y (read_part w)) (state_of w' out c) st' = subst (λ (ws : List ℤ). Done (constant_at rec cap u m at base p x y ws) (state_of w' out c) st') mark_kept.part d in
           record { state = λ ds h f. d'.state ds (declares_kept ds w w' mark_kept.behind h) (constant_ask ds f) ∙ constant_is ds; kept = kept_then mark_kept d.kept; low = d.low }
 
-    module _ (e : b ≡ false) (lo hi : ℤ) (range : RangeIs w t_form f_form n k lo hi) where
+  module _ (not_both : (ds : List Domain) → false ≡ is_constant ((form_int_item ds t_form).total w n) && is_constant ((form_int_item ds f_form).total w k)) where
+    module _ (lo hi : ℤ) (range : RangeIs w t_form f_form n k lo hi) where
       open_ask : (ds : List Domain) → Declares ds w → (branches_at rec cap u m at base p n k (read_part w)).fits ds (state_of w out c) → (open_at rec cap u m at base p lo hi (read_part w)).fits ds (state_of w out c)
       unfolding branches_fit
-      open_ask ds h f = let t = sym e ∙ (sums ds).constant in subst (λ (d : Domain). open_fits ds rec cap (parts_at rec cap u m at base p (read_part w) ds) (asks_at rec cap u m at base p (read_part w) ds) d (state_of w out c)) (sym (range.is ds h f.0)) (rw (← t) at f.1)
+      open_ask ds h f = let t = not_both ds in subst (λ (d : Domain). open_fits ds rec cap (parts_at rec cap u m at base p (read_part w) ds) (asks_at rec cap u m at base p (read_part w) ds) d (state_of w out c)) (sym (range.is ds h f.0)) (rw (← t) at f.1)
 
       pub open_starts : Starts (open_at rec cap u m at base p lo hi (read_part w)) (state_of w out c) rec at base
       open_starts = let r = s.ready in starts_same s s.inside s.low_base (record { domains = r.domains; declares = r.declares; fits = open_ask r.domains r.declares r.fits })
 
       open_is : (ds : List Domain) → Declares ds w → (branches_at rec cap u m at base p n k (read_part w)).fits ds (state_of w out c) → (open_at rec cap u m at base p lo hi (read_part w)).meet ds (state_of w out c) ≡ made_by rec cap u m at base p ds (read_part w) n k (state_of w out c)
       unfolding branches_fit
-      open_is ds h f = let t = sym e ∙ (sums ds).constant in ap (λ (d : Domain). meet_open ds rec cap (parts_at rec cap u m at base p (read_part w) ds) d (state_of w out c)) (range.is ds h f.0) ∙ rw (← t) refl
+      open_is ds h f = let t = not_both ds in ap (λ (d : Domain). meet_open ds rec cap (parts_at rec cap u m at base p (read_part w) ds) d (state_of w out c)) (range.is ds h f.0) ∙ rw (← t) refl
 
       pub open_made : (st' : State) → Done (open_at rec cap u m at base p lo hi (read_part w)) (state_of w out c) st' → Made st'
       open_made st' d = record { state = λ ds h f. d.state ds h (open_ask ds h f) ∙ open_is ds h f; kept = d.kept; low = d.low }

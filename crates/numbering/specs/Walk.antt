@@ -15,7 +15,7 @@ use Rattle.numbering.specs.Task.{state_of, Task, Done, left_all, Starts}
 use Rattle.numbering.specs.Leaf.{bool_task}
 use Rattle.numbering.specs.Steps.{form_at, members_at, int_at, done_zero, var_done, cmp_done, not_done, conj_done, disj_done, split_done, cross_done, Members, member_starts, members_last, members_next}
 use Rattle.numbering.specs.IntSteps.{terms_at, if_at, if_code, if_done, Terms, term_starts, terms_next, terms_last}
-use Rattle.numbering.specs.Equal.{option_of}
+use Rattle.std.proofs.Math.Option.{Option}
 use Rattle.numbering.specs.If.{PartsAt, place_at, choice_at, parts_done, parts_skips, whole_is}
 use Rattle.numbering.specs.Sized.{SizedAt, SizedAll, sized_new, sized_none, sized_var, sized_cmp, sized_not, sized_conj, sized_split, sized_cross, Sofar, sofar_none, sofar_more, sofar_done}
 use Rattle.numbering.specs.Members.{numbered, standing, renewed, Closes, sized_disj, IfSkips}
@@ -207,5 +207,5 @@ walked_choice rec cap st u m at c base p x h w out d r e y =
     (parts_done rec cap (read_part st.work) u m at c base p x st (state_of w out d) y, parts_skips rec cap (read_part st.work) u m at c base p x h)
 
 -- the code's test in the place that is looked for
-pub found_as : (rec cap u : ℕ) (m : Splitting) (at base : ℕ) (p : IfParts) (w : List ℤ) (q : ℕ) → option_of q ≡ find_equal w (record { at = at; size = p.at - at; whole = leb p.base base }) → option_of q ≡ find_equal w (place_at rec cap u m at base p)
-found_as rec cap u m at base p w q e = e ∙ ap (λ (b : Bool). find_equal w (record { at = at; size = p.at - at; whole = b })) (whole_is p.base base)
+pub found_as : (rec cap u : ℕ) (m : Splitting) (at base : ℕ) (p : IfParts) (w : List ℤ) (o : Option ℕ) → o ≡ find_equal w (record { at = at; size = p.at - at; whole = leb p.base base }) → o ≡ find_equal w (place_at rec cap u m at base p)
+found_as rec cap u m at base p w o e = e ∙ ap (λ (b : Bool). find_equal w (record { at = at; size = p.at - at; whole = b })) (whole_is p.base base)

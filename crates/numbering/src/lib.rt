@@ -1,9 +1,8 @@
 // The first walk with Ifs: numbers at first meeting and creation, and the records of the emitted integers, over the folded words.
 #![tactic(auto)]
 
-ghost use Rattle.std.specs.Prelude.{◌≡◌, true, false, ◌||◌, List, [], ◌∷◌, ◌+◌, ◌-◌, ◌*◌, ◌≤◌, ◌<◌, ℤ, pos, nat_abs, ◌+ℤ◌, length, ltb};
+ghost use Rattle.std.specs.Prelude.{◌≡◌, true, false, IfSome, ◌||◌, List, [], ◌∷◌, ◌+◌, ◌-◌, ◌*◌, ◌≤◌, ◌<◌, ℤ, pos, nat_abs, ◌+ℤ◌, length, ltb};
 ghost use Rattle.std.proofs.lemmas.List.Edits.{sets};
-ghost use Rattle.laws.specs.Ints.{lower as lower_of, higher as higher-of};
 ghost use Rattle.laws.specs.Same.{same_words as same-words-of};
 ghost use Rattle.memory.specs.Places.{folded_end, limit};
 ghost use Rattle.syntax.specs.Syntax.{Domain, Range};
@@ -26,7 +25,7 @@ ghost use Rattle.numbering.specs.Steps.{form_at, members_at, int_at};
 ghost use Rattle.numbering.specs.IntSteps.{leaf_at, terms_at, if_at};
 ghost use Rattle.numbering.specs.Sized.{SizedAt, SizedAll};
 ghost use Rattle.numbering.specs.If.{PartsAt, choice_at, new_at};
-ghost use Rattle.numbering.specs.Make.{counters_in, Begins, branches_at, constant_at, open_at, SumsReady, SumsAre, RangeIs};
+ghost use Rattle.numbering.specs.Make.{counters_in, Begins, branches_at, constant_at, open_at, SumsReady, ConstantsAre, RangeIs};
 ghost use Rattle.numbering.specs.Conditions.{leaves_in, follow_task, Follows, Concludes, Opens, Settles};
 ghost use Rattle.numbering.specs.Members.{numbered, standing, renewed, Closes, IfSkips};
 ghost use Rattle.numbering.specs.Leaf.{bool_task, int_var_task};
@@ -58,11 +57,9 @@ pub struct Room {
 fn advance(c: Progress, k: usize) -> Progress
     ensures { result ≡ record { bools = bump-of c.bools k; ints = c.ints; used = c.used } }
 {
-    let n = bump(c.bools, k);
     Progress {
-        bools: n,
-        ints: c.ints,
-        used: c.used,
+        bools: bump(c.bools, k),
+        ..c
     }
 }
 
@@ -70,11 +67,9 @@ fn advance(c: Progress, k: usize) -> Progress
 fn count_int(c: Progress) -> Progress
     ensures { result ≡ record { bools = c.bools; ints = bump-of c.ints 1; used = c.used } }
 {
-    let n = bump(c.ints, 1);
     Progress {
-        bools: c.bools,
-        ints: n,
-        used: c.used,
+        ints: bump(c.ints, 1),
+        ..c
     }
 }
 
@@ -82,11 +77,9 @@ fn count_int(c: Progress) -> Progress
 fn spend(c: Progress, k: usize) -> Progress
     ensures { result ≡ record { bools = c.bools; ints = c.ints; used = bump-of c.used k } }
 {
-    let n = bump(c.used, k);
     Progress {
-        bools: c.bools,
-        ints: c.ints,
-        used: n,
+        used: bump(c.used, k),
+        ..c
     }
 }
 
@@ -178,14 +171,10 @@ fn same_words(work: &[i32], p: usize, q: usize, n: usize) -> bool
     requires { (folded_end ≤ length work.now) × ((p + n ≤ folded_end) × (q + n ≤ folded_end)) }
     ensures { result ≡ same-words-of (words_at work.now q n) (words_at work.now p n) }
 {
-    let mut i = 0;
-    while i < n {
-        let x = work[q + i];
-        let y = work[p + i];
-        if x != y {
+    for i in 0..n {
+        if work[q + i] != work[p + i] {
             return false;
         }
-        i = i + 1;
     }
     true
 }
@@ -195,36 +184,23 @@ fn is_equal(work: &[i32], p: usize, q: usize, n: usize) -> bool
     requires { (folded_end ≤ length work.now) × ((p + n ≤ folded_end) × (q ≤ folded_end)) }
     ensures { result ≡ equal_at work.now p q n }
 {
-    if cell(work, q + 1) <= 0 {
-        return false;
-    }
-    if q + n > memory::FOLDED_END {
-        return false;
-    }
-    same_words(work, p, q, n)
+    cell(work, q + 1) > 0 && q + n <= memory::FOLDED_END && same_words(work, p, q, n)
 }
 
-// The first place where an equal If has its number; 0 for none.
-fn find_equal(work: &[i32], at: usize, size: usize, whole: bool) -> usize
+// The first place where an equal If has its number.
+fn find_equal(work: &[i32], at: usize, size: usize, whole: bool) -> Option<usize>
     requires { (folded_end ≤ length work.now) × (at + size ≤ folded_end) }
-    ensures { (option_of result ≡ find-equal-of work.now (record { at = at; size = size; whole = whole })) × (result ≤ folded_end) }
+    ensures { (option_of result ≡ find-equal-of work.now (record { at = at; size = size; whole = whole })) × IfSome result (λ q. q ≤ folded_end) }
 {
-    if !whole {
-        return 0;
+    if !whole || cell(work, at + 1) != 0 {
+        return None;
     }
-    if cell(work, at + 1) != 0 {
-        return 0;
-    }
-    let mut q = memory::FOLDED;
-    let mut k: usize = 4096;
-    while k != 0 {
+    for q in memory::FOLDED..memory::FOLDED_END {
         if is_equal(work, at, q, size) {
-            return q;
+            return Some(q);
         }
-        q = q + 1;
-        k = k - 1;
     }
-    0
+    None
 }
 
 // An If's three cells.
@@ -257,7 +233,7 @@ fn number_word(whole: bool, v: usize) -> i32
         return (v + 1) as i32;
     }
     let w = (v + 2) as i32;
-    0 - w
+    -w
 }
 
 // ---- records
@@ -276,7 +252,7 @@ fn put_two(out: &mut [i32], records: usize, k: usize, l: i32, x: i32, y: i32)
     ensures { (out.new ≡ sets out.old (records + 4 * k) (two_record l x y)) × (length out.new ≡ length out.old) }
 {
     if x < y {
-        put_record(out, records, k, 1, 0 - l, x, y);
+        put_record(out, records, k, 1, -l, x, y);
         return;
     }
     if x == y {
@@ -306,11 +282,11 @@ fn single(c: Progress, at: usize, base: usize, lits: usize, cmps: usize) -> Numb
 {
     Numbered {
         progress: c,
-        at: at,
-        base: base,
+        at,
+        base,
         longs: 0,
-        lits: lits,
-        cmps: cmps,
+        lits,
+        cmps,
     }
 }
 
@@ -320,8 +296,8 @@ fn longer(c: Progress, at: usize, base: usize) -> Numbered
 {
     Numbered {
         progress: c,
-        at: at,
-        base: base,
+        at,
+        base,
         longs: 1,
         lits: 0,
         cmps: 0,
@@ -333,14 +309,11 @@ fn add(r: Numbered, s: Numbered) -> Numbered
     requires { (r.longs + r.lits + r.cmps ≤ folded_end) × (s.longs + s.lits + s.cmps ≤ folded_end) }
     ensures { result ≡ numbered s.progress s.at s.base (r.longs + s.longs) (r.lits + s.lits) (r.cmps + s.cmps) }
 {
-    let c = s.progress;
     Numbered {
-        progress: c,
-        at: s.at,
-        base: s.base,
         longs: r.longs + s.longs,
         lits: r.lits + s.lits,
         cmps: r.cmps + s.cmps,
+        ..s
     }
 }
 
@@ -383,8 +356,8 @@ fn ended(c: Progress, at: usize, base: usize) -> NumberedInt
 {
     NumberedInt {
         progress: c,
-        at: at,
-        base: base,
+        at,
+        base,
     }
 }
 
@@ -411,16 +384,7 @@ fn number_leaf(
 fn is_leaf(left: usize, code: usize) -> bool
     ensures { result ≡ true → (left ≡ 0 → ⊥) × ((code ≡ 22 → ⊥) × (code ≡ 23 → ⊥)) }
 {
-    if left == 0 {
-        return false;
-    }
-    if code == 22 {
-        return false;
-    }
-    if code == 23 {
-        return false;
-    }
-    true
+    left != 0 && code != 22 && code != 23
 }
 
 // Where an If's condition, its branches and its end stand; one, two, base: the splitting's next number at the branches and at the end.
@@ -458,21 +422,10 @@ fn is_passed(work: &[i32], at: usize, room: Room, c: Progress) -> bool
     requires { at ≤ folded_end }
     ensures { result ≡ ltb room.cap c.used || known_in (seen_in (cell_of work.now (at + 1))) c.ints }
 {
-    if is_full(room, c) {
-        return true;
-    }
-    is_known(cell(work, at + 1), c.ints)
+    is_full(room, c) || is_known(cell(work, at + 1), c.ints)
 }
 
 // ---- Ifs: the parts outside the cycle of calls
-
-// What is found of the branches' sums: whether both are constant, and their constants.
-#[derive(Clone, Copy)]
-pub struct Sums {
-    pub constant: bool,
-    pub first: i32,
-    pub second: i32,
-}
 
 // Lowest and highest of either branch.
 #[derive(Clone, Copy)]
@@ -485,50 +438,32 @@ pub struct Span {
 fn counters_of(work: &[i32], c: Progress) -> Counters
     ensures { result ≡ counters_in work.now c }
 {
-    if has_ifs(work) {
-        return Counters {
-            bools: c.bools,
-            ints: c.ints,
-        };
-    }
     Counters {
         bools: c.bools,
-        ints: 0,
+        ints: if has_ifs(work) { c.ints } else { 0 },
     }
 }
 
-// The branches' sums; s and y: where the branches began.
-fn branch_sums(work: &[i32], left: usize, m: usize, p: IfParts, s: Progress, y: Progress) -> Sums
+// The constants of the branches where both are constant; s and y: where the branches began.
+fn branch_sums(
+    work: &[i32],
+    left: usize,
+    m: usize,
+    p: IfParts,
+    s: Progress,
+    y: Progress,
+) -> Option<(i32, i32)>
     requires { (folded_end ≤ length work.now) × (Begins p s y × SumsReady work.now (decode_int (read_part work.now) left (split_by m) p.first p.one).tree (decode_int (read_part work.now) left (split_by m) p.second p.two).tree (counters_in work.now s) (counters_in work.now y)) }
-    ensures { (ds : List Domain) → SumsAre ds work.now (decode_int (read_part work.now) left (split_by m) p.first p.one).tree (decode_int (read_part work.now) left (split_by m) p.second p.two).tree (counters_in work.now s) (counters_in work.now y) result.constant result.first result.second }
+    ensures { (ds : List Domain) → ConstantsAre ds work.now (decode_int (read_part work.now) left (split_by m) p.first p.one).tree (decode_int (read_part work.now) left (split_by m) p.second p.two).tree (counters_in work.now s) (counters_in work.now y) result }
 {
     let a = linear_of(work, p.first, left, m, p.one, counters_of(work, s));
     let b = linear_of(work, p.second, left, m, p.two, counters_of(work, y));
     let l = a.sum;
     let o = b.sum;
-    Sums {
-        constant: l.count + o.count == 0,
-        first: l.constant,
-        second: o.constant,
+    if l.count == 0 && o.count == 0 {
+        return Some((l.constant, o.constant));
     }
-}
-
-fn lower(x: i32, y: i32) -> i32
-    ensures { result ≡ lower_of x y }
-{
-    if x <= y {
-        return x;
-    }
-    y
-}
-
-fn higher(x: i32, y: i32) -> i32
-    ensures { result ≡ higher-of x y }
-{
-    if x <= y {
-        return y;
-    }
-    x
+    None
 }
 
 // The domain of either branch.
@@ -538,11 +473,9 @@ fn branch_range(work: &[i32], left: usize, m: usize, p: IfParts, s: Progress, y:
 {
     let a = range_of(work, p.first, left, m, p.one, counters_of(work, s));
     let b = range_of(work, p.second, left, m, p.two, counters_of(work, y));
-    let low = lower(a.low, b.low);
-    let high = higher(a.high, b.high);
     Span {
-        low: low,
-        high: high,
+        low: a.low.min(b.low),
+        high: a.high.max(b.high),
     }
 }
 
@@ -701,10 +634,9 @@ fn number_branches(
     requires { Starts (branches_at room.records room.cap left (split_by m) at base p (counters_in work.old s) (counters_in work.old y) (read_part work.old)) (state_of work.old out.old c) room.records at base × (PartsAt (read_part work.old) left (split_by m) p.cond base p × Begins p s y) }
     ensures { Done (branches_at room.records room.cap left (split_by m) at base p (counters_in work.old s) (counters_in work.old y) (read_part work.old)) (state_of work.old out.old c) (state_of work.new out.new result) }
 {
-    let v = branch_sums(work, left, m, p, s, y);
-    if v.constant {
+    if let Some((x, z)) = branch_sums(work, left, m, p, s, y) {
         store(work, memory::CELLS + (at + 1), -1);
-        return number_constant(work, out, at, left, m, base, p, room, c, v.first, v.second);
+        return number_constant(work, out, at, left, m, base, p, room, c, x, z);
     }
     let d = branch_range(work, left, m, p, s, y);
     number_open(work, out, at, left, m, base, p, room, c, d.low, d.high)
@@ -759,8 +691,7 @@ fn number_choice(
     if is_passed(work, at, room, c) {
         return c;
     }
-    let q = find_equal(work, at, p.at - at, p.base <= base);
-    if q != 0 {
+    if let Some(q) = find_equal(work, at, p.at - at, p.base <= base) {
         copy_cells(work, at, q);
         return c;
     }
@@ -805,9 +736,7 @@ fn number_terms(
     ensures { Done (terms_at room.records room.cap (read_part work.old) left (split_by m) count at base) (state_of work.old out.old c) (state_of work.new out.new result.progress) × TermSkips (read_part work.old) left (split_by m) count at base result.at result.base }
 {
     let mut r = ended(c, at, base);
-    let mut rest = count;
-    while rest != 0 {
-        rest = rest - 1;
+    for _ in 0..count {
         let p = within(r.at + 1);
         let k = word(work, p);
         if is_leaf(left, k) {
@@ -871,12 +800,10 @@ fn numbers(
     ensures { Done (members_at room.records room.cap (read_part work.old) left (split_by m) count g h at base) (state_of work.old out.old c) (state_of work.new out.new result.progress) × SizedAll (read_part work.old) left (split_by m) count g h at base result.at result.base result.longs result.lits result.cmps }
 {
     let mut r = single(c, at, base, 0, 0);
-    let mut rest = count;
     let mut f = g;
-    while rest != 0 {
+    for _ in 0..count {
         let s = number(work, out, r.at, left, m, r.base, f, room, r.progress);
         r = add(r, s);
-        rest = rest - 1;
         f = h;
     }
     r
@@ -972,10 +899,8 @@ fn number_each_ties(
     ensures { Done (each_ties_of room.records room.cap (read_part work.old) left (split_by m) count at base) (state_of work.old out.old c) (state_of work.new out.new result.progress) × SkipsAll (read_part work.old) left (split_by m) count at base result.at result.base }
 {
     let mut r = ended(c, at, base);
-    let mut rest = count;
-    while rest != 0 {
+    for _ in 0..count {
         r = number_ties(work, out, r.at, left, m, r.base, room, r.progress);
-        rest = rest - 1;
     }
     r
 }
@@ -997,9 +922,7 @@ fn number_term_ties(
     ensures { Done (terms_ties_of room.records room.cap (read_part work.old) left (split_by m) count at base) (state_of work.old out.old c) (state_of work.new out.new result.progress) × TermSkips (read_part work.old) left (split_by m) count at base result.at result.base }
 {
     let mut r = ended(c, at, base);
-    let mut rest = count;
-    while rest != 0 {
-        rest = rest - 1;
+    for _ in 0..count {
         if scan::is_leaf(work, r.at, left) {
             r = ended(r.progress, r.at + 3, r.base);
             continue;
@@ -1106,26 +1029,11 @@ fn number_ties(
 
 // ---- a rule
 
-// a less b; 0 where b is more.
-fn minus(a: usize, b: usize) -> usize
-    ensures { result ≡ a - b }
-{
-    if a < b {
-        return 0;
-    }
-    a - b
-}
-
 // Whether an expression is split, from n to `next`; at the limit it may be.
 fn is_split(n: usize, next: usize) -> bool
     ensures { result ≡ false → Unsplit n next }
 {
-    if n < memory::LIMIT {
-        if next == n {
-            return false;
-        }
-    }
-    true
+    n >= memory::LIMIT || next != n
 }
 
 // The extras of the rule at a place, which is split from n to `next`. Where nothing is split there are none.
@@ -1161,7 +1069,7 @@ pub fn number_rule(
 {
     let n = c.bools;
     let s = skip(work, at, 64, 1, n);
-    let d = advance(c, minus(s.base, n));
+    let d = advance(c, s.base.saturating_sub(n));
     let e = number_extras(work, out, at, n, s.base, room, d);
     let f = number(work, out, at, 64, 1, n, false, room, e);
     ended(f.progress, s.at, s.base)
@@ -1205,7 +1113,7 @@ pub fn number_pair(
     let a = skip_int(work, p, 64, 2, n);
     let j = a.base;
     let b = skip_int(work, q, 64, 2, j);
-    let d = advance(c, minus(b.base, n));
+    let d = advance(c, b.base.saturating_sub(n));
     let e = number_side_extras(work, out, p, n, j, room, d);
     let f = number_side_extras(work, out, q, j, b.base, room, e);
     let g = number_int(work, out, p, 64, 2, n, room, f);

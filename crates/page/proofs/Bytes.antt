@@ -6,14 +6,14 @@ use Prim.Native.Nat.{ℕ, suc, ◌+◌, ◌-◌, ◌/◌, ◌≤◌, ◌<◌, mi
 use native.Mathlib.Omega.{arith}
 use native.Mathlib.Nat.{div-add-mod'}
 use native.Mathlib.Numerals.{add-one}
-use lib.IntN.{ℤ, pos, negsuc, nat_abs, ◌-ℤ◌}
+use lib.IntN.{ℤ, pos, negsuc, nat_abs}
 use lib.Dec.{T, leb, ltb}
-use lib.Signed.{lt_z, non_neg, mag}
-use lib.ListN.{length, drop, get_or, set, length-set, length-append, length-replicate, replicate-append-replicate, drop_of_length-le}
-use lib.Seq.{sets, length-sets, set_out}
-use borrow.Author.Tests.{leb-true, leb-false, ltb-true, ltb-false, le-ltb}
-use mir.Syntax.{w32, w64}
-use mir.Val.{SFits, Fits}
+use lib.Signed.{lt_z, non_neg}
+use lib.ListN.{length, take, drop, get_or, set, length-set, length-append, length-replicate, replicate-append-replicate, drop_of_length-le}
+use lib.Seq.{sets, take_all, length-sets, set_out}
+use borrow.Author.Tests.{leb-true, leb-false, ltb-true, ltb-false}
+use mir.Syntax.{w32}
+use mir.Val.{SFits}
 use Rattle.decimal.specs.Bytes.{comma}
 use Rattle.decimal.specs.Decimal.{print_natural, print_number}
 use Rattle.decimal.specs.Puts.{puts, Puts}
@@ -77,38 +77,22 @@ pub tenth_less : (m : ℕ) → 10 ≤ m → m / 10 + 9 ≤ m
 tenth_less m h = let d = div-add-mod' m 10 in omega arith
 
 -- the code's -1 - z
-flip : (z : ℤ) → lt_z z (pos 0) ≡ true → negsuc 0 -ℤ z ≡ pos (mag z)
-flip (pos n) h = absurd (let l = ltb-true n 0 h in omega arith)
-flip (negsuc n) h = rw (le-ltb (suc n) 1 (omega arith)) (ap pos (let e : suc n - 1 ≡ n = omega arith in e))
-
 fits_abs : (z : ℤ) → SFits w32 z → nat_abs z ≤ 2147483648
 fits_abs (pos n) f = let l = f.sfits in omega arith
 fits_abs (negsuc n) f = let l = f.sfits in omega arith
 
-negative_length : (z : ℤ) → lt_z z (pos 0) ≡ true → (n r : ℕ) → n ≡ nat_abs (negsuc 0 -ℤ z) + 1 → r ≡ length (print_natural n) → 1 + r ≡ length (print_number z)
+negative_length : (z : ℤ) → lt_z z (pos 0) ≡ true → (n r : ℕ) → n ≡ nat_abs z → r ≡ length (print_natural n) → 1 + r ≡ length (print_number z)
 unfolding print_number
 negative_length (pos n) h m r e w = absurd (let l = ltb-true n 0 h in omega arith)
-negative_length (negsuc n) h m r e w =
-    let q : m ≡ suc n = e ∙ rw (flip (negsuc n) h) (omega arith) in
-    omega (arith, w ∙ ap (λ (k : ℕ). length (print_natural k)) q)
+negative_length (negsuc n) h m r e w = omega (arith, w ∙ ap (λ (k : ℕ). length (print_natural k)) e)
 
 plain_length : (z : ℤ) → T (non_neg z) → (n r : ℕ) → n ≡ nat_abs z → r ≡ length (print_natural n) → r ≡ length (print_number z)
 unfolding print_number
 plain_length (pos n) h m r e w = w ∙ ap (λ (k : ℕ). length (print_natural k)) e
 plain_length (negsuc n) h m r e w = absurd h
 
-module _ (z : ℤ) (h : lt_z z (pos 0) ≡ true) (f : SFits w32 z) where
-  pub flip_fits : SFits w32 (negsuc 0 -ℤ z)
-  flip_fits = rw (flip z h) (record { sfits = f.sfits })
-
-  pub flip_plain : T (non_neg (negsuc 0 -ℤ z))
-  flip_plain = rw (flip z h) tt
-
-  pub flip_more : Fits w64 (nat_abs (negsuc 0 -ℤ z) + 1)
-  flip_more = rw (flip z h) (record { fits = let l = f.sfits in omega arith })
-
-  pub negative_width : (n r : ℕ) → n ≡ nat_abs (negsuc 0 -ℤ z) + 1 → r ≡ length (print_natural n) → (1 + r ≡ length (print_number z)) × (1 + r ≤ 11)
-  negative_width n r e w = let s = number_short z (fits_abs z f) in let q = negative_length z h n r e w in (q, omega arith)
+pub negative_width : (z : ℤ) → lt_z z (pos 0) ≡ true → SFits w32 z → (n r : ℕ) → n ≡ nat_abs z → r ≡ length (print_natural n) → (1 + r ≡ length (print_number z)) × (1 + r ≤ 11)
+negative_width z h f n r e w = let s = number_short z (fits_abs z f) in let q = negative_length z h n r e w in (q, omega arith)
 
 pub plain_width : (z : ℤ) → T (non_neg z) → SFits w32 z → (n r : ℕ) → n ≡ nat_abs z → r ≡ length (print_natural n) → (r ≡ length (print_number z)) × (r ≤ 11)
 plain_width z h f n r e w = let s = number_short z (fits_abs z f) in let q = plain_length z h n r e w in (q, omega arith)
@@ -157,12 +141,14 @@ left_start out at whole = record { bytes = refl; after = refl }
 
 -- the first number, then the others
 pub numbers_first : (part : List ℤ) (out : List ℕ) (at : ℕ) (mid out' : List ℕ) (a r : ℕ) → (length part ≡ 0 → ⊥) → (y : ℤ) → y ≡ get_or part 0 (pos 0) → mid ≡ sets out at (print_number y) → a ≡ length (print_number y)
-    → Wrote mid (at + a) (print_more (drop 1 part)) out' r → Wrote out at (print_numbers part) out' r
+    → Wrote mid (at + a) (print_more (take (length part - 1) (drop 1 part))) out' r → Wrote out at (print_numbers part) out' r
 unfolding print_numbers
 numbers_first [] out at mid out' a r h y e w s x = absurd (h refl)
 numbers_first (z ∷ zs) out at mid out' a r h y e w s x =
     let one : Wrote out at (print_number y) mid (at + a) = record { bytes = w; after = rw s refl } in
-    wrote_to (ap (λ (k : ℤ). print_number k ++ print_more zs) e) (wrote_then one x)
+    let t : take (suc (length zs) - 1) zs ≡ zs = take_all (suc (length zs) - 1) zs (omega arith) in
+    let y : Wrote mid (at + a) (print_more zs) out' r = rw t at x in
+    wrote_to (ap (λ (k : ℤ). print_number k ++ print_more zs) e) (wrote_then one y)
 
 module _ (part : List ℤ) (out₀ : List ℕ) (at : ℕ) (whole out : List ℕ) (o i : ℕ) (inv : Left out o (print_more (drop i part)) out₀ at whole) where
   pub numbers_more : i < length part → (mid out' : List ℕ) → mid ≡ sets out o (comma ∷ []) → (z : ℤ) → z ≡ get_or part i (pos 0) → out' ≡ sets mid (o + 1) (print_number z) → (a : ℕ) → a ≡ length (print_number z)

@@ -1,7 +1,7 @@
 // The clause sheet, written from the words of an answer straight into the lent bytes. Bytes past the end are dropped, and counted.
 #![tactic(auto)]
 
-ghost use Rattle.std.specs.Prelude.{◌≡◌, true, [], ◌∷◌, ◌++◌, map, ◌+◌, ◌*◌, ◌-◌, ◌≤◌, ◌<◌, min, length, drop};
+ghost use Rattle.std.specs.Prelude.{◌≡◌, true, [], ◌∷◌, ◌++◌, map, ◌+◌, ◌*◌, ◌-◌, ◌≤◌, ◌<◌, length, drop};
 ghost use Rattle.decimal.specs.Decimal.{print_natural, print_number};
 ghost use Rattle.laws.specs.Lists.{all, flat};
 ghost use Rattle.lines.specs.Lines.{count_word, print_numbers, print_comparison, print_comparisons, print_clause};
@@ -27,7 +27,7 @@ fn natural_width(n: u64) -> usize
     let mut w = 1;
     let mut m = n;
     while 10 <= m {
-        m = m / 10;
+        m /= 10;
         w += 1;
     }
     w
@@ -38,8 +38,7 @@ fn width(z: i32) -> usize
     ensures { (result ≡ length (print_number z)) × (result ≤ 11) }
 {
     if z < 0 {
-        let m = -1 - z;
-        return 1 + natural_width(m as u64 + 1);
+        return 1 + natural_width(u64::from(z.unsigned_abs()));
     }
     natural_width(z as u64)
 }
@@ -50,15 +49,10 @@ fn numbers_width(part: &[i32]) -> usize
     ensures { (result ≡ length (print_numbers part.now)) × (result ≤ 12 * length part.now) }
 {
     let mut w = 0;
-    let mut i = 0;
-    while i < part.len() {
-        w += width(part[i]) + 1;
-        i += 1;
+    for z in part {
+        w += width(*z) + 1;
     }
-    if w == 0 {
-        return 0;
-    }
-    w - 1
+    w.saturating_sub(1)
 }
 
 // Numbers parted by commas.
@@ -66,39 +60,26 @@ fn put_numbers(out: &mut [u8], at: usize, part: &[i32]) -> usize
     requires { (at ≤ far) × (Few part.now) }
     ensures { (Wrote out.old at (print_numbers part.now) out.new result) × (result ≤ at + 11 + 12 * length part.now) }
 {
-    if part.len() == 0 {
+    if part.is_empty() {
         return at;
     }
     put_number(out, at, part[0]);
     let mut o = at + width(part[0]);
-    let mut i = 1;
-    while i < part.len() {
+    for z in &part[1..] {
         put_byte(out, o, b',');
-        put_number(out, o + 1, part[i]);
-        o += width(part[i]) + 1;
-        i += 1;
+        put_number(out, o + 1, *z);
+        o += width(*z) + 1;
     }
     o
-}
-
-fn least(a: usize, b: usize) -> usize
-    ensures { result ≡ min a b }
-{
-    if a < b {
-        return a;
-    }
-    b
 }
 
 fn put_spaces(out: &mut [u8], at: usize, n: usize) -> usize
     requires { (at ≤ far) × (n ≤ 80) }
     ensures { (Wrote out.old at (spaces n) out.new result) × (result ≡ at + n) }
 {
-    let end = least(at + n, out.len());
-    let mut o = at;
-    while o < end {
+    let end = out.len().min(at + n);
+    for o in at..end {
         out[o] = b' ';
-        o += 1;
     }
     at + n
 }
@@ -152,17 +133,15 @@ fn place_literals(out: &mut [u8], page: Place, part: &[i32]) -> Place
     ensures { Moves (place_items (map literal_item part.now)) (length part.now) out.old page out.new result }
 {
     let mut p = page;
-    let mut i = 0;
-    while i < part.len() {
-        let w = width(part[i]);
+    for z in part {
+        let w = width(*z);
         let q = begin(out, p, w);
-        put_number(out, q.at, part[i]);
+        put_number(out, q.at, *z);
         p = Place {
-            line: q.line,
             at: q.at + w,
             bare: false,
+            ..q
         };
-        i += 1;
     }
     p
 }
@@ -210,9 +189,9 @@ fn place_pair(out: &mut [u8], p: Place, pair: &[i32], more: bool) -> Place
     let q = with_room(out, p, w);
     let o = put_pair(out, q.at, pair, more);
     Place {
-        line: q.line,
         at: o,
         bare: false,
+        ..q
     }
 }
 
@@ -261,9 +240,9 @@ fn place_terms(out: &mut [u8], page: Place, o: &[i32], c: &[i32], terms: &[i32])
     let q = begin(out, page, w);
     let a = put_head(out, q.at, o, c);
     let p = Place {
-        line: q.line,
         at: a,
         bare: false,
+        ..q
     };
     place_pairs(out, p, terms)
 }
@@ -293,17 +272,16 @@ fn place_comparisons(out: &mut [u8], page: Place, words: &[i32], from: usize) ->
     requires { (Line page) × (Few words.now) × (page.line ≤ 4398046511104) × (from ≤ length words.now) × (all fitting words.now ≡ true) }
     ensures { (Moves (place_items (comparison_items (count_word (drop from words.now)) (drop 1 (drop from words.now)))) (result.next - from) out.old page out.new result.page) × (Shows (print_comparisons (drop from words.now)).rest words.now from result.next) }
 {
+    let n = count_at(words, from);
     let mut p = page;
     let mut i = stop(words, from, 1);
-    let mut left = count_at(words, from);
-    while left > 0 {
+    for _ in 0..n {
         if i == words.len() {
             return Placed { page: p, next: i };
         }
         let r = place_comparison(out, p, words, i);
         p = r.page;
         i = r.next;
-        left -= 1;
     }
     Placed { page: p, next: i }
 }
@@ -324,15 +302,8 @@ fn start_clause(out: &mut [u8], at: usize, k: u64) -> Place
     }
 }
 
-// Where the next byte goes, and the next word to show.
-#[derive(Drop)]
-pub struct After {
-    pub at: usize,
-    pub next: usize,
-}
-
 // Clause number k.
-fn put_clause(out: &mut [u8], at: usize, k: u64, words: &[i32], from: usize) -> After
+fn put_clause(out: &mut [u8], at: usize, k: u64, words: &[i32], from: usize) -> lines::Place
     requires { (at ≤ 2199023255552) × (k < 100000000) × (Few words.now) × (from < length words.now) × (all fitting words.now ≡ true) }
     ensures { (Wrote out.old at (flat (map full (all_lines (place_items (clause_items (drop from words.now)) (numbered k))))) out.new result.at) × (Shows (print_clause (drop from words.now)).rest words.now from result.next) × (result.at + 81 * from ≤ at + 81 * result.next) × (from < result.next) }
 {
@@ -342,9 +313,8 @@ fn put_clause(out: &mut [u8], at: usize, k: u64, words: &[i32], from: usize) -> 
     let s = start_clause(out, at, k);
     let p = place_literals(out, s, &words[a..b]);
     let q = place_comparisons(out, p, words, b);
-    let e = end_line(out, q.page);
-    After {
-        at: e,
+    lines::Place {
+        at: end_line(out, q.page),
         next: q.next,
     }
 }
@@ -356,17 +326,13 @@ fn put_clauses(out: &mut [u8], words: &[i32], from: usize, n: usize) -> usize
 {
     let mut o = 0;
     let mut i = from;
-    let mut left = n;
-    let mut k = 1;
-    while left > 0 {
+    for k in 0..n {
         if i == words.len() {
             return o;
         }
-        let r = put_clause(out, o, k, words, i);
+        let r = put_clause(out, o, k as u64 + 1, words, i);
         o = r.at;
         i = r.next;
-        left -= 1;
-        k += 1;
     }
     o
 }

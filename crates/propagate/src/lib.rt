@@ -291,6 +291,7 @@ fn run_queue(
 {
     let mut k = 0;
     let mut count = queued;
+    // the queue grows on the way
     while k < count {
         let i = entry(watches, 6658 + k);
         store(watches, 4610 + i, 0);

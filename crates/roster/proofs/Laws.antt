@@ -3,6 +3,8 @@ use mathlib.Core.Path.{◌≡◌, refl, sym, ap, ◌∙◌, subst}
 use mathlib.Core.Bool.{Bool, true, false, cond}
 use mathlib.Core.List.{List, [], ◌∷◌, ◌++◌}
 use mathlib.Core.Option.{Option, none, some}
+use Rattle.std.specs.Prelude.{Some, None}
+use Rattle.std.specs.Prelude as code
 use Prim.Native.Nat.{ℕ, zero, suc, ◌+◌, ◌-◌, ◌≤◌, ◌<◌}
 use native.Mathlib.Omega.{arith}
 use lib.IntN.{ℤ, pos}
@@ -18,8 +20,6 @@ use Rattle.decimal.specs.Puts.{Puts, puts_then, puts_as, text_result}
 use Rattle.input.specs.ReadText.{split, after, read_numbers, max_bytes, read_text}
 use Rattle.input.specs.Input.{fill, filled, InWords, Filled, words_of, words_after}
 use Rattle.input.specs.Room.{few_words}
-use Rattle.input.specs.declared.Words.{Words}
-use Rattle.input.specs.declared.Words.TheVariants as read
 use Rattle.evaluate.specs.Contract.{Checks}
 use Rattle.evaluate.specs.declared.Checked.{Checked}
 use Rattle.roster.specs.RosterText.{values_key, unread_line, print_numbered, print_checked, feed_step, last_feed, values_of, print_read, check_lines, check_text}
@@ -85,7 +85,7 @@ after_long (k ∷ ks) (b ∷ bs) r h = go (eqb b k) h (after_long ks bs r)
     go false e f = apart (cc)
 
 module _ (line : List ℕ) (values : List ℤ) (t : Bool) (h : after values_key line ≡ cond t (some (drop 7 line)) none) where
-  pub no_key : t ≡ false → Filled values 0 (values_of (after values_key line)) (length line + 1) values read.Unread
+  pub no_key : t ≡ false → Filled values 0 (values_of (after values_key line)) (length line + 1) values None
   unfolding values_of fill filled
   no_key f = let e : after values_key line ≡ none = h ∙ rw f refl in record { size = refl; words = rw e refl; few = tt }
 
@@ -96,15 +96,15 @@ module _ (line : List ℕ) (values : List ℤ) (t : Bool) (h : after values_key 
     pub key_fits : 7 ≤ length line
     key_fits = after_long values_key line (drop 7 line) keyed
 
-    pub no_values : length line ≡ 7 → Filled values 0 (values_of (after values_key line)) (length line + 1) values (read.Count 0)
+    pub no_values : length line ≡ 7 → Filled values 0 (values_of (after values_key line)) (length line + 1) values (Some 0)
     unfolding values_of fill filled
     no_values s = go (drop 7 line) refl (length-drop 7 line)
       where
-        go : (r : List ℕ) → drop 7 line ≡ r → length (drop 7 line) ≡ length line - 7 → Filled values 0 (values_of (after values_key line)) (length line + 1) values (read.Count 0)
+        go : (r : List ℕ) → drop 7 line ≡ r → length (drop 7 line) ≡ length line - 7 → Filled values 0 (values_of (after values_key line)) (length line + 1) values (Some 0)
         go [] e l = record { size = refl; words = rw (keyed ∙ ap some e) refl; few = omega arith }
         go (b ∷ bs) e l = absurd (omega (arith, ap length e, l, s))
 
-    pub some_values : (length line ≡ 7 → ⊥) → (values' : List ℤ) (r : Words) → Filled values 0 (read_numbers (split comma (take (length line - 7) (drop 7 line)))) (0 + length (take (length line - 7) (drop 7 line)) + 1) values' r → Filled values 0 (values_of (after values_key line)) (length line + 1) values' r
+    pub some_values : (length line ≡ 7 → ⊥) → (values' : List ℤ) (r : code.Option ℕ) → Filled values 0 (read_numbers (split comma (take (length line - 7) (drop 7 line)))) (0 + length (take (length line - 7) (drop 7 line)) + 1) values' r → Filled values 0 (values_of (after values_key line)) (length line + 1) values' r
     some_values s values' r g =
         let f : Filled values 0 (read_numbers (split comma (drop 7 line))) (0 + length (drop 7 line) + 1) values' r = subst (λ (p : List ℕ). Filled values 0 (read_numbers (split comma p)) (0 + length p + 1) values' r) (part_all 7 line) g in
         record { size = f.size; words = ap (fill values 0) (same (drop 7 line) refl (length-drop 7 line)) ∙ f.words; few = most r f.few }
@@ -113,9 +113,9 @@ module _ (line : List ℕ) (values : List ℤ) (t : Bool) (h : after values_key 
         same [] e l = absurd (omega (arith, ap length e, l, s, key_fits))
         same (b ∷ bs) e l = unfold values_of in rw (keyed, e) refl
 
-        most : (r : Words) → InWords (0 + length (drop 7 line) + 1) r → InWords (length line + 1) r
-        most (read.Count n) k = omega (arith, k, length-drop 7 line)
-        most read.Unread k = tt
+        most : (r : code.Option ℕ) → InWords (0 + length (drop 7 line) + 1) r → InWords (length line + 1) r
+        most (Some n) k = omega (arith, k, length-drop 7 line)
+        most None k = tt
 
 -- ---- `check_lines`
 
@@ -142,20 +142,20 @@ take_sets : (l ws : List ℤ) → length ws ≤ length l → take (length ws) (s
 take_sets l ws h = ap (take (length ws)) (sets-eq ws l 0 (omega arith)) ∙ take-append_seam ws (drop (0 + length ws) l)
 
 -- the words of the set's text
-module _ (text : List ℕ) (words words' : List ℤ) (r : Words) (long : 32768 ≤ length words) (told : r ≡ words_of (read_text text)) (left : words' ≡ words_after (length words) (read_text text)) where
-  pub set_unread : r ≡ read.Unread → read_text text ≡ none
+module _ (text : List ℕ) (words words' : List ℤ) (r : code.Option ℕ) (long : 32768 ≤ length words) (told : r ≡ words_of (read_text text)) (left : words' ≡ words_after (length words) (read_text text)) where
+  pub set_unread : r ≡ None → read_text text ≡ none
   set_unread u = go (read_text text) refl told
     where
       go : (o : Option (List ℤ)) → read_text text ≡ o → r ≡ words_of o → read_text text ≡ none
       go none e a = e
-      go (some ws) e a = unfold words_of in apart (let z : read.Unread ≡ read.Count (length ws) = sym u ∙ a in cc)
+      go (some ws) e a = unfold words_of in apart (let z : None ≡ Some (length ws) = sym u ∙ a in cc)
 
-  module _ (n : ℕ) (count : r ≡ read.Count n) where
+  module _ (n : ℕ) (count : r ≡ Some n) where
     set_counted : (o : Option (List ℤ)) → read_text text ≡ o → r ≡ words_of o → words' ≡ words_after (length words) o → (n ≤ length words') × (read_text text ≡ some (take n words'))
     unfolding words_of words_after
-    set_counted none e a b = apart (let q : read.Count n ≡ read.Unread = sym count ∙ a in cc)
+    set_counted none e a b = apart (let q : Some n ≡ None = sym count ∙ a in cc)
     set_counted (some ws) e a b =
-        let q : read.Count n ≡ read.Count (length ws) = sym count ∙ a in
+        let q : Some n ≡ Some (length ws) = sym count ∙ a in
         let m : n ≡ length ws = cc in
         let f = few_words text ws e in
         let s : length words' ≡ length words = ap length b ∙ length-sets (zeros (length words)) 0 ws ∙ zeros_length (length words) in
@@ -171,15 +171,15 @@ some_same : (x y : List ℤ × ℕ) → some x ≡ some y → x ≡ y
 some_same x y e = cc
 
 -- the values of the last line
-module _ (line : List ℕ) (values values' : List ℤ) (r : Words) (short : length line ≤ 65536) (long : 65537 ≤ length values) (f : Filled values 0 (values_of (after values_key line)) (length line + 1) values' r) where
-  pub values_unread : r ≡ read.Unread → values_of (after values_key line) ≡ none
+module _ (line : List ℕ) (values values' : List ℤ) (r : code.Option ℕ) (short : length line ≤ 65536) (long : 65537 ≤ length values) (f : Filled values 0 (values_of (after values_key line)) (length line + 1) values' r) where
+  pub values_unread : r ≡ None → values_of (after values_key line) ≡ none
   values_unread u = go (values_of (after values_key line)) refl f.words
     where
       go : (o : Option (List ℤ)) → values_of (after values_key line) ≡ o → fill values 0 o ≡ filled values' r → values_of (after values_key line) ≡ none
       go none e a = e
       go (some vs) e a = unfold fill filled in apart (let z = rw u at a in cc)
 
-  module _ (m : ℕ) (count : r ≡ read.Count m) where
+  module _ (m : ℕ) (count : r ≡ Some m) where
     values_counted : (o : Option (List ℤ)) → values_of (after values_key line) ≡ o → fill values 0 o ≡ filled values' r → (m ≤ length values') × (values_of (after values_key line) ≡ some (take m values'))
     unfolding fill filled
     values_counted none e a = apart (let z = rw count at a in cc)
@@ -190,7 +190,7 @@ module _ (line : List ℕ) (values values' : List ℤ) (r : Words) (short : leng
         let y : x ≡ w' = some_same x w' z in
         let k : 0 + length vs ≡ m = ap (λ (p : List ℤ × ℕ). p.1) y in
         let s : sets values 0 vs ≡ values' = ap (λ (p : List ℤ × ℕ). p.0) y in
-        let w : InWords (length line + 1) (read.Count m) = rw count at f.few in
+        let w : InWords (length line + 1) (Some m) = rw count at f.few in
         let l : length values' ≡ length values = f.size in
         (omega (arith, w, l), e ∙ ap some (sym (let g : take (length vs) (sets values 0 vs) ≡ vs = take_sets values vs (omega (arith, w, k)) in let n : m ≡ length vs = omega (arith, k) in rw (n, sym s) g)))
 

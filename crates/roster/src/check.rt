@@ -7,17 +7,16 @@ ghost use Rattle.roster.specs.RosterText.{values_key, print_numbered, print_chec
 ghost use Rattle.roster.specs.Contract.{Room, Tells, Told};
 
 use evaluate::Checked;
-use input::Words;
 
-const VALUES: [u8; 7] = *b"values=";
+const VALUES: &[u8] = b"values=";
 
-const YES: [u8; 11] = *b"roster=yes\n";
+const YES: &[u8] = b"roster=yes\n";
 
-const BROKEN: [u8; 14] = *b"roster=broken,";
+const BROKEN: &[u8] = b"roster=broken,";
 
-const REFUSED: [u8; 15] = *b"roster=refused,";
+const REFUSED: &[u8] = b"roster=refused,";
 
-const UNREAD: [u8; 14] = *b"roster=unread\n";
+const UNREAD: &[u8] = b"roster=unread\n";
 
 // A start of a line, a number, the line's end.
 fn put_numbered(out: &mut [u8], start: &[u8], k: usize) -> usize
@@ -32,9 +31,9 @@ fn put_checked(answer: Checked, out: &mut [u8]) -> usize
     ensures { Puts out.old 0 (print_checked answer) out.new result }
 {
     match answer {
-        Checked::Yes => decimal::put_bytes(out, 0, &YES),
-        Checked::Broken(k) => put_numbered(out, &BROKEN, k),
-        Checked::Refused(k) => put_numbered(out, &REFUSED, k),
+        Checked::Yes => decimal::put_bytes(out, 0, YES),
+        Checked::Broken(k) => put_numbered(out, BROKEN, k),
+        Checked::Refused(k) => put_numbered(out, REFUSED, k),
     }
 }
 
@@ -42,27 +41,24 @@ fn put_checked(answer: Checked, out: &mut [u8]) -> usize
 fn line_start(lines: &[u8]) -> usize
     ensures { result ≡ last_feed lines.now }
 {
-    let mut i = lines.len();
-    while i != 0 {
-        let j = i - 1;
-        if lines[j] == b'\n' {
-            return i;
+    for i in (0..lines.len()).rev() {
+        if lines[i] == b'\n' {
+            return i + 1;
         }
-        i = j;
     }
     0
 }
 
 // The values of a line, stored from 0 on.
-fn read_values(line: &[u8], values: &mut [i32]) -> Words
+fn read_values(line: &[u8], values: &mut [i32]) -> Option<usize>
     requires { length line.now ≤ 65536 }
     ensures { Filled values.old 0 (values_of (after values_key line.now)) (length line.now + 1) values.new result }
 {
-    if !input::has_key(line, &VALUES) {
-        return Words::Unread;
+    if !input::has_key(line, VALUES) {
+        return None;
     }
     if line.len() == 7 {
-        return Words::Count(0);
+        return Some(0);
     }
     input::read_numbers(&line[7..], values, 0)
 }
@@ -79,11 +75,11 @@ fn check_lines(
     ensures { Tells lines.now work.old work.new out.old out.new result }
 {
     let a = line_start(lines);
-    let Words::Count(n) = input::words_of_text(&lines[..a], words) else {
-        return decimal::put_bytes(out, 0, &UNREAD);
+    let Some(n) = input::words_of_text(&lines[..a], words) else {
+        return decimal::put_bytes(out, 0, UNREAD);
     };
-    let Words::Count(m) = read_values(&lines[a..], values) else {
-        return decimal::put_bytes(out, 0, &UNREAD);
+    let Some(m) = read_values(&lines[a..], values) else {
+        return decimal::put_bytes(out, 0, UNREAD);
     };
     let answer = evaluate::check_roster(&words[..n], &values[..m], work);
     put_checked(answer, out)
@@ -103,14 +99,14 @@ fn check_with_room(
     memory::clear(work);
     let n = text.len();
     if 65536 < n {
-        return decimal::put_bytes(out, 0, &UNREAD);
+        return decimal::put_bytes(out, 0, UNREAD);
     }
     if n == 0 {
-        return decimal::put_bytes(out, 0, &UNREAD);
+        return decimal::put_bytes(out, 0, UNREAD);
     }
     let e = n - 1;
     if text[e] != b'\n' {
-        return decimal::put_bytes(out, 0, &UNREAD);
+        return decimal::put_bytes(out, 0, UNREAD);
     }
     check_lines(&text[..e], words, values, work, out)
 }

@@ -2,6 +2,8 @@
 use mathlib.Core.Path.{◌≡◌, refl, sym, ap, ◌∙◌}
 use mathlib.Core.List.{List}
 use mathlib.Core.Option.{Option, none, some}
+use Rattle.std.specs.Prelude.{Some, None}
+use Rattle.std.specs.Prelude as code
 use Prim.Native.Nat.{ℕ, ◌-◌, ◌≤◌}
 use native.Mathlib.Omega.{arith}
 use lib.IntN.{ℤ, pos}
@@ -12,8 +14,6 @@ use Rattle.call.specs.Call.{Result, compiled, contradiction, refused}
 use Rattle.input.specs.ReadText.{read_text}
 use Rattle.input.specs.Input.{words_of, words_after}
 use Rattle.input.specs.Room.{few_words}
-use Rattle.input.specs.declared.Words.{Words}
-use Rattle.input.specs.declared.Words.TheVariants as read
 use Rattle.sheetback.specs.Sheeted.{sheet_text, sheet_call, no_bytes, sheet_after}
 use Rattle.sheets.specs.Contract.{sheeted_of, Sheets}
 use Rattle.sheets.specs.declared.Sheeted.{Sheeted}
@@ -35,12 +35,12 @@ sheet_inside {set} {out} {work} {out'} {work'} {sheet} {sheet'} {r} s n m e = go
     go contradiction q = let a : sheeted.Compiled n m ≡ sheeted.Contradiction = sym e ∙ s.answer ∙ ap (sheeted_of set) q in differ (cc)
     go (refused k) q = let a : sheeted.Compiled n m ≡ sheeted.Refused k = sym e ∙ s.answer ∙ ap (sheeted_of set) q in differ (cc)
 
-module _ (text : List ℕ) (words words' : List ℤ) (r : Words) (n : ℕ) (long : 32768 ≤ length words) (told : r ≡ words_of (read_text text)) (left : words' ≡ words_after (length words) (read_text text)) (count : r ≡ read.Count n) where
+module _ (text : List ℕ) (words words' : List ℤ) (r : code.Option ℕ) (n : ℕ) (long : 32768 ≤ length words) (told : r ≡ words_of (read_text text)) (left : words' ≡ words_after (length words) (read_text text)) (count : r ≡ Some n) where
   counted : (o : Option (List ℤ)) → read_text text ≡ o → r ≡ words_of o → words' ≡ words_after (length words) o → n ≤ length words'
   unfolding words_of words_after
-  counted none e a b = differ (let q : read.Count n ≡ read.Unread = sym count ∙ a in cc)
+  counted none e a b = differ (let q : Some n ≡ None = sym count ∙ a in cc)
   counted (some ws) e a b =
-      let q : read.Count n ≡ read.Count (length ws) = sym count ∙ a in
+      let q : Some n ≡ Some (length ws) = sym count ∙ a in
       let m : n ≡ length ws = cc in
       let f = few_words text ws e in
       let s : length words' ≡ length words = ap length b ∙ length-sets (zeros (length words)) 0 ws ∙ length-replicate (length words) (pos 0) in

@@ -3,7 +3,7 @@
 
 ghost use Rattle.std.specs.Prelude.{◌≤◌, length};
 
-use input::{Words, words_of_text};
+use input::words_of_text;
 use sheets::Sheeted;
 use std::io;
 use std::io::Write;
@@ -30,7 +30,7 @@ fn sheet_of_text(
     requires { 32768 ≤ length words.old }
     ensures { result ≤ length out.new }
 {
-    let Words::Count(n) = words_of_text(text, words) else {
+    let Some(n) = words_of_text(text, words) else {
         return text_of_answer(Answer::Unread, 0, 0, &output[..0], out);
     };
     sheet_of_set(&words[..n], output, work, out)

@@ -4,11 +4,10 @@ use mathlib.Core.Bool.{true, false}
 use mathlib.Core.List.{List, [], ◌∷◌, ◌++◌}
 use Prim.Native.Nat.{ℕ, zero, suc, ◌+◌, ◌-◌, ◌*◌, ◌≤◌, ◌<◌}
 use native.Mathlib.Omega.{arith}
-use native.Mathlib.Numerals.{add-one}
 use lib.IntN.{ℤ, pos}
 use lib.Dec.{ltb}
-use lib.ListN.{length, take, drop, set, length-append, length-replicate, replicate-append-replicate}
-use lib.Seq.{sets, sets-eq, take-suc-set, take_all, drop-nil, drop-drop}
+use lib.ListN.{length, take, drop, set, length-append, length-replicate}
+use lib.Seq.{sets, sets-eq, drop-nil, drop-drop}
 use borrow.Author.Tests.{lt-ltb, le-ltb}
 use Rattle.laws.specs.Slices.{zeros}
 use Rattle.syntax.specs.Words.{max_answer_words}
@@ -20,14 +19,6 @@ use Rattle.page.specs.Writes.{Wrote}
 use Rattle.sheetback.specs.Sheeted.{from_clauses, clauses_part, sheet_text, with_sheet, no_bytes, sheet_after}
 use Rattle.sheets.specs.Contract.{sheeted_of, Answered, SomeAnswered, Finishes, compiled_words}
 use Rattle.sheets.specs.declared.Sheeted.TheVariants.{Compiled, Refused}
-
--- ---- bytes cleared: those below i are 0
-
-pub cleared_next : (s : List ℕ) (i : ℕ) → i < length s → take i s ≡ no_bytes i → take (i + 1) (set s i 0) ≡ no_bytes (i + 1)
-cleared_next s i h e = rw (add-one i, take-suc-set s i 0 h, e) (replicate-append-replicate i 1 0 ∙ ap no_bytes (add-one i))
-
-pub cleared_all : (s₀ s : List ℕ) (i : ℕ) → length s ≤ i → i ≤ length s → length s ≡ length s₀ → take i s ≡ no_bytes i → s ≡ no_bytes (length s₀)
-cleared_all s₀ s i h k z e = let q : i ≡ length s₀ = omega arith in sym (take_all i s h) ∙ e ∙ ap no_bytes q
 
 -- ---- the place of the count of clauses
 

@@ -8,7 +8,8 @@ ghost use Rattle.sheets.specs.Contract.{SomeAnswered, Finishes};
 
 use lines::{count_at, stop};
 
-// The words of the answer and the bytes of its sheet, a contradiction, or the refusal's number.
+// The words of the answer and the bytes of its sheet, a contradiction, or the refusal's number. A `Result` of an `Option` would hide the
+// contradiction in a `None`.
 #[derive(Drop)]
 pub enum Sheeted {
     Compiled(usize, usize),
@@ -20,11 +21,7 @@ pub enum Sheeted {
 pub fn clear_bytes(s: &mut [u8])
     ensures { s.new ≡ no_bytes (length s.old) }
 {
-    let mut i = 0;
-    while i < s.len() {
-        s[i] = 0;
-        i += 1;
-    }
+    s.fill(0);
 }
 
 // Where the count of clauses stands in an answer's words.

@@ -21,10 +21,9 @@ use Rattle.syntax.specs.Words.{star_word}
 use Rattle.clauses.specs.Clause.{LinearLit}
 use Rattle.answer.specs.Answer.{linear_words}
 use Rattle.tables.specs.Tables.{linear_eq}
-use Rattle.walk.specs.Item.{is_none, word_of, extra, block}
+use Rattle.walk.specs.Item.{extra, block}
 use Rattle.walk.proofs.Texts.{linears_more}
 use Rattle.walk.specs.declared.Mode.{Mode}
-use Rattle.walk.specs.declared.Mode.TheVariants.{Pool, One, Two, Each}
 use Rattle.sorting.specs.Rows.{rows_of, row_at}
 use Rattle.sorting.specs.Columns.{word, vars_of}
 use Rattle.rows.specs.Emit.{comparison, linears_words, Behind}
@@ -108,21 +107,6 @@ left_skip later v e = record { room = v.room; same = v.same; to = λ out' q' w. 
 
 pub left_end : {out₀ out : List ℤ} {o q : ℕ} {whole rest : List ℤ} → Left out₀ o whole rest out q → rest ≡ [] → Wrote out₀ o whole out q
 left_end {out = out} {q = q} v e = v.to out q (wrote_to (sym e) (wrote_none out q v.room.low))
-
--- ---- a literal
-
-module _ {out out' : List ℤ} {o o' : ℕ} (mode : Mode) (m j : ℕ) where
-  pub literal_pool : mode ≡ Pool → Wrote out o (pos 0 ∷ []) out' o' → Wrote out o (counted_lits (extra mode m [] j)) out' o'
-  literal_pool e w = wrote_to (ap (λ (x : Mode). counted_lits (extra x m [] j)) (sym e)) w
-
-  pub literal_pass : mode ≡ One → Wrote out o (pos 0 ∷ []) out' o' → Wrote out o (counted_lits (extra mode m [] j)) out' o'
-  literal_pass e w = wrote_to (ap (λ (x : Mode). counted_lits (extra x m [] j)) (sym e)) w
-
-  pub literal_two : {a : List ℤ} {p : ℕ} → mode ≡ Two → length out ≤ cap → Wrote out o (pos 1 ∷ []) a p → Wrote a p (word_of (m + 1) (is_none j) ∷ []) out' o' → Wrote out o (counted_lits (extra mode m [] j)) out' o'
-  literal_two e l v w = wrote_to (ap (λ (x : Mode). counted_lits (extra x m [] j)) (sym e)) (wrote_then l v w)
-
-  pub literal_each : {a : List ℤ} {p : ℕ} → mode ≡ Each → length out ≤ cap → Wrote out o (pos 1 ∷ []) a p → Wrote a p (word_of (m + j + 1) true ∷ []) out' o' → Wrote out o (counted_lits (extra mode m [] j)) out' o'
-  literal_each e l v w = wrote_to (ap (λ (x : Mode). counted_lits (extra x m [] j)) (sym e)) (wrote_then l v w)
 
 -- ---- one cell
 

@@ -12,7 +12,7 @@ use decimal::keys::{
 use decimal::{put_byte, put_bytes, put_natural};
 use lines::{count_at, put_clauses, put_domains, put_line, stop};
 
-// What the listing says of a text.
+// What the listing says of a text. A refusal stays a number: `text_of_answer` takes any, and a narrower type would ask more of its callers.
 #[derive(Drop)]
 pub enum Answer {
     Compiled,
@@ -29,12 +29,9 @@ fn put_rest(out: &mut [u8], at: usize, words: &[i32], from: usize) -> usize
     let n = count_at(words, from);
     let a = stop(words, from, 1);
     let p = put_clauses(out, at, words, a, n);
-    let i = p.at;
-    let t = p.members;
-    let q = put_line(out, i, &CLAUSES, words, from, 1);
-    let j = q.at;
-    let k = put_bytes(out, j, &TOTAL);
-    let l = put_natural(out, k, t as u64);
+    let q = put_line(out, p.at, CLAUSES, words, from, 1);
+    let k = put_bytes(out, q.at, TOTAL);
+    let l = put_natural(out, k, p.members as u64);
     put_byte(out, l, b'\n')
 }
 
@@ -45,35 +42,26 @@ fn put_emitted(out: &mut [u8], at: usize, words: &[i32], from: usize) -> usize
 {
     let a = stop(words, from, 1);
     let n = count_at(words, a);
-    let p = put_line(out, at, &EMITTED, words, from, 2);
-    let i = p.at;
-    let b = p.next;
-    let q = put_domains(out, i, words, b, n);
-    let j = q.at;
-    let c = q.next;
-    put_rest(out, j, words, c)
+    let p = put_line(out, at, EMITTED, words, from, 2);
+    let q = put_domains(out, p.at, words, p.next, n);
+    put_rest(out, q.at, words, q.next)
 }
 
 fn put_compiled(out: &mut [u8], bools: usize, ints: usize, words: &[i32]) -> usize
     ensures { Puts out.old 0 (print_compiled bools ints words.now) out.new result }
 {
-    let i = put_bytes(out, 0, &COMPILED);
-    let p = put_line(out, i, &FIXED, words, 0, bools);
-    let j = p.at;
-    let a = p.next;
-    let q = put_line(out, j, &BOOLS, words, a, bools);
-    let k = q.at;
-    let b = q.next;
-    let r = put_line(out, k, &INTS, words, b, ints);
-    let l = r.at;
-    let c = r.next;
-    put_emitted(out, l, words, c)
+    let i = put_bytes(out, 0, COMPILED);
+    let p = put_line(out, i, FIXED, words, 0, bools);
+    let q = put_line(out, p.at, BOOLS, words, p.next, bools);
+    let r = put_line(out, q.at, INTS, words, q.next, ints);
+    put_emitted(out, r.at, words, r.next)
 }
 
+// Crate roster has a like function for its own two starts: a common one would be public for two lines.
 fn put_refused(out: &mut [u8], k: usize) -> usize
     ensures { Puts out.old 0 (print_answer (Answer.Refused k) 0 0 []) out.new result }
 {
-    let i = put_bytes(out, 0, &REFUSED);
+    let i = put_bytes(out, 0, REFUSED);
     let j = put_natural(out, i, k as u64);
     put_byte(out, j, b'\n')
 }
@@ -91,8 +79,8 @@ pub fn text_of_answer(
 {
     match answer {
         Answer::Compiled => put_compiled(out, bools, ints, words),
-        Answer::Contradiction => put_bytes(out, 0, &CONTRADICTION),
+        Answer::Contradiction => put_bytes(out, 0, CONTRADICTION),
         Answer::Refused(k) => put_refused(out, k),
-        Answer::Unread => put_bytes(out, 0, &UNREAD),
+        Answer::Unread => put_bytes(out, 0, UNREAD),
     }
 }

@@ -21,10 +21,10 @@ use Rattle.walk.specs.declared.Counters.{Counters}
 use Rattle.walks.specs.Tree.{Splitting}
 use Rattle.walks.specs.Meet.{found, range_of}
 use Rattle.declared.specs.DomainTable.{Declares}
-use Rattle.totals.specs.declared.Found.{Found}
+use Rattle.totals.specs.declared.Interval.{Interval}
 use Rattle.totals.specs.declared.Nested.{Nested}
 use Rattle.totals.specs.Linear.{Linear}
-use Rattle.totals.specs.Ranges.{range_at, Finds, Bounded, Bounds, Ranging, Ranges}
+use Rattle.totals.specs.Ranges.{Found, bounds_of, range_at, Finds, Bounded, Bounds, Ranging, Ranges}
 
 -- ---- a turn of lowest and highest
 
@@ -70,39 +70,45 @@ module _ (w : List ℤ) (l : ℕ) (m : Splitting) (at base : ℕ) (n : Counters)
       ap (λ (z : ℤ). Range z y) a ∙ ap (Range (lowest (Of ds) s.constant (terms s))) b
 
   -- the term of v; f: its bounds
-  module _ (x y : ℤ) (i : ℕ) (g : Adding x y i) (v : ℕ) (k : ℤ) (t : drop i (terms s) ≡ term v k ∷ drop (suc i) (terms s)) (f : Found) (h : Finds w l m at base n v f) where
-    reach_is : reach (Of g.domains v) ≡ reach (Range f.low f.high)
-    reach_is = let o = h g.domains g.declares in rw (← o.low, ← o.high) refl
+  module _ (x y : ℤ) (i : ℕ) (g : Adding x y i) (v : ℕ) (k : ℤ) (t : drop i (terms s) ≡ term v k ∷ drop (suc i) (terms s)) (f : Found) (d : Interval) (e : d ≡ bounds_of f) (h : Finds w l m at base n v f) where
+    low_is : (ds : List Domain) → Declares ds w → d.low ≡ lower_bound (Of ds v)
+    low_is ds c = ap (λ (j : Interval). j.low) e ∙ (h ds c).low
 
-    whole : nat_abs k * reach (Range f.low f.high) + norm (λ u. reach (Of g.domains u)) (drop (i + 1) (terms s)) ≡ norm (λ u. reach (Of g.domains u)) (drop i (terms s))
+    high_is : (ds : List Domain) → Declares ds w → d.high ≡ upper_bound (Of ds v)
+    high_is ds c = ap (λ (j : Interval). j.high) e ∙ (h ds c).high
+
+    reach_is : reach (Of g.domains v) ≡ reach (Range d.low d.high)
+    reach_is = rw (← low_is g.domains g.declares, ← high_is g.domains g.declares) refl
+
+    whole : nat_abs k * reach (Range d.low d.high) + norm (λ u. reach (Of g.domains u)) (drop (i + 1) (terms s)) ≡ norm (λ u. reach (Of g.domains u)) (drop i (terms s))
     whole = rw (← reach_is) (sym (norm_more (Of g.domains) (terms s) i v k t))
 
-    pub low_asks : (nat_abs k * nat_abs f.low < 2 ^ 31) × (nat_abs k * nat_abs f.high < 2 ^ 31)
+    pub low_asks : (nat_abs k * nat_abs d.low < 2 ^ 31) × (nat_abs k * nat_abs d.high < 2 ^ 31)
     low_asks =
         let e = g.low_light in
-        let q : nat_abs k * reach (Range f.low f.high) < 2 ^ 31 = omega (arith, whole) in
+        let q : nat_abs k * reach (Range d.low d.high) < 2 ^ 31 = omega (arith, whole) in
         (lt_of_le_of_lt (mul-le-mul_left (nat_abs k) (omega arith)) q, lt_of_le_of_lt (mul-le-mul_left (nat_abs k) (omega arith)) q)
 
-    light_more : (c p : ℤ) → nat_abs p ≤ nat_abs k * reach (Range f.low f.high) → nat_abs c + norm (λ u. reach (Of g.domains u)) (drop i (terms s)) < 2 ^ 31 → nat_abs (c +ℤ p) + norm (λ u. reach (Of g.domains u)) (drop (i + 1) (terms s)) < 2 ^ 31
+    light_more : (c p : ℤ) → nat_abs p ≤ nat_abs k * reach (Range d.low d.high) → nat_abs c + norm (λ u. reach (Of g.domains u)) (drop i (terms s)) < 2 ^ 31 → nat_abs (c +ℤ p) + norm (λ u. reach (Of g.domains u)) (drop (i + 1) (terms s)) < 2 ^ 31
     light_more c p a b = omega (arith, whole, natAbs_add c p)
 
-    low_light : nat_abs (x +ℤ times_low k f.low f.high) + norm (λ u. reach (Of g.domains u)) (drop (i + 1) (terms s)) < 2 ^ 31
-    low_light = light_more x (times_low k f.low f.high) (times_low_size k f.low f.high (reach (Range f.low f.high)) (omega arith) (omega arith)) g.low_light
+    low_light : nat_abs (x +ℤ times_low k d.low d.high) + norm (λ u. reach (Of g.domains u)) (drop (i + 1) (terms s)) < 2 ^ 31
+    low_light = light_more x (times_low k d.low d.high) (times_low_size k d.low d.high (reach (Range d.low d.high)) (omega arith) (omega arith)) g.low_light
 
-    high_light : nat_abs (y +ℤ times_low k f.high f.low) + norm (λ u. reach (Of g.domains u)) (drop (i + 1) (terms s)) < 2 ^ 31
-    high_light = light_more y (times_low k f.high f.low) (times_low_size k f.high f.low (reach (Range f.low f.high)) (omega arith) (omega arith)) g.high_light
+    high_light : nat_abs (y +ℤ times_low k d.high d.low) + norm (λ u. reach (Of g.domains u)) (drop (i + 1) (terms s)) < 2 ^ 31
+    high_light = light_more y (times_low k d.high d.low) (times_low_size k d.high d.low (reach (Range d.low d.high)) (omega arith) (omega arith)) g.high_light
 
-    pub low_fits : SFits w32 (x +ℤ times_low k f.low f.high)
+    pub low_fits : SFits w32 (x +ℤ times_low k d.low d.high)
     low_fits = sfits_natAbs w32 _ (omega (arith, low_light))
 
-    pub high_fits : SFits w32 (y +ℤ times_low k f.high f.low)
+    pub high_fits : SFits w32 (y +ℤ times_low k d.high d.low)
     high_fits = sfits_natAbs w32 _ (omega (arith, high_light))
 
-    pub adding_next : i < s.count → Adding (x +ℤ times_low k f.low f.high) (y +ℤ times_low k f.high f.low) (i + 1)
-    adding_next e = record {
+    pub adding_next : i < s.count → Adding (x +ℤ times_low k d.low d.high) (y +ℤ times_low k d.high d.low) (i + 1)
+    adding_next z = record {
       inside = omega arith;
-      low = λ ds d. let o = h ds d in rw (o.low, o.high) (low_more (Of ds) (terms s) i v k t x _ (g.low ds d));
-      high = λ ds d. let o = h ds d in rw (times_exchanged k f.low f.high, o.low, o.high) (high_more (Of ds) (terms s) i v k t y _ (g.high ds d));
+      low = λ ds c. rw (low_is ds c, high_is ds c) (low_more (Of ds) (terms s) i v k t x _ (g.low ds c));
+      high = λ ds c. rw (times_exchanged k d.low d.high, low_is ds c, high_is ds c) (high_more (Of ds) (terms s) i v k t y _ (g.high ds c));
       domains = g.domains;
       declares = g.declares;
       low_light = low_light;

@@ -8,7 +8,6 @@ use native.Mathlib.Omega.{arith}
 use native.Mathlib.Numerals.{sub-one}
 use lib.IntN.{ℤ, pos}
 use lib.ListN.{length, get_or}
-use lib.Signed.{le_z}
 use borrow.Author.Tests.{eq-eqb, ne_eqb}
 use Rattle.laws.specs.Bools.{never}
 use Rattle.laws.specs.Ints.{lower, higher}
@@ -32,20 +31,19 @@ use Rattle.scan.specs.Skip.{Skips}
 use Rattle.scan.specs.IfLaws.{seen_code, seen_at, Low}
 use Rattle.scan.specs.SurveyLaws.{behind_at, IntSurveys, terms_none, terms_more}
 use Rattle.totals.specs.declared.Nested.{Nested}
-use Rattle.totals.specs.declared.Found.{Found}
 use Rattle.totals.specs.Lone.{is_sum}
 use Rattle.totals.specs.Linear.{int_at, terms_at, Stepping, Linear}
-use Rattle.totals.specs.Ranges.{hit, miss, Told, BranchSteps, TermBranches, first_branch, second_branch, Branching, IfBounds, Branched, Finds, Looking}
+use Rattle.totals.specs.Ranges.{Found, hit, miss, is_hit, Told, BranchSteps, TermBranches, first_branch, second_branch, Branching, IfBounds, Branched, Finds, Looking}
 use Rattle.totals.proofs.Numbers.{sum_code}
 use Rattle.totals.proofs.Steps.{tree_is}
 
 -- ---- what is found first
 
-or_first : (o p : Option Domain) (r : Found) → Told o r → r.found ≡ true → Told (or_else o p) r
+or_first : (o p : Option Domain) (r : Found) → Told o r → is_hit r ≡ true → Told (or_else o p) r
 or_first (some d) p r h e = h
 or_first none p r h e = never (sym h.is ∙ e)
 
-or_second : (o p : Option Domain) (r : Found) → Told o r → r.found ≡ false → or_else o p ≡ p
+or_second : (o p : Option Domain) (r : Found) → Told o r → is_hit r ≡ false → or_else o p ≡ p
 or_second (some d) p r h e = never (sym e ∙ h.is)
 or_second none p r h e = refl
 
@@ -53,13 +51,6 @@ told_none : (r : Found) → r ≡ miss → Told none r
 told_none r e = rw e (record { is = refl; low = refl; high = refl })
 
 -- ---- two values, and the table's words
-
-module _ (x y : ℤ) where
-  pub between_low : le_z x y ≡ true → (r : Found) → r ≡ hit x y → r ≡ hit (lower x y) (higher x y)
-  between_low h r e = rw h e
-
-  pub between_high : le_z x y ≡ false → (r : Found) → r ≡ hit y x → r ≡ hit (lower x y) (higher x y)
-  between_high h r e = rw h e
 
 pub table_words : (w : List ℤ) (v : ℕ) (r : Found) (x y : ℤ) → x ≡ get_or w (declared_domains + 3 * v) (pos 0) → y ≡ get_or w (declared_domains + 3 * v + 1) (pos 0) → r ≡ hit x y → r ≡ hit (word_at w v 0) (word_at w v 1)
 unfolding word_at
@@ -206,15 +197,15 @@ module _ (w : List ℤ) (long : folded_end ≤ length w) (l u : ℕ) (m : Splitt
     look_branched = record { domains = g.domains; branches = branched_of rest z g.branches }
 
     module _ (o : Found) (f : Finds w u m p r.base r.n x o) where
-      found_of : (rest : ℕ) → (rest ≡ 0 → ⊥) → o.found ≡ true → (ds : List Domain) → Declares ds w → Told ((form_terms_item ds (terms_at w u m r.at r.base rest)).range w r.n x) o
+      found_of : (rest : ℕ) → (rest ≡ 0 → ⊥) → is_hit o ≡ true → (ds : List Domain) → Declares ds w → Told ((form_terms_item ds (terms_at w u m r.at r.base rest)).range w r.n x) o
       unfolding many_terms form_int_item term_item
       found_of zero z h ds d = absurd (z refl)
       found_of (suc rest) z h ds d = let i : p ≡ past (read_part w) (r.at + 1) = omega (arith, part_length w long) in rw (← i) (or_first _ _ o (f ds d) h)
 
-      pub look_found : o.found ≡ true → Finds w l m at base n x o
+      pub look_found : is_hit o ≡ true → Finds w l m at base n x o
       look_found h = told_all o (λ ds d. subst (λ (y : Option Domain). Told y o) (g.same ds d) (found_of rest z h ds d))
 
-      module _ (h : o.found ≡ false) (q : Behind) (s : IntSurveys w u m p r.base r.n q) where
+      module _ (h : is_hit o ≡ false) (q : Behind) (s : IntSurveys w u m p r.base r.n q) where
         same_of : (rest : ℕ) → (rest ≡ 0 → ⊥) → (ds : List Domain) → Declares ds w → (form_terms_item ds (terms_at w u m q.at q.base (rest - 1))).range w q.n x ≡ (form_terms_item ds (terms_at w u m r.at r.base rest)).range w r.n x
         unfolding many_terms form_int_item term_item
         same_of zero z ds d = absurd (z refl)

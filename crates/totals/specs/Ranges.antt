@@ -1,6 +1,8 @@
 -- The bounds of a sum: each of its numbers has the domain that is found where it is first met in the expression. A declared variable's is in the table of the
 -- work slice, so what is given holds for every list of domains that the table declares.
 use Rattle.std.specs.Prelude.{◌≡◌, Bool, true, false, List, ℕ, ◌≤◌, ◌<◌, ◌^◌, ℤ, pos}
+use Rattle.std.specs.Prelude.{Option as RustOption, Some, None}
+use Rattle.std.specs.Option.{unwrap_or}
 use Rattle.std.proofs.Math.Option.{Option, none, some}
 use Rattle.std.proofs.Common.{arith}
 use Rattle.syntax.specs.Syntax.{Domain, Range, lower_bound, upper_bound}
@@ -21,14 +23,26 @@ use Rattle.walks.specs.SumsFit.{InsideFits, TermsFit}
 use Rattle.declared.specs.DomainTable.{Declares}
 use Rattle.scan.specs.declared.Behind.{Behind}
 use Rattle.scan.specs.SurveyLaws.{TermsSofar}
-use Rattle.totals.specs.declared.Found.{Found}
+use Rattle.totals.specs.declared.Interval.{Interval}
 use Rattle.totals.specs.Linear.{int_at, terms_at}
 
+-- what a search gives
+abbrev pub Found : Type 0
+Found = RustOption Interval
+
 abbrev pub hit : ℤ → ℤ → Found
-hit x y = record { found = true; low = x; high = y }
+hit x y = Some (record { low = x; high = y })
 
 abbrev pub miss : Found
-miss = record { found = false; low = pos 0; high = pos 0 }
+miss = None
+
+abbrev pub is_hit : Found → Bool
+is_hit (Some d) = true
+is_hit None = false
+
+-- both bounds are 0 where there is none
+abbrev pub bounds_of : Found → Interval
+bounds_of r = unwrap_or r (record { low = pos 0; high = pos 0 })
 
 abbrev pub is_found : Option Domain → Bool
 is_found (some d) = true
@@ -36,9 +50,9 @@ is_found none = false
 
 -- r says of a domain whether it is there, and its bounds
 pub record Told (o : Option Domain) (r : Found) : Type 0 where
-  pub is : r.found ≡ is_found o
-  pub low : r.low ≡ lower_bound (found o)
-  pub high : r.high ≡ upper_bound (found o)
+  pub is : is_hit r ≡ is_found o
+  pub low : (bounds_of r).low ≡ lower_bound (found o)
+  pub high : (bounds_of r).high ≡ upper_bound (found o)
 
 -- ---- the sums of the branches of Ifs that are terms
 

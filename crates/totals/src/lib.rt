@@ -19,7 +19,7 @@ ghost use Rattle.scan.specs.IfLaws.{seen_at, Low};
 ghost use Rattle.scan.specs.SurveyLaws.{IntSurveys};
 ghost use Rattle.totals.specs.Lone.{is_sum as is-sum-of, lone_of, sum_in, WordIn};
 ghost use Rattle.totals.specs.Linear.{Stepping, Linear, Subtracts, Less, Compares, Differs};
-ghost use Rattle.totals.specs.Ranges.{hit as hit-of, miss as miss-of, Branching, IfBounds, Branched, Finds, Bounded, Bounds, Ranging, Ranges};
+ghost use Rattle.totals.specs.Ranges.{hit as hit-of, Branching, IfBounds, Branched, Finds, Bounded, Bounds, Ranging, Ranges};
 
 use scan::Behind;
 use sums::{LinearSum, Partial};
@@ -143,10 +143,7 @@ pub struct Nested {
 fn is_sum(work: &[i32], at: usize, left: usize) -> bool
     ensures { result ≡ is-sum-of work.now left at }
 {
-    if left == 0 {
-        return false;
-    }
-    word(work, at) == 22
+    left != 0 && word(work, at) == 22
 }
 
 // Behind the integer expression at a place; where no integer is counted, a constant or a variable is passed at once.
@@ -154,16 +151,12 @@ pub fn end_of(work: &[i32], at: usize, left: usize, m: usize, base: usize, n: Co
     requires { (folded_end ≤ length work.now) × ((at ≤ folded_end) × ((base ≤ limit) × Low n)) }
     ensures { IntSurveys work.now left (split_by m) at base n result }
 {
-    if left != 0 {
-        if word(work, at) < 22 {
-            if !scan::has_ifs(work) {
-                return Behind {
-                    at: within(at + 2),
-                    base: base,
-                    n: n,
-                };
-            }
-        }
+    if left != 0 && word(work, at) < 22 && !scan::has_ifs(work) {
+        return Behind {
+            at: within(at + 2),
+            base,
+            n,
+        };
     }
     scan::survey_int(work, at, left, m, base, n)
 }
@@ -188,7 +181,7 @@ pub fn linear_of(work: &[i32], at: usize, left: usize, m: usize, base: usize, n:
         return alone(work, at, left, m, base, n);
     }
     let under = left - 1;
-    let mut rest = word(work, at + 1);
+    let count = word(work, at + 1);
     let two = within(at + 2);
     let mut r = Behind { at: two, base, n };
     let mut vars: [u32; 64] = [0; 64];
@@ -197,10 +190,9 @@ pub fn linear_of(work: &[i32], at: usize, left: usize, m: usize, base: usize, n:
         constant: 0,
         count: 0,
     };
-    while rest != 0 {
+    for _ in 0..count {
         let k = word_at(work, r.at);
         let p = within(r.at + 1);
-        rest = rest - 1;
         if is_sum(work, p, under) {
             let o = linear_of(work, p, under, m, r.base, r.n);
             let s = o.sum;
@@ -216,8 +208,8 @@ pub fn linear_of(work: &[i32], at: usize, left: usize, m: usize, base: usize, n:
     let s = LinearSum {
         constant: sum.constant,
         count: sum.count,
-        vars: vars,
-        coefs: coefs,
+        vars,
+        coefs,
     };
     Nested { sum: s, behind: r }
 }
@@ -239,8 +231,8 @@ pub fn less_variable(s: LinearSum, n: u32) -> LinearSum
     LinearSum {
         constant: d.constant,
         count: d.count,
-        vars: vars,
-        coefs: coefs,
+        vars,
+        coefs,
     }
 }
 
@@ -265,8 +257,8 @@ pub fn less_side(a: Nested, work: &[i32], q: usize, left: usize, m: usize) -> Ne
         let l = LinearSum {
             constant: d.constant,
             count: d.count,
-            vars: vars,
-            coefs: coefs,
+            vars,
+            coefs,
         };
         return Nested { sum: l, behind: f };
     }
@@ -277,8 +269,8 @@ pub fn less_side(a: Nested, work: &[i32], q: usize, left: usize, m: usize) -> Ne
     let l = LinearSum {
         constant: d.constant,
         count: d.count,
-        vars: vars,
-        coefs: coefs,
+        vars,
+        coefs,
     };
     Nested { sum: l, behind: f }
 }
@@ -302,53 +294,31 @@ pub fn difference(
 
 // ---- bounds
 
-// Whether a number has a domain, and its bounds; both are 0 where it has none.
-#[derive(Drop)]
-struct Found {
-    found: bool,
-    low: i32,
-    high: i32,
-}
-
-fn hit(low: i32, high: i32) -> Found
-    ensures { result ≡ hit-of low high }
-{
-    Found {
-        found: true,
-        low: low,
-        high: high,
-    }
-}
-
-fn miss() -> Found
-    ensures { result ≡ miss-of }
-{
-    Found {
-        found: false,
-        low: 0,
-        high: 0,
-    }
+#[derive(Clone, Copy)]
+pub struct Interval {
+    pub low: i32,
+    pub high: i32,
 }
 
 // Of a declared integer, by the table.
-fn declared(work: &[i32], v: usize) -> Found
+fn declared(work: &[i32], v: usize) -> Interval
     requires { v < max_ints }
-    ensures { result ≡ hit-of (word_at work.now v 0) (word_at work.now v 1) }
+    ensures { Some result ≡ hit-of (word_at work.now v 0) (word_at work.now v 1) }
 {
     let i = memory::DECLARED_DOMAINS + 3 * v;
     let low = memory::plain(work, i);
     let high = memory::plain(work, i + 1);
-    hit(low, high)
+    Interval { low, high }
 }
 
 // From the lower of two values to the higher.
-fn between(x: i32, y: i32) -> Found
-    ensures { result ≡ hit-of (lower x y) (higher x y) }
+fn between(x: i32, y: i32) -> Interval
+    ensures { Some result ≡ hit-of (lower x y) (higher x y) }
 {
-    if x <= y {
-        return hit(x, y);
+    Interval {
+        low: x.min(y),
+        high: x.max(y),
     }
-    hit(y, x)
 }
 
 // Of the If at p, whose condition stands at c: its cells, or its branches' constants.
@@ -360,14 +330,14 @@ fn if_domain(
     m: usize,
     base: usize,
     n: Counters,
-) -> Found
+) -> Interval
     requires { (folded_end ≤ length work.now) × ((p ≤ folded_end) × ((c ≤ folded_end) × ((base ≤ limit) × (Low n × Branching work.now left (split_by m) c base n)))) }
-    ensures { IfBounds work.now left (split_by m) p c base n result }
+    ensures { IfBounds work.now left (split_by m) p c base n (Some result) }
 {
     if scan::seen(work, p) != 1 {
         let low = scan::cell(work, p + 2);
         let high = scan::cell(work, p + 3);
-        return hit(low, high);
+        return Interval { low, high };
     }
     let d = scan::skip(work, c, left, m, base);
     let a = linear_of(work, d.at, left, m, d.base, n);
@@ -387,35 +357,44 @@ fn find_lone(
     base: usize,
     n: Counters,
     x: u32,
-) -> Found
+) -> Option<Interval>
     requires { (folded_end ≤ length work.now) × ((at ≤ folded_end) × ((base ≤ limit) × (Low n × ((is-sum-of work.now left at ≡ false) × Branched work.now left (split_by m) at base n)))) }
     ensures { Finds work.now left (split_by m) at base n x result }
 {
     if left == 0 {
-        return miss();
+        return None;
     }
     match word(work, at) {
         21 => {
             let v = below(word(work, at + 1), memory::MAX_INTS);
             if number_at(work, v) == x {
-                return declared(work, v);
+                return Some(declared(work, v));
             }
-            miss()
+            None
         }
         23 => {
             let e = scan::survey_int(work, at, left, m, base, n);
             let c = e.n;
             if if_number(work, at, c.ints) == x {
-                return if_domain(work, at, within(at + 1), left - 1, m, base, n);
+                let one = within(at + 1);
+                return Some(if_domain(work, at, one, left - 1, m, base, n));
             }
-            miss()
+            None
         }
-        _ => miss(),
+        _ => None,
     }
 }
 
 // The domain of the number x where it is first met in the expression at a place.
-fn find(work: &[i32], at: usize, left: usize, m: usize, base: usize, n: Counters, x: u32) -> Found
+fn find(
+    work: &[i32],
+    at: usize,
+    left: usize,
+    m: usize,
+    base: usize,
+    n: Counters,
+    x: u32,
+) -> Option<Interval>
     requires { (folded_end ≤ length work.now) × ((at ≤ folded_end) × ((base ≤ limit) × (Low n × Branched work.now left (split_by m) at base n))) }
     ensures { Finds work.now left (split_by m) at base n x result }
 {
@@ -423,28 +402,20 @@ fn find(work: &[i32], at: usize, left: usize, m: usize, base: usize, n: Counters
         return find_lone(work, at, left, m, base, n, x);
     }
     let under = left - 1;
-    let mut rest = word(work, at + 1);
+    let count = word(work, at + 1);
     let mut r = Behind {
         at: within(at + 2),
-        base: base,
-        n: n,
+        base,
+        n,
     };
-    while rest != 0 {
+    for _ in 0..count {
         let p = within(r.at + 1);
-        rest = rest - 1;
-        let o = find(work, p, under, m, r.base, r.n, x);
-        if o.found {
-            return o;
+        if let Some(d) = find(work, p, under, m, r.base, r.n, x) {
+            return Some(d);
         }
         r = end_of(work, p, under, m, r.base, r.n);
     }
-    miss()
-}
-
-#[derive(Drop)]
-pub struct Interval {
-    pub low: i32,
-    pub high: i32,
+    None
 }
 
 // The bounds of the sum s of the expression at a place.
@@ -460,22 +431,16 @@ fn bounds(
     requires { (folded_end ≤ length work.now) × ((at ≤ folded_end) × ((base ≤ limit) × (Low n × Bounded work.now left (split_by m) at base n s))) }
     ensures { Bounds work.now left (split_by m) at base n s result.low result.high }
 {
-    let count = s.count;
+    let nothing = Interval { low: 0, high: 0 };
     let mut low = s.constant;
     let mut high = s.constant;
-    let mut i: usize = 0;
-    while i < count {
-        let v = s.vars[i];
+    for i in 0..s.count {
         let k = s.coefs[i];
-        let d = find(work, at, left, m, base, n, v);
-        low = low + domains::times_low(k, d.low, d.high);
-        high = high + domains::times_low(k, d.high, d.low);
-        i += 1;
+        let d = find(work, at, left, m, base, n, s.vars[i]).unwrap_or(nothing);
+        low += domains::times_low(k, d.low, d.high);
+        high += domains::times_low(k, d.high, d.low);
     }
-    Interval {
-        low: low,
-        high: high,
-    }
+    Interval { low, high }
 }
 
 // The lowest and the highest value of the expression at a place, by the domains of the numbers in its sum.

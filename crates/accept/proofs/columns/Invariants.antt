@@ -4,4 +4,4 @@ use Rattle.accept.specs.Walk.{ReadyColumns, ColumnsPost}
 use Rattle.accept.proofs.columns.Given as goal
 
 abbrev pub invariant-loop : goal.invariant-loop
-invariant-loop l = ReadyColumns l.set l.work l.next (l.n - l.counter) l.ni × ((y r : ℕ) → ColumnsPost l.set l.work l.next (l.n - l.counter) l.ni (hit l.refusal) y r → ColumnsPost l.set l.work l.at l.n l.ni 12 y r)
+invariant-loop l = ReadyColumns l.walk.set.now l.walk.work.now l.next (l.n - l.counter) l.walk.ints × ((y r : ℕ) → ColumnsPost l.walk.set.now l.walk.work.now l.next (l.n - l.counter) l.walk.ints (hit l.refusal) y r → ColumnsPost l.walk.set.now l.walk.work.now l.at l.n l.walk.ints 12 y r)

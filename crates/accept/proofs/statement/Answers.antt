@@ -6,7 +6,7 @@ pub number-code-requires : goal.number-code-requires
 number-code-requires c = stmt_plain c.args.set.now c.args.work.now c.args.at c.args.ni c.requires.0
 
 pub rules-requires : goal.rules-requires
-rules-requires c = (rule_ready c.args.set.now c.args.work.now c.args.at c.args.ni _ c.number-code.ensures.0 c.if-code-eq1.true c.requires.0, c.requires.1)
+rules-requires c = (rule_ready c.args.set.now c.args.work.now c.args.at c.args.ni _ c.number-code.ensures.0 c.if-code-eq1.true c.requires.0)
 
 pub returns-then-code-eq1 : goal.returns-then-code-eq1
 returns-then-code-eq1 c = rule_post c.args.set.now c.args.work.now c.args.at c.args.ni _ c.number-code.ensures.0 c.if-code-eq1.true _ _ c.rules.ensures
@@ -18,7 +18,7 @@ pub number-n-requires : goal.number-n-requires
 number-n-requires c = stmt_second c.args.set.now c.args.work.now c.args.at c.args.ni _ c.number-code.ensures.0 c.if-code-eq1.false c.requires.0
 
 pub all_different-requires : goal.all_different-requires
-all_different-requires c = (different_ready c.args.set.now c.args.work.now c.args.at c.args.ni _ c.number-code.ensures.0 c.if-code-eq3.true _ c.number-n.ensures.0 c.requires.0, c.requires.1)
+all_different-requires c = (different_ready c.args.set.now c.args.work.now c.args.at c.args.ni _ c.number-code.ensures.0 c.if-code-eq3.true _ c.number-n.ensures.0 c.requires.0)
 
 pub returns-then-code-eq3 : goal.returns-then-code-eq3
 returns-then-code-eq3 c = different_post c.args.set.now c.args.work.now c.args.at c.args.ni _ c.number-code.ensures.0 c.if-code-eq3.true _ c.number-n.ensures.0 _ _ c.all_different.ensures
@@ -33,7 +33,7 @@ pub overflow_add-at-4 : goal.overflow_add-at-4
 overflow_add-at-4 c = let q = table_inside c.args.set.now c.args.work.now c.args.at c.args.ni _ c.number-code.ensures.0 c.if-code-eq1.false c.if-code-eq3.false c.requires.0 in search rules
 
 pub columns-t-requires : goal.columns-t-requires
-columns-t-requires c = (table_ready c.args.set.now c.args.work.now c.args.at c.args.ni _ c.number-code.ensures.0 c.if-code-eq1.false c.if-code-eq3.false _ c.number-n.ensures.0 _ c.number-k.ensures.0 c.requires.0, c.requires.1)
+columns-t-requires c = (table_ready c.args.set.now c.args.work.now c.args.at c.args.ni _ c.number-code.ensures.0 c.if-code-eq1.false c.if-code-eq3.false _ c.number-n.ensures.0 _ c.number-k.ensures.0 c.requires.0)
 
 pub overflow_add-result : goal.overflow_add-result
 overflow_add-result c = let q = table_room c.args.set.now c.args.work.now c.args.at c.args.ni _ c.number-code.ensures.0 c.if-code-eq1.false c.if-code-eq3.false _ c.number-n.ensures.0 _ c.number-k.ensures.0 _ _ c.columns-t.ensures c.requires.0 in search rules

@@ -4,4 +4,4 @@ use Rattle.accept.specs.Walk.{ReadyStmts, StmtsPost}
 use Rattle.accept.proofs.statements.Given as goal
 
 abbrev pub invariant-loop : goal.invariant-loop
-invariant-loop l = ReadyStmts l.set l.work l.next (l.n - l.counter) l.ni × ((r : ℕ) → StmtsPost l.set l.work l.next (l.n - l.counter) l.ni (hit l.refusal) r → StmtsPost l.set l.work l.at l.n l.ni 12 r)
+invariant-loop l = ReadyStmts l.walk.set.now l.walk.work.now l.next (l.n - l.counter) l.walk.ints × ((r : ℕ) → StmtsPost l.walk.set.now l.walk.work.now l.next (l.n - l.counter) l.walk.ints (hit l.refusal) r → StmtsPost l.walk.set.now l.walk.work.now l.at l.n l.walk.ints 12 r)

@@ -1,16 +1,10 @@
-use mathlib.Core.Path.{refl}
-use mathlib.Core.Bool.{true}
-use Prim.Native.Nat.{◌-◌}
-use borrow.Author.Rules.{rules, sfits_of}
+-- `decimal::all_fit` meets its contract. Assumes nothing.
 use Rattle.decimal.specs.Widths.{fit_next, fit_all}
-use borrow.Author.Rules.{rules}
+use borrow.Author.Rules.{rules, sfits_of}
 use Rattle.decimal.proofs.all_fit.Goals as goal
 
-pub loop-i-init : goal.loop-i-init
-loop-i-init c = (search rules, refl)
-
-pub loop-i-preserved : goal.loop-i-preserved
-loop-i-preserved c = (search rules, fit_next _ _ c.loop-i-test.true c.loop-i.invariant.1 (sfits_of c._w-1.given))
+pub loop-w-preserved : goal.loop-w-preserved
+loop-w-preserved c = fit_next _ _ c.loop-w-test.true c.loop-w.invariant (sfits_of (search rules))
 
 pub returns : goal.returns
-returns c = fit_all _ _ c.loop-i-test.false c.loop-i.invariant.1
+returns c = fit_all _ _ c.loop-w-test.false c.loop-w.invariant

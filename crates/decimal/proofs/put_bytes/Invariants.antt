@@ -1,12 +1,7 @@
 -- `decimal::put_bytes` meets its contract. Assumes nothing.
-use Prim.Native.Nat.{◌-◌, ◌≤◌}
-use mathlib.Core.Path.{◌≡◌}
-use lib.ListN.{length, drop}
+use Rattle.std.proofs.Common.{◌≡◌, length, drop}
 use Rattle.decimal.specs.Puts.{puts}
 use Rattle.decimal.proofs.put_bytes.Given as goal
 
-abbrev pub invariant-loop-i : goal.invariant-loop-i
-invariant-loop-i l = (l.i ≤ length l.bytes) × (length l.out ≡ length l.initial.out) × (puts l.out l.o (drop l.i l.bytes) ≡ puts l.initial.out l.at l.bytes)
-
-abbrev pub decreases-loop-i : goal.decreases-loop-i
-decreases-loop-i l = length l.bytes - l.i
+abbrev pub invariant-loop-b : goal.invariant-loop-b
+invariant-loop-b l = (length l.out ≡ length l.initial.out) × (puts l.out l.o (drop l.b-index l.bytes) ≡ puts l.initial.out l.at l.bytes)

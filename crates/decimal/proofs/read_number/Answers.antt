@@ -1,33 +1,30 @@
 -- `decimal::read_number` meets its contract. Assumes nothing.
 use mathlib.Core.Path.{sym, ◌∙◌}
 use native.Mathlib.Omega.{arith}
-use Rattle.decimal.proofs.Digits.{number_none, number_minus, number_plain, minus_unread, minus_zero, minus_result, limited_most, less_one_fits, plain_unread, plain_over, plain_value}
-use borrow.Author.Rules.{rules}
+use borrow.Author.Tests.{eqb-true, eqb-false}
+use Rattle.decimal.proofs.Digits.{number_minus, number_none, number_plain, limited_most, less_one_fits, minus_unread, minus_zero, minus_result, plain_unread, plain_result}
 use Rattle.decimal.proofs.read_number.Goals as goal
 
-pub returns-then-part-eq0 : goal.returns-then-part-eq0
-returns-then-part-eq0 c = number_none c.args.part.now c.if-part-eq0.true
+pub returns-then-is_empty : goal.returns-then-is_empty
+returns-then-is_empty c = number_none c.args.part.now (eqb-true _ 0 (sym c.is_empty.ensures ∙ c.if-is_empty.true))
+
+pub returns-in_err-n : goal.returns-in_err-n
+returns-in_err-n c = c.from_residual.ensures ∙ minus_unread _ _ (number_minus c.args.part.now (eqb-false _ 0 (sym c.is_empty.ensures ∙ c.if-is_empty.false)) c.if-part-eq45.true) (sym c.in_err-n.was ∙ c.read_natural.ensures)
 
 pub returns-then-n-eq0 : goal.returns-then-n-eq0
-returns-then-n-eq0 c = minus_zero c.args.part.now _ (number_minus c.args.part.now (search rules) c.if-part-eq45.true) _ (sym c.in-Value.is ∙ c.read_natural.ensures) c.if-n-eq0.true
+returns-then-n-eq0 c = minus_zero _ _ (number_minus c.args.part.now (eqb-false _ 0 (sym c.is_empty.ensures ∙ c.if-is_empty.false)) c.if-part-eq45.true) _ (sym c.in_ok-n.was ∙ c.read_natural.ensures) c.if-n-eq0.true
 
-pub overflow_cast-m : goal.overflow_cast-m
-overflow_cast-m c = record { sfits = omega (arith, limited_most _ c.in-Value.n (sym c.in-Value.is ∙ c.read_natural.ensures)) }
+pub overflow_cast-result : goal.overflow_cast-result
+overflow_cast-result c = record { sfits = omega (arith, limited_most _ c.in_ok-n.n (sym c.in_ok-n.was ∙ c.read_natural.ensures)) }
 
-pub overflow_sub-result : goal.overflow_sub-result
-overflow_sub-result c = less_one_fits _ c.if-n-eq0.false (limited_most _ c.in-Value.n (sym c.in-Value.is ∙ c.read_natural.ensures))
+pub overflow_sub-result-then-part-eq45 : goal.overflow_sub-result-then-part-eq45
+overflow_sub-result-then-part-eq45 c = less_one_fits _ c.if-n-eq0.false (limited_most _ c.in_ok-n.n (sym c.in_ok-n.was ∙ c.read_natural.ensures))
 
-pub returns-then-n-gt2147483647 : goal.returns-then-n-gt2147483647
-returns-then-n-gt2147483647 c = plain_over c.args.part.now _ (number_plain c.args.part.now (search rules) c.if-part-eq45.false) _ (sym c.in-Value-read_natural.is ∙ c.read_natural-else-part-eq45.ensures) c.if-n-gt2147483647.true
+pub returns-then-part-eq45 : goal.returns-then-part-eq45
+returns-then-part-eq45 c = minus_result _ _ (number_minus c.args.part.now (eqb-false _ 0 (sym c.is_empty.ensures ∙ c.if-is_empty.false)) c.if-part-eq45.true) c.in_ok-n.n (sym c.in_ok-n.was ∙ c.read_natural.ensures) c.if-n-eq0.false
 
-pub returns-in-Unread : goal.returns-in-Unread
-returns-in-Unread c = minus_unread c.args.part.now _ (number_minus c.args.part.now (search rules) c.if-part-eq45.true) (sym c.in-Unread.is ∙ c.read_natural.ensures)
+pub returns-in_err-n-2 : goal.returns-in_err-n-2
+returns-in_err-n-2 c = c.from_residual-in_err-n-2.ensures ∙ plain_unread _ _ (number_plain c.args.part.now (eqb-false _ 0 (sym c.is_empty.ensures ∙ c.if-is_empty.false)) c.if-part-eq45.false) (sym c.in_err-n-2.was ∙ c.read_natural-2.ensures)
 
-pub returns-else-n-eq0 : goal.returns-else-n-eq0
-returns-else-n-eq0 c = minus_result c.args.part.now _ (number_minus c.args.part.now (search rules) c.if-part-eq45.true) c.in-Value.n (sym c.in-Value.is ∙ c.read_natural.ensures) c.if-n-eq0.false
-
-pub returns-in-Unread-read_natural : goal.returns-in-Unread-read_natural
-returns-in-Unread-read_natural c = plain_unread c.args.part.now _ (number_plain c.args.part.now (search rules) c.if-part-eq45.false) (sym c.in-Unread-read_natural.is ∙ c.read_natural-else-part-eq45.ensures)
-
-pub returns-else-n-gt2147483647 : goal.returns-else-n-gt2147483647
-returns-else-n-gt2147483647 c = plain_value c.args.part.now _ (number_plain c.args.part.now (search rules) c.if-part-eq45.false) c.in-Value-read_natural.n (sym c.in-Value-read_natural.is ∙ c.read_natural-else-part-eq45.ensures) c.if-n-gt2147483647.false
+pub returns : goal.returns
+returns c = c.ok.ensures.value ∙ plain_result _ _ (number_plain c.args.part.now (eqb-false _ 0 (sym c.is_empty.ensures ∙ c.if-is_empty.false)) c.if-part-eq45.false) _ (sym c.in_ok-n-2.was ∙ c.read_natural-2.ensures) _ c.try_from.ensures

@@ -89,19 +89,19 @@ pub if_value-skip_int-f-requires : goal.if_value-skip_int-f-requires
 if_value-skip_int-f-requires t c = int_some _ c.args.values.now c.args.nb _ (then_ready c.args.set.now c.args.values.now c.args.nb c.args.at 23 c.requires.1 refl _ _ c.bool_holds-c.ensures c.requires.0).0
 
 pub if_value-int_value-requires : goal.if_value-int_value-requires
-if_value-int_value-requires t c = let q = int_inside c.args.set.now c.args.values.now c.args.nb c.args.at c.requires.0 in let s = else_ready c.args.set.now c.args.values.now c.args.nb c.args.at 23 c.requires.1 refl _ _ c.bool_holds-c.ensures (not-true c.bool_holds-c.result.held c.if-not-c.true) _ c.skip_int-f.ensures c.requires.0 in (omega (arith, c.decreases, s.1), s.0)
+if_value-int_value-requires t c = let q = int_inside c.args.set.now c.args.values.now c.args.nb c.args.at c.requires.0 in let s = else_ready c.args.set.now c.args.values.now c.args.nb c.args.at 23 c.requires.1 refl _ _ c.bool_holds-c.ensures (not-true c.bool_holds-c.result.value c.if-not-c.true) _ c.skip_int-f.ensures c.requires.0 in (omega (arith, c.decreases, s.1), s.0)
 
 pub if_value-returns-then-not-c : goal.if_value-returns-then-not-c
-if_value-returns-then-not-c t c = else_value c.args.set.now c.args.values.now c.args.nb c.args.at 23 c.requires.1 refl _ _ c.bool_holds-c.ensures (not-true c.bool_holds-c.result.held c.if-not-c.true) _ c.skip_int-f.ensures _ _ c.int_value.ensures
+if_value-returns-then-not-c t c = else_value c.args.set.now c.args.values.now c.args.nb c.args.at 23 c.requires.1 refl _ _ c.bool_holds-c.ensures (not-true c.bool_holds-c.result.value c.if-not-c.true) _ c.skip_int-f.ensures _ _ c.int_value.ensures
 
 pub if_value-int_value-t-requires : goal.if_value-int_value-t-requires
 if_value-int_value-t-requires t c = let q = int_inside c.args.set.now c.args.values.now c.args.nb c.args.at c.requires.0 in let s = then_ready c.args.set.now c.args.values.now c.args.nb c.args.at 23 c.requires.1 refl _ _ c.bool_holds-c.ensures c.requires.0 in (omega (arith, c.decreases, s.1), s.0)
 
 pub if_value-skip_int-requires : goal.if_value-skip_int-requires
-if_value-skip_int-requires t c = else_some c.args.set.now c.args.values.now c.args.nb c.args.at 23 c.requires.1 refl _ _ c.bool_holds-c.ensures (not-false c.bool_holds-c.result.held c.if-not-c.false) _ _ c.int_value-t.ensures c.requires.0
+if_value-skip_int-requires t c = else_some c.args.set.now c.args.values.now c.args.nb c.args.at 23 c.requires.1 refl _ _ c.bool_holds-c.ensures (not-false c.bool_holds-c.result.value c.if-not-c.false) _ _ c.int_value-t.ensures c.requires.0
 
 pub if_value-returns : goal.if_value-returns
-if_value-returns t c = let f : SFits w32 c.int_value-t.result.value = search rules in then_value c.args.set.now c.args.values.now c.args.nb c.args.at 23 c.requires.1 refl _ _ c.bool_holds-c.ensures (not-false c.bool_holds-c.result.held c.if-not-c.false) _ _ c.int_value-t.ensures _ _ (to_z-of_z f) c.skip_int.ensures
+if_value-returns t c = let f : SFits w32 c.int_value-t.result.value = search rules in then_value c.args.set.now c.args.values.now c.args.nb c.args.at 23 c.requires.1 refl _ _ c.bool_holds-c.ensures (not-false c.bool_holds-c.result.value c.if-not-c.false) _ _ c.int_value-t.ensures _ _ (to_z-of_z f) c.skip_int.ensures
 
 pub int_value-number-code-requires : goal.int_value-number-code-requires
 int_value-number-code-requires t c = int_first _ c.args.values.now c.args.nb _ c.requires

@@ -1,5 +1,10 @@
 -- `input::count_line` meets its contract. Assumes nothing.
 use Rattle.input.proofs.Reading.{key_fits, count_last, count_not, count_unread, count_done}
+use mathlib.Core.Path.{sym, ◌∙◌}
+use mir.Syntax.{w32}
+use mir.Val.{SFits}
+use mir.Facts.{to_z-of_z}
+use borrow.Author.Rules.{rules}
 use Rattle.input.proofs.count_line.Goals as goal
 
 pub returns-then-e-text : goal.returns-then-e-text
@@ -14,8 +19,8 @@ slice_bounds-read_number-start c = key_fits _ _ c.has_key.result c.has_key.ensur
 pub slice_bounds-read_number-count : goal.slice_bounds-read_number-count
 slice_bounds-read_number-count c = key_fits _ _ c.has_key.result c.has_key.ensures c.if-not-has_key.false
 
-pub returns-in-Unread : goal.returns-in-Unread
-returns-in-Unread c = count_unread _ _ _ c.find-e.ensures _ _ _ c.has_key.result c.has_key.ensures c.if-e-text.false c.if-not-has_key.false _ _ _ c.read_number.ensures c.store.ensures c.in-Unread.is
+pub returns-in_err-w : goal.returns-in_err-w
+returns-in_err-w c = rw c.from_residual.ensures (count_unread _ _ _ c.find-e.ensures _ _ _ c.has_key.result c.has_key.ensures c.if-e-text.false c.if-not-has_key.false (sym c.in_err-w.was ∙ c.read_number.ensures))
 
-pub returns-in-Count : goal.returns-in-Count
-returns-in-Count c = count_done _ _ _ c.find-e.ensures _ _ _ c.has_key.result c.has_key.ensures c.if-e-text.false c.if-not-has_key.false _ _ _ c.read_number.ensures c.store.ensures _ c.in-Count.is c.requires.count
+pub returns : goal.returns
+returns c = let f : SFits w32 c.in_ok-w.w = search rules in count_done _ _ _ c.find-e.ensures _ _ _ c.has_key.result c.has_key.ensures c.if-e-text.false c.if-not-has_key.false _ (sym c.in_ok-w.was ∙ c.read_number.ensures) _ _ (rw (to_z-of_z f) at c.store.ensures) c.requires.count

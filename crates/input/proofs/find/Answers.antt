@@ -1,15 +1,9 @@
 -- `input::find` meets its contract. Assumes nothing.
-use Rattle.input.proofs.Reading.{absent_none, absent_more, found_at, found_none}
+use Rattle.input.proofs.Reading.{found_some, not_found}
 use Rattle.input.proofs.find.Goals as goal
 
-pub loop-i-init : goal.loop-i-init
-loop-i-init c = absent_none _ _ _ c.requires
+pub returns-in-Some : goal.returns-in-Some
+returns-in-Some c = found_some _ _ _ c.requires _ _ c.position_of.ensures c.in-Some.is
 
-pub returns-then-text-i : goal.returns-then-text-i
-returns-then-text-i c = found_at _ _ _ _ c.loop-i.invariant c.loop-i-test.true c.if-text-i.true
-
-pub loop-i-preserved : goal.loop-i-preserved
-loop-i-preserved c = absent_more _ _ _ _ c.loop-i.invariant c.loop-i-test.true c.if-text-i.false
-
-pub returns : goal.returns
-returns c = found_none _ _ _ _ c.loop-i.invariant c.loop-i-test.false
+pub returns-in-None : goal.returns-in-None
+returns-in-None c = not_found _ _ _ c.requires _ c.position_of.ensures c.in-None.is

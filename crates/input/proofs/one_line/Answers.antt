@@ -14,8 +14,8 @@ slice_bounds-read_numbers-start c = key_fits _ _ c.has_key.result c.has_key.ensu
 pub slice_bounds-read_numbers-count : goal.slice_bounds-read_numbers-count
 slice_bounds-read_numbers-count c = key_fits _ _ c.has_key.result c.has_key.ensures c.if-not-has_key.false
 
-pub returns-in-Unread : goal.returns-in-Unread
-returns-in-Unread c = line_unread _ _ _ c.find-e.ensures _ _ _ c.has_key.result c.has_key.ensures c.if-e-text.false c.if-not-has_key.false _ _ c.read_numbers.ensures c.in-Unread.is
+pub returns-in_err-m : goal.returns-in_err-m
+returns-in_err-m c = rw c.from_residual.ensures (line_unread _ _ _ c.find-e.ensures _ _ _ c.has_key.result c.has_key.ensures c.if-e-text.false c.if-not-has_key.false _ _ c.read_numbers.ensures c.in_err-m.was)
 
-pub returns-in-Count : goal.returns-in-Count
-returns-in-Count c = line_done _ _ _ c.find-e.ensures _ _ _ c.has_key.result c.has_key.ensures c.if-e-text.false c.if-not-has_key.false _ _ c.read_numbers.ensures _ c.in-Count.is c.requires.count
+pub returns : goal.returns
+returns c = line_done _ _ _ c.find-e.ensures _ _ _ c.has_key.result c.has_key.ensures c.if-e-text.false c.if-not-has_key.false _ _ c.read_numbers.ensures _ c.in_ok-m.was c.requires.count

@@ -16,7 +16,7 @@ pub overflow_add-result : goal.overflow_add-result
 overflow_add-result c = record { fits = omega (arith, c.put_part-p.ensures.high, c.put_comparisons-q.ensures.members_value.1, c.put_comparisons-q.ensures.printed.high) }
 
 pub shape_of-out : goal.shape_of-out
-shape_of-out c = (clause_shown _ _ _ _ c.count_at-n.ensures.0 c.stop-a.ensures _ _ _ _ _ c.put_part-p.ensures _ _ _ c.put_comparisons-q.ensures.printed _ _ _ _ c.put_bytes-i.ensures c.put_byte-r.ensures).text.size
+shape_of-out c = (clause_shown _ _ _ _ c.count_at-n.ensures.0 c.stop-a.ensures _ _ _ _ _ c.put_part-p.ensures _ _ _ c.put_comparisons-q.ensures.printed _ _ _ _ c.put_bytes-i.ensures c.put_byte.ensures).text.size
 
 pub returns : goal.returns
-returns c = record { printed = clause_shown _ _ _ _ c.count_at-n.ensures.0 c.stop-a.ensures _ _ _ _ _ c.put_part-p.ensures _ _ _ c.put_comparisons-q.ensures.printed _ _ _ _ c.put_bytes-i.ensures c.put_byte-r.ensures; members_value = clause_members _ _ _ _ c.count_at-n.ensures.0 c.stop-a.ensures _ _ _ _ _ c.put_part-p.ensures _ _ _ c.put_comparisons-q.ensures.printed _ c.put_comparisons-q.ensures.members_value.0 c.put_comparisons-q.ensures.members_value.1 }
+returns c = record { printed = clause_shown _ _ _ _ c.count_at-n.ensures.0 c.stop-a.ensures _ _ _ _ _ c.put_part-p.ensures _ _ _ c.put_comparisons-q.ensures.printed _ _ _ _ c.put_bytes-i.ensures c.put_byte.ensures; members_value = clause_members _ _ _ _ c.count_at-n.ensures.0 c.stop-a.ensures _ _ _ _ _ c.put_part-p.ensures _ _ _ c.put_comparisons-q.ensures.printed _ c.put_comparisons-q.ensures.members_value.0 c.put_comparisons-q.ensures.members_value.1 }

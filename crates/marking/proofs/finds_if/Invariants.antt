@@ -8,6 +8,3 @@ use Rattle.marking.proofs.finds_if.Given as goal
 
 abbrev pub invariant-loop-i : goal.invariant-loop-i
 invariant-loop-i l = finds_if (read_part l.work) l.i (l.end - l.i) ≡ finds_if (read_part l.work) folded (l.end - folded)
-
-abbrev pub decreases-loop-i : goal.decreases-loop-i
-decreases-loop-i l = l.end - l.i

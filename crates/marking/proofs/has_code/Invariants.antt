@@ -9,6 +9,3 @@ use Rattle.marking.proofs.has_code.Given as goal
 
 abbrev pub invariant-loop-q : goal.invariant-loop-q
 invariant-loop-q l = l.found || has_code (read_part l.work) l.q (l.end - l.q) ≡ has_code (read_part l.work) folded (l.end - folded)
-
-abbrev pub decreases-loop-q : goal.decreases-loop-q
-decreases-loop-q l = l.end - l.q

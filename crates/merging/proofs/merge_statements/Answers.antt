@@ -1,4 +1,3 @@
-use Prim.Native.Nat.{◌-◌}
 use native.Mathlib.Omega.{arith}
 use Rattle.merging.proofs.Loop.{all_start, stmt_here, here_inside, size_here, moved, all_again, all_done}
 use Rattle.merging.proofs.merge_statements.Goals as goal

@@ -1,6 +1,6 @@
 use borrow.Author.Rules.{rules}
 use Prim.Native.Nat.{◌+◌, ◌-◌}
-use mathlib.Core.Path.{refl, sym, ap, ◌∙◌}
+use mathlib.Core.Path.{◌≡◌, refl, sym, ap, ◌∙◌}
 use native.Mathlib.Omega.{arith}
 use Rattle.walk.specs.Decode.{read_part}
 use Rattle.walk.proofs.Steps.{below_lt}
@@ -18,6 +18,7 @@ use lib.IntN.{nat_abs}
 use Prim.Native.Nat.{◌≤◌}
 use lib.Dec.{leb}
 use mir.Syntax.{w32}
+use Rattle.std.proofs.Math.Option.{none, some}
 use mir.Val.{SFits}
 use Rattle.syntax.specs.Words.{max_weight, max_bools}
 use Rattle.walks.specs.Meet.{number_word}
@@ -78,23 +79,23 @@ number-returns-else-d t c = walked_conj c.args.room.records c.args.room.cap (sta
 pub number-returns-else-m-le1 : goal.number-returns-else-m-le1
 number-returns-else-m-le1 t c = walked_split c.args.room.records c.args.room.cap (state_of c.args.work.now c.args.out.now c.args.c) c.args.left (split_by c.args.m) c.args.g c.args.at c.args.base c.requires _ c.if-left-eq0.false refl _ _ (sym c.in-Cross.is ∙ c.node_at.ensures) _ _ _ c.args.work.now c.args.out.now c.args.c _ refl (split_here c.args.m c.if-m-le1.false) c.bump.ensures c.skips-s.ensures c.longer-in-Cross.ensures
 
-pub number_branches-branch_sums-v-requires : goal.number_branches-branch_sums-v-requires
-number_branches-branch_sums-v-requires t c = (c.requires.0.size, (c.requires.1.1, sums_ready c.args.room.records c.args.room.cap c.args.left (split_by c.args.m) c.args.at c.args.base c.args.p c.args.work.now c.args.out.now c.args.c _ _ c.requires.0 c.requires.1.0))
+pub number_branches-branch_sums-requires : goal.number_branches-branch_sums-requires
+number_branches-branch_sums-requires t c = (c.requires.0.size, (c.requires.1.1, sums_ready c.args.room.records c.args.room.cap c.args.left (split_by c.args.m) c.args.at c.args.base c.args.p c.args.work.now c.args.out.now c.args.c _ _ c.requires.0 c.requires.1.0))
 
 pub number_branches-number_constant-requires : goal.number_branches-number_constant-requires
-number_branches-number_constant-requires t c = (omega (arith, c.decreases), constant_starts c.args.room.records c.args.room.cap c.args.left (split_by c.args.m) c.args.at c.args.base c.args.p c.args.work.now c.args.out.now c.args.c _ _ c.requires.0 c.requires.1.0 _ _ _ (sums_bits (let f : SFits w32 c.branch_sums-v.result.first = search rules in f) (let f : SFits w32 c.branch_sums-v.result.second = search rules in f) c.branch_sums-v.ensures) c.if-v.true _ c.store.ensures.0)
+number_branches-number_constant-requires t c = (omega (arith, c.decreases), constant_starts c.args.room.records c.args.room.cap c.args.left (split_by c.args.m) c.args.at c.args.base c.args.p c.args.work.now c.args.out.now c.args.c _ _ c.requires.0 c.requires.1.0 _ _ _ (sums_bits (let f : SFits w32 c.in-Some.x = search rules in f) (let f : SFits w32 c.in-Some.z = search rules in f) c.in-Some.ensures) refl _ c.store.ensures.0)
 
-pub number_branches-returns-then-v : goal.number_branches-returns-then-v
-number_branches-returns-then-v t c = constant_made c.args.room.records c.args.room.cap c.args.left (split_by c.args.m) c.args.at c.args.base c.args.p c.args.work.now c.args.out.now c.args.c _ _ c.requires.0 c.requires.1.0 _ _ _ (sums_bits (let f : SFits w32 c.branch_sums-v.result.first = search rules in f) (let f : SFits w32 c.branch_sums-v.result.second = search rules in f) c.branch_sums-v.ensures) c.if-v.true _ c.store.ensures.0 _ c.number_constant.ensures
+pub number_branches-returns-in-Some : goal.number_branches-returns-in-Some
+number_branches-returns-in-Some t c = constant_made c.args.room.records c.args.room.cap c.args.left (split_by c.args.m) c.args.at c.args.base c.args.p c.args.work.now c.args.out.now c.args.c _ _ c.requires.0 c.requires.1.0 _ _ _ (sums_bits (let f : SFits w32 c.in-Some.x = search rules in f) (let f : SFits w32 c.in-Some.z = search rules in f) c.in-Some.ensures) refl _ c.store.ensures.0 _ c.number_constant.ensures
 
 pub number_branches-branch_range-d-requires : goal.number_branches-branch_range-d-requires
 number_branches-branch_range-d-requires t c = (c.requires.0.size, (c.requires.1.1, sums_ready c.args.room.records c.args.room.cap c.args.left (split_by c.args.m) c.args.at c.args.base c.args.p c.args.work.now c.args.out.now c.args.c _ _ c.requires.0 c.requires.1.0))
 
 pub number_branches-number_open-requires : goal.number_branches-number_open-requires
-number_branches-number_open-requires t c = (omega (arith, c.decreases), (open_starts c.args.room.records c.args.room.cap c.args.left (split_by c.args.m) c.args.at c.args.base c.args.p c.args.work.now c.args.out.now c.args.c _ _ c.requires.0 c.requires.1.0 _ _ _ c.branch_sums-v.ensures c.if-v.false _ _ (range_bits (let f : SFits w32 c.branch_range-d.result.low = search rules in f) (let f : SFits w32 c.branch_range-d.result.high = search rules in f) c.branch_range-d.ensures), (c.requires.1.0, ((range_bits (let f : SFits w32 c.branch_range-d.result.low = search rules in f) (let f : SFits w32 c.branch_range-d.result.high = search rules in f) c.branch_range-d.ensures).lowest, (range_bits (let f : SFits w32 c.branch_range-d.result.low = search rules in f) (let f : SFits w32 c.branch_range-d.result.high = search rules in f) c.branch_range-d.ensures).highest))))
+number_branches-number_open-requires t c = (omega (arith, c.decreases), (open_starts c.args.room.records c.args.room.cap c.args.left (split_by c.args.m) c.args.at c.args.base c.args.p c.args.work.now c.args.out.now c.args.c _ _ c.requires.0 c.requires.1.0 c.in_default.ensures _ _ (range_bits (let f : SFits w32 c.branch_range-d.result.low = search rules in f) (let f : SFits w32 c.branch_range-d.result.high = search rules in f) c.branch_range-d.ensures), (c.requires.1.0, ((range_bits (let f : SFits w32 c.branch_range-d.result.low = search rules in f) (let f : SFits w32 c.branch_range-d.result.high = search rules in f) c.branch_range-d.ensures).lowest, (range_bits (let f : SFits w32 c.branch_range-d.result.low = search rules in f) (let f : SFits w32 c.branch_range-d.result.high = search rules in f) c.branch_range-d.ensures).highest))))
 
 pub number_branches-returns : goal.number_branches-returns
-number_branches-returns t c = open_made c.args.room.records c.args.room.cap c.args.left (split_by c.args.m) c.args.at c.args.base c.args.p c.args.work.now c.args.out.now c.args.c _ _ c.requires.0 c.requires.1.0 _ _ _ c.branch_sums-v.ensures c.if-v.false _ _ (range_bits (let f : SFits w32 c.branch_range-d.result.low = search rules in f) (let f : SFits w32 c.branch_range-d.result.high = search rules in f) c.branch_range-d.ensures) _ c.number_open.ensures
+number_branches-returns t c = open_made c.args.room.records c.args.room.cap c.args.left (split_by c.args.m) c.args.at c.args.base c.args.p c.args.work.now c.args.out.now c.args.c _ _ c.requires.0 c.requires.1.0 c.in_default.ensures _ _ (range_bits (let f : SFits w32 c.branch_range-d.result.low = search rules in f) (let f : SFits w32 c.branch_range-d.result.high = search rules in f) c.branch_range-d.ensures) _ c.number_open.ensures
 
 pub number_choice-is_passed-requires : goal.number_choice-is_passed-requires
 number_choice-is_passed-requires t c = c.requires.0.inside
@@ -105,20 +106,20 @@ number_choice-returns-then-is_passed t c = choice_passed c.args.room.records c.a
 pub number_choice-overflow_sub-p : goal.number_choice-overflow_sub-p
 number_choice-overflow_sub-p t c = c.requires.1.1
 
-pub number_choice-find_equal-q-requires : goal.number_choice-find_equal-q-requires
-number_choice-find_equal-q-requires t c = (c.requires.0.size, omega (arith, c.requires.1.1, c.requires.1.0.second.inside))
+pub number_choice-find_equal-requires : goal.number_choice-find_equal-requires
+number_choice-find_equal-requires t c = (c.requires.0.size, omega (arith, c.requires.1.1, c.requires.1.0.second.inside))
 
 pub number_choice-copy_cells-requires : goal.number_choice-copy_cells-requires
-number_choice-copy_cells-requires t c = (c.requires.0.inside, c.find_equal-q.ensures.1)
+number_choice-copy_cells-requires t c = (c.requires.0.inside, c.in-Some.ensures.1)
 
-pub number_choice-returns-then-q-ne0 : goal.number_choice-returns-then-q-ne0
-number_choice-returns-then-q-ne0 t c = choice_found c.args.room.records c.args.room.cap c.args.left (split_by c.args.m) c.args.at c.args.base c.args.p c.args.work.now c.args.out.now c.args.c c.requires.0 c.find_equal-q.result _ (sym c.if-is_passed.false ∙ c.is_passed.ensures) c.if-q-ne0.true (found_as c.args.room.records c.args.room.cap c.args.left (split_by c.args.m) c.args.at c.args.base c.args.p c.args.work.now c.find_equal-q.result c.find_equal-q.ensures.0) c.copy_cells.ensures.0
+pub number_choice-returns-in-Some : goal.number_choice-returns-in-Some
+number_choice-returns-in-Some t c = choice_found c.args.room.records c.args.room.cap c.args.left (split_by c.args.m) c.args.at c.args.base c.args.p c.args.work.now c.args.out.now c.args.c c.requires.0 c.in-Some.q _ (sym c.if-is_passed.false ∙ c.is_passed.ensures) (found_as c.args.room.records c.args.room.cap c.args.left (split_by c.args.m) c.args.at c.args.base c.args.p c.args.work.now (some c.in-Some.q) c.in-Some.ensures.0) c.copy_cells.ensures.0
 
 pub number_choice-number_new-requires : goal.number_choice-number_new-requires
-number_choice-number_new-requires t c = (omega (arith, c.decreases), (new_starts c.args.room.records c.args.room.cap c.args.left (split_by c.args.m) c.args.at c.args.base c.args.p c.args.work.now c.args.out.now c.args.c c.requires.0 c.find_equal-q.result (sym c.if-is_passed.false ∙ c.is_passed.ensures) c.if-q-ne0.false (found_as c.args.room.records c.args.room.cap c.args.left (split_by c.args.m) c.args.at c.args.base c.args.p c.args.work.now c.find_equal-q.result c.find_equal-q.ensures.0), c.requires.1.0))
+number_choice-number_new-requires t c = (omega (arith, c.decreases), (new_starts c.args.room.records c.args.room.cap c.args.left (split_by c.args.m) c.args.at c.args.base c.args.p c.args.work.now c.args.out.now c.args.c c.requires.0 (sym c.if-is_passed.false ∙ c.is_passed.ensures) (found_as c.args.room.records c.args.room.cap c.args.left (split_by c.args.m) c.args.at c.args.base c.args.p c.args.work.now none c.in_default.ensures.0), c.requires.1.0))
 
 pub number_choice-returns : goal.number_choice-returns
-number_choice-returns t c = new_done c.args.room.records c.args.room.cap c.args.left (split_by c.args.m) c.args.at c.args.base c.args.p c.args.work.now c.args.out.now c.args.c c.requires.0 c.find_equal-q.result _ (sym c.if-is_passed.false ∙ c.is_passed.ensures) c.if-q-ne0.false (found_as c.args.room.records c.args.room.cap c.args.left (split_by c.args.m) c.args.at c.args.base c.args.p c.args.work.now c.find_equal-q.result c.find_equal-q.ensures.0) c.number_new.ensures
+number_choice-returns t c = new_done c.args.room.records c.args.room.cap c.args.left (split_by c.args.m) c.args.at c.args.base c.args.p c.args.work.now c.args.out.now c.args.c c.requires.0 _ (sym c.if-is_passed.false ∙ c.is_passed.ensures) (found_as c.args.room.records c.args.room.cap c.args.left (split_by c.args.m) c.args.at c.args.base c.args.p c.args.work.now none c.in_default.ensures.0) c.number_new.ensures
 
 pub number_constant-follow-requires : goal.number_constant-follow-requires
 number_constant-follow-requires t c = (rw c.below.ensures (below_lt max_bools c.word-z.result (omega arith)), (c.requires.records, (c.requires.low.bools, (c.requires.low.ints, (c.requires.low.used, follow_ready c.args.room.records c.args.room.cap c.args.left (split_by c.args.m) c.args.at c.args.base c.args.p c.args.work.now c.args.out.now c.args.c c.args.x c.args.y c.requires _ _ _ c.word.ensures c.if-word-eq11.true c.word-z.ensures c.below.ensures)))))
@@ -216,50 +217,50 @@ number_open-shape_of-out t c = (open_done c.args.room.records c.args.room.cap c.
 pub number_open-returns : goal.number_open-returns
 number_open-returns t c = open_done c.args.room.records c.args.room.cap c.args.left (split_by c.args.m) c.args.at c.args.base c.args.p c.args.work.now c.args.out.now c.args.c c.args.lo c.args.hi c.requires.0 c.requires.1.0 _ c.leaves_of-k.ensures _ (opens_as c.ranges.lo c.ranges.hi c.start_open-s.ensures).written _ c.start_open-s.ensures.count (sym c.if-is_full.false ∙ c.is_full.ensures) _ c.number-d.ensures.0 _ c.number-e.ensures.0 (leb c.args.p.base c.args.base) (number_word (leb c.args.p.base c.args.base) c.args.c.ints) _ _ (whole_is c.args.p.base c.args.base) refl (settles_as c.ranges.lo c.ranges.hi c.settle.ensures).written c.settle.ensures.count
 
-pub number_terms-loop-rest-init : goal.number_terms-loop-rest-init
-number_terms-loop-rest-init t c = terms_start c.args.room.records c.args.room.cap c.args.left (split_by c.args.m) c.args.count c.args.at c.args.base c.args.work.now c.args.out.now c.args.c _ c.ended-r.ensures c.requires
+pub number_terms-loop-init : goal.number_terms-loop-init
+number_terms-loop-init t c = let e : c.args.count - 0 ≡ c.args.count = omega arith in rw e (terms_start c.args.room.records c.args.room.cap c.args.left (split_by c.args.m) c.args.count c.args.at c.args.base c.args.work.now c.args.out.now c.args.c _ c.ended-r.ensures c.requires)
 
 pub number_terms-overflow_add-r : goal.number_terms-overflow_add-r
-number_terms-overflow_add-r t c = omega (arith, c.loop-rest.invariant.skips.inside)
+number_terms-overflow_add-r t c = omega (arith, c.loop.invariant.skips.inside)
 
 pub number_terms-number_leaf-d-requires : goal.number_terms-number_leaf-d-requires
-number_terms-number_leaf-d-requires t c = leaf_starts c.args.room.records c.args.room.cap _ c.args.left (split_by c.args.m) _ _ (terms_term c.args.room.records c.args.room.cap c.args.left (split_by c.args.m) c.args.count c.args.at c.args.base c.args.work.now c.args.out.now c.args.c c.ended-r.result.progress (ap (λ (x : NumberedInt). x.progress) c.ended-r.ensures) c.requires _ _ c.loop-rest.r c.loop-rest.rest c.loop-rest.invariant c.loop-rest-test.true _ c.within-p.ensures) _ (c.is_leaf.ensures c.if-is_leaf.true).0 refl _ c.word-k.ensures (c.is_leaf.ensures c.if-is_leaf.true).1.0 (c.is_leaf.ensures c.if-is_leaf.true).1.1
+number_terms-number_leaf-d-requires t c = leaf_starts c.args.room.records c.args.room.cap _ c.args.left (split_by c.args.m) _ _ (terms_term c.args.room.records c.args.room.cap c.args.left (split_by c.args.m) c.args.count c.args.at c.args.base c.args.work.now c.args.out.now c.args.c c.ended-r.result.progress (ap (λ (x : NumberedInt). x.progress) c.ended-r.ensures) c.requires _ _ c.loop.r (c.args.count - c.loop.counter) c.loop.invariant (omega arith) _ c.within-p.ensures) _ (c.is_leaf.ensures c.if-is_leaf.true).0 refl _ c.word-k.ensures (c.is_leaf.ensures c.if-is_leaf.true).1.0 (c.is_leaf.ensures c.if-is_leaf.true).1.1
 
-pub number_terms-loop-rest-preserved-then-is_leaf : goal.number_terms-loop-rest-preserved-then-is_leaf
-number_terms-loop-rest-preserved-then-is_leaf t c = terms_again c.args.room.records c.args.room.cap c.args.left (split_by c.args.m) c.args.count c.args.at c.args.base c.args.work.now c.args.out.now c.args.c c.ended-r.result.progress (ap (λ (x : NumberedInt). x.progress) c.ended-r.ensures) c.requires _ _ c.loop-rest.r c.loop-rest.rest c.loop-rest.invariant c.loop-rest-test.true _ c.within-p.ensures _ _ c.ended-r-then-is_leaf.result (walked_int c.args.room.records c.args.room.cap _ c.args.left (split_by c.args.m) _ _ _ _ _ _ _ _ c.ended-r-then-is_leaf.ensures (leaf_done c.args.room.records c.args.room.cap _ c.args.left (split_by c.args.m) _ _ (terms_term c.args.room.records c.args.room.cap c.args.left (split_by c.args.m) c.args.count c.args.at c.args.base c.args.work.now c.args.out.now c.args.c c.ended-r.result.progress (ap (λ (x : NumberedInt). x.progress) c.ended-r.ensures) c.requires _ _ c.loop-rest.r c.loop-rest.rest c.loop-rest.invariant c.loop-rest-test.true _ c.within-p.ensures) _ (c.is_leaf.ensures c.if-is_leaf.true).0 refl _ c.word-k.ensures _ (c.is_leaf.ensures c.if-is_leaf.true).1.0 (c.is_leaf.ensures c.if-is_leaf.true).1.1 c.number_leaf-d.ensures) (int_leaf _ (terms_term c.args.room.records c.args.room.cap c.args.left (split_by c.args.m) c.args.count c.args.at c.args.base c.args.work.now c.args.out.now c.args.c c.ended-r.result.progress (ap (λ (x : NumberedInt). x.progress) c.ended-r.ensures) c.requires _ _ c.loop-rest.r c.loop-rest.rest c.loop-rest.invariant c.loop-rest-test.true _ c.within-p.ensures).size c.args.left (split_by c.args.m) _ _ (terms_term c.args.room.records c.args.room.cap c.args.left (split_by c.args.m) c.args.count c.args.at c.args.base c.args.work.now c.args.out.now c.args.c c.ended-r.result.progress (ap (λ (x : NumberedInt). x.progress) c.ended-r.ensures) c.requires _ _ c.loop-rest.r c.loop-rest.rest c.loop-rest.invariant c.loop-rest-test.true _ c.within-p.ensures).inside (terms_term c.args.room.records c.args.room.cap c.args.left (split_by c.args.m) c.args.count c.args.at c.args.base c.args.work.now c.args.out.now c.args.c c.ended-r.result.progress (ap (λ (x : NumberedInt). x.progress) c.ended-r.ensures) c.requires _ _ c.loop-rest.r c.loop-rest.rest c.loop-rest.invariant c.loop-rest-test.true _ c.within-p.ensures).low_base _ (c.is_leaf.ensures c.if-is_leaf.true).0 refl _ _ c.word-k.ensures (c.is_leaf.ensures c.if-is_leaf.true).1.0 (c.is_leaf.ensures c.if-is_leaf.true).1.1 c.within.ensures))
+pub number_terms-loop-preserved-then-is_leaf : goal.number_terms-loop-preserved-then-is_leaf
+number_terms-loop-preserved-then-is_leaf t c = let e : c.args.count - (c.loop.counter + 1) ≡ c.args.count - c.loop.counter - 1 = omega arith in rw e (terms_again c.args.room.records c.args.room.cap c.args.left (split_by c.args.m) c.args.count c.args.at c.args.base c.args.work.now c.args.out.now c.args.c c.ended-r.result.progress (ap (λ (x : NumberedInt). x.progress) c.ended-r.ensures) c.requires _ _ c.loop.r (c.args.count - c.loop.counter) c.loop.invariant (omega arith) _ c.within-p.ensures _ _ c.ended-r-then-is_leaf.result (walked_int c.args.room.records c.args.room.cap _ c.args.left (split_by c.args.m) _ _ _ _ _ _ _ _ c.ended-r-then-is_leaf.ensures (leaf_done c.args.room.records c.args.room.cap _ c.args.left (split_by c.args.m) _ _ (terms_term c.args.room.records c.args.room.cap c.args.left (split_by c.args.m) c.args.count c.args.at c.args.base c.args.work.now c.args.out.now c.args.c c.ended-r.result.progress (ap (λ (x : NumberedInt). x.progress) c.ended-r.ensures) c.requires _ _ c.loop.r (c.args.count - c.loop.counter) c.loop.invariant (omega arith) _ c.within-p.ensures) _ (c.is_leaf.ensures c.if-is_leaf.true).0 refl _ c.word-k.ensures _ (c.is_leaf.ensures c.if-is_leaf.true).1.0 (c.is_leaf.ensures c.if-is_leaf.true).1.1 c.number_leaf-d.ensures) (int_leaf _ (terms_term c.args.room.records c.args.room.cap c.args.left (split_by c.args.m) c.args.count c.args.at c.args.base c.args.work.now c.args.out.now c.args.c c.ended-r.result.progress (ap (λ (x : NumberedInt). x.progress) c.ended-r.ensures) c.requires _ _ c.loop.r (c.args.count - c.loop.counter) c.loop.invariant (omega arith) _ c.within-p.ensures).size c.args.left (split_by c.args.m) _ _ (terms_term c.args.room.records c.args.room.cap c.args.left (split_by c.args.m) c.args.count c.args.at c.args.base c.args.work.now c.args.out.now c.args.c c.ended-r.result.progress (ap (λ (x : NumberedInt). x.progress) c.ended-r.ensures) c.requires _ _ c.loop.r (c.args.count - c.loop.counter) c.loop.invariant (omega arith) _ c.within-p.ensures).inside (terms_term c.args.room.records c.args.room.cap c.args.left (split_by c.args.m) c.args.count c.args.at c.args.base c.args.work.now c.args.out.now c.args.c c.ended-r.result.progress (ap (λ (x : NumberedInt). x.progress) c.ended-r.ensures) c.requires _ _ c.loop.r (c.args.count - c.loop.counter) c.loop.invariant (omega arith) _ c.within-p.ensures).low_base _ (c.is_leaf.ensures c.if-is_leaf.true).0 refl _ _ c.word-k.ensures (c.is_leaf.ensures c.if-is_leaf.true).1.0 (c.is_leaf.ensures c.if-is_leaf.true).1.1 c.within.ensures)))
 
 pub number_terms-number_int-r-requires : goal.number_terms-number_int-r-requires
-number_terms-number_int-r-requires t c = (omega (arith, c.decreases), (terms_term c.args.room.records c.args.room.cap c.args.left (split_by c.args.m) c.args.count c.args.at c.args.base c.args.work.now c.args.out.now c.args.c c.ended-r.result.progress (ap (λ (x : NumberedInt). x.progress) c.ended-r.ensures) c.requires _ _ c.loop-rest.r c.loop-rest.rest c.loop-rest.invariant c.loop-rest-test.true _ c.within-p.ensures))
+number_terms-number_int-r-requires t c = (omega (arith, c.decreases), (terms_term c.args.room.records c.args.room.cap c.args.left (split_by c.args.m) c.args.count c.args.at c.args.base c.args.work.now c.args.out.now c.args.c c.ended-r.result.progress (ap (λ (x : NumberedInt). x.progress) c.ended-r.ensures) c.requires _ _ c.loop.r (c.args.count - c.loop.counter) c.loop.invariant (omega arith) _ c.within-p.ensures))
 
-pub number_terms-loop-rest-preserved : goal.number_terms-loop-rest-preserved
-number_terms-loop-rest-preserved t c = terms_again c.args.room.records c.args.room.cap c.args.left (split_by c.args.m) c.args.count c.args.at c.args.base c.args.work.now c.args.out.now c.args.c c.ended-r.result.progress (ap (λ (x : NumberedInt). x.progress) c.ended-r.ensures) c.requires _ _ c.loop-rest.r c.loop-rest.rest c.loop-rest.invariant c.loop-rest-test.true _ c.within-p.ensures _ _ c.number_int-r.result c.number_int-r.ensures
+pub number_terms-loop-preserved : goal.number_terms-loop-preserved
+number_terms-loop-preserved t c = let e : c.args.count - (c.loop.counter + 1) ≡ c.args.count - c.loop.counter - 1 = omega arith in rw e (terms_again c.args.room.records c.args.room.cap c.args.left (split_by c.args.m) c.args.count c.args.at c.args.base c.args.work.now c.args.out.now c.args.c c.ended-r.result.progress (ap (λ (x : NumberedInt). x.progress) c.ended-r.ensures) c.requires _ _ c.loop.r (c.args.count - c.loop.counter) c.loop.invariant (omega arith) _ c.within-p.ensures _ _ c.number_int-r.result c.number_int-r.ensures)
 
 pub number_terms-shape_of-work : goal.number_terms-shape_of-work
-number_terms-shape_of-work t c = c.loop-rest.invariant.left.kept.size
+number_terms-shape_of-work t c = c.loop.invariant.left.kept.size
 
 pub number_terms-shape_of-out : goal.number_terms-shape_of-out
-number_terms-shape_of-out t c = c.loop-rest.invariant.left.kept.room
+number_terms-shape_of-out t c = c.loop.invariant.left.kept.room
 
 pub number_terms-returns : goal.number_terms-returns
-number_terms-returns t c = terms_done c.args.room.records c.args.room.cap c.args.left (split_by c.args.m) c.args.count c.args.at c.args.base c.args.work.now c.args.out.now c.args.c c.ended-r.result.progress (ap (λ (x : NumberedInt). x.progress) c.ended-r.ensures) c.requires _ _ c.loop-rest.r c.loop-rest.rest c.loop-rest.invariant c.loop-rest-test.false
+number_terms-returns t c = terms_done c.args.room.records c.args.room.cap c.args.left (split_by c.args.m) c.args.count c.args.at c.args.base c.args.work.now c.args.out.now c.args.c c.ended-r.result.progress (ap (λ (x : NumberedInt). x.progress) c.ended-r.ensures) c.requires _ _ c.loop.r (c.args.count - c.loop.counter) c.loop.invariant (omega arith)
 
-pub numbers-loop-rest-init : goal.numbers-loop-rest-init
-numbers-loop-rest-init t c = numbers_start c.args.room.records c.args.room.cap c.args.left (split_by c.args.m) c.args.h c.args.count c.args.g c.args.at c.args.base c.args.work.now c.args.out.now c.args.c _ c.single-r.ensures c.requires
+pub numbers-loop-init : goal.numbers-loop-init
+numbers-loop-init t c = let e : c.args.count - 0 ≡ c.args.count = omega arith in rw e (numbers_start c.args.room.records c.args.room.cap c.args.left (split_by c.args.m) c.args.h c.args.count c.args.g c.args.at c.args.base c.args.work.now c.args.out.now c.args.c _ c.single-r.ensures c.requires)
 
 pub numbers-number-s-requires : goal.numbers-number-s-requires
-numbers-number-s-requires t c = (omega (arith, c.decreases), numbers_member c.args.room.records c.args.room.cap c.args.left (split_by c.args.m) c.args.h c.args.count c.args.g c.args.at c.args.base c.args.work.now c.args.out.now c.args.c c.single-r.result.progress (ap (λ (x : Numbered). x.progress) c.single-r.ensures) c.requires _ _ c.loop-rest.r c.loop-rest.rest c.loop-rest.f c.loop-rest.invariant c.loop-rest-test.true)
+numbers-number-s-requires t c = (omega (arith, c.decreases), numbers_member c.args.room.records c.args.room.cap c.args.left (split_by c.args.m) c.args.h c.args.count c.args.g c.args.at c.args.base c.args.work.now c.args.out.now c.args.c c.single-r.result.progress (ap (λ (x : Numbered). x.progress) c.single-r.ensures) c.requires _ _ c.loop.r (c.args.count - c.loop.counter) c.loop.f c.loop.invariant (omega arith))
 
 pub numbers-add-r-requires : goal.numbers-add-r-requires
-numbers-add-r-requires t c = numbers_room c.args.room.records c.args.room.cap c.args.left (split_by c.args.m) c.args.h c.args.count c.args.g c.args.at c.args.base c.args.work.now c.args.out.now c.args.c c.single-r.result.progress (ap (λ (x : Numbered). x.progress) c.single-r.ensures) c.requires _ _ c.loop-rest.r c.loop-rest.rest c.loop-rest.f c.loop-rest.invariant c.loop-rest-test.true _ _ c.number-s.result c.number-s.ensures
+numbers-add-r-requires t c = numbers_room c.args.room.records c.args.room.cap c.args.left (split_by c.args.m) c.args.h c.args.count c.args.g c.args.at c.args.base c.args.work.now c.args.out.now c.args.c c.single-r.result.progress (ap (λ (x : Numbered). x.progress) c.single-r.ensures) c.requires _ _ c.loop.r (c.args.count - c.loop.counter) c.loop.f c.loop.invariant (omega arith) _ _ c.number-s.result c.number-s.ensures
 
-pub numbers-loop-rest-preserved : goal.numbers-loop-rest-preserved
-numbers-loop-rest-preserved t c = numbers_again c.args.room.records c.args.room.cap c.args.left (split_by c.args.m) c.args.h c.args.count c.args.g c.args.at c.args.base c.args.work.now c.args.out.now c.args.c c.single-r.result.progress (ap (λ (x : Numbered). x.progress) c.single-r.ensures) c.requires _ _ c.loop-rest.r c.loop-rest.rest c.loop-rest.f c.loop-rest.invariant c.loop-rest-test.true _ _ c.number-s.result c.number-s.ensures _ c.add-r.ensures
+pub numbers-loop-preserved : goal.numbers-loop-preserved
+numbers-loop-preserved t c = let e : c.args.count - (c.loop.counter + 1) ≡ c.args.count - c.loop.counter - 1 = omega arith in rw e (numbers_again c.args.room.records c.args.room.cap c.args.left (split_by c.args.m) c.args.h c.args.count c.args.g c.args.at c.args.base c.args.work.now c.args.out.now c.args.c c.single-r.result.progress (ap (λ (x : Numbered). x.progress) c.single-r.ensures) c.requires _ _ c.loop.r (c.args.count - c.loop.counter) c.loop.f c.loop.invariant (omega arith) _ _ c.number-s.result c.number-s.ensures _ c.add-r.ensures)
 
 pub numbers-shape_of-work : goal.numbers-shape_of-work
-numbers-shape_of-work t c = c.loop-rest.invariant.left.kept.size
+numbers-shape_of-work t c = c.loop.invariant.left.kept.size
 
 pub numbers-shape_of-out : goal.numbers-shape_of-out
-numbers-shape_of-out t c = c.loop-rest.invariant.left.kept.room
+numbers-shape_of-out t c = c.loop.invariant.left.kept.room
 
 pub numbers-returns : goal.numbers-returns
-numbers-returns t c = numbers_done c.args.room.records c.args.room.cap c.args.left (split_by c.args.m) c.args.h c.args.count c.args.g c.args.at c.args.base c.args.work.now c.args.out.now c.args.c c.single-r.result.progress (ap (λ (x : Numbered). x.progress) c.single-r.ensures) c.requires _ _ c.loop-rest.r c.loop-rest.rest c.loop-rest.f c.loop-rest.invariant c.loop-rest-test.false
+numbers-returns t c = numbers_done c.args.room.records c.args.room.cap c.args.left (split_by c.args.m) c.args.h c.args.count c.args.g c.args.at c.args.base c.args.work.now c.args.out.now c.args.c c.single-r.result.progress (ap (λ (x : Numbered). x.progress) c.single-r.ensures) c.requires _ _ c.loop.r (c.args.count - c.loop.counter) c.loop.f c.loop.invariant (omega arith)

@@ -33,14 +33,8 @@ decreases-number_terms l = 8 * l.left + 1
 abbrev pub decreases-numbers : goal.decreases-numbers
 decreases-numbers l = 8 * l.left + 1
 
-abbrev pub invariant-number_terms-loop-rest : goal.invariant-number_terms-loop-rest
-invariant-number_terms-loop-rest l = TermsSofar l.room.records l.room.cap l.left (split_by l.m) l.count l.at l.base l.initial.work l.initial.out l.initial.r.progress l.work l.out l.r l.rest
+abbrev pub invariant-number_terms-loop : goal.invariant-number_terms-loop
+invariant-number_terms-loop l = TermsSofar l.room.records l.room.cap l.left (split_by l.m) l.count l.at l.base l.initial.work l.initial.out l.initial.r.progress l.work l.out l.r (l.count - l.counter)
 
-abbrev pub decreases-number_terms-loop-rest : goal.decreases-number_terms-loop-rest
-decreases-number_terms-loop-rest l = l.rest
-
-abbrev pub invariant-numbers-loop-rest : goal.invariant-numbers-loop-rest
-invariant-numbers-loop-rest l = NumbersSofar l.room.records l.room.cap l.left (split_by l.m) l.h l.count l.g l.at l.base l.initial.work l.initial.out l.initial.r.progress l.work l.out l.r l.rest l.f
-
-abbrev pub decreases-numbers-loop-rest : goal.decreases-numbers-loop-rest
-decreases-numbers-loop-rest l = l.rest
+abbrev pub invariant-numbers-loop : goal.invariant-numbers-loop
+invariant-numbers-loop l = NumbersSofar l.room.records l.room.cap l.left (split_by l.m) l.h l.count l.g l.at l.base l.initial.work l.initial.out l.initial.r.progress l.work l.out l.r (l.count - l.counter) l.f

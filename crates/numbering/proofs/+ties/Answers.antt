@@ -1,5 +1,5 @@
-use Prim.Native.Nat.{◌+◌}
-use mathlib.Core.Path.{refl, sym, ap, ◌∙◌}
+use Prim.Native.Nat.{◌+◌, ◌-◌}
+use mathlib.Core.Path.{◌≡◌, refl, sym, ap, ◌∙◌}
 use mathlib.Core.Bool.{false}
 use native.Mathlib.Omega.{arith}
 use Rattle.walk.specs.Item.{bump}
@@ -12,23 +12,23 @@ use Rattle.numbering.specs.TieWalk.{int_skips_as, skips_as, walked_to, both_skip
 use Rattle.numbering.specs.declared.NumberedInt.{NumberedInt}
 use Rattle.numbering.proofs.+ties.Goals as goal
 
-pub number_each_ties-loop-rest-init : goal.number_each_ties-loop-rest-init
-number_each_ties-loop-rest-init t c = each_start c.args.room.records c.args.room.cap c.args.left (split_by c.args.m) c.args.count c.args.at c.args.base c.args.work.now c.args.out.now c.args.c _ c.ended-r.ensures c.requires
+pub number_each_ties-loop-init : goal.number_each_ties-loop-init
+number_each_ties-loop-init t c = let e : c.args.count - 0 ≡ c.args.count = omega arith in rw e (each_start c.args.room.records c.args.room.cap c.args.left (split_by c.args.m) c.args.count c.args.at c.args.base c.args.work.now c.args.out.now c.args.c _ c.ended-r.ensures c.requires)
 
 pub number_each_ties-number_ties-r-requires : goal.number_each_ties-number_ties-r-requires
-number_each_ties-number_ties-r-requires t c = (omega (arith, c.decreases), each_member c.args.room.records c.args.room.cap c.args.left (split_by c.args.m) c.args.count c.args.at c.args.base c.args.work.now c.args.out.now c.args.c c.ended-r.result.progress (ap (λ (x : NumberedInt). x.progress) c.ended-r.ensures) c.requires _ _ c.loop-rest.r c.loop-rest.rest c.loop-rest.invariant c.loop-rest-test.true)
+number_each_ties-number_ties-r-requires t c = (omega (arith, c.decreases), each_member c.args.room.records c.args.room.cap c.args.left (split_by c.args.m) c.args.count c.args.at c.args.base c.args.work.now c.args.out.now c.args.c c.ended-r.result.progress (ap (λ (x : NumberedInt). x.progress) c.ended-r.ensures) c.requires _ _ c.loop.r (c.args.count - c.loop.counter) c.loop.invariant (omega arith))
 
-pub number_each_ties-loop-rest-preserved : goal.number_each_ties-loop-rest-preserved
-number_each_ties-loop-rest-preserved t c = each_again c.args.room.records c.args.room.cap c.args.left (split_by c.args.m) c.args.count c.args.at c.args.base c.args.work.now c.args.out.now c.args.c c.ended-r.result.progress (ap (λ (x : NumberedInt). x.progress) c.ended-r.ensures) c.requires _ _ c.loop-rest.r c.loop-rest.rest c.loop-rest.invariant c.loop-rest-test.true _ _ c.number_ties-r.result c.number_ties-r.ensures
+pub number_each_ties-loop-preserved : goal.number_each_ties-loop-preserved
+number_each_ties-loop-preserved t c = let e : c.args.count - (c.loop.counter + 1) ≡ c.args.count - c.loop.counter - 1 = omega arith in rw e (each_again c.args.room.records c.args.room.cap c.args.left (split_by c.args.m) c.args.count c.args.at c.args.base c.args.work.now c.args.out.now c.args.c c.ended-r.result.progress (ap (λ (x : NumberedInt). x.progress) c.ended-r.ensures) c.requires _ _ c.loop.r (c.args.count - c.loop.counter) c.loop.invariant (omega arith) _ _ c.number_ties-r.result c.number_ties-r.ensures)
 
 pub number_each_ties-shape_of-work : goal.number_each_ties-shape_of-work
-number_each_ties-shape_of-work t c = c.loop-rest.invariant.left.kept.size
+number_each_ties-shape_of-work t c = c.loop.invariant.left.kept.size
 
 pub number_each_ties-shape_of-out : goal.number_each_ties-shape_of-out
-number_each_ties-shape_of-out t c = c.loop-rest.invariant.left.kept.room
+number_each_ties-shape_of-out t c = c.loop.invariant.left.kept.room
 
 pub number_each_ties-returns : goal.number_each_ties-returns
-number_each_ties-returns t c = each_done c.args.room.records c.args.room.cap c.args.left (split_by c.args.m) c.args.count c.args.at c.args.base c.args.work.now c.args.out.now c.args.c c.ended-r.result.progress (ap (λ (x : NumberedInt). x.progress) c.ended-r.ensures) c.requires _ _ c.loop-rest.r c.loop-rest.rest c.loop-rest.invariant c.loop-rest-test.false
+number_each_ties-returns t c = each_done c.args.room.records c.args.room.cap c.args.left (split_by c.args.m) c.args.count c.args.at c.args.base c.args.work.now c.args.out.now c.args.c c.ended-r.result.progress (ap (λ (x : NumberedInt). x.progress) c.ended-r.ensures) c.requires _ _ c.loop.r (c.args.count - c.loop.counter) c.loop.invariant (omega arith)
 
 pub number_int_ties-returns-then-left-eq0 : goal.number_int_ties-returns-then-left-eq0
 number_int_ties-returns-then-left-eq0 t c = walked_to (int_ties_of c.args.room.records c.args.room.cap (read_part c.args.work.now) c.args.left (split_by c.args.m) c.args.at c.args.base) (λ q b. IntSkips (read_part c.args.work.now) c.args.left (split_by c.args.m) c.args.at c.args.base q b) (state_of c.args.work.now c.args.out.now c.args.c) c.args.work.now c.args.out.now c.args.c _ _ _ c.ended.ensures (int_ties_zero c.args.room.records c.args.room.cap (state_of c.args.work.now c.args.out.now c.args.c) c.args.left (split_by c.args.m) c.args.at c.args.base c.requires c.if-left-eq0.true) (int_none c.args.work.now c.requires.size c.args.left (split_by c.args.m) c.args.at c.args.base c.requires.inside c.requires.low_base c.if-left-eq0.true)
@@ -80,33 +80,32 @@ pub number_sides-returns : goal.number_sides-returns
 unfolding split_by
 number_sides-returns t c = walked_to (sides_of c.args.room.records c.args.room.cap (read_part c.args.work.now) c.args.left c.args.at c.args.base) (λ q b. SkipsAll (read_part c.args.work.now) c.args.left (split_by 2) 2 c.args.at (bump c.args.base 2) q b) (state_of c.args.work.now c.args.out.now c.args.c) _ _ _ _ _ _ c.ended.ensures (sides_done c.args.room.records c.args.room.cap (state_of c.args.work.now c.args.out.now c.args.c) c.args.left c.args.at c.args.base _ c.requires c.bump-n.ensures _ _ _ c.number_ties-a.ensures.1 c.number_ties-a.ensures.0 _ c.number_tie-b.ensures _ c.number_ties-d.ensures.0 _ c.number_tie-e.ensures) (rw (← c.bump-n.ensures) (both_skip (read_part c.args.work.now) c.args.left (split_by 2) c.args.at _ _ _ _ _ c.requires.inside (omega (arith, c.bump-n.ensures)) c.number_ties-a.ensures.1 (skips_as (c.number_tie-b.ensures.kept.part ∙ c.number_ties-a.ensures.0.kept.part) c.number_ties-d.ensures.1)))
 
-pub number_term_ties-loop-rest-init : goal.number_term_ties-loop-rest-init
-number_term_ties-loop-rest-init t c = term_ties_start c.args.room.records c.args.room.cap c.args.left (split_by c.args.m) c.args.count c.args.at c.args.base c.args.work.now c.args.out.now c.args.c _ c.ended-r.ensures c.requires
+pub number_term_ties-loop-init : goal.number_term_ties-loop-init
+number_term_ties-loop-init t c = let e : c.args.count - 0 ≡ c.args.count = omega arith in rw e (term_ties_start c.args.room.records c.args.room.cap c.args.left (split_by c.args.m) c.args.count c.args.at c.args.base c.args.work.now c.args.out.now c.args.c _ c.ended-r.ensures c.requires)
 
 pub number_term_ties-overflow_add-r : goal.number_term_ties-overflow_add-r
 number_term_ties-overflow_add-r t c = omega (arith, (c.is_leaf.ensures c.if-is_leaf.true).1)
 
-pub number_term_ties-loop-rest-preserved-then-is_leaf : goal.number_term_ties-loop-rest-preserved-then-is_leaf
-number_term_ties-loop-rest-preserved-then-is_leaf t c =
-    term_ties_leaf c.args.room.records c.args.room.cap c.args.left (split_by c.args.m) c.args.count c.args.at c.args.base c.args.work.now c.args.out.now c.args.c c.ended-r.result.progress (ap (λ (x : NumberedInt). x.progress) c.ended-r.ensures) c.requires _ _ c.loop-rest.r c.loop-rest.rest c.loop-rest.invariant c.loop-rest-test.true (c.is_leaf.ensures c.if-is_leaf.true) _ c.ended-r-then-is_leaf.ensures
+pub number_term_ties-loop-preserved-then-is_leaf : goal.number_term_ties-loop-preserved-then-is_leaf
+number_term_ties-loop-preserved-then-is_leaf t c = let e : c.args.count - (c.loop.counter + 1) ≡ c.args.count - c.loop.counter - 1 = omega arith in rw e (term_ties_leaf c.args.room.records c.args.room.cap c.args.left (split_by c.args.m) c.args.count c.args.at c.args.base c.args.work.now c.args.out.now c.args.c c.ended-r.result.progress (ap (λ (x : NumberedInt). x.progress) c.ended-r.ensures) c.requires _ _ c.loop.r (c.args.count - c.loop.counter) c.loop.invariant (omega arith) (c.is_leaf.ensures c.if-is_leaf.true) _ c.ended-r-then-is_leaf.ensures)
 
-pub number_term_ties-overflow_add-r-in-loop-rest : goal.number_term_ties-overflow_add-r-in-loop-rest
-number_term_ties-overflow_add-r-in-loop-rest t c = omega (arith, c.loop-rest.invariant.skips.inside)
+pub number_term_ties-overflow_add-r-in-loop : goal.number_term_ties-overflow_add-r-in-loop
+number_term_ties-overflow_add-r-in-loop t c = omega (arith, c.loop.invariant.skips.inside)
 
 pub number_term_ties-number_int_ties-r-requires : goal.number_term_ties-number_int_ties-r-requires
-number_term_ties-number_int_ties-r-requires t c = (omega (arith, c.decreases), term_ties_term c.args.room.records c.args.room.cap c.args.left (split_by c.args.m) c.args.count c.args.at c.args.base c.args.work.now c.args.out.now c.args.c c.ended-r.result.progress (ap (λ (x : NumberedInt). x.progress) c.ended-r.ensures) c.requires _ _ c.loop-rest.r c.loop-rest.rest c.loop-rest.invariant c.loop-rest-test.true _ c.within-p.ensures)
+number_term_ties-number_int_ties-r-requires t c = (omega (arith, c.decreases), term_ties_term c.args.room.records c.args.room.cap c.args.left (split_by c.args.m) c.args.count c.args.at c.args.base c.args.work.now c.args.out.now c.args.c c.ended-r.result.progress (ap (λ (x : NumberedInt). x.progress) c.ended-r.ensures) c.requires _ _ c.loop.r (c.args.count - c.loop.counter) c.loop.invariant (omega arith) _ c.within-p.ensures)
 
-pub number_term_ties-loop-rest-preserved : goal.number_term_ties-loop-rest-preserved
-number_term_ties-loop-rest-preserved t c = term_ties_again c.args.room.records c.args.room.cap c.args.left (split_by c.args.m) c.args.count c.args.at c.args.base c.args.work.now c.args.out.now c.args.c c.ended-r.result.progress (ap (λ (x : NumberedInt). x.progress) c.ended-r.ensures) c.requires _ _ c.loop-rest.r c.loop-rest.rest c.loop-rest.invariant c.loop-rest-test.true _ c.within-p.ensures _ _ c.number_int_ties-r.result c.number_int_ties-r.ensures
+pub number_term_ties-loop-preserved : goal.number_term_ties-loop-preserved
+number_term_ties-loop-preserved t c = let e : c.args.count - (c.loop.counter + 1) ≡ c.args.count - c.loop.counter - 1 = omega arith in rw e (term_ties_again c.args.room.records c.args.room.cap c.args.left (split_by c.args.m) c.args.count c.args.at c.args.base c.args.work.now c.args.out.now c.args.c c.ended-r.result.progress (ap (λ (x : NumberedInt). x.progress) c.ended-r.ensures) c.requires _ _ c.loop.r (c.args.count - c.loop.counter) c.loop.invariant (omega arith) _ c.within-p.ensures _ _ c.number_int_ties-r.result c.number_int_ties-r.ensures)
 
 pub number_term_ties-shape_of-work : goal.number_term_ties-shape_of-work
-number_term_ties-shape_of-work t c = c.loop-rest.invariant.left.kept.size
+number_term_ties-shape_of-work t c = c.loop.invariant.left.kept.size
 
 pub number_term_ties-shape_of-out : goal.number_term_ties-shape_of-out
-number_term_ties-shape_of-out t c = c.loop-rest.invariant.left.kept.room
+number_term_ties-shape_of-out t c = c.loop.invariant.left.kept.room
 
 pub number_term_ties-returns : goal.number_term_ties-returns
-number_term_ties-returns t c = term_ties_done c.args.room.records c.args.room.cap c.args.left (split_by c.args.m) c.args.count c.args.at c.args.base c.args.work.now c.args.out.now c.args.c c.ended-r.result.progress (ap (λ (x : NumberedInt). x.progress) c.ended-r.ensures) c.requires _ _ c.loop-rest.r c.loop-rest.rest c.loop-rest.invariant c.loop-rest-test.false
+number_term_ties-returns t c = term_ties_done c.args.room.records c.args.room.cap c.args.left (split_by c.args.m) c.args.count c.args.at c.args.base c.args.work.now c.args.out.now c.args.c c.ended-r.result.progress (ap (λ (x : NumberedInt). x.progress) c.ended-r.ensures) c.requires _ _ c.loop.r (c.args.count - c.loop.counter) c.loop.invariant (omega arith)
 
 pub number_ties-returns-then-left-eq0 : goal.number_ties-returns-then-left-eq0
 number_ties-returns-then-left-eq0 t c = walked_to (ties_of c.args.room.records c.args.room.cap (read_part c.args.work.now) c.args.left (split_by c.args.m) c.args.at c.args.base) (λ q b. Skips (read_part c.args.work.now) c.args.left (split_by c.args.m) c.args.at c.args.base q b) (state_of c.args.work.now c.args.out.now c.args.c) c.args.work.now c.args.out.now c.args.c _ _ _ c.ended.ensures (ties_zero c.args.room.records c.args.room.cap (state_of c.args.work.now c.args.out.now c.args.c) c.args.left (split_by c.args.m) c.args.at c.args.base c.requires c.if-left-eq0.true) (skips_none c.args.work.now c.requires.size c.args.left (split_by c.args.m) c.args.at c.args.base c.requires.inside c.requires.low_base c.if-left-eq0.true)

@@ -3,7 +3,7 @@ use mir.Syntax.{w32}
 use mir.Val.{SFits}
 use Rattle.scan.specs.Skip.{split_by}
 use Rattle.numbering.specs.Make.{range_bits}
-use Rattle.numbering.proofs.Branches.{branch_low, branch_ranging, branch_ranges, ranges_are}
+use Rattle.numbering.proofs.Branches.{branch_low, branch_ranging, branch_ranges, ranges_are, lowest_is, highest_is}
 use borrow.Author.Rules.{rules}
 use Rattle.numbering.proofs.branch_range.Goals as goal
 
@@ -23,6 +23,6 @@ returns c =
     let b : SFits w32 c.range_of-a.result.high = search rules in
     let d : SFits w32 c.range_of-b.result.low = search rules in
     let e : SFits w32 c.range_of-b.result.high = search rules in
-    let h : SFits w32 c.lower-low.result = search rules in
-    let i : SFits w32 c.higher-high.result = search rules in
-    range_bits h i (ranges_are c.args.work.now c.args.left (split_by c.args.m) c.args.p.first c.args.p.second c.args.p.one c.args.p.two _ _ c.range_of-a.result.low c.range_of-a.result.high c.range_of-b.result.low c.range_of-b.result.high _ _ (branch_ranges c.args.work.now c.args.left (split_by c.args.m) c.args.p.first c.args.p.one c.args.s _ c.counters_of.ensures _ _ c.range_of-a.ensures) (branch_ranges c.args.work.now c.args.left (split_by c.args.m) c.args.p.second c.args.p.two c.args.y _ c.counters_of-2.ensures _ _ c.range_of-b.ensures) (rw (to_z-of_z a, to_z-of_z d) at c.lower-low.ensures) (rw (to_z-of_z b, to_z-of_z e) at c.higher-high.ensures) c.requires.1.1)
+    let h : SFits w32 c.min.result = search rules in
+    let i : SFits w32 c.max.result = search rules in
+    range_bits h i (ranges_are c.args.work.now c.args.left (split_by c.args.m) c.args.p.first c.args.p.second c.args.p.one c.args.p.two _ _ c.range_of-a.result.low c.range_of-a.result.high c.range_of-b.result.low c.range_of-b.result.high _ _ (branch_ranges c.args.work.now c.args.left (split_by c.args.m) c.args.p.first c.args.p.one c.args.s _ c.counters_of.ensures _ _ c.range_of-a.ensures) (branch_ranges c.args.work.now c.args.left (split_by c.args.m) c.args.p.second c.args.p.two c.args.y _ c.counters_of-2.ensures _ _ c.range_of-b.ensures) (lowest_is c.range_of-a.result.low c.range_of-b.result.low (rw (to_z-of_z a, to_z-of_z d) at c.min.ensures.value)) (highest_is c.range_of-a.result.high c.range_of-b.result.high (rw (to_z-of_z b, to_z-of_z e) at c.max.ensures.value)) c.requires.1.1)

@@ -1,8 +1,7 @@
+use Prim.Native.Nat.{◌-◌}
+use Rattle.memory.specs.Places.{folded_end}
 use Rattle.numbering.specs.Equal.{Seeking}
 use Rattle.numbering.proofs.find_equal.Given as goal
 
-abbrev pub invariant-loop-k : goal.invariant-loop-k
-invariant-loop-k l = Seeking l.work (record { at = l.at; size = l.size; whole = l.whole }) l.k l.q
-
-abbrev pub decreases-loop-k : goal.decreases-loop-k
-decreases-loop-k l = l.k
+abbrev pub invariant-loop-q : goal.invariant-loop-q
+invariant-loop-q l = Seeking l.work (record { at = l.at; size = l.size; whole = l.whole }) (folded_end - l.q) l.q

@@ -6,7 +6,4 @@ use Rattle.page.specs.Sheet.{spaces}
 use Rattle.page.proofs.put_spaces.Given as goal
 
 abbrev pub invariant-loop-o : goal.invariant-loop-o
-invariant-loop-o l = (l.at ≤ l.o) × (l.o ≤ l.at + l.n) × (length l.out ≡ length l.initial.out) × (l.out ≡ sets l.initial.out l.at (spaces (l.o - l.at)))
-
-abbrev pub decreases-loop-o : goal.decreases-loop-o
-decreases-loop-o l = l.end - l.o
+invariant-loop-o l = (l.o ≤ l.at + l.n) × (length l.out ≡ length l.initial.out) × (l.out ≡ sets l.initial.out l.at (spaces (l.o - l.at)))

@@ -11,12 +11,6 @@ use Rattle.stars.proofs.put_pool.Goals as goal
 pub returns-then-o-eq-CAP : goal.returns-then-o-eq-CAP
 returns-then-o-eq-CAP c = lines_stop c.requires.4 c.if-o-eq-CAP.true _
 
-pub overflow_cast-x : goal.overflow_cast-x
-overflow_cast-x c = omega (arith, c.requires.2)
-
-pub overflow_cast-y : goal.overflow_cast-y
-overflow_cast-y c = omega (arith, c.requires.3)
-
 pub returns : goal.returns
 returns c =
     let start = c in

@@ -10,7 +10,7 @@ use mir.Val.{SFits}
 use mir.Facts.{to_z-of_z}
 use Rattle.walk.specs.Item.{extra}
 use Rattle.stars.specs.Lines.{equality}
-use Rattle.stars.proofs.Laws.{rest_start, rest_next, rest_end, lines_step, cells_none, row_next, row_named}
+use Rattle.stars.proofs.Laws.{rest_start, rest_next, rest_end, lines_step, cells_none, row_next}
 use Rattle.stars.proofs.put_row.Goals as goal
 
 pub loop-i-init : goal.loop-i-init
@@ -19,15 +19,6 @@ loop-i-init c =
     let f : c.args.cols + 3 * 0 ≡ c.args.cols = omega arith in
     let g : c.args.a + 0 ≡ c.args.a = omega arith in
     rw (e, f, g) (c.requires.0, rest_start c.requires.3)
-
-pub number_at-v-requires : goal.number_at-v-requires
-number_at-v-requires c =
-    let i : ℕ = c.loop-i.i in
-    let z : c.args.n - i ≡ 0 → ⊥ = λ e. omega (arith, e, c.loop-i-test.true) in
-    (omega (arith, c.loop-i.invariant.0.fits), row_named c.args.work.now (c.args.a + i) (c.args.cols + 3 * i) (c.args.n - i) z c.loop-i.invariant.0)
-
-pub put_equality-w-requires : goal.put_equality-w-requires
-put_equality-w-requires c = (c.requires.1, c.requires.2, c.number_at-v.ensures.1, c.loop-i.invariant.1.behind)
 
 pub loop-i-preserved : goal.loop-i-preserved
 loop-i-preserved c =

@@ -8,13 +8,6 @@ use Rattle.stars.proofs.Laws.{lines_none, behind_after}
 use Rattle.stars.proofs.Whole.{count_few, rows_at, table_done}
 use Rattle.stars.proofs.put_stars.Goals as goal
 
-pub count_stars-s-requires : goal.count_stars-s-requires
-count_stars-s-requires c = c.requires.0.within
-
-pub put_long_rows-w-requires : goal.put_long_rows-w-requires
-put_long_rows-w-requires c =
-    (rows_at c.args.work.now c.args.at c.args.n c.args.k c.args.cols c.args.m c.requires.0, c.requires.0.next, c.requires.1)
-
 pub put_pool-requires : goal.put_pool-requires
 put_pool-requires c =
     let s = c.count_stars-s.ensures in

@@ -1,16 +1,12 @@
 use mathlib.Core.Path.{refl}
 use mathlib.Core.List.{[]}
 use mir.Facts.{to_z-of_z}
-use Rattle.stars.proofs.Laws.{is_star, no_star, above_star, value_none, value_one}
+use Rattle.stars.proofs.Laws.{is_star, no_star, value_none, value_one}
 use Rattle.stars.proofs.put_value.Goals as goal
 
 pub returns-then-x-eqminus2147483648 : goal.returns-then-x-eqminus2147483648
 returns-then-x-eqminus2147483648 c =
     value_none [] c.args.v c.args.x (is_star c.args.x c.ranges.x c.if-x-eqminus2147483648.true) c.requires.1
-
-pub put_cmp-requires : goal.put_cmp-requires
-put_cmp-requires c =
-    (c.requires.1, c.requires.0, rw (to_z-of_z c.ranges.x) (above_star c.args.x c.ranges.x c.if-x-eqminus2147483648.false))
 
 pub returns : goal.returns
 returns c =

@@ -8,7 +8,7 @@ use mir.Syntax.{w32}
 use mir.Val.{SFits}
 use mir.Facts.{to_z-of_z}
 use Rattle.rows.specs.Emit.{linears_words}
-use Rattle.stars.proofs.Laws.{left_start, left_next, left_end, words_step, cells_none, row_next, row_named}
+use Rattle.stars.proofs.Laws.{left_start, left_next, left_end, words_step, cells_none, row_next}
 use Rattle.stars.proofs.put_values.Goals as goal
 
 pub loop-j-init : goal.loop-j-init
@@ -17,15 +17,6 @@ loop-j-init c =
     let f : c.args.cols + 3 * 0 ≡ c.args.cols = omega arith in
     let g : c.args.a + 0 ≡ c.args.a = omega arith in
     rw (e, f, g) (c.requires.0, left_start c.requires.1)
-
-pub number_at-v-requires : goal.number_at-v-requires
-number_at-v-requires c =
-    let j : ℕ = c.loop-j.j in
-    let z : c.args.n - j ≡ 0 → ⊥ = λ e. omega (arith, e, c.loop-j-test.true) in
-    (omega (arith, c.loop-j.invariant.0.fits), row_named c.args.work.now (c.args.a + j) (c.args.cols + 3 * j) (c.args.n - j) z c.loop-j.invariant.0)
-
-pub put_value-q-requires : goal.put_value-q-requires
-put_value-q-requires c = (c.number_at-v.ensures.1, c.loop-j.invariant.1.room)
 
 pub loop-j-preserved : goal.loop-j-preserved
 loop-j-preserved c =

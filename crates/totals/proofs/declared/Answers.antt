@@ -1,4 +1,5 @@
 -- Two words of the table.
+use mathlib.Core.Path.{refl}
 use mir.Syntax.{w32}
 use mir.Val.{SFits}
 use mir.Facts.{to_z-of_z}
@@ -9,4 +10,4 @@ use Rattle.totals.proofs.declared.Goals as goal
 pub returns : goal.returns
 returns c = let f : SFits w32 c.plain-low.result = search rules in
     let g : SFits w32 c.plain-high.result = search rules in
-    table_words c.args.work.now c.args.v _ c.plain-low.result c.plain-high.result c.plain-low.ensures c.plain-high.ensures (rw (to_z-of_z f, to_z-of_z g) at c.hit.ensures)
+    rw (to_z-of_z f, to_z-of_z g) (table_words c.args.work.now c.args.v _ c.plain-low.result c.plain-high.result c.plain-low.ensures c.plain-high.ensures refl)

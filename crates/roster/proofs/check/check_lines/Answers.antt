@@ -21,19 +21,19 @@ pub read_values-requires : goal.read_values-requires
 read_values-requires c = part_short c.line_start-a.result c.args.lines.now c.requires.short
 
 pub returns-in_default-read_values : goal.returns-in_default-read_values
-returns-in_default-read_values c = tells_unread_values c.args.lines.now c.args.work.now _ _ _ c.line_start-a.result c.line_start-a.ensures c.requires.clean _ (set_is (take c.line_start-a.result c.args.lines.now) c.args.words.now _ _ c.requires.set c.words_of_text.ensures.value c.words_of_text.ensures.words_after _ c.in-Count.is) (values_unread (take (length c.args.lines.now - c.line_start-a.result) (drop c.line_start-a.result c.args.lines.now)) c.args.values.now _ _ (part_short c.line_start-a.result c.args.lines.now c.requires.short) c.requires.roster c.read_values.ensures c.in_default-read_values.is) c.put_bytes-in_default-read_values.ensures
+returns-in_default-read_values c = tells_unread_values c.args.lines.now c.args.work.now _ _ _ c.line_start-a.result c.line_start-a.ensures c.requires.clean _ (set_is (take c.line_start-a.result c.args.lines.now) c.args.words.now _ _ c.requires.set c.words_of_text.ensures.value c.words_of_text.ensures.words_after _ c.in-Some.is) (values_unread (take (length c.args.lines.now - c.line_start-a.result) (drop c.line_start-a.result c.args.lines.now)) c.args.values.now _ _ (part_short c.line_start-a.result c.args.lines.now c.requires.short) c.requires.roster c.read_values.ensures c.in_default-read_values.is) c.put_bytes-in_default-read_values.ensures
 
 pub slice_bounds-check_roster-end : goal.slice_bounds-check_roster-end
-slice_bounds-check_roster-end c = set_fits (take c.line_start-a.result c.args.lines.now) c.args.words.now _ _ c.requires.set c.words_of_text.ensures.value c.words_of_text.ensures.words_after _ c.in-Count.is
+slice_bounds-check_roster-end c = set_fits (take c.line_start-a.result c.args.lines.now) c.args.words.now _ _ c.requires.set c.words_of_text.ensures.value c.words_of_text.ensures.words_after _ c.in-Some.is
 
 pub slice_bounds-check_roster-end-2 : goal.slice_bounds-check_roster-end-2
-slice_bounds-check_roster-end-2 c = part_length _ _ (set_fits (take c.line_start-a.result c.args.lines.now) c.args.words.now _ _ c.requires.set c.words_of_text.ensures.value c.words_of_text.ensures.words_after _ c.in-Count.is)
+slice_bounds-check_roster-end-2 c = part_length _ _ (set_fits (take c.line_start-a.result c.args.lines.now) c.args.words.now _ _ c.requires.set c.words_of_text.ensures.value c.words_of_text.ensures.words_after _ c.in-Some.is)
 
 pub slice_bounds-check_roster-end-3 : goal.slice_bounds-check_roster-end-3
-slice_bounds-check_roster-end-3 c = values_fit (take (length c.args.lines.now - c.line_start-a.result) (drop c.line_start-a.result c.args.lines.now)) c.args.values.now _ _ (part_short c.line_start-a.result c.args.lines.now c.requires.short) c.requires.roster c.read_values.ensures _ c.in-Count-read_values.is
+slice_bounds-check_roster-end-3 c = values_fit (take (length c.args.lines.now - c.line_start-a.result) (drop c.line_start-a.result c.args.lines.now)) c.args.values.now _ _ (part_short c.line_start-a.result c.args.lines.now c.requires.short) c.requires.roster c.read_values.ensures _ c.in-Some-read_values.is
 
 pub slice_bounds-check_roster-end-4 : goal.slice_bounds-check_roster-end-4
-slice_bounds-check_roster-end-4 c = part_length _ _ (values_fit (take (length c.args.lines.now - c.line_start-a.result) (drop c.line_start-a.result c.args.lines.now)) c.args.values.now _ _ (part_short c.line_start-a.result c.args.lines.now c.requires.short) c.requires.roster c.read_values.ensures _ c.in-Count-read_values.is)
+slice_bounds-check_roster-end-4 c = part_length _ _ (values_fit (take (length c.args.lines.now - c.line_start-a.result) (drop c.line_start-a.result c.args.lines.now)) c.args.values.now _ _ (part_short c.line_start-a.result c.args.lines.now c.requires.short) c.requires.roster c.read_values.ensures _ c.in-Some-read_values.is)
 
 pub returns : goal.returns
-returns c = tells_checked c.args.lines.now c.args.work.now _ _ _ c.line_start-a.result c.line_start-a.ensures c.requires.clean _ (set_is (take c.line_start-a.result c.args.lines.now) c.args.words.now _ _ c.requires.set c.words_of_text.ensures.value c.words_of_text.ensures.words_after _ c.in-Count.is) _ (values_are (take (length c.args.lines.now - c.line_start-a.result) (drop c.line_start-a.result c.args.lines.now)) c.args.values.now _ _ (part_short c.line_start-a.result c.args.lines.now c.requires.short) c.requires.roster c.read_values.ensures _ c.in-Count-read_values.is) _ _ c.check_roster-answer.ensures c.put_checked.ensures
+returns c = tells_checked c.args.lines.now c.args.work.now _ _ _ c.line_start-a.result c.line_start-a.ensures c.requires.clean _ (set_is (take c.line_start-a.result c.args.lines.now) c.args.words.now _ _ c.requires.set c.words_of_text.ensures.value c.words_of_text.ensures.words_after _ c.in-Some.is) _ (values_are (take (length c.args.lines.now - c.line_start-a.result) (drop c.line_start-a.result c.args.lines.now)) c.args.values.now _ _ (part_short c.line_start-a.result c.args.lines.now c.requires.short) c.requires.roster c.read_values.ensures _ c.in-Some-read_values.is) _ _ c.check_roster-answer.ensures c.put_checked.ensures
