@@ -12,18 +12,19 @@ function is_fact(m) {
 
 function fail(program, text) { print "verdicts: " crate "/" label " " program ": NOT SHOWN: " text }
 
-# Which function of `file` holds the text `old`: its place below proofs/, as `bools/read_list` or `Cursor/word`; "" if none does. Its lines go to
-# first_line[] and last_line[], by that place.
-function function_at(file, old,    line, found, here, type, fn, indent, at, n, started, from) {
-    found = n = 0
+# Which function of `file` holds the text `old`: its place below proofs/, as `bools/read_list` or `Cursor/word`; "" if none does. Its lines,
+# attributes directly above it too (an open goal is told there), go to first_line[] and last_line[], by that place.
+function function_at(file, old,    line, found, here, type, fn, indent, at, n, started, from, above) {
+    found = n = above = 0
     type = fn = ""
     while ((getline line < file) > 0) {
         n++
         if (match(line, /^ *(pub )?(extern "C" )?fn [A-Za-z0-9_]+/)) {
             fn = substr(line, 1, RLENGTH); sub(/.* /, "", fn)
             match(line, /^ */); indent = substr(line, 1, RLENGTH)
-            started = n
+            started = above ? above : n
         } else if (match(line, /^impl(<[^>]*>)? [A-Za-z0-9_]+/)) { type = substr(line, 1, RLENGTH); sub(/.* /, "", type); type = type "/" }
+        above = line ~ /^ *#\[/ ? (above ? above : n) : 0
         if (index(line, old)) { found++; here = fn == "" ? "" : type fn; from = started }
         if (fn != "" && line == indent "}") { if (here == type fn && from == started) ended = n; fn = "" }
         if (line == "}") type = ""

@@ -19,8 +19,7 @@ use Rattle.read.specs.Read.{read_set}
 use Rattle.read.proofs.Exact.{set_sound}
 use Rattle.reader.specs.Position.{set_at}
 use Rattle.reader.specs.declared.Declared as declared-declared
-use Rattle.reader.specs.declared.Set as declared-set
-use Rattle.reader.specs.declared.Set.TheVariants as set
+use Rattle.std.specs.Prelude.{Result, Ok, Err}
 use borrow.Author.Tests.{lt-ltb, le-ltb}
 use Rattle.accept.specs.Accepted.{unless_refused, limited, accepted, table_read, table_after, SetOf, ReadySet, LimitsPost, ints_word, domains_stand, stmts_word, stmts_inside, stmts_stand, table_stands, check_is}
 
@@ -69,35 +68,35 @@ module _ (ws work : List ℤ) (r : ReadySet ws work) where
 -- ---- `accept`
 
 module _ (ws work : List ℤ) where
-  abbrev AcceptPost : declared-set.Set → List ℤ → Type 0
+  abbrev AcceptPost : Result declared-declared.Declared ℕ → List ℤ → Type 0
   AcceptPost r work' = (r ≡ accepted (length work) ws) × (work' ≡ table_after ws work)
 
-  pub accept_short : length work < min_work_words → AcceptPost (set.Refused 1) work
+  pub accept_short : length work < min_work_words → AcceptPost (Err 1) work
   unfolding accepted table_after
   accept_short l = rw (lt-ltb (length work) min_work_words l) (refl, refl)
 
   module _ (l : min_work_words ≤ length work) where
-    pub accept_long : 4096 < length ws → AcceptPost (set.Refused 2) work
+    pub accept_long : 4096 < length ws → AcceptPost (Err 2) work
     unfolding accepted table_after
     accept_long k = rw (le-ltb (length work) min_work_words l, lt-ltb max_set_words (length ws) k) (refl, refl)
 
     module _ (k : length ws ≤ 4096) where
       -- past 1 and 2
-      past : (q : Parsed Problem) (r : declared-set.Set) (work' : List ℤ) → read_set ws ≡ q → r ≡ limited q → work' ≡ table_read q work → AcceptPost r work'
+      past : (q : Parsed Problem) (r : Result declared-declared.Declared ℕ) (work' : List ℤ) → read_set ws ≡ q → r ≡ limited q → work' ≡ table_read q work → AcceptPost r work'
       unfolding accepted table_after
       past q r work' e a b = rw (le-ltb (length work) min_work_words l, le-ltb max_set_words (length ws) k, e) (a, b)
 
-      refused_inv : (q : Parsed Problem) (n : ℕ) → set_at q ≡ set.Refused n → q ≡ refuse n
+      refused_inv : (q : Parsed Problem) (n : ℕ) → set_at q ≡ Err n → q ≡ refuse n
       unfolding set_at
       refused_inv (refuse m) n e = cc
       refused_inv (ok p r) n e = absurd (let z : ◌≡◌ {A = ℕ} 0 1 = cc in omega arith)
 
-      pub accept_refused : (n : ℕ) → set_at (read_set ws) ≡ set.Refused n → AcceptPost (set.Refused n) work
+      pub accept_refused : (n : ℕ) → set_at (read_set ws) ≡ Err n → AcceptPost (Err n) work
       unfolding limited table_read
-      accept_refused n e = past (refuse n) (set.Refused n) work (refused_inv (read_set ws) n e) refl refl
+      accept_refused n e = past (refuse n) (Err n) work (refused_inv (read_set ws) n e) refl refl
 
-      module _ (d : declared-declared.Declared) (e : set_at (read_set ws) ≡ set.Ok d) where
-        read_inv : {X : Type 0} (q : Parsed Problem) → set_at q ≡ set.Ok d → ((p : Problem) (r : List ℤ) → q ≡ ok p r → X) → X
+      module _ (d : declared-declared.Declared) (e : set_at (read_set ws) ≡ Ok d) where
+        read_inv : {X : Type 0} (q : Parsed Problem) → set_at q ≡ Ok d → ((p : Problem) (r : List ℤ) → q ≡ ok p r → X) → X
         unfolding set_at
         read_inv (refuse m) e go = absurd (let z : ◌≡◌ {A = ℕ} 0 1 = cc in omega arith)
         read_inv (ok p r) e go = go p r refl
@@ -109,22 +108,22 @@ module _ (ws work : List ℤ) where
         accept_ready = read_inv (read_set ws) e λ p r q. record { it = p; set_of = is_set p r q; room = omega arith }
 
         module _ (work' : List ℤ) (n : ℕ) (c : LimitsPost ws work work' n) where
-          pub accept_limit : (n ≡ 0 → ⊥) → AcceptPost (set.Refused n) work'
+          pub accept_limit : (n ≡ 0 → ⊥) → AcceptPost (Err n) work'
           unfolding limited table_read unless_refused
           accept_limit z =
               read_inv (read_set ws) e λ p r q.
               let y = c p (is_set p r q) in
-              past (ok p r) (set.Refused n) work' q (go (set_at (ok p r)) (check p) y.0) y.1
+              past (ok p r) (Err n) work' q (go (set_at (ok p r)) (check p) y.0) y.1
             where
-              go : (s : declared-set.Set) (m : ℕ) → n ≡ m → set.Refused n ≡ unless_refused s m
+              go : (s : Result declared-declared.Declared ℕ) (m : ℕ) → n ≡ m → Err n ≡ unless_refused s m
               go s zero h = absurd (z h)
-              go s (suc m) h = ap set.Refused h
+              go s (suc m) h = ap Err h
 
-          pub accept_ok : n ≡ 0 → AcceptPost (set.Ok d) work'
+          pub accept_ok : n ≡ 0 → AcceptPost (Ok d) work'
           unfolding limited table_read unless_refused
           accept_ok z =
               read_inv (read_set ws) e λ p r q.
               let y = c p (is_set p r q) in
-              let s : set_at (ok p r) ≡ set.Ok d = ap set_at (sym q) ∙ e in
+              let s : set_at (ok p r) ≡ Ok d = ap set_at (sym q) ∙ e in
               let t : check p ≡ 0 = sym y.0 ∙ z in
-              past (ok p r) (set.Ok d) work' q (sym (rw (t, s) refl)) y.1
+              past (ok p r) (Ok d) work' q (sym (rw (t, s) refl)) y.1

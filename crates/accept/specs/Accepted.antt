@@ -1,6 +1,6 @@
 -- What a well-formed set gives the walks: its domains' weights and bounds, declared variables, rows of one width; and the refusal that the walks test.
 -- Assumes nothing.
-use Rattle.std.specs.Prelude.{◌≡◌, refl, true, cond, ℕ, zero, suc, ◌+◌, ◌≤◌, ◌<◌, max, ℤ, pos, negsuc, nat_abs, ltb, length, take, get_or}
+use Rattle.std.specs.Prelude.{◌≡◌, refl, Result, Err, true, cond, ℕ, zero, suc, ◌+◌, ◌≤◌, ◌<◌, max, ℤ, pos, negsuc, nat_abs, ltb, length, take, get_or}
 use Rattle.std.proofs.Common.{ap, ◌∙◌, arith, take_all, ltb-true, leb-true}
 use mathlib.Core.List.{List, [], ◌∷◌, ◌++◌, map}
 use Rattle.std.specs.Int.Signed.{lt_z, le_z}
@@ -17,8 +17,7 @@ use Rattle.words.specs.Exact.{Each}
 use Rattle.words.specs.Parse.{Parsed, ok, refuse}
 use Rattle.read.specs.Read.{read_set}
 use Rattle.reader.specs.Position.{set_at}
-use Rattle.reader.specs.declared.Set as declared-set
-use Rattle.reader.specs.declared.Set.TheVariants as set
+use Rattle.reader.specs.declared.Declared.{Declared}
 use Rattle.read.specs.WellFormed.{RisingFrom, WellDomain, WellStmt, WellFormed}
 use Rattle.read.proofs.Vars.{columns_vars, bool_vars, rows_wide}
 use Rattle.domains.specs.Declared.{Domains, bounds_words, bounds_length}
@@ -139,16 +138,16 @@ module _ (ws : List ℤ) (p : Problem) (h : SetOf ws p) where
 
 -- ---- refusals 1 to 11, for all words and lengths: what the set declares, or the refusal
 
-unfoldable pub unless_refused : declared-set.Set → ℕ → declared-set.Set
+unfoldable pub unless_refused : Result Declared ℕ → ℕ → Result Declared ℕ
 unless_refused s zero = s
-unless_refused s (suc k) = set.Refused (suc k)
+unless_refused s (suc k) = Err (suc k)
 
-unfoldable pub limited : Parsed Problem → declared-set.Set
-limited (refuse k) = set.Refused k
+unfoldable pub limited : Parsed Problem → Result Declared ℕ
+limited (refuse k) = Err k
 limited (ok p r) = unless_refused (set_at (ok p r)) (check p)
 
-unfoldable pub accepted : ℕ → List ℤ → declared-set.Set
-accepted n ws = cond (ltb n min_work_words) (set.Refused 1) (cond (ltb max_set_words (length ws)) (set.Refused 2) (limited (read_set ws)))
+unfoldable pub accepted : ℕ → List ℤ → Result Declared ℕ
+accepted n ws = cond (ltb n min_work_words) (Err 1) (cond (ltb max_set_words (length ws)) (Err 2) (limited (read_set ws)))
 
 -- the work slice then: a set that is read leaves the table of its bounds
 unfoldable pub table_read : Parsed Problem → List ℤ → List ℤ

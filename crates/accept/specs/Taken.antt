@@ -1,6 +1,6 @@
 -- What the answer of `accept` says: an accepted set is well-formed and unrefused, and its bounds stand in the work slice; a refusal has its cause.
 -- Assumes nothing.
-use Rattle.std.specs.Prelude.{◌≡◌, Bool, true, cond, ℤ, length}
+use Rattle.std.specs.Prelude.{◌≡◌, Ok, Err, Bool, true, cond, ℤ, length}
 use Rattle.std.proofs.Math.Path.{refl, ap}
 use Rattle.std.proofs.Common.{sym, ◌∙◌, arith, ltb-false}
 use Rattle.std.proofs.Math.Bool.{false}
@@ -18,7 +18,6 @@ use Rattle.read.specs.Read.{read_set}
 use Rattle.read.proofs.Exact.{set_sound}
 use Rattle.reader.specs.Position.{set_at}
 use Rattle.reader.specs.declared.Declared.{Declared}
-use Rattle.reader.specs.declared.Set.TheVariants as set
 use Rattle.domains.specs.Declared.{bounds_words, Domains}
 use Rattle.limits.specs.Limits.{check}
 use Rattle.accept.specs.Walk.{Bounds, StmtsAt}
@@ -31,29 +30,29 @@ pub record Taken (n : ℕ) (ws : List ℤ) (d : Declared) : Type 0 where
   pub short : ltb max_set_words (length ws) ≡ false
   pub says : read_set ws ≡ ok it []
   pub unrefused : check it ≡ 0
-  pub declares : set_at (ok it []) ≡ set.Ok d
+  pub declares : set_at (ok it []) ≡ Ok d
 
 module _ (n : ℕ) (ws : List ℤ) where
-  pub accepted_ok : (d : Declared) → accepted n ws ≡ set.Ok d → Taken n ws d
+  pub accepted_ok : (d : Declared) → accepted n ws ≡ Ok d → Taken n ws d
   unfolding accepted limited unless_refused
   accepted_ok d = go (ltb n min_work_words) refl (ltb max_set_words (length ws)) refl (read_set ws) refl
     where
       last : (p : Problem) (r : List ℤ) → read_set ws ≡ ok p r → ltb n min_work_words ≡ false → ltb max_set_words (length ws) ≡ false
-          → (m : ℕ) → check p ≡ m → unless_refused (set_at (ok p r)) m ≡ set.Ok d → Taken n ws d
+          → (m : ℕ) → check p ≡ m → unless_refused (set_at (ok p r)) m ≡ Ok d → Taken n ws d
       last p r e a b (suc m) c h = apart (cc)
       last p r e a b zero c h =
           let s : [] ≡ r = (set_sound ws p r e).2 in
           record { it = p; enough = a; short = b; says = e ∙ ap (ok p) (sym s); unrefused = c; declares = ap (λ l. set_at (ok p l)) s ∙ h }
 
       go : (s : Bool) → ltb n min_work_words ≡ s → (t : Bool) → ltb max_set_words (length ws) ≡ t → (q : Parsed Problem) → read_set ws ≡ q
-          → cond s (set.Refused 1) (cond t (set.Refused 2) (limited q)) ≡ set.Ok d → Taken n ws d
+          → cond s (Err 1) (cond t (Err 2) (limited q)) ≡ Ok d → Taken n ws d
       go true a t b q e h = apart (cc)
       go false a true b q e h = apart (cc)
       go false a false b (refuse k) e h = apart (cc)
       go false a false b (ok p r) e h = last p r e a b (check p) refl h
 
   -- whichever cause
-  pub accepted_refused : {X : Type 0} (k : ℕ) → accepted n ws ≡ set.Refused k
+  pub accepted_refused : {X : Type 0} (k : ℕ) → accepted n ws ≡ Err k
       → (ltb n min_work_words ≡ true → k ≡ 1 → X)
       → (ltb n min_work_words ≡ false → ltb max_set_words (length ws) ≡ true → k ≡ 2 → X)
       → (ltb n min_work_words ≡ false → ltb max_set_words (length ws) ≡ false → read_set ws ≡ refuse k → X)
@@ -62,12 +61,12 @@ module _ (n : ℕ) (ws : List ℤ) where
   accepted_refused {X} k h f1 f2 f3 f4 = go (ltb n min_work_words) refl (ltb max_set_words (length ws)) refl (read_set ws) refl h
     where
       last : (p : Problem) (r : List ℤ) → read_set ws ≡ ok p r → ltb n min_work_words ≡ false → ltb max_set_words (length ws) ≡ false
-          → (m : ℕ) → check p ≡ m → unless_refused (set_at (ok p r)) m ≡ set.Refused k → X
+          → (m : ℕ) → check p ≡ m → unless_refused (set_at (ok p r)) m ≡ Err k → X
       last p r e a b zero c h = apart (cc)
       last p r e a b (suc m) c h = f4 p r m a b e c (cc)
 
       go : (s : Bool) → ltb n min_work_words ≡ s → (t : Bool) → ltb max_set_words (length ws) ≡ t → (q : Parsed Problem) → read_set ws ≡ q
-          → cond s (set.Refused 1) (cond t (set.Refused 2) (limited q)) ≡ set.Refused k → X
+          → cond s (Err 1) (cond t (Err 2) (limited q)) ≡ Err k → X
       go true a t b q e h = f1 a (cc)
       go false a true b q e h = f2 a b (cc)
       go false a false b (refuse j) e h = f3 a b (e ∙ cc)

@@ -7,11 +7,12 @@ ghost use Rattle.std.specs.Prelude.{◌≡◌, false, ◌||◌, ◌<◌, ◌≤�
 ghost use Rattle.laws.specs.Ints.{lower, higher};
 ghost use Rattle.syntax.specs.Words.{max_ints};
 ghost use Rattle.limits.specs.Total.{cap, joined, product, constant_total, bounds_total};
+ghost use Rattle.words.specs.Refusal.{by_number, refusal_or_0};
 ghost use Rattle.accept.specs.Accepted.{ReadySet, LimitsPost, accepted, table_after};
 ghost use Rattle.accept.specs.Limit.{hit, refusal_of};
 ghost use Rattle.accept.specs.Walk.{ReadyVar, VarPost, ReadyInt, ReadyTerms, ReadyIf, ReadyLeaf, ReadyDeep, IntPost, LeafPost, IfPost, TermsPost, ReadyRange, RangePost, ReadyIfRange, IfRangePost, ReadyRanges, RangesPost, Behind, HeadPost, Marks, WrittenPost, ManyOnePost, ManyPost, ReadyBranches, BranchesPost, ComparedPost, ReadyPair, PairPost, ReadyColumn, ReadyRoot, RootPost, ColumnPost, ReadyColumns, ColumnsPost, OverPost, ReadyAmong, AmongPost, ReadyBeside, BesidePost, ReadySplit, CrowdedPost, DifferPost, DifferentPost, ReadyBool, ReadyBools, StepPost, BoolsPost, ReadyStmt, StmtPost, ReadyStmts, StmtsPost, CheckPost};
 
-use reader::Set;
+use reader::Declared;
 use words::Refusal;
 
 // ---- what a walk reads
@@ -690,10 +691,10 @@ fn statements(walk: &Walk<'_>, at: usize, n: usize) -> Option<Limit>
     refusal
 }
 
-// The refusal of n statements from `at` on, or 0.
-fn check(set: &[i32], work: &[i32], at: usize, n: usize, ni: usize) -> usize
+// Refusals 9, 10 and 11 of n statements from `at` on.
+fn check(set: &[i32], work: &[i32], at: usize, n: usize, ni: usize) -> Result<(), Refusal>
     requires { ReadyStmts set.now work.now at n ni × (ni ≤ max_ints) }
-    ensures { CheckPost set.now work.now at n ni result }
+    ensures { CheckPost set.now work.now at n ni (refusal_or_0 result) }
 {
     let walk = &Walk {
         set,
@@ -701,15 +702,15 @@ fn check(set: &[i32], work: &[i32], at: usize, n: usize, ni: usize) -> usize
         ints: ni,
     };
     match statements(walk, at, n) {
-        Some(limit) => Refusal::from(limit).number(),
-        None => 0,
+        Some(limit) => Err(Refusal::from(limit)),
+        None => Ok(()),
     }
 }
 
-// Refusals 9, 10 and 11 of a set that was read, or 0. The table of bounds stays in the work slice.
-fn check_limits(set: &[i32], work: &mut [i32]) -> usize
+// Refusals 9, 10 and 11 of a set that was read. The table of bounds stays in the work slice.
+fn check_limits(set: &[i32], work: &mut [i32]) -> Result<(), Refusal>
     requires { ReadySet set.now work.old }
-    ensures { LimitsPost set.now work.old work.new result }
+    ensures { LimitsPost set.now work.old work.new (refusal_or_0 result) }
 {
     let ni = domains::number(set, 1);
     let at = domains::write_bounds(set, 2, ni, work, memory::BOUNDS);
@@ -718,23 +719,16 @@ fn check_limits(set: &[i32], work: &mut [i32]) -> usize
 }
 
 // Refusals 1 to 11 for any words and lengths: what the set declares, or the refusal.
-pub fn accept(set: &[i32], work: &mut [i32]) -> Set
-    ensures { (result ≡ accepted (length work.old) set.now) × (work.new ≡ table_after set.now work.old) }
+pub fn accept(set: &[i32], work: &mut [i32]) -> Result<Declared, Refusal>
+    ensures { (by_number result ≡ accepted (length work.old) set.now) × (work.new ≡ table_after set.now work.old) }
 {
     if work.len() < memory::WORK_LENGTH {
-        return Set::Refused(1);
+        return Err(Refusal::ShortWork);
     }
     if set.len() > memory::MAX_SET_WORDS {
-        return Set::Refused(2);
+        return Err(Refusal::LongSet);
     }
-    match reader::read_set(set) {
-        Set::Refused(k) => Set::Refused(k),
-        Set::Ok(d) => {
-            let k = check_limits(set, work);
-            if k != 0 {
-                return Set::Refused(k);
-            }
-            Set::Ok(d)
-        }
-    }
+    let declared = reader::read_set(set)?;
+    check_limits(set, work)?;
+    Ok(declared)
 }

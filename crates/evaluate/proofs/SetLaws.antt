@@ -18,7 +18,7 @@ use Rattle.limits.specs.Limits.{domain_weight}
 use Rattle.limits.proofs.Light.{value_light, unrefused_light}
 use Rattle.limits.specs.Admitted.{admitted, limited}
 use Rattle.reader.specs.declared.Declared.{Declared}
-use Rattle.reader.specs.declared.Set.TheVariants as set
+use Rattle.std.specs.Prelude.{Ok, Err}
 use Rattle.accept.specs.Accepted.{accepted}
 use Rattle.accept.specs.Taken.{Taken, accepted_ok, accepted_refused, taken_set, declared_is, taken_domains, taken_stmts}
 use Rattle.verdict.specs.Roster.{int_of, is_bit, right_count, all_inside, truth, first_broken, judged, rostered, when_admitted, check_roster}
@@ -51,7 +51,7 @@ module _ (ws values : List ℤ) (n : ℕ) where
   abbrev Judged : Checked → Type 0
   Judged r = r ≡ checked_of (check_roster ws values n)
 
-  pub judge_refused : (k : ℕ) → accepted n ws ≡ set.Refused k → Judged (Refused k)
+  pub judge_refused : (k : ℕ) → accepted n ws ≡ Err k → Judged (Refused k)
   unfolding check_roster when_admitted checked_of admitted limited
   judge_refused k h =
       accepted_refused n ws k h
@@ -60,7 +60,7 @@ module _ (ws values : List ℤ) (n : ℕ) where
       (λ a b e. rw (a, b, e) refl)
       (λ p r m a b e c q. rw (a, b, e, c, q) refl)
 
-  module _ (d : Declared) (h : accepted n ws ≡ set.Ok d) where
+  module _ (d : Declared) (h : accepted n ws ≡ Ok d) where
     abbrev t : Taken n ws d
     t = accepted_ok n ws d h
 

@@ -9,7 +9,6 @@ ghost use Rattle.domains.specs.Declared.{DomainAt};
 ghost use Rattle.verdict.specs.Roster.{is_bit, check_roster};
 ghost use Rattle.evaluate.specs.Contract.{ReadyInt, ReadyTerms, IntPost, TermsPost, ReadyBool, ReadyMembers, side_value, BoolPost, MembersPost, ReadyColumns, ColumnsPost, ReadyRow, ReadyRows, word_permits, RowPost, RowsPost, ReadyStmt, ReadyStmts, StmtPost, BrokenPost, WordsAt, ListedPost, DifferPost, DomainPost, ReadyDomains, InsidePost, checked_of, Checks};
 
-use reader::Set;
 use syntax::Values;
 
 #[derive(Drop)]
@@ -395,8 +394,8 @@ fn judge(set: &[i32], values: &[i32], work: &mut [i32]) -> Checked
     ensures { result ≡ checked_of (check_roster set.now values.now (length work.old)) }
 {
     match accept::accept(set, work) {
-        Set::Refused(k) => Checked::Refused(k),
-        Set::Ok(d) => {
+        Err(refusal) => Checked::Refused(refusal.number()),
+        Ok(d) => {
             if values.len() != d.bools + d.ints {
                 return Checked::Refused(14);
             }

@@ -19,7 +19,6 @@ use Rattle.words.specs.Parse.{Parsed, ok, refuse}
 use Rattle.read.specs.Read.{read_set}
 use Rattle.limits.specs.Admitted.{limited, admitted}
 use Rattle.reader.specs.declared.Declared.{Declared}
-use Rattle.reader.specs.declared.Set.TheVariants as set
 use Rattle.domains.specs.Declared.{bounds_words}
 use Rattle.accept.specs.Walk.{Bounds}
 use Rattle.accept.specs.Accepted.{accepted, table_read, table_after}
@@ -28,8 +27,7 @@ use Rattle.join.specs.Join.{declaration_words, both, Agreement, agreed, refusal,
 use Rattle.join.specs.Joined.{is_admitted, encode_parts, agreement_is}
 use Rattle.join.specs.Steps.{pair_of, agreed_of, ReadyBoth, ComparePost, AgreePost}
 use Rattle.join.specs.declared.Pair.{Pair}
-use Rattle.join.specs.declared.Agreed as declared-agreed
-use Rattle.join.specs.declared.Agreed.TheVariants as agreed-as
+use Rattle.std.specs.Prelude.{Result, Ok, Err}
 
 -- ---- the words of two sets together
 
@@ -78,7 +76,7 @@ not_same xs ys h = go (same_words xs ys) refl
     go false e = refl
     go true e = absurd (h (ap length (same_is xs ys e)))
 
-compared_16 : (p q : Problem) → same_words (declaration_words p) (declaration_words q) ≡ false → agreed-as.Refused 16 ≡ agreed_of (compared p q)
+compared_16 : (p q : Problem) → same_words (declaration_words p) (declaration_words q) ≡ false → Err 16 ≡ agreed_of (compared p q)
 unfolding compared agreed_of
 compared_16 p q e = rw e refl
 
@@ -93,7 +91,7 @@ module _ (first second : List ℤ) (d e : Declared) where
   pub compare_room : ReadyBoth first second d e → d.at ≤ length first
   compare_room y = let a = shape y.size first d y.left in omega (arith, a.place, a.size)
 
-  pub compare_apart : (d.at ≡ e.at → ⊥) → ComparePost first second d e (agreed-as.Refused 16)
+  pub compare_apart : (d.at ≡ e.at → ⊥) → ComparePost first second d e (Err 16)
   compare_apart h n a b =
       let x = shape n first d a in
       let y = shape n second e b in
@@ -111,7 +109,7 @@ module _ (first second : List ℤ) (d e : Declared) where
         let v : take (d.at - 1) second ≡ declaration_words b.it = rw j y.low in
         sym (rw (u, v) at h)
 
-    pub compare_differ : false ≡ same_words (take (d.at - 1) first) (take (d.at - 1) second) → ComparePost first second d e (agreed-as.Refused 16)
+    pub compare_differ : false ≡ same_words (take (d.at - 1) first) (take (d.at - 1) second) → ComparePost first second d e (Err 16)
     compare_differ h n a b = compared_16 a.it b.it (seen n a b false h)
 
     module _ (h : true ≡ same_words (take (d.at - 1) first) (take (d.at - 1) second)) where
@@ -121,7 +119,7 @@ module _ (first second : List ℤ) (d e : Declared) where
           let y = shape n second e b in
           omega (arith, x.place, y.place, g, x.size, y.size, both_length a.it b.it)
 
-      pub compare_long : 4096 < length first + length second - d.at → ComparePost first second d e (agreed-as.Refused 17)
+      pub compare_long : 4096 < length first + length second - d.at → ComparePost first second d e (Err 17)
       unfolding compared agreed_of
       compare_long l n a b =
           let m = words_are n a b in
@@ -129,7 +127,7 @@ module _ (first second : List ℤ) (d e : Declared) where
           rw (seen n a b true h, o) refl
 
       pub compare_ok : length first + length second - d.at ≤ 4096
-          → ComparePost first second d e (agreed-as.Ok (record { ints = d.ints; at = d.at; first = d.stmts; second = e.stmts; words = length first + length second - d.at }))
+          → ComparePost first second d e (Ok (record { ints = d.ints; at = d.at; first = d.stmts; second = e.stmts; words = length first + length second - d.at }))
       unfolding compared agreed_of
       compare_ok l n a b =
           let m = words_are n a b in
@@ -143,7 +141,7 @@ module _ (first second : List ℤ) (d e : Declared) where
 taken_admitted : (n : ℕ) (ws : List ℤ) (d : Declared) (t : Taken n ws d) → admitted n ws ≡ ok t.it []
 taken_admitted n ws d t = is_admitted n ws t.it t.enough t.short t.says t.unrefused
 
-refused_admitted : (n : ℕ) (ws : List ℤ) (k : ℕ) → accepted n ws ≡ set.Refused k → admitted n ws ≡ refuse k
+refused_admitted : (n : ℕ) (ws : List ℤ) (k : ℕ) → accepted n ws ≡ Err k → admitted n ws ≡ refuse k
 unfolding admitted limited
 refused_admitted n ws k h =
     accepted_refused n ws k h
@@ -164,11 +162,11 @@ table_length ws work = go (ltb (length work) min_work_words) (ltb max_set_words 
 
 module _ (first second work : List ℤ) where
   -- a refusal of either set
-  refused_post : (k : ℕ) (work' : List ℤ) → agreement first second (length work) ≡ refusal k → AgreePost first second work work' (agreed-as.Refused k)
+  refused_post : (k : ℕ) (work' : List ℤ) → agreement first second (length work) ≡ refusal k → AgreePost first second work work' (Err k)
   unfolding agreed_of
   refused_post k work' e = record { answer = rw e refl; bounds = λ p q f. apart (let g : refusal k ≡ agreed p q = sym e ∙ f in cc) }
 
-  pub agree_first : (k : ℕ) (work' : List ℤ) → accepted (length work) first ≡ set.Refused k → AgreePost first second work work' (agreed-as.Refused k)
+  pub agree_first : (k : ℕ) (work' : List ℤ) → accepted (length work) first ≡ Err k → AgreePost first second work work' (Err k)
   unfolding agreement agree_read
   agree_first k work' h = refused_post k work' (rw (refused_admitted (length work) first k h) refl)
 
@@ -177,11 +175,11 @@ module _ (first second work : List ℤ) where
     l : length work₁ ≡ length work
     l = ap length left ∙ table_length first work
 
-    pub agree_second : (d : Declared) (k : ℕ) (work' : List ℤ) → Taken (length work) first d → accepted (length work₁) second ≡ set.Refused k → AgreePost first second work work' (agreed-as.Refused k)
+    pub agree_second : (d : Declared) (k : ℕ) (work' : List ℤ) → Taken (length work) first d → accepted (length work₁) second ≡ Err k → AgreePost first second work work' (Err k)
     unfolding agreement agree_read
     agree_second d k work' t h = refused_post k work' (rw (taken_admitted (length work) first d t, refused_admitted (length work) second k (ap (λ n. accepted n second) (sym l) ∙ h)) refl)
 
-    module _ (d e : Declared) (a : Taken (length work) first d) (h : accepted (length work₁) second ≡ set.Ok e) where
+    module _ (d e : Declared) (a : Taken (length work) first d) (h : accepted (length work₁) second ≡ Ok e) where
       taken_second : Taken (length work) second e
       taken_second = accepted_ok (length work) second e (ap (λ n. accepted n second) (sym l) ∙ h)
 
@@ -192,7 +190,7 @@ module _ (first second work : List ℤ) where
       unfolding agreement agree_read
       agreement_compared = rw (taken_admitted (length work) first d a, taken_admitted (length work) second e taken_second) refl
 
-      pub agree_both : (work' : List ℤ) → work' ≡ table_after second work₁ → (r : declared-agreed.Agreed) → ComparePost first second d e r → AgreePost first second work work' r
+      pub agree_both : (work' : List ℤ) → work' ≡ table_after second work₁ → (r : Result Pair ℕ) → ComparePost first second d e r → AgreePost first second work work' r
       agree_both work' w r c = record {
         answer = c (length work) a taken_second ∙ sym (ap agreed_of agreement_compared);
         bounds = λ p q f.
@@ -205,12 +203,12 @@ module _ (first second work : List ℤ) where
 
 -- ---- what the answer says
 
-pub refused_is : (a : Agreement) (k : ℕ) → agreed_of a ≡ agreed-as.Refused k → a ≡ refusal k
+pub refused_is : (a : Agreement) (k : ℕ) → agreed_of a ≡ Err k → a ≡ refusal k
 unfolding agreed_of
 refused_is (agreed p q) k h = apart (cc)
 refused_is (refusal j) k h = cc
 
-pub agreed_is : {X : Type 0} (a : Agreement) (d : Pair) → agreed_of a ≡ agreed-as.Ok d → ((p q : Problem) → a ≡ agreed p q → d ≡ pair_of p q → X) → X
+pub agreed_is : {X : Type 0} (a : Agreement) (d : Pair) → agreed_of a ≡ Ok d → ((p q : Problem) → a ≡ agreed p q → d ≡ pair_of p q → X) → X
 unfolding agreed_of
 agreed_is (agreed p q) d h go = go p q refl (cc)
 agreed_is (refusal j) d h go = apart (cc)

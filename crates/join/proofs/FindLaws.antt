@@ -19,8 +19,7 @@ use Rattle.join.specs.Contract.{place_of}
 use Rattle.join.proofs.AgreeLaws.{refused_is, agreed_is}
 use Rattle.join.specs.declared.Pair.{Pair}
 use Rattle.join.specs.declared.Place.{Place}
-use Rattle.join.specs.declared.Agreed as declared-agreed
-use Rattle.join.specs.declared.Agreed.TheVariants as agreed-as
+use Rattle.std.specs.Prelude.{Result, Ok, Err}
 
 -- ---- an admitted set's statements
 
@@ -131,7 +130,7 @@ module _ (first second work : List ℤ) (d : Pair) (y : ReadyFind first second w
 -- ---- `find_place`
 
 module _ (first second work : List ℤ) where
-  pub find_refused : (k : ℕ) (number : ℕ) (work' : List ℤ) (r : declared-agreed.Agreed) → r ≡ agreed-as.Refused k → AgreePost first second work work' r → no_place ≡ place_of (statement_at first second (length work) number)
+  pub find_refused : (k : ℕ) (number : ℕ) (work' : List ℤ) (r : Result Pair ℕ) → r ≡ Err k → AgreePost first second work work' r → no_place ≡ place_of (statement_at first second (length work) number)
   unfolding statement_at statements_of place_of
   find_refused k number work' r e h = rw (refused_is (agreement first second (length work)) k (sym h.answer ∙ e)) (go number)
     where
@@ -139,7 +138,7 @@ module _ (first second work : List ℤ) where
       go zero = refl
       go (suc n) = refl
 
-  pub find_ready : (d : Pair) (work' : List ℤ) → length work' ≡ length work → (r : declared-agreed.Agreed) → r ≡ agreed-as.Ok d → AgreePost first second work work' r → ReadyFind first second work' d
+  pub find_ready : (d : Pair) (work' : List ℤ) → length work' ≡ length work → (r : Result Pair ℕ) → r ≡ Ok d → AgreePost first second work work' r → ReadyFind first second work' d
   find_ready d work' l r e h =
       agreed_is (agreement first second (length work)) d (sym h.answer ∙ e) λ p q f g.
       record { left = p; right = q; agrees = ap (agreement first second) l ∙ f; pair_is = g; bounds = h.bounds p q f }

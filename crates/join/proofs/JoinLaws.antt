@@ -13,26 +13,25 @@ use Rattle.join.specs.Join.{both, agreed, refusal, agreement, Joining, joined, r
 use Rattle.join.specs.Steps.{pair_of, AgreePost, ReadyWrite, WritePost}
 use Rattle.join.specs.Contract.{answer_of, Joins}
 use Rattle.join.specs.declared.Pair.{Pair}
-use Rattle.join.specs.declared.Agreed as declared-agreed
-use Rattle.join.specs.declared.Agreed.TheVariants as agreed-as
+use Rattle.std.specs.Prelude.{Result, Ok, Err}
 use Rattle.join.specs.declared.Joined as declared-joined
 use Rattle.join.specs.declared.Joined.TheVariants as joined_as
 use Rattle.join.proofs.WordLaws.{sets_zeros}
 use Rattle.join.proofs.AgreeLaws.{refused_is, agreed_is}
 
-module _ (first second buffer work work₁ : List ℤ) (r : declared-agreed.Agreed) (h : AgreePost first second work work₁ r) where
+module _ (first second buffer work work₁ : List ℤ) (r : Result Pair ℕ) (h : AgreePost first second work work₁ r) where
   -- the definition's case, and both slices
   joins : (j : Joining) → join first second (length buffer) (length work) ≡ j → (buffer' work' : List ℤ) (x : declared-joined.Joined) → x ≡ answer_of j → buffer' ≡ buffer_after j (length buffer) → work' ≡ zeros (length work)
       → Joins first second buffer work buffer' work' x
   joins j e buffer' work' x a b z = record { answer = a ∙ sym (ap answer_of e); written = b ∙ sym (ap (λ (k : Joining). buffer_after k (length buffer)) e); zeroed = z }
 
-  pub join_refused : (k : ℕ) (buffer' work' : List ℤ) → r ≡ agreed-as.Refused k → buffer' ≡ zeros (length buffer) → work' ≡ zeros (length work) → Joins first second buffer work buffer' work' (joined_as.Refused k)
+  pub join_refused : (k : ℕ) (buffer' work' : List ℤ) → r ≡ Err k → buffer' ≡ zeros (length buffer) → work' ≡ zeros (length work) → Joins first second buffer work buffer' work' (joined_as.Refused k)
   unfolding join sized answer_of buffer_after
   join_refused k buffer' work' e b z =
       let a : agreement first second (length work) ≡ refusal k = refused_is (agreement first second (length work)) k (sym h.answer ∙ e) in
       joins (refused k) (rw a refl) buffer' work' (joined_as.Refused k) refl b z
 
-  module _ (d : Pair) (e : r ≡ agreed-as.Ok d) (buffer₁ : List ℤ) (b : buffer₁ ≡ zeros (length buffer)) where
+  module _ (d : Pair) (e : r ≡ Ok d) (buffer₁ : List ℤ) (b : buffer₁ ≡ zeros (length buffer)) where
     abbrev found : {X : Type 0} → ((p q : Problem) → agreement first second (length work) ≡ agreed p q → d ≡ pair_of p q → X) → X
     found go = agreed_is (agreement first second (length work)) d (sym h.answer ∙ e) go
 

@@ -1,5 +1,5 @@
 -- What the functions below the entries ask and give. Assumes nothing.
-use Rattle.std.specs.Prelude.{◌≡◌, List, ℕ, ◌+◌, ◌≤◌, ◌<◌, ℤ, length, get_or}
+use Rattle.std.specs.Prelude.{◌≡◌, Result, Ok, Err, List, ℕ, ◌+◌, ◌≤◌, ◌<◌, ℤ, length, get_or}
 use Rattle.std.proofs.lemmas.List.Edits.{sets}
 use Rattle.syntax.specs.Syntax.{Domain, Stmt, encode_stmt, Problem, encode}
 use Rattle.reader.specs.declared.Declared.{Declared}
@@ -7,17 +7,15 @@ use Rattle.accept.specs.Walk.{Bounds, StmtAt, StmtsAt}
 use Rattle.accept.specs.Taken.{Taken}
 use Rattle.join.specs.Join.{both, Agreement, agreed, refusal, compared, agreement, Found, nowhere, placed, statements_place}
 use Rattle.join.specs.declared.Pair.{Pair}
-use Rattle.join.specs.declared.Agreed as declared-agreed
-use Rattle.join.specs.declared.Agreed.TheVariants as agreed-as
 
 -- ---- two sets that agree, in the code's values
 
 abbrev pub pair_of : Problem → Problem → Pair
 pair_of p q = record { ints = length p.domains; at = statements_place p; first = length p.stmts; second = length q.stmts; words = length (encode (both p q)) }
 
-unfoldable pub agreed_of : Agreement → declared-agreed.Agreed
-agreed_of (agreed p q) = agreed-as.Ok (pair_of p q)
-agreed_of (refusal k) = agreed-as.Refused k
+unfoldable pub agreed_of : Agreement → Result Pair ℕ
+agreed_of (agreed p q) = Ok (pair_of p q)
+agreed_of (refusal k) = Err k
 
 -- two sets that 1 to 11 let through
 pub record ReadyBoth (first second : List ℤ) (d e : Declared) : Type 0 where
@@ -25,11 +23,11 @@ pub record ReadyBoth (first second : List ℤ) (d e : Declared) : Type 0 where
   pub left : Taken size first d
   pub right : Taken size second e
 
-abbrev pub ComparePost : (first second : List ℤ) (d e : Declared) → declared-agreed.Agreed → Type 0
+abbrev pub ComparePost : (first second : List ℤ) (d e : Declared) → Result Pair ℕ → Type 0
 ComparePost first second d e r = (n : ℕ) (a : Taken n first d) (b : Taken n second e) → r ≡ agreed_of (compared a.it b.it)
 
 -- for all words and lengths; where the sets agree, the bounds of their integers stand in the work slice
-pub record AgreePost (first second work work' : List ℤ) (r : declared-agreed.Agreed) : Type 0 where
+pub record AgreePost (first second work work' : List ℤ) (r : Result Pair ℕ) : Type 0 where
   pub answer : r ≡ agreed_of (agreement first second (length work))
   pub bounds : (p q : Problem) → agreement first second (length work) ≡ agreed p q → Bounds work' p.domains
 

@@ -6,11 +6,13 @@ ghost use Rattle.std.proofs.lemmas.List.Edits.{sets};
 ghost use Rattle.laws.specs.Slices.{zeros};
 ghost use Rattle.laws.specs.Same.{same_words};
 ghost use Rattle.syntax.specs.Words.{max_ints};
+ghost use Rattle.words.specs.Refusal.{by_number};
 ghost use Rattle.join.specs.Join.{statement_at, words_of, address_of};
 ghost use Rattle.join.specs.Steps.{ReadyBoth, ComparePost, AgreePost, ReadyWrite, WritePost, ReadyNth, NthPost, PartPost, ReadyFind};
 ghost use Rattle.join.specs.Contract.{Joins, place_of, Finds};
 
-use reader::{Declared, Set};
+use reader::Declared;
+use words::Refusal;
 
 // ---- two sets that can be joined
 
@@ -22,12 +24,6 @@ pub struct Pair {
     pub first: usize,
     pub second: usize,
     pub words: usize,
-}
-
-#[derive(Drop)]
-pub enum Agreed {
-    Ok(Pair),
-    Refused(usize),
 }
 
 // Whether the first n words are the same.
@@ -48,41 +44,37 @@ fn same_words(first: &[i32], second: &[i32], n: usize) -> bool
 }
 
 // Refusals 16, and 17 without regard to the buffer, of two accepted sets.
-fn compare(first: &[i32], second: &[i32], d: Declared, e: Declared) -> Agreed
+fn compare(first: &[i32], second: &[i32], d: Declared, e: Declared) -> Result<Pair, Refusal>
     requires { ReadyBoth first.now second.now d e }
-    ensures { ComparePost first.now second.now d e result }
+    ensures { ComparePost first.now second.now d e (by_number result) }
 {
     let at = d.at;
     if at != e.at {
-        return Agreed::Refused(16);
+        return Err(Refusal::DeclaredOtherwise);
     }
     if same_words(first, second, at - 1) {
         let words = first.len() + second.len() - at;
         if words > memory::MAX_SET_WORDS {
-            return Agreed::Refused(17);
+            return Err(Refusal::LongJoin);
         }
-        return Agreed::Ok(Pair {
+        return Ok(Pair {
             ints: d.ints,
-            at: at,
+            at,
             first: d.stmts,
             second: e.stmts,
-            words: words,
+            words,
         });
     }
-    Agreed::Refused(16)
+    Err(Refusal::DeclaredOtherwise)
 }
 
 // The refusals of the first set, of the second, 16, and 17 without regard to the buffer; or what there is to join.
-fn agree(first: &[i32], second: &[i32], work: &mut [i32]) -> Agreed
-    ensures { AgreePost first.now second.now work.old work.new result }
+fn agree(first: &[i32], second: &[i32], work: &mut [i32]) -> Result<Pair, Refusal>
+    ensures { AgreePost first.now second.now work.old work.new (by_number result) }
 {
-    match accept::accept(first, work) {
-        Set::Refused(k) => Agreed::Refused(k),
-        Set::Ok(d) => match accept::accept(second, work) {
-            Set::Refused(k) => Agreed::Refused(k),
-            Set::Ok(e) => compare(first, second, d, e),
-        },
-    }
+    let d = accept::accept(first, work)?;
+    let e = accept::accept(second, work)?;
+    compare(first, second, d, e)
 }
 
 // ---- the join
@@ -129,8 +121,8 @@ pub fn join(first: &[i32], second: &[i32], buffer: &mut [i32], work: &mut [i32])
     let answer = agree(first, second, work);
     memory::clear(work);
     match answer {
-        Agreed::Refused(k) => Joined::Refused(k),
-        Agreed::Ok(d) => {
+        Err(refusal) => Joined::Refused(refusal.number()),
+        Ok(d) => {
             let words = d.words;
             if words > buffer.len() {
                 return Joined::Refused(17);
@@ -211,7 +203,7 @@ pub fn find_place(first: &[i32], second: &[i32], work: &mut [i32], number: usize
     ensures { Finds first.now second.now work.old work.new number result }
 {
     match agree(first, second, work) {
-        Agreed::Refused(_) => {
+        Err(_) => {
             memory::clear(work);
             Place {
                 set: 0,
@@ -219,7 +211,7 @@ pub fn find_place(first: &[i32], second: &[i32], work: &mut [i32], number: usize
                 to: 0,
             }
         }
-        Agreed::Ok(d) => {
+        Ok(d) => {
             let r = find(first, second, work, d, number);
             memory::clear(work);
             r

@@ -1,169 +1,143 @@
 // Expressions: Boolean and integer ones, their lists, sides and terms call each other; the levels left fall.
 ghost use Rattle.std.specs.Prelude.{◌≡◌};
+ghost use Rattle.words.specs.Cursor.{parsed};
 ghost use Rattle.read.specs.Read.{read_terms as terms_of, read_members as members-of, read_int as int_of, read_bool as bool_of};
-ghost use Rattle.reader.specs.Position.{reads, list_of, pair_of, comparison_of, if_of};
+ghost use Rattle.reader.specs.Position.{passed, list_of, pair_of, comparison_of, if_of};
 
-use super::Read;
-use super::leaves::{bool_too_deep, check_index, check_up_to, check_value, int_too_deep};
-use words::{Counted, Cursor, Next};
+use super::Variables;
+use super::leaves::{bool_too_deep, int_too_deep};
+use words::{Cursor, Refusal};
 
 // ---- integer expressions
 
-// As many terms as `count` says, each expression with `left` levels left.
+// As many terms as `terms` says, each expression with `left` levels left.
+#[tactic(auto, using(crate::proofs::Laws::terms), unfolding(crate::specs::Position::term_of))]
 #[cycle(expressions)]
-pub fn read_terms(
-    words: &[i32],
-    c: Cursor,
-    count: usize,
-    bools: usize,
-    ints: usize,
-    left: usize,
-) -> Read
-    ensures { result ≡ reads (terms_of (int_of bools ints left) count) c.at words.now }
+pub fn read_terms(c: &mut Cursor, terms: usize, vars: Variables, left: usize) -> Result<(), Refusal>
+    ensures { parsed result c.new.rest.now ≡ passed (terms_of (int_of vars.bools vars.ints left) terms c.old.rest.now) }
 {
-    let mut d = c;
-    let mut terms = count;
-    while terms != 0 {
-        match d.value(words) {
-            Next::Refused(k) => return Read::Refused(k),
-            Next::Word(_, e) => match read_int(words, e, bools, ints, left) {
-                Read::Refused(k) => return Read::Refused(k),
-                Read::Ok(f) => {
-                    d = f;
-                    terms = terms - 1;
-                }
-            },
-        }
+    for _ in 0..terms {
+        c.value()?;
+        read_int(c, vars, left)?;
     }
-    Read::Ok(d)
+    Ok(())
 }
 
 // A condition and two integer expressions, each with `left` levels left.
+#[tactic(auto, using(crate::proofs::Laws::after), unfolding(crate::specs::Position::if_of))]
 #[cycle(expressions)]
-pub fn read_if(words: &[i32], c: Cursor, bools: usize, ints: usize, left: usize) -> Read
-    ensures { result ≡ reads (if_of (bool_of bools ints left) (int_of bools ints left)) c.at words.now }
+pub fn read_if(c: &mut Cursor, vars: Variables, left: usize) -> Result<(), Refusal>
+    ensures { parsed result c.new.rest.now ≡ passed (if_of (bool_of vars.bools vars.ints left) (int_of vars.bools vars.ints left) c.old.rest.now) }
 {
-    match read_bool(words, c, bools, ints, left) {
-        Read::Refused(k) => Read::Refused(k),
-        Read::Ok(d) => match read_int(words, d, bools, ints, left) {
-            Read::Refused(k) => Read::Refused(k),
-            Read::Ok(e) => read_int(words, e, bools, ints, left),
-        },
-    }
+    read_bool(c, vars, left)?; // the condition
+    read_int(c, vars, left)?;
+    read_int(c, vars, left)
 }
 
 // One expression with `left` levels left, its own among them.
+#[tactic(auto, using(crate::proofs::Steps::int_steps))]
 #[cycle(expressions)]
-pub fn read_int(words: &[i32], c: Cursor, bools: usize, ints: usize, left: usize) -> Read
-    ensures { result ≡ reads (int_of bools ints left) c.at words.now }
+pub fn read_int(c: &mut Cursor, vars: Variables, left: usize) -> Result<(), Refusal>
+    ensures { parsed result c.new.rest.now ≡ passed (int_of vars.bools vars.ints left c.old.rest.now) }
 {
-    match c.word(words) {
-        Next::Refused(k) => Read::Refused(k),
-        Next::Word(w, d) => {
-            if left == 0 {
-                return Read::Refused(int_too_deep(w));
-            }
-            match w {
-                20 => check_value(words, d),
-                21 => check_index(words, d, ints),
-                22 => match d.up_to(words, memory::MAX_COUNT, 4) {
-                    Counted::Refused(k) => Read::Refused(k),
-                    Counted::Number(n, e) => read_terms(words, e, n, bools, ints, left - 1),
-                },
-                23 => read_if(words, d, bools, ints, left - 1),
-                _ => Read::Refused(5),
-            }
+    let code = c.word()?;
+    if left == 0 {
+        return Err(int_too_deep(code));
+    }
+    match code {
+        20 => {
+            c.value()?;
+            Ok(())
         }
+        21 => {
+            c.index(vars.ints)?;
+            Ok(())
+        }
+        22 => {
+            let count = c.up_to(memory::MAX_COUNT, Refusal::OutOfRange)?;
+            read_terms(c, count, vars, left - 1)
+        }
+        23 => read_if(c, vars, left - 1),
+        _ => Err(Refusal::UnknownCode),
     }
 }
 
 // ---- Boolean expressions
 
 // An operator and two integer expressions with `left` levels left.
+#[tactic(auto, using(crate::proofs::Laws::after), unfolding(crate::specs::Position::comparison_of))]
 #[cycle(expressions)]
-pub fn read_comparison(words: &[i32], c: Cursor, bools: usize, ints: usize, left: usize) -> Read
-    ensures { result ≡ reads (comparison_of (int_of bools ints left)) c.at words.now }
+pub fn read_comparison(c: &mut Cursor, vars: Variables, left: usize) -> Result<(), Refusal>
+    ensures { parsed result c.new.rest.now ≡ passed (comparison_of (int_of vars.bools vars.ints left) c.old.rest.now) }
 {
-    match c.up_to(words, 5, 4) {
-        Counted::Refused(k) => Read::Refused(k),
-        Counted::Number(_, d) => match read_int(words, d, bools, ints, left) {
-            Read::Refused(k) => Read::Refused(k),
-            Read::Ok(e) => read_int(words, e, bools, ints, left),
-        },
-    }
+    c.up_to(5, Refusal::OutOfRange)?;
+    read_int(c, vars, left)?;
+    read_int(c, vars, left)
 }
 
-// As many expressions as `count` says, each with `left` levels left.
+// As many expressions as `members` says, each with `left` levels left.
+#[tactic(auto, using(crate::proofs::Laws::members))]
 #[cycle(expressions)]
 pub fn read_members(
-    words: &[i32],
-    c: Cursor,
-    count: usize,
-    bools: usize,
-    ints: usize,
+    c: &mut Cursor,
+    members: usize,
+    vars: Variables,
     left: usize,
-) -> Read
-    ensures { result ≡ reads (members-of (bool_of bools ints left) count) c.at words.now }
+) -> Result<(), Refusal>
+    ensures { parsed result c.new.rest.now ≡ passed (members-of (bool_of vars.bools vars.ints left) members c.old.rest.now) }
 {
-    let mut d = c;
-    let mut rest = count;
-    while rest != 0 {
-        match read_bool(words, d, bools, ints, left) {
-            Read::Refused(k) => return Read::Refused(k),
-            Read::Ok(e) => {
-                d = e;
-                rest = rest - 1;
-            }
-        }
+    for _ in 0..members {
+        read_bool(c, vars, left)?;
     }
-    Read::Ok(d)
+    Ok(())
 }
 
 // A count and as many expressions, each with `left` levels left.
+#[tactic(auto, using(crate::proofs::Laws::after), unfolding(crate::specs::Position::list_of, words::specs::Parse::count))]
 #[cycle(expressions)]
-pub fn read_list(words: &[i32], c: Cursor, bools: usize, ints: usize, left: usize) -> Read
-    ensures { result ≡ reads (list_of (bool_of bools ints left)) c.at words.now }
+pub fn read_list(c: &mut Cursor, vars: Variables, left: usize) -> Result<(), Refusal>
+    ensures { parsed result c.new.rest.now ≡ passed (list_of (bool_of vars.bools vars.ints left) c.old.rest.now) }
 {
-    match c.up_to(words, memory::MAX_COUNT, 4) {
-        Counted::Refused(k) => Read::Refused(k),
-        Counted::Number(n, d) => read_members(words, d, n, bools, ints, left),
-    }
+    let count = c.up_to(memory::MAX_COUNT, Refusal::OutOfRange)?;
+    read_members(c, count, vars, left)
 }
 
 // Two expressions, each with `left` levels left.
+#[tactic(auto, using(crate::proofs::Laws::after), unfolding(crate::specs::Position::pair_of))]
 #[cycle(expressions)]
-pub fn read_pair(words: &[i32], c: Cursor, bools: usize, ints: usize, left: usize) -> Read
-    ensures { result ≡ reads (pair_of (bool_of bools ints left)) c.at words.now }
+pub fn read_pair(c: &mut Cursor, vars: Variables, left: usize) -> Result<(), Refusal>
+    ensures { parsed result c.new.rest.now ≡ passed (pair_of (bool_of vars.bools vars.ints left) c.old.rest.now) }
 {
-    match read_bool(words, c, bools, ints, left) {
-        Read::Refused(k) => Read::Refused(k),
-        Read::Ok(d) => read_bool(words, d, bools, ints, left),
-    }
+    read_bool(c, vars, left)?;
+    read_bool(c, vars, left)
 }
 
 // One expression with `left` levels left, its own among them.
+#[tactic(auto, using(crate::proofs::Steps::bool_steps))]
 #[cycle(expressions)]
-pub fn read_bool(words: &[i32], c: Cursor, bools: usize, ints: usize, left: usize) -> Read
-    ensures { result ≡ reads (bool_of bools ints left) c.at words.now }
+pub fn read_bool(c: &mut Cursor, vars: Variables, left: usize) -> Result<(), Refusal>
+    ensures { parsed result c.new.rest.now ≡ passed (bool_of vars.bools vars.ints left c.old.rest.now) }
 {
-    match c.word(words) {
-        Next::Refused(k) => Read::Refused(k),
-        Next::Word(w, d) => {
-            if left == 0 {
-                return Read::Refused(bool_too_deep(w));
-            }
-            match w {
-                10 => check_up_to(words, d, 1, 4),
-                11 => check_index(words, d, bools),
-                12 => read_list(words, d, bools, ints, left - 1),
-                13 => read_list(words, d, bools, ints, left - 1),
-                14 => read_bool(words, d, bools, ints, left - 1),
-                15 => read_pair(words, d, bools, ints, left - 1),
-                16 => read_pair(words, d, bools, ints, left - 1),
-                17 => read_pair(words, d, bools, ints, left - 1),
-                18 => read_comparison(words, d, bools, ints, left - 1),
-                _ => Read::Refused(5), // an integer's code too
-            }
+    let code = c.word()?;
+    if left == 0 {
+        return Err(bool_too_deep(code));
+    }
+    match code {
+        10 => {
+            c.up_to(1, Refusal::OutOfRange)?;
+            Ok(())
         }
+        11 => {
+            c.index(vars.bools)?;
+            Ok(())
+        }
+        12 => read_list(c, vars, left - 1),
+        13 => read_list(c, vars, left - 1),
+        14 => read_bool(c, vars, left - 1),
+        15 => read_pair(c, vars, left - 1),
+        16 => read_pair(c, vars, left - 1),
+        17 => read_pair(c, vars, left - 1),
+        18 => read_comparison(c, vars, left - 1),
+        _ => Err(Refusal::UnknownCode), // an integer's code too
     }
 }

@@ -1,142 +1,102 @@
 // Statements: a rule, a table of columns and rows, or expressions that differ.
 ghost use Rattle.std.specs.Prelude.{◌≡◌};
 ghost use Rattle.words.specs.Parse.{times};
+ghost use Rattle.words.specs.Cursor.{parsed};
 ghost use Rattle.read.specs.Read.{read_cell as cell_of, read_int as int_of, read_table as table_of, read_different as different-of, read_stmt as stmt-of};
-ghost use Rattle.reader.specs.Position.{reads};
+ghost use Rattle.reader.specs.Position.{passed};
 
-use super::Read;
+use super::Variables;
 use super::expressions::{read_bool, read_int};
-use words::{Counted, Cursor, Next};
+use words::{Cursor, Refusal};
+
+// How many levels a rule or a column may have.
+const MAX_DEPTH: usize = 64;
 
 // A value, or the star.
-pub fn read_cell(words: &[i32], c: Cursor) -> Read
-    ensures { result ≡ reads cell_of c.at words.now }
+#[tactic(auto, unfolding(read::specs::Read::read_cell))]
+pub fn read_cell(c: &mut Cursor) -> Result<(), Refusal>
+    ensures { parsed result c.new.rest.now ≡ passed (cell_of c.old.rest.now) }
 {
-    match c.word(words) {
-        Next::Refused(k) => Read::Refused(k),
-        Next::Word(w, d) => {
-            if w == -2147483648 {
-                return Read::Ok(d);
-            }
-            if w < -1073741823 {
-                return Read::Refused(4);
-            }
-            if w > 1073741823 {
-                return Read::Refused(4);
-            }
-            Read::Ok(d)
-        }
+    let w = c.word()?;
+    if w == i32::MIN || w.unsigned_abs() <= words::MAX_VALUE {
+        Ok(())
+    } else {
+        Err(Refusal::OutOfRange)
     }
 }
 
 // As many cells as `count` says.
-pub fn read_row(words: &[i32], c: Cursor, count: usize) -> Read
-    ensures { result ≡ reads (times count cell_of) c.at words.now }
+#[tactic(auto, using(crate::proofs::Laws::again))]
+pub fn read_row(c: &mut Cursor, count: usize) -> Result<(), Refusal>
+    ensures { parsed result c.new.rest.now ≡ passed (times count cell_of c.old.rest.now) }
 {
-    let mut d = c;
-    let mut rest = count;
-    while rest != 0 {
-        match read_cell(words, d) {
-            Read::Refused(k) => return Read::Refused(k),
-            Read::Ok(e) => {
-                d = e;
-                rest = rest - 1;
-            }
-        }
+    for _ in 0..count {
+        read_cell(c)?;
     }
-    Read::Ok(d)
+    Ok(())
 }
 
 // As many rows as `count` says, each of `width` cells.
-pub fn read_rows(words: &[i32], c: Cursor, count: usize, width: usize) -> Read
-    ensures { result ≡ reads (times count (times width cell_of)) c.at words.now }
+#[tactic(auto, using(crate::proofs::Laws::again))]
+pub fn read_rows(c: &mut Cursor, count: usize, width: usize) -> Result<(), Refusal>
+    ensures { parsed result c.new.rest.now ≡ passed (times count (times width cell_of) c.old.rest.now) }
 {
-    let mut d = c;
-    let mut rest = count;
-    while rest != 0 {
-        match read_row(words, d, width) {
-            Read::Refused(k) => return Read::Refused(k),
-            Read::Ok(e) => {
-                d = e;
-                rest = rest - 1;
-            }
-        }
+    for _ in 0..count {
+        read_row(c, width)?;
     }
-    Read::Ok(d)
+    Ok(())
 }
 
 // As many columns as `count` says.
-pub fn read_columns(words: &[i32], c: Cursor, count: usize, bools: usize, ints: usize) -> Read
-    ensures { result ≡ reads (times count (int_of bools ints 64)) c.at words.now }
+#[tactic(auto, using(crate::proofs::Laws::again))]
+pub fn read_columns(c: &mut Cursor, count: usize, vars: Variables) -> Result<(), Refusal>
+    ensures { parsed result c.new.rest.now ≡ passed (times count (int_of vars.bools vars.ints 64) c.old.rest.now) }
 {
-    let mut d = c;
-    let mut rest = count;
-    while rest != 0 {
-        match read_int(words, d, bools, ints, 64) {
-            Read::Refused(k) => return Read::Refused(k),
-            Read::Ok(e) => {
-                d = e;
-                rest = rest - 1;
-            }
-        }
+    for _ in 0..count {
+        read_int(c, vars, MAX_DEPTH)?;
     }
-    Read::Ok(d)
+    Ok(())
 }
 
 // Columns n, rows k, n integer expressions, k rows.
-pub fn read_table(words: &[i32], c: Cursor, bools: usize, ints: usize) -> Read
-    ensures { result ≡ reads (table_of bools ints) c.at words.now }
+#[tactic(auto, using(crate::proofs::Laws::after), unfolding(read::specs::Read::read_table, words::specs::Parse::count))]
+pub fn read_table(c: &mut Cursor, vars: Variables) -> Result<(), Refusal>
+    ensures { parsed result c.new.rest.now ≡ passed (table_of vars.bools vars.ints c.old.rest.now) }
 {
-    match c.up_to(words, memory::MAX_COUNT, 4) {
-        Counted::Refused(k) => Read::Refused(k),
-        Counted::Number(n, d) => match d.up_to(words, memory::MAX_COUNT, 4) {
-            Counted::Refused(k) => Read::Refused(k),
-            Counted::Number(rows, e) => match read_columns(words, e, n, bools, ints) {
-                Read::Refused(k) => Read::Refused(k),
-                Read::Ok(f) => read_rows(words, f, rows, n),
-            },
-        },
-    }
+    let columns = c.up_to(memory::MAX_COUNT, Refusal::OutOfRange)?;
+    let rows = c.up_to(memory::MAX_COUNT, Refusal::OutOfRange)?;
+    read_columns(c, columns, vars)?;
+    read_rows(c, rows, columns)
 }
 
 // A count and as many integer expressions.
-pub fn read_different(words: &[i32], c: Cursor, bools: usize, ints: usize) -> Read
-    ensures { result ≡ reads (different-of bools ints) c.at words.now }
+#[tactic(auto, using(crate::proofs::Laws::after), unfolding(read::specs::Read::read_different, words::specs::Parse::count))]
+pub fn read_different(c: &mut Cursor, vars: Variables) -> Result<(), Refusal>
+    ensures { parsed result c.new.rest.now ≡ passed (different-of vars.bools vars.ints c.old.rest.now) }
 {
-    match c.up_to(words, memory::MAX_COUNT, 4) {
-        Counted::Refused(k) => Read::Refused(k),
-        Counted::Number(n, d) => read_columns(words, d, n, bools, ints),
-    }
+    let count = c.up_to(memory::MAX_COUNT, Refusal::OutOfRange)?;
+    read_columns(c, count, vars)
 }
 
-pub fn read_stmt(words: &[i32], c: Cursor, bools: usize, ints: usize) -> Read
-    ensures { result ≡ reads (stmt-of bools ints) c.at words.now }
+#[tactic(auto, using(crate::proofs::Laws::after), unfolding(read::specs::Read::read_stmt))]
+pub fn read_stmt(c: &mut Cursor, vars: Variables) -> Result<(), Refusal>
+    ensures { parsed result c.new.rest.now ≡ passed (stmt-of vars.bools vars.ints c.old.rest.now) }
 {
-    match c.word(words) {
-        Next::Refused(k) => Read::Refused(k),
-        Next::Word(w, d) => match w {
-            1 => read_bool(words, d, bools, ints, 64),
-            2 => read_table(words, d, bools, ints),
-            3 => read_different(words, d, bools, ints),
-            _ => Read::Refused(5),
-        },
+    match c.word()? {
+        1 => read_bool(c, vars, MAX_DEPTH),
+        2 => read_table(c, vars),
+        3 => read_different(c, vars),
+        _ => Err(Refusal::UnknownCode),
     }
 }
 
 // As many statements as `count` says.
-pub fn read_stmts(words: &[i32], c: Cursor, count: usize, bools: usize, ints: usize) -> Read
-    ensures { result ≡ reads (times count (stmt-of bools ints)) c.at words.now }
+#[tactic(auto, using(crate::proofs::Laws::again))]
+pub fn read_stmts(c: &mut Cursor, count: usize, vars: Variables) -> Result<(), Refusal>
+    ensures { parsed result c.new.rest.now ≡ passed (times count (stmt-of vars.bools vars.ints) c.old.rest.now) }
 {
-    let mut d = c;
-    let mut rest = count;
-    while rest != 0 {
-        match read_stmt(words, d, bools, ints) {
-            Read::Refused(k) => return Read::Refused(k),
-            Read::Ok(e) => {
-                d = e;
-                rest = rest - 1;
-            }
-        }
+    for _ in 0..count {
+        read_stmt(c, vars)?;
     }
-    Read::Ok(d)
+    Ok(())
 }

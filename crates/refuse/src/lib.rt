@@ -6,8 +6,6 @@ ghost use Rattle.laws.specs.Slices.{zeros};
 ghost use Rattle.accept.specs.Accepted.{accepted};
 ghost use Rattle.refuse.specs.Refuse.{refusal_of};
 
-use reader::Set;
-
 // The refusal, or 0.
 #[unsafe(no_mangle)]
 pub extern "C" fn refuse_set(set: &[i32], work: &mut [i32]) -> usize
@@ -16,7 +14,7 @@ pub extern "C" fn refuse_set(set: &[i32], work: &mut [i32]) -> usize
     let answer = accept::accept(set, work);
     memory::clear(work);
     match answer {
-        Set::Ok(_) => 0,
-        Set::Refused(k) => k,
+        Ok(_) => 0,
+        Err(refusal) => refusal.number(),
     }
 }

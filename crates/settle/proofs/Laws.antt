@@ -16,7 +16,7 @@ use Rattle.syntax.specs.Words.{max_set_words, min_work_words, max_bools}
 use Rattle.syntax.specs.Syntax.{Stmt, Problem}
 use Rattle.words.specs.Parse.{ok}
 use Rattle.reader.specs.declared.Declared.{Declared}
-use Rattle.reader.specs.declared.Set.TheVariants as taken
+use Rattle.std.specs.Prelude.{Ok, Err}
 use Rattle.domains.specs.Declared.{bounds_words}
 use Rattle.accept.specs.Accepted.{accepted, table_after}
 use Rattle.accept.specs.Taken.{Taken, accepted_ok, accepted_refused, taken_set, taken_table, declared_is}
@@ -36,7 +36,7 @@ use Rattle.settle.specs.Settle.{settling_of, settling_checked, settling_read, se
 -- ---- refusals 1 to 11
 
 module _ (n : ℕ) (ws : List ℤ) where
-  refused_is : (k : ℕ) → accepted n ws ≡ taken.Refused k → settling.Refused k ≡ settling-words n ws
+  refused_is : (k : ℕ) → accepted n ws ≡ Err k → settling.Refused k ≡ settling-words n ws
   unfolding settling-words settling_read settling_checked
   refused_is k h =
       accepted_refused n ws k h
@@ -128,10 +128,10 @@ module _ (ws work : List ℤ) (d : Declared) (t : Taken (length work) ws d) wher
 -- ---- the two answers of `accept`
 
 module _ (ws work : List ℤ) where
-  pub settle_refused : (k : ℕ) → accepted (length work) ws ≡ taken.Refused k → (after last : List ℤ) → length after ≡ length work → last ≡ zeros (length after) → SettlePost ws work last (settling.Refused k)
+  pub settle_refused : (k : ℕ) → accepted (length work) ws ≡ Err k → (after last : List ℤ) → length after ≡ length work → last ≡ zeros (length after) → SettlePost ws work last (settling.Refused k)
   settle_refused k e after last l z = record { answer = refused_is (length work) ws k e; left = z ∙ ap zeros l }
 
-  module _ (d : Declared) (e : accepted (length work) ws ≡ taken.Ok d) (after : List ℤ) (after_is : after ≡ table_after ws work) where
+  module _ (d : Declared) (e : accepted (length work) ws ≡ Ok d) (after : List ℤ) (after_is : after ≡ table_after ws work) where
     t : Taken (length work) ws d
     t = accepted_ok (length work) ws d e
 

@@ -6,7 +6,6 @@ ghost use Rattle.memory.specs.Places.{maps_end};
 ghost use Rattle.settle.specs.Settle.{SomeTaken, FoldPost, maps_empty, SettlePost};
 
 use propagate::Status;
-use reader::Set;
 
 // Where the folded statements end, and how many variables the set declares.
 #[derive(Drop)]
@@ -53,11 +52,11 @@ pub fn settle(set: &[i32], work: &mut [i32]) -> Settling
     ensures { SettlePost set.now work.old work.new result }
 {
     match accept::accept(set, work) {
-        Set::Refused(k) => {
+        Err(refusal) => {
             memory::clear(work);
-            Settling::Refused(k)
+            Settling::Refused(refusal.number())
         }
-        Set::Ok(d) => {
+        Ok(d) => {
             clear_maps(work);
             fold_taken(set, work, d.bools, d.ints)
         }

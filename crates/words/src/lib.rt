@@ -1,115 +1,67 @@
-// A cursor over lent i32 words, by value: each reader takes it and hands the next one back with what it read, or gives the refusal.
+// A cursor over lent i32 words: each reader takes what it reads off the front, or gives the refusal.
 #![tactic(auto)]
 
 mod refusal; // refusal.rt: why something is refused
 
-ghost use Rattle.std.specs.Prelude.{◌≡◌, drop};
+ghost use Rattle.std.specs.Prelude.{◌≡◌};
 ghost use Rattle.words.specs.Parse.{word, up_to, index, number};
-ghost use Rattle.words.specs.Cursor.{plain_of, next_at, counted_at};
+ghost use Rattle.words.specs.Cursor.{parsed};
+ghost use Rattle.words.specs.Refusal.{number_of};
 
 pub use refusal::Refusal;
 
-#[derive(Clone, Copy)]
-pub struct Cursor {
-    pub at: usize,
-}
+// How far from 0 a value may be.
+pub const MAX_VALUE: u32 = 1073741823;
 
+// The words that are not read yet.
 #[derive(Drop)]
-pub enum Next {
-    Word(i32, Cursor),
-    Refused(usize),
+pub struct Cursor<'a> {
+    pub rest: &'a [i32],
 }
 
-#[derive(Drop)]
-pub enum Counted {
-    Number(usize, Cursor),
-    Refused(usize),
-}
-
-#[derive(Drop)]
-pub enum Plain {
-    Negative,
-    Number(usize),
-}
-
-// A word's sign, and its value as an unsigned number.
-pub fn plain_of(w: i32) -> Plain
-    ensures { result ≡ plain_of w }
-{
-    if w < 0 {
-        Plain::Negative
-    } else {
-        Plain::Number(w as usize)
-    }
-}
-
-impl Cursor {
-    // The word at the cursor, or refusal 3 at the end.
-    pub fn word(self, words: &[i32]) -> Next
-        ensures { result ≡ next_at self.at (word (drop self.at words.now)) }
+impl<'a> Cursor<'a> {
+    // The next word.
+    pub fn word(&mut self) -> Result<i32, Refusal>
+        ensures { parsed result self.new.rest.now ≡ word self.old.rest.now }
     {
-        let at = self.at;
-        if at < words.len() {
-            let w = words[at];
-            Next::Word(w, Cursor { at: at + 1 })
+        self.rest
+            .split_off_first()
+            .copied()
+            .ok_or(Refusal::WrongLength)
+    }
+
+    // A number from 0 to the limit; any other word is refused as the caller says.
+    #[tactic(auto, unfolding(crate::specs::Parse::up_to))]
+    pub fn up_to(&mut self, limit: usize, refusal: Refusal) -> Result<usize, Refusal>
+        ensures { parsed result self.new.rest.now ≡ up_to limit (number_of refusal) self.old.rest.now }
+    {
+        match usize::try_from(self.word()?) {
+            Ok(n) if n <= limit => Ok(n),
+            _ => Err(refusal),
+        }
+    }
+
+    // An index below n.
+    #[tactic(auto, unfolding(crate::specs::Parse::index))]
+    pub fn index(&mut self, n: usize) -> Result<usize, Refusal>
+        ensures { parsed result self.new.rest.now ≡ index n self.old.rest.now }
+    {
+        match usize::try_from(self.word()?) {
+            Ok(i) if i < n => Ok(i),
+            _ => Err(Refusal::Undeclared),
+        }
+    }
+
+    // A value, a coefficient or a constant.
+    #[tactic(auto, unfolding(crate::specs::Parse::number))]
+    pub fn value(&mut self) -> Result<i32, Refusal>
+        ensures { parsed result self.new.rest.now ≡ number self.old.rest.now }
+    {
+        let w = self.word()?;
+        if w.unsigned_abs() <= MAX_VALUE {
+            Ok(w)
         } else {
-            Next::Refused(3)
-        }
-    }
-
-    // A number from 0 to the limit; any other word is refused by the number given.
-    pub fn up_to(self, words: &[i32], limit: usize, refusal: usize) -> Counted
-        ensures { result ≡ counted_at self.at (up_to limit refusal (drop self.at words.now)) }
-    {
-        match self.word(words) {
-            Next::Refused(k) => Counted::Refused(k),
-            Next::Word(w, c) => match plain_of(w) {
-                Plain::Negative => Counted::Refused(refusal),
-                Plain::Number(n) => {
-                    if n <= limit {
-                        Counted::Number(n, c)
-                    } else {
-                        Counted::Refused(refusal)
-                    }
-                }
-            },
-        }
-    }
-
-    // An index below n; any other word is refusal 6.
-    pub fn index(self, words: &[i32], n: usize) -> Counted
-        ensures { result ≡ counted_at self.at (index n (drop self.at words.now)) }
-    {
-        match self.word(words) {
-            Next::Refused(k) => Counted::Refused(k),
-            Next::Word(w, c) => match plain_of(w) {
-                Plain::Negative => Counted::Refused(6),
-                Plain::Number(i) => {
-                    if i < n {
-                        Counted::Number(i, c)
-                    } else {
-                        Counted::Refused(6)
-                    }
-                }
-            },
-        }
-    }
-
-    // A value, a coefficient or a constant: beyond ±1073741823 it is refusal 4.
-    pub fn value(self, words: &[i32]) -> Next
-        ensures { result ≡ next_at self.at (number (drop self.at words.now)) }
-    {
-        match self.word(words) {
-            Next::Refused(k) => Next::Refused(k),
-            Next::Word(w, c) => {
-                if w < -1073741823 {
-                    return Next::Refused(4);
-                }
-                if w > 1073741823 {
-                    return Next::Refused(4);
-                }
-                Next::Word(w, c)
-            }
+            Err(Refusal::OutOfRange)
         }
     }
 }

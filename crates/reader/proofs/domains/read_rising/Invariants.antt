@@ -1,11 +1,9 @@
--- `reader::domains::read_rising` meets its contract. Assumes nothing.
+-- The loop of `reader::domains::read_rising`. Assumes nothing.
 use mathlib.Core.Path.{◌≡◌}
+use Prim.Native.Nat.{◌-◌}
 use Rattle.read.specs.Read.{read_rising as rising-of}
-use Rattle.reader.specs.Position.{reads}
+use Rattle.reader.specs.Position.{passed}
 use Rattle.reader.proofs.domains.read_rising.Given as goal
 
-abbrev pub invariant-loop-rest : goal.invariant-loop-rest
-invariant-loop-rest l = reads (rising-of l.rest l.last) l.d.at l.words ≡ reads (rising-of l.initial.rest l.initial.last) l.initial.d.at l.words
-
-abbrev pub decreases-loop-rest : goal.decreases-loop-rest
-decreases-loop-rest l = l.rest
+abbrev pub invariant-loop : goal.invariant-loop
+invariant-loop l = passed (rising-of (l.count - l.counter) l.last l.c.rest.now) ≡ passed (rising-of l.count l.above l.fn.c.rest.now)

@@ -1,8 +1,9 @@
--- The functions of `reader::expressions` meet their contracts; the levels left fall. Assumes nothing.
-use Prim.Native.Nat.{◌+◌, ◌*◌}
+-- The functions of `reader::expressions`: the levels left fall. Assumes nothing.
+use Prim.Native.Nat.{◌+◌, ◌-◌, ◌*◌}
 use mathlib.Core.Path.{◌≡◌}
-use Rattle.read.specs.Read.{read_terms as terms_of, read_members as members-of, read_int as int_of, read_bool as bool_of}
-use Rattle.reader.specs.Position.{reads}
+use Rattle.words.specs.Parse.{times}
+use Rattle.read.specs.Read.{read_int as int_of, read_bool as bool_of}
+use Rattle.reader.specs.Position.{passed, term_of}
 use Rattle.reader.proofs.expressions.+expressions.Given as goal
 
 abbrev pub decreases-read_bool : goal.decreases-read_bool
@@ -29,14 +30,8 @@ decreases-read_pair l = 3 * l.left + 1
 abbrev pub decreases-read_terms : goal.decreases-read_terms
 decreases-read_terms l = 3 * l.left + 1
 
-abbrev pub invariant-read_members-loop-rest : goal.invariant-read_members-loop-rest
-invariant-read_members-loop-rest l = reads (members-of (bool_of l.bools l.ints l.left) l.rest) l.d.at l.words ≡ reads (members-of (bool_of l.bools l.ints l.left) l.initial.rest) l.initial.d.at l.words
+abbrev pub invariant-read_members-loop : goal.invariant-read_members-loop
+invariant-read_members-loop l = passed (times (l.members - l.counter) (bool_of l.vars.bools l.vars.ints l.left) l.c.rest.now) ≡ passed (times l.members (bool_of l.vars.bools l.vars.ints l.left) l.fn.c.rest.now)
 
-abbrev pub decreases-read_members-loop-rest : goal.decreases-read_members-loop-rest
-decreases-read_members-loop-rest l = l.rest
-
-abbrev pub invariant-read_terms-loop-terms : goal.invariant-read_terms-loop-terms
-invariant-read_terms-loop-terms l = reads (terms_of (int_of l.bools l.ints l.left) l.terms) l.d.at l.words ≡ reads (terms_of (int_of l.bools l.ints l.left) l.initial.terms) l.initial.d.at l.words
-
-abbrev pub decreases-read_terms-loop-terms : goal.decreases-read_terms-loop-terms
-decreases-read_terms-loop-terms l = l.terms
+abbrev pub invariant-read_terms-loop : goal.invariant-read_terms-loop
+invariant-read_terms-loop l = passed (times (l.terms - l.counter) (term_of (int_of l.vars.bools l.vars.ints l.left)) l.c.rest.now) ≡ passed (times l.terms (term_of (int_of l.vars.bools l.vars.ints l.left)) l.fn.c.rest.now)
