@@ -6,8 +6,9 @@ ghost use Rattle.std.specs.Prelude.{◌≡◌, Bool, cond, ◌||◌, [], ◌∷�
 ghost use Rattle.std.proofs.Math.Seq.{slice};
 ghost use Rattle.laws.specs.Slices.{Stored};
 ghost use Rattle.syntax.specs.Syntax.{encode_bool};
-ghost use Rattle.fold.specs.Fold.{action as action_at, fold_var, is_value};
-ghost use Rattle.fold.specs.Table.{op_num};
+ghost use Rattle.std.proofs.Math.Option.{Option};
+ghost use Rattle.fold.specs.Fold.{Op as FoldOp, action as action_at, fold_var, is_value};
+ghost use Rattle.fold.specs.Table.{op_num, state_num, action_num};
 ghost use Rattle.domains.specs.Declared.{DomainBelow};
 ghost use Rattle.folding.specs.Known.{known, is_open, op_of, action_of};
 ghost use Rattle.folding.specs.Steps.{state_of, not_step, not_state, list_step, list_state, binary_step, binary_state, single_of, IntVarPost, ReadyInt, ReadyTerms, IntPost, TermsPost, Ready, ReadyMembers, FoldPost, MembersPost};
@@ -98,26 +99,40 @@ fn op_at(code: usize) -> Op
     }
 }
 
+// One number for each operator (Xor, Iff, Imp), three bits to an action: octal digit 3 * left + right, counted from the last, is the action for these sides.
+// Sides: 0 false, 1 true, 2 unknown. Actions: 0 false, 1 true, 2 left, 3 not left, 4 right, 5 not right, 6 keep.
+// No `match` over operators and sides: request 2.4 of document 02 asks for this form, since the station's image is short of constant space.
+const ACTIONS: [u32; 3] = [0o632501410, 0o623410501, 0o613410111];
+
+fn packed_action(op: usize, a: usize, b: usize) -> usize
+    requires { (op < 3) × (a < 3) × (b < 3) }
+    ensures { (o : FoldOp) (x y : Option Bool) → op ≡ op_num o → a ≡ state_num x → b ≡ state_num y → result ≡ action_num (action_at o x y) }
+{
+    let n = ACTIONS[op];
+    let k = 9 * a + 3 * b;
+    ((n >> k) % 8) as usize
+}
+
+fn side(state: Option<bool>) -> usize
+    ensures { result ≡ state_num (known state) }
+{
+    match state {
+        Some(b) => b as usize,
+        None => 2,
+    }
+}
+
 fn action(op: Op, left: Option<bool>, right: Option<bool>) -> Becomes
     ensures { action_of result ≡ action_at (op_of op) (known left) (known right) }
 {
-    match (op, left, right) {
-        (_, None, None) => Becomes::Keep,
-        (Op::Xor, Some(a), Some(b)) => Becomes::Constant(a != b),
-        (Op::Xor, Some(false), None) => Becomes::Right,
-        (Op::Xor, Some(true), None) => Becomes::NotRight,
-        (Op::Xor, None, Some(false)) => Becomes::Left,
-        (Op::Xor, None, Some(true)) => Becomes::NotLeft,
-        (Op::Iff, Some(a), Some(b)) => Becomes::Constant(a == b),
-        (Op::Iff, Some(false), None) => Becomes::NotRight,
-        (Op::Iff, Some(true), None) => Becomes::Right,
-        (Op::Iff, None, Some(false)) => Becomes::NotLeft,
-        (Op::Iff, None, Some(true)) => Becomes::Left,
-        (Op::Imp, Some(false), _) => Becomes::Constant(true),
-        (Op::Imp, _, Some(true)) => Becomes::Constant(true),
-        (Op::Imp, Some(true), Some(false)) => Becomes::Constant(false),
-        (Op::Imp, Some(true), None) => Becomes::Right,
-        (Op::Imp, None, Some(false)) => Becomes::NotLeft,
+    match packed_action(op as usize - 15, side(left), side(right)) {
+        0 => Becomes::Constant(false),
+        1 => Becomes::Constant(true),
+        2 => Becomes::Left,
+        3 => Becomes::NotLeft,
+        4 => Becomes::Right,
+        5 => Becomes::NotRight,
+        _ => Becomes::Keep,
     }
 }
 

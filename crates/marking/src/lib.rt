@@ -44,6 +44,7 @@ fn has_code(work: &[i32], end: usize) -> bool
 }
 
 // Whether a place from FOLDED to `end` reads as an If.
+// A loop, since the proof of the same by `any` did not close: it says what the closure's calls gave, and not what it is to be.
 fn finds_if(work: &[i32], end: usize) -> bool
     requires { (folded_end ≤ length work.now) × (end ≤ folded_end) }
     ensures { result ≡ finds_if (read_part work.now) folded (end - folded) }
