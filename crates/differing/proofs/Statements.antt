@@ -1,7 +1,8 @@
 -- The values' clauses where some are used up, and the statement's: its pairs', then its values'. Assumes nothing.
-use mathlib.Core.Path.{◌≡◌, sym, ap}
+use mathlib.Core.Path.{sym, ap}
 use mathlib.Core.List.{List, map, ◌++◌}
-use Prim.Native.Nat.{ℕ, ◌-◌}
+use Rattle.std.specs.Prelude.{None}
+use Prim.Native.Nat.{ℕ}
 use native.Mathlib.Omega.{arith}
 use lib.IntN.{ℤ}
 use lib.ListN.{length-map}
@@ -11,18 +12,18 @@ use Rattle.rows.specs.Emit.{clauses_words, Behind}
 use Rattle.rows.proofs.Looping.{clauses_none, clauses_to}
 use Rattle.statements.specs.Different.{value_clause}
 use Rattle.differing.specs.Rows.{pairs_words, pair_count, PutPairs}
-use Rattle.differing.specs.Values.{Used, PutEach, PutValues}
+use Rattle.differing.specs.Values.{Used, UsedAt, PutEach, PutValues}
 use Rattle.differing.specs.Different.{different_words, different_lines, PutDifferent}
 use Rattle.differing.proofs.Loops.{puts_then, puts_to, puts_clauses}
 
 module _ {set w : List ℤ} {at count : ℕ} where
-  pub values_none : {u : ℕ} → Used set w at count u → u ≡ 0 → {out : List ℤ} {o k : ℕ} → Behind out o k → PutValues set w at count out o k out o k
-  values_none h z b = record { clauses = λ ds es v. clauses_to (ap (map (value_clause w es)) (sym (h.none z ds es v))) (clauses_none b); behind = b }
+  pub values_none : Used set w at count None → {out : List ℤ} {o k : ℕ} → Behind out o k → PutValues set w at count out o k out o k
+  values_none h b = record { clauses = λ ds es v. clauses_to (ap (map (value_clause w es)) (sym (h ds es v))) (clauses_none b); behind = b }
 
-  pub values_each : {u : ℕ} → Used set w at count u → (u ≡ 0 → ⊥) → {out out' : List ℤ} {o k o' k' : ℕ} → PutEach set w at count (u - 1) out o k out' o' k' → PutValues set w at count out o k out' o' k'
-  values_each h z p = record {
+  pub values_each : {d : ℕ} → UsedAt set w at count d → {out out' : List ℤ} {o k o' k' : ℕ} → PutEach set w at count d out o k out' o' k' → PutValues set w at count out o k out' o' k'
+  values_each u p = record {
     clauses = λ ds es v.
-        let l = (h.some z).values ds es v in
+        let l = u.values ds es v in
         clauses_to (ap (map (value_clause w es)) (sym l.is)) (p.clauses es l.domain v.standing l.sized);
     behind = p.behind;
   }

@@ -2,6 +2,7 @@
 use mathlib.Core.Path.{◌≡◌, refl, sym, ap, ◌∙◌, subst}
 use mathlib.Core.Bool.{Bool, true, false, ◌&&◌, cond}
 use mathlib.Core.List.{List, [], ◌∷◌, map}
+use Rattle.std.specs.Prelude.{None, Some}
 use Prim.Native.Nat.{ℕ, ◌+◌, ◌≤◌, ◌<◌}
 use native.Mathlib.Omega.{arith}
 use lib.IntN.{ℤ, pos}
@@ -17,11 +18,8 @@ use Rattle.domains.specs.Declared.{DomainPost}
 use Rattle.walk.specs.Decode.{word, read_part}
 use Rattle.differing.specs.Standing.{Standing}
 use Rattle.differing.proofs.Places.{code_is}
-use Rattle.differing.specs.Values.{SomeOne, Over, SomeOver, AllLike, Variables, Lists, UsedAt, Used}
+use Rattle.differing.specs.Values.{SomeOne, Over, SomeOver, AllLike, Variables, Lists, Used}
 use Rattle.differing.proofs.Likes.{variable_of, sized_of, one_sized, first_one, some_one}
-
-nothing : {set w : List ℤ} {at count : ℕ} → ((ds : List Domain) (es : List IntExpr) → Over set w at count ds es → values_used_up ds es ≡ []) → Used set w at count 0
-nothing h = record { none = λ z. h; some = λ z. absurd (z refl) }
 
 module _ (set w : List ℤ) (at count : ℕ) where
   -- ---- fewer than two
@@ -32,8 +30,8 @@ module _ (set w : List ℤ) (at count : ℕ) where
   few l ds (e ∷ []) v = refl
   few l ds (e ∷ f ∷ es) v = absurd (omega (arith, v.standing.counted))
 
-  pub used_few : count < 2 → Used set w at count 0
-  used_few l = nothing (few l)
+  pub used_few : count < 2 → Used set w at count None
+  used_few l = few l
 
   module _ (two : 2 ≤ count) where
     of_first : (ds : List Domain) (es : List IntExpr) → Over set w at count ds es → values_used_up ds es ≡ values_of_first ds count es
@@ -59,8 +57,8 @@ module _ (set w : List ℤ) (at count : ℕ) where
       other k ds (Linear ts ∷ es) v = refl
       other k ds (If i c t f ∷ es) v = refl
 
-      pub used_other : (m ≡ 21 → ⊥) → Used set w at count 0
-      used_other k = nothing (λ ds es v. of_first ds es v ∙ other k ds es v)
+      pub used_other : (m ≡ 21 → ⊥) → Used set w at count None
+      used_other k = λ ds es v. of_first ds es v ∙ other k ds es v
 
       -- ---- the variable x, whose domain is at d
 
@@ -77,8 +75,8 @@ module _ (set w : List ℤ) (at count : ℕ) where
               let t : is_like ds count (domain_of ds x) e ≡ false = rw (i, q) refl in
               first_values ds e es i ∙ ap (λ (b : Bool). cond (b && all (is_like ds count (domain_of ds x)) es) (enumerate (domain_of ds x)) []) t
 
-          pub used_count : Used set w at count 0
-          used_count = nothing (λ ds es v. of_first ds es v ∙ counted_not ds es v)
+          pub used_count : Used set w at count None
+          used_count = λ ds es v. of_first ds es v ∙ counted_not ds es v
 
         module _ (same : c ≡ pos count) {r : Bool} (likes : AllLike set w at count d r) where
           all_is : (ds : List Domain) (e : IntExpr) (es : List IntExpr) → Over set w at count ds (e ∷ es) → x < length ds → r ≡ all (is_like ds count (domain_of ds x)) (e ∷ es)
@@ -91,8 +89,8 @@ module _ (set w : List ℤ) (at count : ℕ) where
           unlike h ds [] v = absurd (some_first v.standing.counted)
           unlike h ds (e ∷ es) v = variable_of set w at code k index ds e (first_one set w at count v) λ i l. chosen ds e es v i l ∙ ap (λ (b : Bool). cond b (enumerate (domain_of ds x)) []) h
 
-          pub used_unlike : r ≡ false → Used set w at count 0
-          used_unlike h = nothing (unlike h)
+          pub used_unlike : r ≡ false → Used set w at count None
+          used_unlike h = unlike h
 
           -- ---- all are like it
 
@@ -129,15 +127,9 @@ module _ (set w : List ℤ) (at count : ℕ) where
               few = v.few;
             }
 
-            used_at : SomeOver set w at count → UsedAt set w at count d
-            used_at o = record {
+            pub used_like : SomeOver set w at count → Used set w at count (Some d)
+            used_like o = record {
               variables = variables o.domains o.exprs o.it;
               sized = one_sized set w at code k index d post many_is count same (used_one o) o.it.few;
               values = lists;
-            }
-
-            pub used_like : SomeOver set w at count → Used set w at count (d + 1)
-            used_like o = record {
-              none = λ z. absurd (omega arith);
-              some = λ z. subst (UsedAt set w at count) (omega arith) (used_at o);
             }

@@ -1,6 +1,6 @@
 -- Where no If stands, the words that are written by the final maps are those of stages' parts (`different_text`, `different_part_lines`, `different_behind`), and
 -- every addition has room within refusals 9 and 10 (`different_asked`). w: the work slice with the final maps; ds: the declared domains.
-use Rattle.std.specs.Prelude.{◌≡◌, false, ℕ, ◌+◌, ◌-◌, ◌≤◌, ℤ}
+use Rattle.std.specs.Prelude.{◌≡◌, false, ℕ, ◌+◌, ◌≤◌, ℤ}
 use Rattle.std.proofs.Math.Path.{refl, sym, ap}
 use Rattle.std.proofs.Common.{◌∙◌}
 use mathlib.Core.List.{List, [], ◌∷◌, ◌++◌, map, append-nil, append_assoc}

@@ -1,5 +1,5 @@
 -- The clauses of the values of an AllDifferent: what finding the values and writing a clause for each ask and give.
-use Rattle.std.specs.Prelude.{◌≡◌, Bool, true, List, [], map, ℕ, ◌-◌, ◌≤◌, ◌<◌, ℤ, pos, length, get_or}
+use Rattle.std.specs.Prelude.{Option, None, Some, ◌≡◌, Bool, true, List, [], map, ℕ, ◌≤◌, ◌<◌, ℤ, pos, length, get_or}
 use Rattle.std.specs.Int.Signed.{lt_z}
 use Rattle.laws.specs.Same.{same_words}
 use Rattle.laws.specs.Lists.{all}
@@ -98,10 +98,10 @@ pub record UsedAt (set w : List ℤ) (at count d : ℕ) : Type 0 where
   pub sized : SomeSized set d count
   pub values : (ds : List Domain) (es : List IntExpr) → Over set w at count ds es → Lists set d count (values_used_up ds es)
 
--- r: the place of that domain plus 1, or 0 where no values are used up
-pub record Used (set w : List ℤ) (at count r : ℕ) : Type 0 where
-  pub none : r ≡ 0 → (ds : List Domain) (es : List IntExpr) → Over set w at count ds es → values_used_up ds es ≡ []
-  pub some : (r ≡ 0 → ⊥) → UsedAt set w at count (r - 1)
+-- the place of that domain, or none where no values are used up
+abbrev pub Used : List ℤ → List ℤ → ℕ → ℕ → Option ℕ → Type 0
+Used set w at count None = (ds : List Domain) (es : List IntExpr) → Over set w at count ds es → values_used_up ds es ≡ []
+Used set w at count (Some d) = UsedAt set w at count d
 
 -- ---- the clauses
 

@@ -65,10 +65,7 @@ fn is_leaf(work: &[i32], p: usize) -> bool
     ensures { result ≡ leaf_code (word_in (read_part work.now) p) }
 {
     let k = survey::word(work, p);
-    if k == 22 {
-        return false;
-    }
-    k != 23
+    k != 22 && k != 23
 }
 
 // Below this place two words are folded ones.
@@ -152,8 +149,7 @@ fn put_sums(work: &[i32], n: Counters, a: usize, b: usize, out: &mut [i32], o: u
 {
     let x = totals::linear_of(work, a, 64, 2, n.bools, n);
     let y = totals::less_side(x, work, b, 64, 2);
-    let d = y.sum;
-    output::put_linear(1, false, d, out, o)
+    output::put_linear(1, false, y.sum, out, o)
 }
 
 // The same, whatever they are.
@@ -161,12 +157,10 @@ fn put_comparison(work: &[i32], n: Counters, a: usize, b: usize, out: &mut [i32]
     requires { Pair work.now n a b × Open out.old o }
     ensures { Compared work.now n a b out.old o out.new result }
 {
-    if is_leaf(work, a) {
-        if is_leaf(work, b) {
-            let x = leaf_at(work, a);
-            let y = leaf_at(work, b);
-            return put_leaves(x, y, out, o);
-        }
+    if is_leaf(work, a) && is_leaf(work, b) {
+        let x = leaf_at(work, a);
+        let y = leaf_at(work, b);
+        return put_leaves(x, y, out, o);
     }
     put_sums(work, n, a, b, out, o)
 }
@@ -209,15 +203,13 @@ fn put_row(
     let mut b = p;
     let mut q = o;
     let mut c = k;
-    let mut rest = count;
-    while rest != 0 {
+    for _ in 0..count {
         if q == memory::CAP {
             return Written { at: q, clauses: c };
         }
         q = put_pair(work, n, a, b, out, q);
         b = end_of(work, b);
         c += 1;
-        rest -= 1;
     }
     Written { at: q, clauses: c }
 }
@@ -238,13 +230,11 @@ fn put_pairs(
     let mut p = at;
     let mut q = o;
     let mut c = k;
-    let mut rest = count;
-    while rest != 0 {
+    for rest in (0..count).rev() {
         if q == memory::CAP {
             return Written { at: q, clauses: c };
         }
         let next = end_of(work, p);
-        rest -= 1;
         let w = put_row(work, n, p, next, rest, out, q, c);
         p = next;
         q = w.at;
@@ -273,14 +263,12 @@ fn same_values(set: &[i32], d: usize, b: usize, n: usize) -> bool
     requires { SomeSized set.now d n × SomeSized set.now b n }
     ensures { SameOf set.now d b n result }
 {
-    let mut k = 0;
-    while k < n {
+    for k in 0..n {
         let x = value_at(set, d, k);
         let y = value_at(set, b, k);
         if x != y {
             return false;
         }
-        k += 1;
     }
     true
 }
@@ -290,16 +278,13 @@ fn is_like(set: &[i32], work: &[i32], p: usize, b: usize, n: usize) -> bool
     requires { SomeOne set.now work.now p × SomeSized set.now b n }
     ensures { Like set.now work.now p b n result }
 {
-    if survey::word(work, p) == 21 {
-        let v = survey::word(work, p + 1);
-        let d = domains::domain_of(set, 2, v);
-        let m = domains::num_candidates(set, d);
-        let w = n as i32;
-        if m == w {
-            return same_values(set, d, b, n);
-        }
+    if survey::word(work, p) != 21 {
+        return false;
     }
-    false
+    let v = survey::word(work, p + 1);
+    let d = domains::domain_of(set, 2, v);
+    let m = domains::num_candidates(set, d);
+    m == n as i32 && same_values(set, d, b, n)
 }
 
 // Whether so many expressions from `at` on are variables of that many values each, those of the domain at b.
@@ -308,40 +293,30 @@ fn all_like(set: &[i32], work: &[i32], at: usize, count: usize, b: usize) -> boo
     ensures { AllLike set.now work.now at count b result }
 {
     let mut p = at;
-    let mut rest = count;
-    while rest != 0 {
-        if is_like(set, work, p, b, count) {
-            p += 2;
-            rest -= 1;
-        } else {
+    for _ in 0..count {
+        if !is_like(set, work, p, b, count) {
             return false;
         }
+        p += 2;
     }
     true
 }
 
-// Where so many expressions from `at` on use up the values of a domain: the domain's place plus 1, else 0.
-fn used_up(set: &[i32], work: &[i32], at: usize, count: usize) -> usize
+// The place of the domain whose values so many expressions from `at` on use up.
+fn used_up(set: &[i32], work: &[i32], at: usize, count: usize) -> Option<usize>
     requires { SomeOver set.now work.now at count }
     ensures { Used set.now work.now at count result }
 {
-    if count < 2 {
-        return 0;
-    }
-    if survey::word(work, at) != 21 {
-        return 0;
+    if count < 2 || survey::word(work, at) != 21 {
+        return None;
     }
     let v = survey::word(work, at + 1);
     let d = domains::domain_of(set, 2, v);
     let m = domains::num_candidates(set, d);
-    let n = count as i32;
-    if m != n {
-        return 0;
+    if m == count as i32 && all_like(set, work, at, count, d) {
+        return Some(d);
     }
-    if all_like(set, work, at, count, d) {
-        return d + 1;
-    }
-    0
+    None
 }
 
 // A comparison with x for each of so many variables from `at` on.
@@ -351,13 +326,11 @@ fn put_literals(work: &[i32], at: usize, count: usize, x: i32, out: &mut [i32], 
 {
     let mut p = at;
     let mut q = o;
-    let mut left = count;
-    while left != 0 {
+    for _ in 0..count {
         let v = survey::word(work, p + 1);
         let n = number_at(work, v);
         q = rows::put_cmp(out, q, 0, n, x);
         p += 2;
-        left -= 1;
     }
     q
 }
@@ -386,17 +359,15 @@ fn put_each(
     requires { Variables work.now at count × SomeSized set.now d count × Behind out.old o k }
     ensures { PutEach set.now work.now at count d out.old o k out.new result.at result.clauses }
 {
-    let mut i = 0;
     let mut q = o;
     let mut c = k;
-    while i < count {
+    for i in 0..count {
         if q == memory::CAP {
             return Written { at: q, clauses: c };
         }
         let x = value_at(set, d, i);
         q = put_value(work, at, count, x, out, q);
         c += 1;
-        i += 1;
     }
     Written { at: q, clauses: c }
 }
@@ -414,11 +385,10 @@ fn put_values(
     requires { SomeOver set.now work.now at count × Behind out.old o k }
     ensures { PutValues set.now work.now at count out.old o k out.new result.at result.clauses }
 {
-    let u = used_up(set, work, at, count);
-    if u == 0 {
-        return Written { at: o, clauses: k };
+    match used_up(set, work, at, count) {
+        Some(d) => put_each(set, work, at, count, d, out, o, k),
+        None => Written { at: o, clauses: k },
     }
-    put_each(set, work, at, count, u - 1, out, o, k)
 }
 
 // ---- the statement
@@ -508,8 +478,7 @@ fn rewrite_row(
     let mut b = at;
     let mut q = o;
     let mut m = k;
-    let mut rest = count;
-    while rest != 0 {
+    for _ in 0..count {
         if room.cap < d.used {
             return Rewritten {
                 walk: d,
@@ -523,7 +492,6 @@ fn rewrite_row(
         d = r.walk;
         q = r.at;
         m = r.clauses;
-        rest -= 1;
     }
     Rewritten {
         walk: d,
@@ -551,8 +519,7 @@ fn rewrite_pairs(
     let mut p = at;
     let mut q = o;
     let mut m = k;
-    let mut rest = count;
-    while rest != 0 {
+    for rest in (0..count).rev() {
         if room.cap < d.used {
             return Rewritten {
                 walk: d,
@@ -561,7 +528,6 @@ fn rewrite_pairs(
             };
         }
         let next = end_of(work, p);
-        rest -= 1;
         let r = rewrite_row(work, none, p, next, rest, room, d, out, q, m);
         p = next;
         d = r.walk;
@@ -592,19 +558,13 @@ pub fn rewrite_different(
 {
     let n = survey::word(work, at + 1);
     let r = rewrite_pairs(work, none, at + 2, n, room, c, out, o, k);
-    let d = r.walk;
-    let p = r.at;
-    let m = r.clauses;
-    if room.cap < d.used {
-        return Rewritten {
-            walk: d,
-            at: p,
-            clauses: m,
-        };
+    if room.cap < r.walk.used {
+        return r;
     }
-    let w = put_values(set, work, at + 2, n, out, p, rows::lesser(m, p));
+    let m = rows::lesser(r.clauses, r.at);
+    let w = put_values(set, work, at + 2, n, out, r.at, m);
     Rewritten {
-        walk: d,
+        walk: r.walk,
         at: w.at,
         clauses: w.clauses,
     }

@@ -1,6 +1,5 @@
 -- The end that the scan finds.
 use Rattle.differing.proofs.Loops.{end_is}
-use borrow.Author.Rules.{rules}
 use Rattle.differing.proofs.end_of.Goals as goal
 
 pub returns : goal.returns

@@ -2,10 +2,9 @@
 use mir.Syntax.{w32}
 use native.Mathlib.Omega.{arith}
 use mir.Facts.{to_z-of_z}
-use borrow.Author.Rules.{rules, sfits_of}
+use borrow.Author.Rules.{sfits_of}
 use Rattle.totals.proofs.Numbers.{word_there, word_behind}
 use Rattle.differing.proofs.Leaves.{variable_leaf, constant_leaf, index_low}
-use borrow.Author.Rules.{rules}
 use Rattle.differing.proofs.leaf_at.Goals as goal
 
 pub number_at-n-requires : goal.number_at-n-requires

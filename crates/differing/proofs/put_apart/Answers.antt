@@ -1,7 +1,6 @@
 -- One law for each order of the two numbers.
 use native.Mathlib.Omega.{arith}
 use Rattle.differing.proofs.Leaves.{apart_none, apart_left, apart_right, apart_up, apart_down, none_wrote, one_wrote, two_wrote}
-use borrow.Author.Rules.{rules}
 use Rattle.differing.proofs.put_apart.Goals as goal
 
 pub returns-then-m-n : goal.returns-then-m-n

@@ -1,7 +1,6 @@
 -- Two constants or variables at once, others by their sums.
 use mathlib.Core.Path.{sym, ◌∙◌}
 use Rattle.differing.proofs.Pairs.{leaves_light, leaves_compared}
-use borrow.Author.Rules.{rules}
 use Rattle.differing.proofs.put_comparison.Goals as goal
 
 pub leaf_at-x-requires : goal.leaf_at-x-requires

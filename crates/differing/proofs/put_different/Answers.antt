@@ -1,6 +1,5 @@
 -- The pairs, then the values.
 use Rattle.differing.proofs.Statements.{different_wrote}
-use borrow.Author.Rules.{rules}
 use Rattle.differing.proofs.put_different.Goals as goal
 
 pub returns : goal.returns

@@ -1,11 +1,10 @@
 -- The loop stops where the answer is too long; Valuing carries the clauses of the values left.
 use native.Mathlib.Omega.{arith}
-use Prim.Native.Nat.{◌-◌}
 use mir.Syntax.{w32}
 use mir.Val.{SFits}
 use mir.Facts.{to_z-of_z}
 use Rattle.differing.proofs.Candidates.{has_value}
-use Rattle.differing.proofs.Literals.{Valuing, valuing_start, valuing_next, valuing_end, valuing_stop}
+use Rattle.differing.proofs.Literals.{valuing_start, valuing_next, valuing_end, valuing_stop}
 use borrow.Author.Rules.{rules}
 use Rattle.differing.proofs.put_each.Lts
 use Rattle.differing.proofs.put_each.Tie
@@ -35,12 +34,6 @@ put_value-q-requires c = (c.requires.0, rw (to_z-of_z (value-fits c.before)) c.v
 
 pub overflow_add-c : goal.overflow_add-c
 overflow_add-c c = omega (arith, c.loop-i.invariant.behind.low, c.loop-i.invariant.behind.room.low)
-
-pub overflow_add-i : goal.overflow_add-i
-overflow_add-i c = omega (arith, c.loop-i-test.true)
-
-pub loop-i-smaller : goal.loop-i-smaller
-loop-i-smaller c = omega (arith, c.loop-i-test.true)
 
 pub loop-i-preserved : goal.loop-i-preserved
 loop-i-preserved c = valuing_next c.args.set.now c.args.work.now c.args.at c.args.count c.args.d c.args.out.now c.args.o c.args.k c.loop-i.invariant c.requires.0 c.loop-i-test.true c.if-q-eq-CAP.false c.value_at-x.ensures (to_z-of_z (value-fits c.before.before.before)) c.put_value-q.ensures

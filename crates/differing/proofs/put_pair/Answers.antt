@@ -1,6 +1,5 @@
 -- No literal, one comparison.
 use Rattle.differing.proofs.Pairs.{pair_wrote}
-use borrow.Author.Rules.{rules}
 use Rattle.differing.proofs.put_pair.Goals as goal
 
 pub returns : goal.returns

@@ -1,6 +1,5 @@
 -- The difference of the two sums, and its words.
 use Rattle.differing.proofs.Pairs.{first_asks, second_asks, linear_asks, sums_wrote}
-use borrow.Author.Rules.{rules}
 use Rattle.differing.proofs.put_sums.Goals as goal
 
 pub linear_of-x-requires : goal.linear_of-x-requires

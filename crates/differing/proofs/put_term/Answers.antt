@@ -2,7 +2,6 @@
 use mathlib.Core.Path.{refl}
 use Rattle.laws.specs.Writes.{wrote_then}
 use Rattle.output.proofs.Laws.{put_word, put_cast}
-use borrow.Author.Rules.{rules}
 use Rattle.differing.proofs.put_term.Goals as goal
 
 pub returns : goal.returns

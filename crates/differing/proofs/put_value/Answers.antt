@@ -3,7 +3,6 @@ use native.Mathlib.Omega.{arith}
 use mir.Facts.{to_z-of_z}
 use Rattle.output.proofs.Laws.{put_cast}
 use Rattle.differing.proofs.Literals.{value_wrote}
-use borrow.Author.Rules.{rules}
 use Rattle.differing.proofs.put_value.Goals as goal
 
 pub returns : goal.returns

@@ -1,7 +1,6 @@
 -- The cells are cleared, the pair is numbered; unless the walk is full then, it is written.
 use native.Mathlib.Omega.{arith}
 use Rattle.differing.proofs.PairAgain.{pair_starts, pair_numbered, pair_full, pair_placed, pair_fit, pair_written}
-use borrow.Author.Rules.{rules}
 use Rattle.differing.proofs.rewrite_pair.Goals as goal
 
 pub clear_pair-requires : goal.clear_pair-requires

@@ -1,11 +1,10 @@
 -- Value by value; what is left tells what the whole tells.
 use mathlib.Core.Path.{refl, ap}
 use native.Mathlib.Omega.{arith}
-use Prim.Native.Nat.{◌≤◌, ◌-◌}
 use mir.Syntax.{w32}
 use mir.Val.{SFits, of_z}
 use Rattle.laws.specs.Signed.{same_value}
-use Rattle.differing.proofs.Candidates.{has_value, SameFrom, same_next, same_not, same_end}
+use Rattle.differing.proofs.Candidates.{has_value, same_next, same_not, same_end}
 use borrow.Author.Rules.{rules}
 use Rattle.differing.proofs.same_values.Goals as goal
 
