@@ -86,9 +86,8 @@ fn probes(
     ensures { ProbedAll work.now left (split_by m) count g h at base n result }
 {
     let mut r = no_members(at, base, n);
-    let mut rest = count;
     let mut f = g;
-    while rest != 0 {
+    for _ in 0..count {
         let p = r.part;
         let s = probe(work, p.at, left, m, p.base, f, counters(r));
         let q = s.part;
@@ -96,7 +95,6 @@ fn probes(
             return s;
         }
         r = with_ints(add_member(p, q), s.ints);
-        rest = rest - 1;
         f = h;
     }
     r
@@ -445,17 +443,15 @@ fn write_all(
     ensures { SurveysAll work.now left (split_by m) count g h at base n result.seen × Wrote out.old o (texts (items_at work.now left (split_by m) count g h at base) work.now n (suffix s)) out.new result.o }
 {
     let mut r = no_members(at, base, n);
-    let mut rest = count;
     let mut f = g;
     let mut p = o;
-    while rest != 0 {
+    for _ in 0..count {
         let a = r.part;
         let y = write(work, a.at, left, m, a.base, f, counters(r), s, out, p);
         let x = y.seen;
         let b = x.part;
         r = with_ints(add_member(a, b), x.ints);
         p = y.o;
-        rest = rest - 1;
         f = h;
     }
     Walked { seen: r, o: p }
@@ -483,20 +479,18 @@ fn write_longs(
     ensures { Wrote out.old o (long_texts x.mode x.base (extra_lits x) (items_at work.now left (split_by m) count g h at base) work.now n 0 (suffix s)) out.new result }
 {
     let mut q = at;
-    let mut rest = count;
     let mut f = g;
     let mut c = base;
     let mut e = n;
     let mut j: usize = 0;
     let mut p = o;
-    while rest != 0 {
+    for _ in 0..count {
         let y = probe(work, q, left, m, c, f, e);
         let a = y.part;
         if a.longs == 0 {
             q = a.at;
             c = a.base;
             e = counters(y);
-            rest = rest - 1;
             f = h;
             continue;
         }
@@ -507,7 +501,6 @@ fn write_longs(
         c = d.base;
         e = counters(b);
         p = z.o;
-        rest = rest - 1;
         f = h;
         j = j + 1;
     }
@@ -930,13 +923,12 @@ fn registers(
     ensures { Puts (regs (items_at work.now left (split_by m) count g h at base) work.now n) (reg_lines (items_at work.now left (split_by m) count g h at base) work.now n) out.old o out.new result }
 {
     let mut q = at;
-    let mut rest = count;
     let mut f = g;
     let mut c = base;
     let mut e = n;
     let mut k: usize = 0;
     let mut p = o;
-    while rest != 0 {
+    for _ in 0..count {
         let x = register(work, q, left, m, c, f, e, out, p);
         let y = survey(work, q, left, m, c, f, e);
         let a = y.part;
@@ -945,7 +937,6 @@ fn registers(
         e = counters(y);
         k = bump(k, x.lines);
         p = x.o;
-        rest = rest - 1;
         f = h;
     }
     Added { lines: k, o: p }
@@ -1031,16 +1022,14 @@ fn register_terms(
         base: base,
         n: n,
     };
-    let mut rest = count;
     let mut k: usize = 0;
     let mut p = o;
-    while rest != 0 {
+    for _ in 0..count {
         let q = within(y.at + 1);
         let x = register_int(work, q, left, m, y.base, y.n, out, p);
         y = survey_int(work, q, left, m, y.base, y.n);
         k = bump(k, x.lines);
         p = x.o;
-        rest = rest - 1;
     }
     Added { lines: k, o: p }
 }
@@ -1356,9 +1345,7 @@ fn term_ties(
     ensures { Blocks work.now (terms_ties (read_part work.now) (decode_int (read_part work.now) left (split_by m)) (ties_int_at (read_part work.now) left (split_by m)) count at base) n out.old o out.new result × TermSkips (read_part work.now) left (split_by m) count at base result.at result.base }
 {
     let mut x = no_ties(at, base, n, o);
-    let mut rest = count;
-    while rest != 0 {
-        rest = rest - 1;
+    for _ in 0..count {
         if scan::is_leaf(work, x.at, left) {
             let e = no_ties(x.at + 3, x.base, x.n, x.o);
             x = two_ties(x, e);
@@ -1424,11 +1411,9 @@ fn member_ties(
     ensures { Blocks work.now (many_ties (decode (read_part work.now) left (split_by m)) (ties_at (read_part work.now) left (split_by m)) count at base) n out.old o out.new result × SkipsAll (read_part work.now) left (split_by m) count at base result.at result.base }
 {
     let mut x = no_ties(at, base, n, o);
-    let mut rest = count;
-    while rest != 0 {
+    for _ in 0..count {
         let y = write_ties(work, x.at, left, m, x.base, x.n, out, x.o);
         x = two_ties(x, y);
-        rest = rest - 1;
     }
     x
 }

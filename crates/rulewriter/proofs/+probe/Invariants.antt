@@ -1,5 +1,5 @@
 use borrow.Author.Rules.{rules}
-use Prim.Native.Nat.{ℕ, ◌<◌, ◌+◌, ◌*◌}
+use Prim.Native.Nat.{ℕ, ◌<◌, ◌+◌, ◌-◌, ◌*◌}
 use mathlib.Core.Path.{◌≡◌, refl, sym, ap, ◌∙◌, subst}
 use native.Mathlib.Omega.{arith}
 use Rattle.walk.specs.Decode.{added}
@@ -18,8 +18,5 @@ decreases-probe l = 2 * l.left
 abbrev pub decreases-probes : goal.decreases-probes
 decreases-probes l = 2 * l.left + 1
 
-abbrev pub invariant-probes-loop-rest : goal.invariant-probes-loop-rest
-invariant-probes-loop-rest l = Sofar l.work l.left (split_by l.m) l.h l.count l.g l.at l.base (counters_of l.initial.r) l.r l.rest l.f × (l.r.part.longs ≡ 0)
-
-abbrev pub decreases-probes-loop-rest : goal.decreases-probes-loop-rest
-decreases-probes-loop-rest l = l.rest
+abbrev pub invariant-probes-loop : goal.invariant-probes-loop
+invariant-probes-loop l = Sofar l.work l.left (split_by l.m) l.h l.count l.g l.at l.base (counters_of l.initial.r) l.r (l.count - l.counter) l.f × (l.r.part.longs ≡ 0)

@@ -1,5 +1,5 @@
 use borrow.Author.Rules.{rules}
-use Prim.Native.Nat.{ℕ, ◌<◌, ◌≤◌, ◌+◌, ◌*◌}
+use Prim.Native.Nat.{ℕ, ◌<◌, ◌≤◌, ◌+◌, ◌-◌, ◌*◌}
 use mathlib.Core.Path.{◌≡◌, refl, sym, ◌∙◌}
 use mathlib.Core.List.{List, []}
 use native.Mathlib.Omega.{arith}
@@ -49,19 +49,13 @@ decreases-register_terms l = 4 * l.left + 1
 abbrev pub decreases-registers : goal.decreases-registers
 decreases-registers l = 4 * l.left + 1
 
-abbrev pub invariant-register_terms-loop-rest : goal.invariant-register_terms-loop-rest
-invariant-register_terms-loop-rest l =
-    Placed l.work l.y.at l.y.base l.y.n × Open l.out l.p × (length l.out ≡ length l.initial.out) × AllTermsFit (many_terms (read_part l.work) (decode_int (read_part l.work) l.left (split_by l.m)) l.rest l.y.at l.y.base).trees × (l.k ≤ limit)
-    × (bump l.k ((terms_at l.work l.left (split_by l.m) l.rest l.y.at l.y.base).added l.work l.y.n) ≡ (terms_at l.work l.left (split_by l.m) l.count l.at l.base).added l.work l.initial.y.n)
-    × ((d : List ℤ) (r : ℕ) → Wrote l.out l.p ((terms_at l.work l.left (split_by l.m) l.rest l.y.at l.y.base).adds l.work l.y.n) d r → Wrote l.initial.out l.o ((terms_at l.work l.left (split_by l.m) l.count l.at l.base).adds l.work l.initial.y.n) d r)
+abbrev pub invariant-register_terms-loop : goal.invariant-register_terms-loop
+invariant-register_terms-loop l =
+    Placed l.work l.y.at l.y.base l.y.n × Open l.out l.p × (length l.out ≡ length l.initial.out) × AllTermsFit (many_terms (read_part l.work) (decode_int (read_part l.work) l.left (split_by l.m)) (l.count - l.counter) l.y.at l.y.base).trees × (l.k ≤ limit)
+    × (bump l.k ((terms_at l.work l.left (split_by l.m) (l.count - l.counter) l.y.at l.y.base).added l.work l.y.n) ≡ (terms_at l.work l.left (split_by l.m) l.count l.at l.base).added l.work l.initial.y.n)
+    × ((d : List ℤ) (r : ℕ) → Wrote l.out l.p ((terms_at l.work l.left (split_by l.m) (l.count - l.counter) l.y.at l.y.base).adds l.work l.y.n) d r → Wrote l.initial.out l.o ((terms_at l.work l.left (split_by l.m) l.count l.at l.base).adds l.work l.initial.y.n) d r)
 
-abbrev pub decreases-register_terms-loop-rest : goal.decreases-register_terms-loop-rest
-decreases-register_terms-loop-rest l = l.rest
-
-abbrev pub invariant-registers-loop-rest : goal.invariant-registers-loop-rest
-invariant-registers-loop-rest l =
-    Sofar l.work l.initial.out l.left (split_by l.m) l.h l.q l.rest l.f l.c l.e l.p l.out × (l.k ≤ limit) × (bump l.k (reg_lines (items_at l.work l.left (split_by l.m) l.rest l.f l.h l.q l.c) l.work l.e) ≡ reg_lines (items_at l.work l.left (split_by l.m) l.count l.g l.h l.at l.base) l.work l.initial.e)
-    × ((d : List ℤ) (r : ℕ) → Wrote l.out l.p (regs (items_at l.work l.left (split_by l.m) l.rest l.f l.h l.q l.c) l.work l.e) d r → Wrote l.initial.out l.o (regs (items_at l.work l.left (split_by l.m) l.count l.g l.h l.at l.base) l.work l.initial.e) d r)
-
-abbrev pub decreases-registers-loop-rest : goal.decreases-registers-loop-rest
-decreases-registers-loop-rest l = l.rest
+abbrev pub invariant-registers-loop : goal.invariant-registers-loop
+invariant-registers-loop l =
+    Sofar l.work l.initial.out l.left (split_by l.m) l.h l.q (l.count - l.counter) l.f l.c l.e l.p l.out × (l.k ≤ limit) × (bump l.k (reg_lines (items_at l.work l.left (split_by l.m) (l.count - l.counter) l.f l.h l.q l.c) l.work l.e) ≡ reg_lines (items_at l.work l.left (split_by l.m) l.count l.g l.h l.at l.base) l.work l.initial.e)
+    × ((d : List ℤ) (r : ℕ) → Wrote l.out l.p (regs (items_at l.work l.left (split_by l.m) (l.count - l.counter) l.f l.h l.q l.c) l.work l.e) d r → Wrote l.initial.out l.o (regs (items_at l.work l.left (split_by l.m) l.count l.g l.h l.at l.base) l.work l.initial.e) d r)

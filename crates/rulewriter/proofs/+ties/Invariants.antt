@@ -1,5 +1,5 @@
 use borrow.Author.Rules.{rules}
-use Prim.Native.Nat.{ℕ, ◌<◌, ◌+◌, ◌*◌}
+use Prim.Native.Nat.{ℕ, ◌<◌, ◌+◌, ◌-◌, ◌*◌}
 use mathlib.Core.Path.{refl, sym, ◌∙◌}
 use mathlib.Core.Bool.{false}
 use native.Mathlib.Omega.{arith}
@@ -29,20 +29,14 @@ decreases-term_ties l = 4 * l.left + 1
 abbrev pub decreases-write_ties : goal.decreases-write_ties
 decreases-write_ties l = 4 * l.left
 
-abbrev pub invariant-member_ties-loop-rest : goal.invariant-member_ties-loop-rest
-invariant-member_ties-loop-rest l =
+abbrev pub invariant-member_ties-loop : goal.invariant-member_ties-loop
+invariant-member_ties-loop l =
     Placed l.work l.x.at l.x.base l.x.n
-    × Going l.work (many_ties (decode (read_part l.work) l.left (split_by l.m)) (ties_at (read_part l.work) l.left (split_by l.m)) l.count l.at l.base) l.initial.x.n l.initial.out l.o (many_ties (decode (read_part l.work) l.left (split_by l.m)) (ties_at (read_part l.work) l.left (split_by l.m)) l.rest l.x.at l.x.base) l.out l.x
-    × Skipping (read_part l.work) l.left (split_by l.m) l.count l.at l.base l.rest l.x.at l.x.base
+    × Going l.work (many_ties (decode (read_part l.work) l.left (split_by l.m)) (ties_at (read_part l.work) l.left (split_by l.m)) l.count l.at l.base) l.initial.x.n l.initial.out l.o (many_ties (decode (read_part l.work) l.left (split_by l.m)) (ties_at (read_part l.work) l.left (split_by l.m)) (l.count - l.counter) l.x.at l.x.base) l.out l.x
+    × Skipping (read_part l.work) l.left (split_by l.m) l.count l.at l.base (l.count - l.counter) l.x.at l.x.base
 
-abbrev pub decreases-member_ties-loop-rest : goal.decreases-member_ties-loop-rest
-decreases-member_ties-loop-rest l = l.rest
-
-abbrev pub invariant-term_ties-loop-rest : goal.invariant-term_ties-loop-rest
-invariant-term_ties-loop-rest l =
+abbrev pub invariant-term_ties-loop : goal.invariant-term_ties-loop
+invariant-term_ties-loop l =
     Placed l.work l.x.at l.x.base l.x.n
-    × Going l.work (terms_ties (read_part l.work) (decode_int (read_part l.work) l.left (split_by l.m)) (ties_int_at (read_part l.work) l.left (split_by l.m)) l.count l.at l.base) l.initial.x.n l.initial.out l.o (terms_ties (read_part l.work) (decode_int (read_part l.work) l.left (split_by l.m)) (ties_int_at (read_part l.work) l.left (split_by l.m)) l.rest l.x.at l.x.base) l.out l.x
-    × TermSkipping (read_part l.work) l.left (split_by l.m) l.count l.at l.base l.rest l.x.at l.x.base
-
-abbrev pub decreases-term_ties-loop-rest : goal.decreases-term_ties-loop-rest
-decreases-term_ties-loop-rest l = l.rest
+    × Going l.work (terms_ties (read_part l.work) (decode_int (read_part l.work) l.left (split_by l.m)) (ties_int_at (read_part l.work) l.left (split_by l.m)) l.count l.at l.base) l.initial.x.n l.initial.out l.o (terms_ties (read_part l.work) (decode_int (read_part l.work) l.left (split_by l.m)) (ties_int_at (read_part l.work) l.left (split_by l.m)) (l.count - l.counter) l.x.at l.x.base) l.out l.x
+    × TermSkipping (read_part l.work) l.left (split_by l.m) l.count l.at l.base (l.count - l.counter) l.x.at l.x.base

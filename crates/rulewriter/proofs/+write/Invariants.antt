@@ -1,5 +1,5 @@
 use borrow.Author.Rules.{rules, sfits_of}
-use Prim.Native.Nat.{ℕ, ◌<◌, ◌≤◌, ◌+◌, ◌*◌}
+use Prim.Native.Nat.{ℕ, ◌<◌, ◌≤◌, ◌+◌, ◌-◌, ◌*◌}
 use mathlib.Core.Path.{◌≡◌, refl, sym, ap, ◌∙◌, subst}
 use mathlib.Core.Bool.{true}
 use mathlib.Core.List.{List}
@@ -44,19 +44,13 @@ decreases-write_disj l = 4 * l.left + 2
 abbrev pub decreases-write_longs : goal.decreases-write_longs
 decreases-write_longs l = 4 * l.left + 1
 
-abbrev pub invariant-write_all-loop-rest : goal.invariant-write_all-loop-rest
-invariant-write_all-loop-rest l =
-    Sofar l.work l.initial.out l.left (split_by l.m) l.h l.r.part.at l.rest l.f l.r.part.base (counters_of l.r) l.p l.out × Seen l.work l.left (split_by l.m) l.h l.count l.g l.at l.base (counters_of l.initial.r) l.r l.rest l.f
-    × ((d : List ℤ) (k : ℕ) → Wrote l.out l.p (texts (items_at l.work l.left (split_by l.m) l.rest l.f l.h l.r.part.at l.r.part.base) l.work (counters_of l.r) (suffix l.s)) d k → Wrote l.initial.out l.o (texts (items_at l.work l.left (split_by l.m) l.count l.g l.h l.at l.base) l.work (counters_of l.initial.r) (suffix l.s)) d k)
+abbrev pub invariant-write_all-loop : goal.invariant-write_all-loop
+invariant-write_all-loop l =
+    Sofar l.work l.initial.out l.left (split_by l.m) l.h l.r.part.at (l.count - l.counter) l.f l.r.part.base (counters_of l.r) l.p l.out × Seen l.work l.left (split_by l.m) l.h l.count l.g l.at l.base (counters_of l.initial.r) l.r (l.count - l.counter) l.f
+    × ((d : List ℤ) (k : ℕ) → Wrote l.out l.p (texts (items_at l.work l.left (split_by l.m) (l.count - l.counter) l.f l.h l.r.part.at l.r.part.base) l.work (counters_of l.r) (suffix l.s)) d k → Wrote l.initial.out l.o (texts (items_at l.work l.left (split_by l.m) l.count l.g l.h l.at l.base) l.work (counters_of l.initial.r) (suffix l.s)) d k)
 
-abbrev pub decreases-write_all-loop-rest : goal.decreases-write_all-loop-rest
-decreases-write_all-loop-rest l = l.rest
-
-abbrev pub invariant-write_longs-loop-rest : goal.invariant-write_longs-loop-rest
-invariant-write_longs-loop-rest l =
-    Sofar l.work l.initial.out l.left (split_by l.m) l.h l.q l.rest l.f l.c l.e l.p l.out × (l.j + l.at ≤ l.q)
-    × ((d : List ℤ) (r : ℕ) → Wrote l.out l.p (long_texts l.x.mode l.x.base (extra_lits l.x) (items_at l.work l.left (split_by l.m) l.rest l.f l.h l.q l.c) l.work l.e l.j (suffix l.s)) d r
+abbrev pub invariant-write_longs-loop : goal.invariant-write_longs-loop
+invariant-write_longs-loop l =
+    Sofar l.work l.initial.out l.left (split_by l.m) l.h l.q (l.count - l.counter) l.f l.c l.e l.p l.out × (l.j + l.at ≤ l.q)
+    × ((d : List ℤ) (r : ℕ) → Wrote l.out l.p (long_texts l.x.mode l.x.base (extra_lits l.x) (items_at l.work l.left (split_by l.m) (l.count - l.counter) l.f l.h l.q l.c) l.work l.e l.j (suffix l.s)) d r
     → Wrote l.initial.out l.o (long_texts l.x.mode l.x.base (extra_lits l.x) (items_at l.work l.left (split_by l.m) l.count l.g l.h l.at l.base) l.work l.initial.e 0 (suffix l.s)) d r)
-
-abbrev pub decreases-write_longs-loop-rest : goal.decreases-write_longs-loop-rest
-decreases-write_longs-loop-rest l = l.rest
