@@ -1,11 +1,10 @@
-use borrow.Author.Rules.{rules}
-use Prim.Native.Nat.{ℕ, ◌<◌, ◌+◌, ◌-◌, ◌*◌}
+use Prim.Native.Nat.{◌+◌, ◌-◌}
 use mathlib.Core.Path.{◌≡◌, refl, sym, ap, ◌∙◌, subst}
 use native.Mathlib.Omega.{arith}
 use Rattle.walk.specs.Decode.{added}
 use Rattle.walk.specs.declared.Counters.{Counters}
 use Rattle.scan.specs.Skip.{split_by}
-use Rattle.scan.specs.SurveyLaws.{counters_of, Sofar, sofar_none, sofar_more}
+use Rattle.scan.specs.SurveyLaws.{counters_of, sofar_none, sofar_more}
 use Rattle.survey.proofs.Leaves.{join_is}
 use Rattle.rulewriter.specs.Places.{ProbedAll}
 use Rattle.rulewriter.proofs.Steps.{okay, placed_at}

@@ -1,15 +1,7 @@
-use borrow.Author.Rules.{rules}
-use Prim.Native.Nat.{ℕ, ◌<◌, ◌+◌, ◌-◌, ◌*◌}
-use mathlib.Core.Path.{◌≡◌, refl, sym, ap, ◌∙◌, subst}
-use native.Mathlib.Omega.{arith}
-use Rattle.walk.specs.Decode.{added}
-use Rattle.walk.specs.declared.Counters.{Counters}
+use Prim.Native.Nat.{◌+◌, ◌-◌, ◌*◌}
+use mathlib.Core.Path.{◌≡◌}
 use Rattle.scan.specs.Skip.{split_by}
-use Rattle.scan.specs.SurveyLaws.{counters_of, Sofar, sofar_none, sofar_more}
-use Rattle.survey.proofs.Leaves.{join_is}
-use Rattle.rulewriter.specs.Places.{ProbedAll}
-use Rattle.rulewriter.proofs.Steps.{okay, placed_at}
-use Rattle.rulewriter.proofs.Longer.{probed_found, probed_not, probed_conj, probed_cross, probed_disj, probed_stop, probed_end}
+use Rattle.scan.specs.SurveyLaws.{counters_of, Sofar}
 use Rattle.rulewriter.proofs.+probe.Given as goal
 
 abbrev pub decreases-probe : goal.decreases-probe

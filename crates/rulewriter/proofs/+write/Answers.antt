@@ -1,29 +1,28 @@
-use borrow.Author.Rules.{rules, sfits_of}
-use Prim.Native.Nat.{ℕ, ◌<◌, ◌≤◌, ◌+◌, ◌-◌, ◌*◌}
+use borrow.Author.Rules.{sfits_of}
+use Prim.Native.Nat.{◌+◌, ◌-◌}
 use mathlib.Core.Path.{◌≡◌, refl, sym, ap, ◌∙◌, subst}
 use mathlib.Core.Bool.{true}
-use mathlib.Core.List.{List}
 use native.Mathlib.Omega.{arith}
 use mir.Facts.{to_z-of_z}
 use mir.Syntax.{w32}
 use mir.Val.{SFits}
-use lib.IntN.{ℤ, pos}
+use lib.IntN.{pos}
 use lib.ListN.{length, get_or}
 use Rattle.laws.specs.Writes.{Wrote, wrote_length}
 use Rattle.walk.specs.Item.{Tally}
 use Rattle.walk.specs.Decode.{read_part, added}
 use Rattle.walk.specs.declared.Counters.{Counters}
 use Rattle.walk.specs.declared.Surveyed.{Surveyed}
-use Rattle.walks.specs.Item.{pools, texts, long_texts}
+use Rattle.walks.specs.Item.{pools, texts}
 use Rattle.walks.specs.Decode.{many, decode}
 use Rattle.scan.specs.Skip.{split_by, inside_same, inside_more, skips_none, skips_var, skips_cmp, skips_not, skips_join, skips_cross}
-use Rattle.scan.specs.SurveyLaws.{scanned, counters_of, SurveysAll, survey_not, survey_split, survey_cross, Sofar as Seen, sofar_none as seen_none, sofar_more as seen_more, sofar_done as Seen-done}
+use Rattle.scan.specs.SurveyLaws.{scanned, counters_of, SurveysAll, survey_not, survey_split, survey_cross, sofar_none as seen_none, sofar_more as seen_more, sofar_done as Seen-done}
 use Rattle.survey.proofs.Leaves.{join_is}
-use Rattle.output.specs.Suffix.{suffix, extra_lits}
+use Rattle.output.specs.Suffix.{suffix}
 use Rattle.output.proofs.Laws.{open_next, stack_down}
 use Rattle.rulewriter.specs.Places.{items_at}
 use Rattle.rulewriter.proofs.Surveying.{survey_none, survey_var, survey_cmp, survey_conj, survey_disj}
-use Rattle.rulewriter.proofs.Steps.{is_here, not_here, okay, placed_at, placed_with, fit_cmp, fit_not, fit_join, fit_cross, Sofar, sofar_none, sofar_more, sofar_skip, sofar_head}
+use Rattle.rulewriter.proofs.Steps.{is_here, not_here, okay, placed_at, placed_with, fit_cmp, fit_not, fit_join, fit_cross, sofar_none, sofar_more, sofar_skip, sofar_head}
 use Rattle.rulewriter.proofs.PoolLaws.{items_lits}
 use Rattle.rulewriter.proofs.Longer.{long_seen}
 use Rattle.rulewriter.proofs.Written.{write_none, write_var, write_cmp, write_not, write_conj, write_disjoint, write_split, write_cross, cross_text, texts_none, texts_more, longs_none, longs_skip, longs_more, one_lit, disj_pool, disj_pass, disj_two, disj_each, tallied}
