@@ -116,6 +116,7 @@ fn lines(text: &[u8], at: usize, key: &[u8], words: &mut [i32], k: usize) -> Opt
 {
     let mut i = at;
     let mut n = k;
+    // from line to line, each of its own length
     while i < text.len() {
         let Some((j, m)) = one_line(text, i, key, words, n)? else {
             return Some((i, n));

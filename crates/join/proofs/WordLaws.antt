@@ -1,62 +1,48 @@
--- Words compared and copied one after another, and stored over zeros. Assumes nothing.
+-- Slices compared and copied, and words stored over zeros. Assumes nothing.
 use mathlib.Core.Path.{◌≡◌, refl, sym, ap, ◌∙◌}
-use mathlib.Core.Bool.{Bool, true, false}
+use mathlib.Core.Bool.{Bool, true, false, not}
 use mathlib.Core.List.{List, [], ◌∷◌, ◌++◌}
 use Prim.Native.Nat.{ℕ, zero, suc, ◌+◌, ◌-◌, ◌≤◌, ◌<◌}
 use native.Mathlib.Omega.{arith}
-use native.Mathlib.Numerals.{add-one}
 use lib.IntN.{ℤ, pos}
-use lib.ListN.{length, take, drop, get_or, set, length-set, length-replicate, drop_of_length-le}
-use lib.Seq.{take-suc, get_or-take, drop-cons, sets, sets-eq, set-set, set_comm}
+use lib.ListN.{length, drop, set, length-replicate}
+use lib.Seq.{sets, sets-eq, set-set, set_comm}
 use Rattle.laws.specs.Same.{same_words, same_is, same_refl}
 use Rattle.laws.specs.Writes.{sets_append}
-use Rattle.laws.specs.Slices.{zeros}
+use Rattle.laws.specs.Ints.{apart}
+use Rattle.laws.specs.Slices.{zeros, Stored}
+use Rattle.std.specs.Ordering.{int_eq}
+use Rattle.std.specs.Cmp.Lexicographic.{pointwise}
+use Rattle.std.specs.Cmp.Rules.{signed_items}
+use Rattle.std.proofs.lemmas.Bool.Decides.{same_from_decides}
+use Rattle.std.proofs.lemmas.List.{take-append-drop}
 
--- ---- the same words
+-- ---- the same words: what a test of two slices has told
 
-pub record Same (xs ys : List ℤ) (n i : ℕ) : Type 0 where
-  pub inside : i ≤ n
-  pub low : take i xs ≡ take i ys
+same_tested : (xs ys : List ℤ) → pointwise int_eq xs ys ≡ same_words xs ys
+same_tested xs ys = same_from_decides _ _ (signed_items xs ys) (same_is xs ys, λ e. rw e (same_refl ys))
 
-pub same_none : (xs ys : List ℤ) (n : ℕ) → Same xs ys n 0
-same_none xs ys n = record { inside = omega arith; low = refl }
-
-pub same_next : (xs ys : List ℤ) (n i : ℕ) (d : ℤ) → i < n → n ≤ length xs → n ≤ length ys → get_or xs i d ≡ get_or ys i d → Same xs ys n i → Same xs ys n (i + 1)
-same_next xs ys n i d l a b e s = record {
-  inside = omega arith;
-  low = rw (add-one i, take-suc xs i d (omega arith), take-suc ys i d (omega arith), s.low, e) refl;
-}
-
-pub same_all : (xs ys : List ℤ) (n i : ℕ) → n ≤ i → Same xs ys n i → true ≡ same_words (take n xs) (take n ys)
-same_all xs ys n i l s =
-    let e : i ≡ n = omega (arith, s.inside) in
-    sym (rw (rw e at s.low) (same_refl (take n ys)))
-
-pub same_not : (xs ys : List ℤ) (n i : ℕ) (d : ℤ) → i < n → (get_or xs i d ≡ get_or ys i d → ⊥) → false ≡ same_words (take n xs) (take n ys)
-same_not xs ys n i d l h = go (same_words (take n xs) (take n ys)) refl
+pub equal_words : (xs ys : List ℤ) → false ≡ not (pointwise int_eq xs ys) → true ≡ same_words xs ys
+equal_words xs ys h = not_of _ h ∙ same_tested xs ys
   where
-    go : (b : Bool) → same_words (take n xs) (take n ys) ≡ b → false ≡ b
-    go false e = refl
-    go true e = absurd (h (sym (get_or-take n xs i d l) ∙ ap (λ (v : List ℤ). get_or v i d) (same_is (take n xs) (take n ys) e) ∙ get_or-take n ys i d l))
+    not_of : (b : Bool) → false ≡ not b → true ≡ b
+    not_of true e = refl
+    not_of false e = apart (cc)
 
--- ---- copying: what is left to store
+pub other_words : (xs ys : List ℤ) → true ≡ not (pointwise int_eq xs ys) → false ≡ same_words xs ys
+other_words xs ys h = not_of _ h ∙ same_tested xs ys
+  where
+    not_of : (b : Bool) → true ≡ not b → false ≡ b
+    not_of false e = refl
+    not_of true e = apart (cc)
 
-pub record Copying (ws : List ℤ) (from : ℕ) (out₀ : List ℤ) (o : ℕ) (out : List ℤ) (i p : ℕ) : Type 0 where
-  pub size : length out ≡ length out₀
-  pub inside : i ≤ length ws
-  pub room : p + (length ws - i) ≤ length out
-  pub rest : sets out p (drop i ws) ≡ sets out₀ o (drop from ws)
+-- ---- what was copied
 
-pub copying_next : (ws : List ℤ) (from : ℕ) (out₀ : List ℤ) (o : ℕ) (out : List ℤ) (i p : ℕ) (d : ℤ) → i < length ws → Copying ws from out₀ o out i p → Copying ws from out₀ o (set out p (get_or ws i d)) (i + 1) (p + 1)
-copying_next ws from out₀ o out i p d l c = record {
-  size = length-set out p _ ∙ c.size;
-  inside = omega arith;
-  room = omega (arith, length-set out p (get_or ws i d), c.room);
-  rest = rw (add-one i, add-one p) (sym (ap (sets out p) (drop-cons ws i d l)) ∙ c.rest);
-}
-
-pub copying_end : (ws : List ℤ) (from : ℕ) (out₀ : List ℤ) (o : ℕ) (out : List ℤ) (i p : ℕ) → length ws ≤ i → Copying ws from out₀ o out i p → out ≡ sets out₀ o (drop from ws)
-copying_end ws from out₀ o out i p l c = sym (ap (sets out p) (drop_of_length-le ws l)) ∙ c.rest
+pub copied : (out : List ℤ) (o : ℕ) (us out' : List ℤ) (r : ℕ) → o + length us ≤ length out → Stored out o us out' r → out' ≡ sets out o us
+copied out o us out' r l s =
+    sym (take-append-drop r out')
+    ∙ rw (s.pushed.words, s.above, s.pushed.end) refl
+    ∙ sym (sets-eq us out o l)
 
 -- ---- a word of stored words stored anew
 

@@ -4,8 +4,10 @@ use mathlib.Core.List.{List, [], ◌∷◌, ◌++◌, map, append_assoc}
 use Prim.Native.Nat.{ℕ, ◌+◌, ◌-◌, ◌≤◌, ◌<◌}
 use native.Mathlib.Omega.{arith}
 use lib.IntN.{ℤ, pos}
-use lib.ListN.{length, drop, set, length-append, length-set}
-use lib.Seq.{sets, drop-append-add}
+use lib.ListN.{length, drop, set, length-append, length-set, length-drop, take}
+use lib.Seq.{sets, drop-append-add, take-length}
+use Rattle.std.proofs.lemmas.List.{take_rest}
+use Rattle.laws.specs.Slices.{Stored}
 use Rattle.laws.specs.Lists.{flat, counted}
 use Rattle.laws.specs.Writes.{sets_append}
 use Rattle.syntax.specs.Syntax.{Problem, encode_stmt, encode}
@@ -14,7 +16,7 @@ use Rattle.join.specs.Join.{declaration_words, both, agreed, agreement, statemen
 use Rattle.join.specs.Joined.{encode_parts, agreement_is}
 use Rattle.join.specs.Steps.{ReadyWrite, WritePost}
 use Rattle.join.specs.declared.Pair.{Pair}
-use Rattle.join.proofs.WordLaws.{stored_anew}
+use Rattle.join.proofs.WordLaws.{stored_anew, copied}
 use Rattle.join.proofs.AgreeLaws.{both_words, both_length}
 
 -- two sets that agree, by their words
@@ -57,10 +59,16 @@ module _ (first second : List ℤ) (d : Pair) (buffer : List ℤ) (y : ReadyWrit
   write_place = (omega (arith, place), omega (arith, place, ws.left_size), omega (arith, place, ws.right_size))
 
   -- once the first set stands in the buffer
-  pub write_second : (b₁ : List ℤ) (x : ℤ) → length b₁ ≡ length buffer → (d.at ≤ length second) × (length first + (length second - d.at) ≤ length (set b₁ (d.at - 1) x))
-  write_second b₁ x e = (write_place.2, omega (arith, y.room, both_length y.left y.right, ws.left_size, ws.right_size, place, e, length-set b₁ (d.at - 1) x))
+  pub write_second : (b₁ : List ℤ) (x : ℤ) → length b₁ ≡ length buffer → (d.at + (length second - d.at) ≤ length second) × (length first + (length second - d.at) ≤ length (set b₁ (d.at - 1) x))
+  write_second b₁ x e = (omega (arith, write_place.2), omega (arith, y.room, both_length y.left y.right, ws.left_size, ws.right_size, place, e, length-set b₁ (d.at - 1) x))
 
-  module _ (b₁ : List ℤ) (x : ℤ) (b₂ : List ℤ) (e₁ : b₁ ≡ sets buffer 0 first) (ex : x ≡ pos (d.first + d.second)) (e₂ : b₂ ≡ sets (set b₁ (d.at - 1) x) (length first) (drop d.at second)) where
+  module _ (b₁ : List ℤ) (x : ℤ) (b₂ : List ℤ) (r₁ r₂ : ℕ) (s₁ : Stored buffer 0 (take (length first) first) b₁ r₁) (ex : x ≡ pos (d.first + d.second)) (s₂ : Stored (set b₁ (d.at - 1) x) (length first) (take (length second - d.at) (drop d.at second)) b₂ r₂) (l₁ : length b₁ ≡ length buffer) where
+    e₁ : b₁ ≡ sets buffer 0 first
+    e₁ = copied buffer 0 first b₁ r₁ (omega (arith, write_first)) (rw (take-length first) at s₁)
+
+    e₂ : b₂ ≡ sets (set b₁ (d.at - 1) x) (length first) (drop d.at second)
+    e₂ = copied (set b₁ (d.at - 1) x) (length first) (drop d.at second) b₂ r₂ (omega (arith, length-drop d.at second, (write_second b₁ x l₁).1)) (rw (take_rest second d.at) at s₂)
+
     stored : b₂ ≡ sets buffer 0 (encode (both y.left y.right))
     stored =
         let us : List ℤ = declaration_words y.left in

@@ -1,10 +1,8 @@
 // Two sets with identical declarations as one, written into a lent buffer; and a joined statement by its number, as a part of the set it came from.
 #![tactic(auto)]
 
-ghost use Rattle.std.specs.Prelude.{◌≡◌, ◌+◌, ◌-◌, ◌≤◌, length, take, drop};
-ghost use Rattle.std.proofs.lemmas.List.Edits.{sets};
+ghost use Rattle.std.specs.Prelude.{◌≡◌, ◌≤◌, length};
 ghost use Rattle.laws.specs.Slices.{zeros};
-ghost use Rattle.laws.specs.Same.{same_words};
 ghost use Rattle.syntax.specs.Words.{max_ints};
 ghost use Rattle.words.specs.Refusal.{by_number};
 ghost use Rattle.join.specs.Join.{statement_at, words_of, address_of};
@@ -26,46 +24,26 @@ pub struct Pair {
     pub words: usize,
 }
 
-// Whether the first n words are the same.
-fn same_words(first: &[i32], second: &[i32], n: usize) -> bool
-    requires { (n ≤ length first.now) × (n ≤ length second.now) }
-    ensures { result ≡ same_words (take n first.now) (take n second.now) }
-{
-    let mut i = 0;
-    while i < n {
-        let a = first[i];
-        let b = second[i];
-        if a != b {
-            return false;
-        }
-        i += 1;
-    }
-    true
-}
-
 // Refusals 16, and 17 without regard to the buffer, of two accepted sets.
 fn compare(first: &[i32], second: &[i32], d: Declared, e: Declared) -> Result<Pair, Refusal>
     requires { ReadyBoth first.now second.now d e }
     ensures { ComparePost first.now second.now d e (by_number result) }
 {
     let at = d.at;
-    if at != e.at {
+    if at != e.at || first[..at - 1] != second[..at - 1] {
         return Err(Refusal::DeclaredOtherwise);
     }
-    if same_words(first, second, at - 1) {
-        let words = first.len() + second.len() - at;
-        if words > memory::MAX_SET_WORDS {
-            return Err(Refusal::LongJoin);
-        }
-        return Ok(Pair {
-            ints: d.ints,
-            at,
-            first: d.stmts,
-            second: e.stmts,
-            words,
-        });
+    let words = first.len() + second.len() - at;
+    if words > memory::MAX_SET_WORDS {
+        return Err(Refusal::LongJoin);
     }
-    Err(Refusal::DeclaredOtherwise)
+    Ok(Pair {
+        ints: d.ints,
+        at,
+        first: d.stmts,
+        second: e.stmts,
+        words,
+    })
 }
 
 // The refusals of the first set, of the second, 16, and 17 without regard to the buffer; or what there is to join.
@@ -79,31 +57,16 @@ fn agree(first: &[i32], second: &[i32], work: &mut [i32]) -> Result<Pair, Refusa
 
 // ---- the join
 
-// The words from `from` on, stored from `o` on.
-fn copy(words: &[i32], from: usize, buffer: &mut [i32], o: usize)
-    requires { (from ≤ length words.now) × (o + (length words.now - from) ≤ length buffer.old) }
-    ensures { buffer.new ≡ sets buffer.old o (drop from words.now) }
-{
-    let mut i = from;
-    let mut p = o;
-    while i < words.len() {
-        let w = words[i];
-        buffer[p] = w;
-        i += 1;
-        p += 1;
-    }
-}
-
 // The first set with both counts of statements together, then the second's statements.
 fn write_both(first: &[i32], second: &[i32], d: Pair, buffer: &mut [i32])
     requires { ReadyWrite first.now second.now d buffer.old }
     ensures { WritePost first.now second.now buffer.old buffer.new }
 {
-    copy(first, 0, buffer, 0);
+    memory::copy_words(first, 0, first.len(), buffer, 0);
     let at = d.at;
     let count = d.first + d.second;
     buffer[at - 1] = count as i32;
-    copy(second, at, buffer, first.len());
+    memory::copy_words(second, at, second.len() - at, buffer, first.len());
 }
 
 // The number of words written, or the refusal's number.
@@ -149,11 +112,8 @@ fn nth(set: &[i32], work: &[i32], at: usize, ni: usize, k: usize) -> usize
     ensures { NthPost set.now work.now at ni k result }
 {
     let mut next = at;
-    let mut rest = k;
-    while rest != 0 {
-        let s = accept::statement(set, work, next, ni);
-        next = s.next;
-        rest = rest - 1;
+    for _ in 0..k {
+        next = accept::statement(set, work, next, ni).next;
     }
     next
 }
@@ -166,7 +126,7 @@ fn part_of(set: &[i32], work: &[i32], at: usize, ni: usize, k: usize, number: us
     let s = accept::statement(set, work, from, ni);
     Place {
         set: number,
-        from: from,
+        from,
         to: s.next,
     }
 }

@@ -94,6 +94,7 @@ fn merge_statements(work: &mut [i32], end: usize) -> usize
 {
     let mut q = memory::FOLDED;
     let mut n = 0;
+    // from statement to statement, each of its own length
     while q < end {
         let next = stmtwords::statement_end(work, q);
         n = merge_statement(work, q, n);

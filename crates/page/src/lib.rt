@@ -202,6 +202,7 @@ fn place_pairs(out: &mut [u8], page: Place, part: &[i32]) -> Place
 {
     let mut p = page;
     let mut i = 0;
+    // from pair to pair; a last word may stand alone
     while i < part.len() {
         let j = stop(part, i, 2);
         p = place_pair(out, p, &part[i..j], j < part.len());

@@ -71,6 +71,7 @@ fn skip_terms(words: &[i32], at: usize, count: usize) -> usize
 {
     let mut next = at;
     let mut rest = count;
+    // what is pending grows on the way, so nothing is counted
     while rest != 0 {
         let s = int_step(words, next + 1);
         next = s.next;
@@ -133,6 +134,7 @@ pub fn skip_members(words: &[i32], at: usize, n: usize) -> usize
 {
     let mut next = at;
     let mut rest = n;
+    // as in `skip_terms`
     while rest != 0 {
         let s = bool_step(words, next);
         next = s.next;

@@ -262,6 +262,7 @@ pub fn number_statements(
         ints: 0,
         used: 0,
     };
+    // from statement to statement, each of its own length
     while q < end {
         if room.cap < c.used {
             return c;

@@ -94,8 +94,8 @@ fn write_different(
     let count = word(work, at + 1);
     let r = differing::put_different(set, work, n, at + 2, count, out, o, k);
     Step {
-        next: next,
-        n: n,
+        next,
+        n,
         at: r.at,
         clauses: r.clauses,
     }
@@ -225,7 +225,7 @@ fn rewrite_pairs(
     let r = differing::rewrite_different(set, work, &mut none, at, room, c, out, o, k);
     let d = r.walk;
     Walked {
-        next: next,
+        next,
         c: d,
         at: r.at,
         clauses: r.clauses,

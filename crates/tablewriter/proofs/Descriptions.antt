@@ -1,25 +1,24 @@
 -- The two words that describe a domain. Assumes nothing.
-use mathlib.Core.Path.{◌≡◌, sym, ap, ◌∙◌}
+use mathlib.Core.Path.{◌≡◌, sym, ap, ◌∙◌, subst}
 use mathlib.Core.Bool.{true, false}
 use mathlib.Core.List.{List, [], ◌∷◌}
-use Prim.Native.Nat.{ℕ, zero, suc, ◌+◌, ◌-◌, ◌≤◌, ◌<◌}
+use Prim.Native.Nat.{ℕ, zero, suc, ◌+◌, ◌≤◌, ◌<◌}
 use native.Mathlib.Omega.{arith}
 use lib.IntN.{ℤ, pos, negsuc, neg_ℤ, nat_abs, ◌+ℤ◌, ◌-ℤ◌, +ℤ_idl}
 use lib.Signed.{le_z}
-use lib.ListN.{length, get_or}
+use lib.ListN.{length}
 use borrow.Author.Tests.{le-leb}
 use mir.Syntax.{w32}
 use mir.Val.{SFits}
 use Rattle.laws.specs.Bools.{never}
 use Rattle.laws.specs.Ints.{natAbs_add, sfits_natAbs, natAbs_negℤ}
-use Rattle.laws.specs.Slices.{Has, has_fits, has_back, has_word}
+use Rattle.laws.specs.Slices.{Has, has_fits, has_back}
 use Rattle.syntax.specs.Words.{max_value, max_set_words}
-use Rattle.syntax.specs.Syntax.{Domain, Range, Enumerative, lower_bound, upper_bound, num_candidates, domain_of, encode_domain}
+use Rattle.syntax.specs.Syntax.{Domain, Range, Enumerative, upper_bound, num_candidates, domain_of, encode_domain}
 use Rattle.words.specs.Exact.{Each}
 use Rattle.read.specs.WellFormed.{WellDomain}
 use Rattle.domains.specs.Declared.{DomainAt, DomainSizedAt, DomainBelow, DomainPost}
 use Rattle.domains.proofs.Laws.{domain_inside}
-use Rattle.sums.proofs.Domain.{ordered}
 use Rattle.call.proofs.Demand.{domains_ordered}
 use Rattle.sorting.specs.Columns.{domain_in}
 use Rattle.rows.specs.Described.{range_described, list_described}
@@ -121,20 +120,19 @@ module _ (set : List ℤ) (v : ℕ) where
           let e : c ≡ num_candidates d = many_is d (has s.domains s.it s.below) in
           omega (arith, ap nat_abs e, sized d (well_at s.domains s.it.well v s.below))
 
-      module _ (k : ℕ) (code : get_or set at (pos 0) ≡ pos k) where
-        pub range_told : (low : ℤ) → ((d : Domain) → Has set at (encode_domain d) → low ≡ lower_bound d) → k ≡ 0 → (ds : List Domain) → Declared set ds → v < length ds → Describes set (domain_of ds v) c low
-        range_told low low-is z ds d h = go (domain_of ds v) (well_at ds d.well v h) (has ds d h)
-          where
-            go : (dm : Domain) → WellDomain dm → Has set at (encode_domain dm) → Describes set dm c low
-            go (Range lo hi) w i = rw (many_is (Range lo hi) i, low-is (Range lo hi) i) (range_describes set lo hi w.0 w.1 w.2)
-            go (Enumerative xs) w i = absurd (let e : ◌≡◌ {A = ℤ} (pos 1) (pos k) = sym (has_word set at (pos 1) (pos (length xs) ∷ xs) (pos 0) i) ∙ code in let n : 1 ≡ k = ap nat_abs e in omega arith)
+      pub range_told : (low hi : ℤ) → ((d : Domain) → Has set at (encode_domain d) → Range low hi ≡ d) → (ds : List Domain) → Declared set ds → v < length ds → Describes set (domain_of ds v) c low
+      range_told low hi is ds d h =
+          let e : Range low hi ≡ domain_of ds v = is (domain_of ds v) (has ds d h) in
+          let w : WellDomain (Range low hi) = subst WellDomain (sym e) (well_at ds d.well v h) in
+          let i : Has set at (encode_domain (Range low hi)) = subst (λ (dm : Domain). Has set at (encode_domain dm)) (sym e) (has ds d h) in
+          subst (λ (dm : Domain). Describes set dm c low) e (rw (many_is (Range low hi) i) (range_describes set low hi w.0 w.1 w.2))
 
-        pub list_told : (m x : ℤ) → m ≡ pos 0 -ℤ c → x ≡ pos (at + 2) → (k ≡ 0 → ⊥) → (ds : List Domain) → Declared set ds → v < length ds → Describes set (domain_of ds v) m x
-        list_told m x em ex z ds d h = go (domain_of ds v) (well_at ds d.well v h) (has ds d h)
-          where
-            go : (dm : Domain) → WellDomain dm → Has set at (encode_domain dm) → Describes set dm m x
-            go (Range lo hi) w i = absurd (let e : ◌≡◌ {A = ℤ} (pos 0) (pos k) = sym (has_word set at (pos 0) (lo ∷ hi ∷ []) (pos 0) i) ∙ code in z (sym (ap nat_abs e)))
-            go (Enumerative xs) w i = rw (em, ex, many_is (Enumerative xs) i, +ℤ_idl (neg_ℤ (pos (length xs)))) (list_describes set (at + 2) xs w (has_back set at (pos 1 ∷ pos (length xs) ∷ []) xs i))
+      pub list_told : (xs : List ℤ) → ((d : Domain) → Has set at (encode_domain d) → Enumerative xs ≡ d) → (m x : ℤ) → m ≡ pos 0 -ℤ c → x ≡ pos (at + 2) → (ds : List Domain) → Declared set ds → v < length ds → Describes set (domain_of ds v) m x
+      list_told xs is m x em ex ds d h =
+          let e : Enumerative xs ≡ domain_of ds v = is (domain_of ds v) (has ds d h) in
+          let w : WellDomain (Enumerative xs) = subst WellDomain (sym e) (well_at ds d.well v h) in
+          let i : Has set at (encode_domain (Enumerative xs)) = subst (λ (dm : Domain). Has set at (encode_domain dm)) (sym e) (has ds d h) in
+          subst (λ (dm : Domain). Describes set dm m x) e (rw (em, ex, many_is (Enumerative xs) i, +ℤ_idl (neg_ℤ (pos (length xs)))) (list_describes set (at + 2) xs w (has_back set at (pos 1 ∷ pos (length xs) ∷ []) xs i)))
 
 -- the negated count fits a word
 pub minus_fits : (c : ℤ) → nat_abs c ≤ 2147483647 → SFits w32 (pos 0 -ℤ c)

@@ -33,7 +33,7 @@ use Rattle.walks.specs.Form.{int_form}
 use Rattle.walks.specs.Item.{has_ifs}
 use Rattle.walks.specs.Near.{column_inside}
 use Rattle.walks.specs.Resolve.{never_int}
-use Rattle.walks.specs.Implements.{at, Ready, ready_back}
+use Rattle.walks.specs.Implements.{Ready, ready_back}
 use Rattle.walks.specs.SumsFit.{WithinColumns, column_fits}
 use Rattle.stages.specs.Columns.{columns_words, ColumnsStand, stand_rest, first_stands}
 use Rattle.stages.specs.ColumnsText.{columns_vars, columns_domains, ColumnsWrite, columns_written}

@@ -4,10 +4,10 @@ use mathlib.Core.Bool.{Bool, true, false, cond}
 use mathlib.Core.List.{List}
 use Prim.Native.Nat.{ℕ, ◌+◌, ◌-◌, ◌≤◌, ◌<◌}
 use native.Mathlib.Omega.{arith}
-use lib.Signed.{non_neg}
+use lib.Signed.{mag}
 use lib.IntN.{ℤ, pos, negsuc, nat_abs, ◌+ℤ◌, ◌-ℤ◌, neg_ℤ}
 use lib.ListN.{length, get_or}
-use lib.Dec.{T, ltb}
+use lib.Dec.{ltb}
 use borrow.Author.Tests.{ltb-true}
 use mir.Syntax.{w32}
 use mir.Val.{SFits}
@@ -35,9 +35,10 @@ use Rattle.tablewriter.specs.Describing.{Describes, Sound, Ranged, ColumnTold, T
 use Rattle.tablewriter.proofs.Forms.{Own, own_at, variable_at, own_end}
 use Rattle.tablewriter.proofs.Descriptions.{range_describes}
 
-pub plain_word : (z : ℤ) → SFits w32 z → T (non_neg z) → nat_abs z < 2147483648
-plain_word (pos n) f h = omega (arith, f.sfits)
-plain_word (negsuc n) f h = absurd h
+pub nat_small : (z : ℤ) → mag z < 2147483648 → nat z < 2147483648
+unfolding nat
+nat_small (pos n) h = h
+nat_small (negsuc n) h = omega arith
 
 pub index_low : (x : ℕ) → index max_ints x < max_ints
 index_low x = go (ltb x max_ints) refl

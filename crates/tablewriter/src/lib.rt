@@ -22,6 +22,7 @@ ghost use Rattle.tablewriter.specs.Step.{Place, At, SomeAt, Did, RowsAt, SomeRow
 
 use rows::Written;
 use survey::{below, bump, word};
+use syntax::Values;
 use walk::Counters;
 
 // ---- the columns' words
@@ -67,18 +68,9 @@ fn put_equation(work: &[i32], p: usize, v: usize, n: Counters, out: &mut [i32], 
 fn number_at(work: &[i32], i: usize) -> usize
     ensures { (result ≡ nat (get_or work.now i (pos 0)) - 1) × (result < 2147483648) }
 {
-    if i < work.len() {
-        let w = work[i];
-        if w < 0 {
-            return 0;
-        }
-        let n = w as usize;
-        if n == 0 {
-            return 0;
-        }
-        return n - 1;
-    }
-    0
+    usize::try_from(memory::plain(work, i))
+        .unwrap_or(0)
+        .saturating_sub(1)
 }
 
 // Where the next column stands, and the counters.
@@ -145,14 +137,12 @@ fn put_columns(
     let mut e = n;
     let mut q = o;
     let mut c = k;
-    let mut rest = count;
-    while rest != 0 {
+    for _ in 0..count {
         let s = put_column(work, p, e, out, q, c);
         p = s.next;
         e = s.n;
         q = s.at;
         c = s.clauses;
-        rest = rest - 1;
     }
     Columned {
         next: p,
@@ -190,16 +180,15 @@ fn describe_declared(set: &[i32], v: usize) -> Description
 {
     let at = domains::domain_of(set, 2, v);
     let c = domains::num_candidates(set, at);
-    if domains::number(set, at) == 0 {
-        let low = domains::lower_bound(set, at);
-        return Description {
+    match domains::domain_at(set, at) {
+        Values::Range(low, _) => Description {
             count: c,
             from: low,
-        };
-    }
-    Description {
-        count: 0 - c,
-        from: (at + 2) as i32,
+        },
+        Values::Enumerative(_) => Description {
+            count: -c,
+            from: (at + 2) as i32,
+        },
     }
 }
 
@@ -244,13 +233,11 @@ fn describe_columns(set: &[i32], work: &mut [i32], at: usize, count: usize, to: 
     let mut p = at;
     let mut e = n;
     let mut q = to;
-    let mut rest = count;
-    while rest != 0 {
+    for _ in 0..count {
         let s = describe_column(set, work, p, q, e);
         p = s.next;
         e = s.n;
-        q = q + 3;
-        rest = rest - 1;
+        q += 3;
     }
 }
 
@@ -261,12 +248,7 @@ fn copy_words(work: &mut [i32], from: usize, to: usize, count: usize)
     requires { (from + count ≤ to) × (to + count ≤ length work.old) }
     ensures { work.new ≡ sets work.old to (take count (drop from work.old)) }
 {
-    let mut i = 0;
-    while i < count {
-        let x = work[from + i];
-        work[to + i] = x;
-        i += 1;
-    }
+    work.copy_within(from..from + count, to);
 }
 
 // One clause without literals and comparisons, behind k others.

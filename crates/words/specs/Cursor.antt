@@ -1,5 +1,5 @@
 -- What the code's readers answer. Assumes nothing.
-use Rattle.std.specs.Prelude.{List, ℤ, Result, Ok, Err}
+use Rattle.std.specs.Prelude.{List, ℕ, ℤ, Result, Ok, Err, Option, None, Some}
 use Rattle.words.specs.Parse.{Parsed, ok, refuse}
 use Rattle.words.specs.declared.refusal.Refusal.{Refusal}
 use Rattle.words.specs.Refusal.{number_of}
@@ -8,3 +8,9 @@ use Rattle.words.specs.Refusal.{number_of}
 abbrev pub parsed : {A : Type 0} → Result A Refusal → List ℤ → Parsed A
 parsed (Ok a) r = ok a r
 parsed (Err k) r = refuse (number_of k)
+
+-- the same where a word was read that is no such number: it is refused by k
+abbrev pub parsed_or : {A : Type 0} → ℕ → Result (Option A) Refusal → List ℤ → Parsed A
+parsed_or k (Ok (Some a)) r = ok a r
+parsed_or k (Ok None) r = refuse k
+parsed_or k (Err e) r = refuse (number_of e)

@@ -3,9 +3,9 @@
 
 mod refusal; // refusal.rt: why something is refused
 
-ghost use Rattle.std.specs.Prelude.{◌≡◌};
+ghost use Rattle.std.specs.Prelude.{◌≡◌, ℕ};
 ghost use Rattle.words.specs.Parse.{word, up_to, index, number};
-ghost use Rattle.words.specs.Cursor.{parsed};
+ghost use Rattle.words.specs.Cursor.{parsed, parsed_or};
 ghost use Rattle.words.specs.Refusal.{number_of};
 
 pub use refusal::Refusal;
@@ -30,15 +30,22 @@ impl<'a> Cursor<'a> {
             .ok_or(Refusal::WrongLength)
     }
 
-    // A number from 0 to the limit; any other word is refused as the caller says.
+    // A number from 0 to the limit; None for any other word, which the caller may refuse by any number.
     #[tactic(auto, unfolding(crate::specs::Parse::up_to))]
+    pub fn at_most(&mut self, limit: usize) -> Result<Option<usize>, Refusal>
+        ensures { (k : ℕ) → parsed_or k result self.new.rest.now ≡ up_to limit k self.old.rest.now }
+    {
+        match usize::try_from(self.word()?) {
+            Ok(n) if n <= limit => Ok(Some(n)),
+            _ => Ok(None),
+        }
+    }
+
+    // A number from 0 to the limit; any other word is refused as the caller says.
     pub fn up_to(&mut self, limit: usize, refusal: Refusal) -> Result<usize, Refusal>
         ensures { parsed result self.new.rest.now ≡ up_to limit (number_of refusal) self.old.rest.now }
     {
-        match usize::try_from(self.word()?) {
-            Ok(n) if n <= limit => Ok(n),
-            _ => Err(refusal),
-        }
+        self.at_most(limit)?.ok_or(refusal)
     }
 
     // An index below n.

@@ -1,7 +1,5 @@
 use native.Mathlib.Omega.{arith}
-use Prim.Native.Nat.{◌+◌, ◌-◌}
-use mathlib.Core.Path.{◌∙◌}
-use lib.ListN.{length-set}
+use Prim.Native.Nat.{◌+◌}
 use mir.Syntax.{w32}
 use mir.Val.{to_z}
 use mir.Facts.{to_z_pos}
@@ -9,8 +7,8 @@ use Rattle.join.proofs.WriteLaws.{write_first, write_few, write_place, write_sec
 use borrow.Author.Rules.{rules}
 use Rattle.join.proofs.write_both.Goals as goal
 
-pub copy-requires : goal.copy-requires
-copy-requires c = let q = write_first _ _ _ _ c.requires in (omega arith, omega (arith, q))
+pub copy_words-requires : goal.copy_words-requires
+copy_words-requires c = let q = write_first _ _ _ _ c.requires in (omega arith, omega (arith, q))
 
 pub overflow_add-count : goal.overflow_add-count
 overflow_add-count c = let q = write_few _ _ _ _ c.requires in search rules
@@ -25,13 +23,13 @@ pub offset_bounds-buffer-at : goal.offset_bounds-buffer-at
 offset_bounds-buffer-at c = let q = write_place _ _ _ _ c.requires in let s = write_first _ _ _ _ c.requires in search rules
 
 pub bounds-buffer-at : goal.bounds-buffer-at
-bounds-buffer-at c = let q = write_place _ _ _ _ c.requires in let s = write_first _ _ _ _ c.requires in omega (arith, q.1, c.copy.auto.buffer)
+bounds-buffer-at c = let q = write_place _ _ _ _ c.requires in let s = write_first _ _ _ _ c.requires in omega (arith, q.1, c.copy_words.auto.work)
 
-pub copy-requires-2 : goal.copy-requires-2
-copy-requires-2 c = write_second _ _ _ _ c.requires c.copy.new.buffer (to_z w32 (c.args.d.first + c.args.d.second)) c.copy.auto.buffer
+pub overflow_sub-second : goal.overflow_sub-second
+overflow_sub-second c = (write_place _ _ _ _ c.requires).2
 
-pub shape_of-buffer : goal.shape_of-buffer
-shape_of-buffer c = c.copy-2.auto.buffer ∙ length-set c.copy.new.buffer (c.args.d.at - 1) (to_z w32 (c.args.d.first + c.args.d.second)) ∙ c.copy.auto.buffer
+pub copy_words-requires-2 : goal.copy_words-requires-2
+copy_words-requires-2 c = write_second _ _ _ _ c.requires c.copy_words.new.work (to_z w32 (c.args.d.first + c.args.d.second)) c.copy_words.auto.work
 
 pub returns : goal.returns
-returns c = write_post _ _ _ _ c.requires _ _ _ c.copy.ensures (to_z_pos w32 (let q = write_few _ _ _ _ c.requires in omega (arith, q))) c.copy-2.ensures
+returns c = write_post _ _ _ _ c.requires _ _ _ _ _ c.copy_words.ensures (to_z_pos w32 (let q = write_few _ _ _ _ c.requires in omega (arith, q))) c.copy_words-2.ensures c.copy_words.auto.work

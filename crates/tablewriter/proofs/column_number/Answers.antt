@@ -1,6 +1,5 @@
 use native.Mathlib.Omega.{arith}
 use Rattle.tablewriter.proofs.Tells.{index_low, variable_number, own_number}
-use borrow.Author.Rules.{rules}
 use Rattle.tablewriter.proofs.column_number.Goals as goal
 
 pub overflow_add-v : goal.overflow_add-v

@@ -1,5 +1,4 @@
 use Rattle.tablewriter.proofs.Tells.{passed_variable, passed_own}
-use borrow.Author.Rules.{rules}
 use Rattle.tablewriter.proofs.pass_column.Goals as goal
 
 pub returns-then-word-eq21 : goal.returns-then-word-eq21

@@ -1,6 +1,5 @@
 use mathlib.Core.Path.{sym, ◌∙◌}
 use native.Mathlib.Omega.{arith}
-use borrow.Author.Rules.{rules}
 use Rattle.scan.specs.Skip.{split_by}
 use Rattle.tablewriter.proofs.Puts.{registered_added, none_added}
 use Rattle.tablewriter.proofs.put_adds.Goals as goal

@@ -3,7 +3,6 @@ use mathlib.Core.List.{[]}
 use Rattle.walk.specs.Item.{bump}
 use Rattle.output.proofs.Laws.{open_next}
 use Rattle.tablewriter.proofs.Puts.{variable_put, own_put}
-use borrow.Author.Rules.{rules}
 use Rattle.tablewriter.proofs.put_column.Goals as goal
 
 pub returns-then-word-eq21 : goal.returns-then-word-eq21

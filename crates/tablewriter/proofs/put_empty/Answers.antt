@@ -2,7 +2,6 @@ use mathlib.Core.List.{[], ◌∷◌}
 use Rattle.clauses.specs.Clause.{clause}
 use Rattle.rows.proofs.Looping.{clauses_stop}
 use Rattle.tablewriter.proofs.Rows.{empty_one}
-use borrow.Author.Rules.{rules}
 use Rattle.tablewriter.proofs.put_empty.Goals as goal
 
 pub returns-then-o-eq-CAP : goal.returns-then-o-eq-CAP

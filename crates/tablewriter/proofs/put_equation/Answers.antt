@@ -1,7 +1,6 @@
 use native.Mathlib.Omega.{arith}
 use Rattle.output.proofs.Laws.{open_next}
 use Rattle.tablewriter.proofs.Equation.{stepping, less_asked, linear_asked, equation_wrote}
-use borrow.Author.Rules.{rules}
 use Rattle.tablewriter.proofs.put_equation.Goals as goal
 
 pub linear_of-a-requires : goal.linear_of-a-requires

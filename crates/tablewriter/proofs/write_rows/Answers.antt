@@ -1,7 +1,6 @@
 use mathlib.Core.Path.{sym, ◌∙◌}
 use native.Mathlib.Omega.{arith}
 use Rattle.tablewriter.proofs.Rows.{rows_none, rows_plain, rows_starred, some_inside, some_describable, some_room, some_star_rows, some_plain_table}
-use borrow.Author.Rules.{rules}
 use Rattle.tablewriter.proofs.write_rows.Goals as goal
 
 pub returns-then-rows-eq0 : goal.returns-then-rows-eq0

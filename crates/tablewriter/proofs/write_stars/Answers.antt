@@ -1,5 +1,4 @@
 use Rattle.tablewriter.proofs.Rows.{stars_free, stars_some}
-use borrow.Author.Rules.{rules}
 use Rattle.tablewriter.proofs.write_stars.Goals as goal
 
 pub returns-then-s-ne0 : goal.returns-then-s-ne0

@@ -6,7 +6,6 @@ use Rattle.walks.specs.Item.{counters}
 use Rattle.output.proofs.Laws.{open_next}
 use Rattle.tablewriter.proofs.Rows.{table_placed, some_inside}
 use Rattle.tablewriter.proofs.Tables.{some_under, some_fit, some_rows, table_did}
-use borrow.Author.Rules.{rules}
 use Rattle.tablewriter.proofs.write_table.Goals as goal
 
 pub overflow_add-at : goal.overflow_add-at
