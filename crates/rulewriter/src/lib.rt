@@ -54,8 +54,8 @@ fn no_members(at: usize, base: usize, n: Counters) -> Scanned
     ensures { result ≡ scanned (surveyed at base n.bools 0 0 0 0 0) n.ints }
 {
     let s = Surveyed {
-        at: at,
-        base: base,
+        at,
+        base,
         n: n.bools,
         longs: 0,
         lits: 0,
@@ -86,9 +86,8 @@ fn probes(
     ensures { ProbedAll work.now left (split_by m) count g h at base n result }
 {
     let mut r = no_members(at, base, n);
-    let mut rest = count;
     let mut f = g;
-    while rest != 0 {
+    for _ in 0..count {
         let p = r.part;
         let s = probe(work, p.at, left, m, p.base, f, counters(r));
         let q = s.part;
@@ -96,7 +95,6 @@ fn probes(
             return s;
         }
         r = with_ints(add_member(p, q), s.ints);
-        rest = rest - 1;
         f = h;
     }
     r
@@ -206,11 +204,12 @@ fn pass(work: &[i32], at: usize, left: usize, m: usize, base: usize, g: bool, n:
     Behind {
         at: y.at,
         base: y.base,
-        n: n,
+        n,
     }
 }
 
 // The literals (b) or the comparisons of the single members among so many; there are j of them, and no member behind the last is read.
+// Its loop counts down what is still to be found, not the members, so it is a while.
 #[cycle(pool)]
 fn pools(
     work: &[i32],
@@ -247,8 +246,8 @@ fn pools(
             q = a.at;
             c = a.base;
             e = counters(s);
-            k = k - x;
-            rest = rest - 1;
+            k -= x;
+            rest -= 1;
             f = h;
             continue;
         }
@@ -256,7 +255,7 @@ fn pools(
         q = y.at;
         c = y.base;
         e = y.n;
-        rest = rest - 1;
+        rest -= 1;
         f = h;
     }
     p
@@ -445,17 +444,15 @@ fn write_all(
     ensures { SurveysAll work.now left (split_by m) count g h at base n result.seen × Wrote out.old o (texts (items_at work.now left (split_by m) count g h at base) work.now n (suffix s)) out.new result.o }
 {
     let mut r = no_members(at, base, n);
-    let mut rest = count;
     let mut f = g;
     let mut p = o;
-    while rest != 0 {
+    for _ in 0..count {
         let a = r.part;
         let y = write(work, a.at, left, m, a.base, f, counters(r), s, out, p);
         let x = y.seen;
         let b = x.part;
         r = with_ints(add_member(a, b), x.ints);
         p = y.o;
-        rest = rest - 1;
         f = h;
     }
     Walked { seen: r, o: p }
@@ -483,20 +480,18 @@ fn write_longs(
     ensures { Wrote out.old o (long_texts x.mode x.base (extra_lits x) (items_at work.now left (split_by m) count g h at base) work.now n 0 (suffix s)) out.new result }
 {
     let mut q = at;
-    let mut rest = count;
     let mut f = g;
     let mut c = base;
     let mut e = n;
     let mut j: usize = 0;
     let mut p = o;
-    while rest != 0 {
+    for _ in 0..count {
         let y = probe(work, q, left, m, c, f, e);
         let a = y.part;
         if a.longs == 0 {
             q = a.at;
             c = a.base;
             e = counters(y);
-            rest = rest - 1;
             f = h;
             continue;
         }
@@ -507,9 +502,8 @@ fn write_longs(
         c = d.base;
         e = counters(b);
         p = z.o;
-        rest = rest - 1;
         f = h;
-        j = j + 1;
+        j += 1;
     }
     p
 }
@@ -715,7 +709,7 @@ pub struct Added {
 fn nothing(o: usize) -> Added
     ensures { (result.lines ≡ 0) × (result.o ≡ o) }
 {
-    Added { lines: 0, o: o }
+    Added { lines: 0, o }
 }
 
 // What was written in two parts, the second behind the first.
@@ -930,13 +924,12 @@ fn registers(
     ensures { Puts (regs (items_at work.now left (split_by m) count g h at base) work.now n) (reg_lines (items_at work.now left (split_by m) count g h at base) work.now n) out.old o out.new result }
 {
     let mut q = at;
-    let mut rest = count;
     let mut f = g;
     let mut c = base;
     let mut e = n;
     let mut k: usize = 0;
     let mut p = o;
-    while rest != 0 {
+    for _ in 0..count {
         let x = register(work, q, left, m, c, f, e, out, p);
         let y = survey(work, q, left, m, c, f, e);
         let a = y.part;
@@ -945,7 +938,6 @@ fn registers(
         e = counters(y);
         k = bump(k, x.lines);
         p = x.o;
-        rest = rest - 1;
         f = h;
     }
     Added { lines: k, o: p }
@@ -1026,21 +1018,15 @@ fn register_terms(
     requires left_bound { left ≤ 64 }
     ensures { Puts ((terms_at work.now left (split_by m) count at base).adds work.now n) ((terms_at work.now left (split_by m) count at base).added work.now n) out.old o out.new result }
 {
-    let mut y = Behind {
-        at: at,
-        base: base,
-        n: n,
-    };
-    let mut rest = count;
+    let mut y = Behind { at, base, n };
     let mut k: usize = 0;
     let mut p = o;
-    while rest != 0 {
+    for _ in 0..count {
         let q = within(y.at + 1);
         let x = register_int(work, q, left, m, y.base, y.n, out, p);
         y = survey_int(work, q, left, m, y.base, y.n);
         k = bump(k, x.lines);
         p = x.o;
-        rest = rest - 1;
     }
     Added { lines: k, o: p }
 }
@@ -1097,7 +1083,7 @@ fn register_if(
     let t = Behind {
         at: x.at,
         base: x.base,
-        n: n,
+        n,
     };
     let a = register_int(work, t.at, left, m, t.base, n, out, o);
     let y = survey_int(work, t.at, left, m, t.base, n);
@@ -1316,11 +1302,11 @@ fn no_ties(at: usize, base: usize, n: Counters, o: usize) -> Tied
     ensures { result ≡ no_extras at base n o }
 {
     Tied {
-        at: at,
-        base: base,
-        n: n,
+        at,
+        base,
+        n,
         lines: 0,
-        o: o,
+        o,
     }
 }
 
@@ -1328,13 +1314,9 @@ fn no_ties(at: usize, base: usize, n: Counters, o: usize) -> Tied
 fn two_ties(a: Tied, b: Tied) -> Tied
     ensures { result ≡ two_extras a b }
 {
-    let n = b.n;
     Tied {
-        at: b.at,
-        base: b.base,
-        n: n,
         lines: bump(a.lines, b.lines),
-        o: b.o,
+        ..b
     }
 }
 
@@ -1356,9 +1338,7 @@ fn term_ties(
     ensures { Blocks work.now (terms_ties (read_part work.now) (decode_int (read_part work.now) left (split_by m)) (ties_int_at (read_part work.now) left (split_by m)) count at base) n out.old o out.new result × TermSkips (read_part work.now) left (split_by m) count at base result.at result.base }
 {
     let mut x = no_ties(at, base, n, o);
-    let mut rest = count;
-    while rest != 0 {
-        rest = rest - 1;
+    for _ in 0..count {
         if scan::is_leaf(work, x.at, left) {
             let e = no_ties(x.at + 3, x.base, x.n, x.o);
             x = two_ties(x, e);
@@ -1424,11 +1404,9 @@ fn member_ties(
     ensures { Blocks work.now (many_ties (decode (read_part work.now) left (split_by m)) (ties_at (read_part work.now) left (split_by m)) count at base) n out.old o out.new result × SkipsAll (read_part work.now) left (split_by m) count at base result.at result.base }
 {
     let mut x = no_ties(at, base, n, o);
-    let mut rest = count;
-    while rest != 0 {
+    for _ in 0..count {
         let y = write_ties(work, x.at, left, m, x.base, x.n, out, x.o);
         x = two_ties(x, y);
-        rest = rest - 1;
     }
     x
 }
@@ -1510,10 +1488,8 @@ fn rule_ties(
     requires { Placed work.now at base n × Open out.old o × AllFit (ties_at (read_part work.now) 64 below at base) × (c ≡ (decode (read_part work.now) 64 below false at base).next) }
     ensures { Blocks work.now (ties_at (read_part work.now) 64 below at base) n out.old o out.new result }
 {
-    if c == base {
-        if base < memory::LIMIT {
-            return no_ties(at, base, n, o);
-        }
+    if c == base && base < memory::LIMIT {
+        return no_ties(at, base, n, o);
     }
     write_ties(work, at, 64, 1, base, n, out, o)
 }
@@ -1525,10 +1501,7 @@ pub fn write_rule(work: &[i32], at: usize, n: Counters, out: &mut [i32], o: usiz
 {
     let b = n.bools;
     let s = scan::skip(work, at, 64, 1, b);
-    let k = Counters {
-        bools: s.base,
-        ints: n.ints,
-    };
+    let k = Counters { bools: s.base, ..n };
     let x = rule_ties(work, at, b, s.base, k, out, o);
     let y = write_block(work, at, 64, 1, b, false, x.n, out, x.o);
     two_ties(x, y)
@@ -1551,10 +1524,8 @@ fn pair_ties(
     requires next_value { next ≡ pair_next (read_part work.now) p q base }
     ensures { Blocks work.now (pair_extras (read_part work.now) p q base) n out.old o out.new result }
 {
-    if next == base {
-        if next < memory::LIMIT {
-            return no_ties(q, base, n, o);
-        }
+    if next == base && next < memory::LIMIT {
+        return no_ties(q, base, n, o);
     }
     let a = int_ties(work, p, 64, 2, base, n, out, o);
     let b = int_ties(work, q, 64, 2, a.base, a.n, out, a.o);
@@ -1637,10 +1608,7 @@ pub fn write_pair(work: &[i32], p: usize, q: usize, n: Counters, out: &mut [i32]
     let b = n.bools;
     let x = scan::skip_int(work, p, 64, 2, b);
     let y = scan::skip_int(work, q, 64, 2, x.base);
-    let k = Counters {
-        bools: y.base,
-        ints: n.ints,
-    };
+    let k = Counters { bools: y.base, ..n };
     let t = pair_ties(work, p, q, b, y.base, k, out, o);
     let z = write_unequal(work, p, q, b, t.n, out, t.o);
     two_ties(t, z)

@@ -1,15 +1,8 @@
-use borrow.Author.Rules.{rules}
-use Prim.Native.Nat.{ℕ, ◌<◌, ◌+◌, ◌*◌}
-use mathlib.Core.Path.{◌≡◌, refl, sym, ◌∙◌}
-use mathlib.Core.List.{List}
+use mathlib.Core.Path.{refl, sym, ◌∙◌}
 use native.Mathlib.Omega.{arith}
-use lib.IntN.{ℤ}
-use Rattle.laws.specs.Writes.{Wrote, wrote_length}
-use Rattle.walks.specs.Item.{tallies, pools as pools-of}
-use Rattle.scan.specs.Skip.{split_by}
+use Rattle.laws.specs.Writes.{wrote_length}
 use Rattle.survey.proofs.Leaves.{join_is}
-use Rattle.rulewriter.specs.Places.{items_at, share}
-use Rattle.rulewriter.proofs.Steps.{okay, placed_at, fit_cmp, fit_not, fit_join, Sofar, sofar_none, sofar_more, sofar_skip, sofar_head}
+use Rattle.rulewriter.proofs.Steps.{okay, placed_at, fit_cmp, fit_not, fit_join, sofar_none, sofar_more, sofar_skip, sofar_head}
 use Rattle.rulewriter.proofs.PoolLaws.{pool_none, single_not, pool_var, pool_cmp, pool_not, pool_disj, pool_conj, pool_cross, pools_none, pools_more, pools_next, some_left, share_not, share_disj, share_rest, share_long, share_found, single_found, pool_skip}
 use Rattle.rulewriter.proofs.+pool.Goals as goal
 

@@ -1,11 +1,10 @@
-use borrow.Author.Rules.{rules}
-use Prim.Native.Nat.{ℕ, ◌<◌, ◌+◌, ◌*◌}
+use Prim.Native.Nat.{◌+◌, ◌-◌}
 use mathlib.Core.Path.{◌≡◌, refl, sym, ap, ◌∙◌, subst}
 use native.Mathlib.Omega.{arith}
 use Rattle.walk.specs.Decode.{added}
 use Rattle.walk.specs.declared.Counters.{Counters}
 use Rattle.scan.specs.Skip.{split_by}
-use Rattle.scan.specs.SurveyLaws.{counters_of, Sofar, sofar_none, sofar_more}
+use Rattle.scan.specs.SurveyLaws.{counters_of, sofar_none, sofar_more}
 use Rattle.survey.proofs.Leaves.{join_is}
 use Rattle.rulewriter.specs.Places.{ProbedAll}
 use Rattle.rulewriter.proofs.Steps.{okay, placed_at}
@@ -45,34 +44,37 @@ probe-returns-in-Cross t c = probed_cross c.args.work.now _ _ _ _ _ _ _ c.requir
 pub probe-returns-in_default : goal.probe-returns-in_default
 probe-returns-in_default t c = probed_found c.survey-in_default.ensures
 
-pub probes-loop-rest-init : goal.probes-loop-rest-init
-probes-loop-rest-init t c = let p = c.requires in rw c.no_members-r.ensures (sofar_none c.args.work.now _ _ _ _ _ _ _ _ p.inside p.low_base p.low, refl)
+pub probes-loop-init : goal.probes-loop-init
+probes-loop-init t c =
+    let q : c.args.count - 0 ≡ c.args.count = omega arith in
+    let p = c.requires in rw q (rw c.no_members-r.ensures (sofar_none c.args.work.now _ _ _ _ _ _ _ _ p.inside p.low_base p.low, refl))
 
 pub probes-probe-s-requires : goal.probes-probe-s-requires
 probes-probe-s-requires t c =
-    let i = c.loop-rest.invariant.0 in
+    let i = c.loop.invariant.0 in
     (omega (arith, c.decreases), record { size = c.requires.size; inside = i.skips.inside; low_base = i.skips.low; low = rw c.counters.ensures i.low })
 
 pub probes-returns-then-q-ne0 : goal.probes-returns-then-q-ne0
 probes-returns-then-q-ne0 t c =
     let e : counters_of c.no_members-r.result ≡ c.args.n = ap counters_of c.no_members-r.ensures in
-    subst (λ (k : Counters). ProbedAll c.args.work.now c.args.left (split_by c.args.m) c.args.count c.args.g c.args.h c.args.at c.args.base k c.probe-s.result) e (probed_stop _ _ _ _ _ _ _ _ _ _ _ _ c.loop-rest.invariant.0 c.probe-s.result c.loop-rest-test.true (rw c.counters.ensures at c.probe-s.ensures) c.if-q-ne0.true)
+    subst (λ (k : Counters). ProbedAll c.args.work.now c.args.left (split_by c.args.m) c.args.count c.args.g c.args.h c.args.at c.args.base k c.probe-s.result) e (probed_stop _ _ _ _ _ _ _ _ _ _ _ _ c.loop.invariant.0 c.probe-s.result (omega arith) (rw c.counters.ensures at c.probe-s.ensures) c.if-q-ne0.true)
 
 pub probes-add_member-requires : goal.probes-add_member-requires
 probes-add_member-requires t c =
-    let i = c.loop-rest.invariant.0 in
+    let i = c.loop.invariant.0 in
     let e = c.probe-s.ensures.single c.if-q-ne0.false in
     omega (arith, i.room, e.found.room, e.skips.inside)
 
-pub probes-loop-rest-preserved : goal.probes-loop-rest-preserved
+pub probes-loop-preserved : goal.probes-loop-preserved
 unfolding added
-probes-loop-rest-preserved t c =
-    let i = c.loop-rest.invariant in
+probes-loop-preserved t c =
+    let q : c.args.count - (c.loop.counter + 1) ≡ c.args.count - c.loop.counter - 1 = omega arith in
+    let i = c.loop.invariant in
     let z = c.if-q-ne0.false in
     let y = c.probe-s.ensures.single z in
-    rw c.with_ints-r.ensures (sofar_more _ _ _ _ _ _ _ _ _ _ _ _ _ _ i.0 c.loop-rest-test.true (rw c.counters.ensures at y) c.add_member.ensures, rw c.add_member.ensures (omega (arith, i.1, z)))
+    rw q (rw c.with_ints-r.ensures (sofar_more _ _ _ _ _ _ _ _ _ _ _ _ _ _ i.0 (omega arith) (rw c.counters.ensures at y) c.add_member.ensures, rw c.add_member.ensures (omega (arith, i.1, z))))
 
 pub probes-returns : goal.probes-returns
 probes-returns t c =
     let e : counters_of c.no_members-r.result ≡ c.args.n = ap counters_of c.no_members-r.ensures in
-    subst (λ (k : Counters). ProbedAll c.args.work.now c.args.left (split_by c.args.m) c.args.count c.args.g c.args.h c.args.at c.args.base k c.loop-rest.r) e (probed_end _ _ _ _ _ _ _ _ _ _ _ _ c.loop-rest.invariant.0 c.loop-rest-test.false c.loop-rest.invariant.1)
+    subst (λ (k : Counters). ProbedAll c.args.work.now c.args.left (split_by c.args.m) c.args.count c.args.g c.args.h c.args.at c.args.base k c.loop.r) e (probed_end _ _ _ _ _ _ _ _ _ _ _ _ c.loop.invariant.0 (omega arith) c.loop.invariant.1)

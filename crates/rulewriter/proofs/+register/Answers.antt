@@ -1,21 +1,11 @@
-use borrow.Author.Rules.{rules}
-use Prim.Native.Nat.{ℕ, ◌<◌, ◌≤◌, ◌+◌, ◌*◌}
+use Prim.Native.Nat.{◌+◌, ◌-◌}
 use mathlib.Core.Path.{◌≡◌, refl, sym, ◌∙◌}
-use mathlib.Core.List.{List, []}
+use mathlib.Core.List.{[]}
 use native.Mathlib.Omega.{arith}
-use lib.IntN.{ℤ}
-use lib.ListN.{length}
-use Rattle.laws.specs.Writes.{Wrote, wrote_length, Open}
-use Rattle.memory.specs.Places.{limit}
-use Rattle.walk.specs.Item.{bump}
-use Rattle.walk.specs.Decode.{read_part}
-use Rattle.walks.specs.Item.{regs, reg_lines}
-use Rattle.walks.specs.Decode.{many_terms, decode_int}
+use Rattle.laws.specs.Writes.{wrote_length}
 use Rattle.scan.specs.IfLaws.{seen_at, more_ints_low, more_bools_low}
-use Rattle.scan.specs.Skip.{split_by}
 use Rattle.output.proofs.Laws.{open_next}
-use Rattle.rulewriter.specs.Places.{Placed, items_at, terms_at, AllTermsFit}
-use Rattle.rulewriter.proofs.Steps.{is_here, not_here, okay, placed_at, placed_with, placed_skipped, fit_left, fit_right, fit_not, fit_join, fit_cross, Sofar, sofar_none, sofar_more, sofar_head}
+use Rattle.rulewriter.proofs.Steps.{is_here, not_here, okay, placed_at, placed_with, placed_skipped, fit_left, fit_right, fit_not, fit_join, fit_cross, sofar_none, sofar_more, sofar_head}
 use Rattle.rulewriter.proofs.Registered.{puts_none, puts_both, puts_length, reg_none, reg_var, reg_cmp, reg_not, reg_join, reg_cross, reg_split, cross_adds, lines_low, regs_none, regs_more, lines_more, second_placed, second_fit, second_adds, int_adds_none, int_adds_leaf, fit_sum, int_adds_sum, fit_if, int_adds_if, parts, if_passed, if_adds, made_open, made_variable, made_named, not_constant, is_constant, named_block, open_block, terms_low, terms_none, term_fit, terms_fit, terms_more, terms_added, zero_bump, next_lines, last_lines, within_past, condition_skips}
 use Rattle.rulewriter.proofs.+register.Goals as goal
 
@@ -258,73 +248,65 @@ register_sides-shape_of-out t c = puts_length c.register_int-b.ensures ∙ puts_
 pub register_sides-returns : goal.register_sides-returns
 register_sides-returns t c = puts_both _ _ _ c.requires.placed.1 c.register_int-a.ensures (second_adds c.survey_int-x.ensures c.register_int-b.ensures) c.both.ensures
 
-pub register_terms-loop-rest-init : goal.register_terms-loop-rest-init
-register_terms-loop-rest-init t c = (c.requires.placed.0, c.requires.placed.1, refl, c.requires.placed.2, omega arith, zero_bump _ (terms_low _ _ _), λ d r x. x)
+pub register_terms-loop-init : goal.register_terms-loop-init
+register_terms-loop-init t c =
+    let q : c.args.count - 0 ≡ c.args.count = omega arith in
+    rw q ((c.requires.placed.0, c.requires.placed.1, refl, c.requires.placed.2, omega arith, zero_bump _ (terms_low _ _ _), λ d r x. x))
 
 pub register_terms-overflow_add-y : goal.register_terms-overflow_add-y
-register_terms-overflow_add-y t c = omega (arith, c.loop-rest.invariant.0.inside)
+register_terms-overflow_add-y t c = omega (arith, c.loop.invariant.0.inside)
 
 pub register_terms-register_int-x-requires : goal.register_terms-register_int-x-requires
 register_terms-register_int-x-requires t c =
-    let i = c.loop-rest.invariant in
-    (omega (arith, c.decreases), ((record { size = i.0.size; inside = omega (arith, c.within-q.ensures); low_base = i.0.low_base; low = i.0.low }, i.1, term_fit c.args.work.now i.0.size _ _ _ _ _ c.loop-rest-test.true _ c.within-q.ensures i.3), c.requires.left_bound))
+    let i = c.loop.invariant in
+    (omega (arith, c.decreases), ((record { size = i.0.size; inside = omega (arith, c.within-q.ensures); low_base = i.0.low_base; low = i.0.low }, i.1, term_fit c.args.work.now i.0.size _ _ _ _ _ (omega arith) _ c.within-q.ensures i.3), c.requires.left_bound))
 
 pub register_terms-survey_int-y-requires : goal.register_terms-survey_int-y-requires
-register_terms-survey_int-y-requires t c = let i = c.loop-rest.invariant.0 in (i.size, (omega (arith, c.within-q.ensures), (i.low_base, i.low)))
+register_terms-survey_int-y-requires t c = let i = c.loop.invariant.0 in (i.size, (omega (arith, c.within-q.ensures), (i.low_base, i.low)))
 
-pub register_terms-overflow_sub-rest : goal.register_terms-overflow_sub-rest
-register_terms-overflow_sub-rest t c = let y = c.loop-rest-test.true in omega (arith, y)
-
-pub register_terms-loop-rest-smaller : goal.register_terms-loop-rest-smaller
-register_terms-loop-rest-smaller t c = let y = c.loop-rest-test.true in omega (arith, y)
-
-pub register_terms-loop-rest-preserved : goal.register_terms-loop-rest-preserved
-register_terms-loop-rest-preserved t c =
-    let i = c.loop-rest.invariant in
-    let z = c.loop-rest-test.true in
+pub register_terms-loop-preserved : goal.register_terms-loop-preserved
+register_terms-loop-preserved t c =
+    let q : c.args.count - (c.loop.counter + 1) ≡ c.args.count - c.loop.counter - 1 = omega arith in
+    let i = c.loop.invariant in
     let s = c.survey_int-y.ensures in
     let f = c.register_int-x.ensures in
-    (second_placed s i.0.size, open_next i.1 f.wrote, wrote_length f.wrote ∙ i.2, terms_fit c.args.work.now i.0.size _ _ _ _ _ z _ c.within-q.ensures _ _ s i.3, omega (arith, c.bump-k.ensures), next_lines _ _ _ _ _ _ _ i.5 (terms_added c.args.work.now i.0.size _ _ _ _ _ z _ c.within-q.ensures _ _ s) f.lines c.bump-k.ensures, λ d r x. i.6 d r (terms_more c.args.work.now i.0.size _ _ _ _ _ z _ c.within-q.ensures _ _ s i.1 f.wrote x))
+    rw q ((second_placed s i.0.size, open_next i.1 f.wrote, wrote_length f.wrote ∙ i.2, terms_fit c.args.work.now i.0.size _ _ _ _ _ (omega arith) _ c.within-q.ensures _ _ s i.3, omega (arith, c.bump-k.ensures), next_lines _ _ _ _ _ _ _ i.5 (terms_added c.args.work.now i.0.size _ _ _ _ _ (omega arith) _ c.within-q.ensures _ _ s) f.lines c.bump-k.ensures, λ d r x. i.6 d r (terms_more c.args.work.now i.0.size _ _ _ _ _ (omega arith) _ c.within-q.ensures _ _ s i.1 f.wrote x)))
 
 pub register_terms-shape_of-out : goal.register_terms-shape_of-out
-register_terms-shape_of-out t c = c.loop-rest.invariant.2
+register_terms-shape_of-out t c = c.loop.invariant.2
 
 pub register_terms-returns : goal.register_terms-returns
 register_terms-returns t c =
-    let i = c.loop-rest.invariant in
-    let e = terms_none c.args.work.now _ _ _ _ _ _ c.loop-rest-test.false i.1 in
+    let i = c.loop.invariant in
+    let e = terms_none c.args.work.now _ _ _ _ _ _ (omega arith) i.1 in
     record { wrote = i.6 _ _ e.0; lines = last_lines _ _ _ i.5 e.1 i.4 }
 
-pub registers-loop-rest-init : goal.registers-loop-rest-init
-registers-loop-rest-init t c = (sofar_none c.requires.placed.0 c.requires.placed.1 c.requires.placed.2, omega arith, zero_bump _ (lines_low _ _ _), λ d r x. x)
+pub registers-loop-init : goal.registers-loop-init
+registers-loop-init t c =
+    let q : c.args.count - 0 ≡ c.args.count = omega arith in
+    rw q ((sofar_none c.requires.placed.0 c.requires.placed.1 c.requires.placed.2, omega arith, zero_bump _ (lines_low _ _ _), λ d r x. x))
 
 pub registers-register-x-requires : goal.registers-register-x-requires
 registers-register-x-requires t c =
-    let i = c.loop-rest.invariant.0 in
-    (omega (arith, c.decreases), ((i.placed, i.opened, sofar_head i c.loop-rest-test.true), c.requires.left_bound))
+    let i = c.loop.invariant.0 in
+    (omega (arith, c.decreases), ((i.placed, i.opened, sofar_head i (omega arith)), c.requires.left_bound))
 
 pub registers-survey-y-requires : goal.registers-survey-y-requires
-registers-survey-y-requires t c = let p = c.loop-rest.invariant.0.placed in (p.size, (p.inside, (p.low_base, p.low)))
+registers-survey-y-requires t c = let p = c.loop.invariant.0.placed in (p.size, (p.inside, (p.low_base, p.low)))
 
-pub registers-overflow_sub-rest : goal.registers-overflow_sub-rest
-registers-overflow_sub-rest t c = let y = c.loop-rest-test.true in omega (arith, y)
-
-pub registers-loop-rest-smaller : goal.registers-loop-rest-smaller
-registers-loop-rest-smaller t c = let y = c.loop-rest-test.true in omega (arith, y)
-
-pub registers-loop-rest-preserved : goal.registers-loop-rest-preserved
-registers-loop-rest-preserved t c =
-    let i = c.loop-rest.invariant in
-    let z = c.loop-rest-test.true in
+pub registers-loop-preserved : goal.registers-loop-preserved
+registers-loop-preserved t c =
+    let q : c.args.count - (c.loop.counter + 1) ≡ c.args.count - c.loop.counter - 1 = omega arith in
+    let i = c.loop.invariant in
     let s = c.survey-y.ensures in
     let f = c.register-x.ensures in
-    (sofar_more i.0 z s.skips (rw c.counters-e.ensures s.found.low) f.wrote, omega (arith, c.bump-k.ensures), next_lines _ _ _ _ _ _ _ i.2 (lines_more c.args.work.now _ _ _ _ _ _ _ _ z _ s _ c.counters-e.ensures) f.lines c.bump-k.ensures, λ d r x. i.3 d r (regs_more c.args.work.now _ _ _ _ _ _ _ _ z _ s _ c.counters-e.ensures i.0.opened f.wrote x))
+    rw q ((sofar_more i.0 (omega arith) s.skips (rw c.counters-e.ensures s.found.low) f.wrote, omega (arith, c.bump-k.ensures), next_lines _ _ _ _ _ _ _ i.2 (lines_more c.args.work.now _ _ _ _ _ _ _ _ (omega arith) _ s _ c.counters-e.ensures) f.lines c.bump-k.ensures, λ d r x. i.3 d r (regs_more c.args.work.now _ _ _ _ _ _ _ _ (omega arith) _ s _ c.counters-e.ensures i.0.opened f.wrote x)))
 
 pub registers-shape_of-out : goal.registers-shape_of-out
-registers-shape_of-out t c = c.loop-rest.invariant.0.same
+registers-shape_of-out t c = c.loop.invariant.0.same
 
 pub registers-returns : goal.registers-returns
 registers-returns t c =
-    let i = c.loop-rest.invariant in
-    let e = regs_none c.args.work.now _ _ _ _ _ _ _ _ c.loop-rest-test.false i.0.opened in
+    let i = c.loop.invariant in
+    let e = regs_none c.args.work.now _ _ _ _ _ _ _ _ (omega arith) i.0.opened in
     record { wrote = i.3 _ _ e.0; lines = last_lines _ _ _ i.2 e.1 i.1 }

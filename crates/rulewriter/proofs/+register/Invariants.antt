@@ -1,22 +1,17 @@
-use borrow.Author.Rules.{rules}
-use Prim.Native.Nat.{ℕ, ◌<◌, ◌≤◌, ◌+◌, ◌*◌}
-use mathlib.Core.Path.{◌≡◌, refl, sym, ◌∙◌}
-use mathlib.Core.List.{List, []}
-use native.Mathlib.Omega.{arith}
+use Prim.Native.Nat.{ℕ, ◌≤◌, ◌+◌, ◌-◌, ◌*◌}
+use mathlib.Core.Path.{◌≡◌}
+use mathlib.Core.List.{List}
 use lib.IntN.{ℤ}
 use lib.ListN.{length}
-use Rattle.laws.specs.Writes.{Wrote, wrote_length, Open}
+use Rattle.laws.specs.Writes.{Wrote, Open}
 use Rattle.memory.specs.Places.{limit}
 use Rattle.walk.specs.Item.{bump}
 use Rattle.walk.specs.Decode.{read_part}
 use Rattle.walks.specs.Item.{regs, reg_lines}
 use Rattle.walks.specs.Decode.{many_terms, decode_int}
-use Rattle.scan.specs.IfLaws.{seen_at, more_ints_low, more_bools_low}
 use Rattle.scan.specs.Skip.{split_by}
-use Rattle.output.proofs.Laws.{open_next}
 use Rattle.rulewriter.specs.Places.{Placed, items_at, terms_at, AllTermsFit}
-use Rattle.rulewriter.proofs.Steps.{is_here, not_here, okay, placed_at, placed_with, placed_skipped, fit_left, fit_right, fit_not, fit_join, fit_cross, Sofar, sofar_none, sofar_more, sofar_head}
-use Rattle.rulewriter.proofs.Registered.{puts_none, puts_both, puts_length, reg_none, reg_var, reg_cmp, reg_not, reg_join, reg_cross, reg_split, cross_adds, lines_low, regs_none, regs_more, lines_more, second_placed, second_fit, second_adds, int_adds_none, int_adds_leaf, fit_sum, int_adds_sum, fit_if, int_adds_if, parts, if_passed, if_adds, made_open, made_variable, made_named, not_constant, is_constant, named_block, open_block, terms_low, terms_none, term_fit, terms_fit, terms_more, terms_added, zero_bump, next_lines, last_lines, within_past, condition_skips}
+use Rattle.rulewriter.proofs.Steps.{Sofar}
 use Rattle.rulewriter.proofs.+register.Given as goal
 
 abbrev pub decreases-make_if : goal.decreases-make_if
@@ -49,19 +44,13 @@ decreases-register_terms l = 4 * l.left + 1
 abbrev pub decreases-registers : goal.decreases-registers
 decreases-registers l = 4 * l.left + 1
 
-abbrev pub invariant-register_terms-loop-rest : goal.invariant-register_terms-loop-rest
-invariant-register_terms-loop-rest l =
-    Placed l.work l.y.at l.y.base l.y.n × Open l.out l.p × (length l.out ≡ length l.initial.out) × AllTermsFit (many_terms (read_part l.work) (decode_int (read_part l.work) l.left (split_by l.m)) l.rest l.y.at l.y.base).trees × (l.k ≤ limit)
-    × (bump l.k ((terms_at l.work l.left (split_by l.m) l.rest l.y.at l.y.base).added l.work l.y.n) ≡ (terms_at l.work l.left (split_by l.m) l.count l.at l.base).added l.work l.initial.y.n)
-    × ((d : List ℤ) (r : ℕ) → Wrote l.out l.p ((terms_at l.work l.left (split_by l.m) l.rest l.y.at l.y.base).adds l.work l.y.n) d r → Wrote l.initial.out l.o ((terms_at l.work l.left (split_by l.m) l.count l.at l.base).adds l.work l.initial.y.n) d r)
+abbrev pub invariant-register_terms-loop : goal.invariant-register_terms-loop
+invariant-register_terms-loop l =
+    Placed l.work l.y.at l.y.base l.y.n × Open l.out l.p × (length l.out ≡ length l.initial.out) × AllTermsFit (many_terms (read_part l.work) (decode_int (read_part l.work) l.left (split_by l.m)) (l.count - l.counter) l.y.at l.y.base).trees × (l.k ≤ limit)
+    × (bump l.k ((terms_at l.work l.left (split_by l.m) (l.count - l.counter) l.y.at l.y.base).added l.work l.y.n) ≡ (terms_at l.work l.left (split_by l.m) l.count l.at l.base).added l.work l.initial.y.n)
+    × ((d : List ℤ) (r : ℕ) → Wrote l.out l.p ((terms_at l.work l.left (split_by l.m) (l.count - l.counter) l.y.at l.y.base).adds l.work l.y.n) d r → Wrote l.initial.out l.o ((terms_at l.work l.left (split_by l.m) l.count l.at l.base).adds l.work l.initial.y.n) d r)
 
-abbrev pub decreases-register_terms-loop-rest : goal.decreases-register_terms-loop-rest
-decreases-register_terms-loop-rest l = l.rest
-
-abbrev pub invariant-registers-loop-rest : goal.invariant-registers-loop-rest
-invariant-registers-loop-rest l =
-    Sofar l.work l.initial.out l.left (split_by l.m) l.h l.q l.rest l.f l.c l.e l.p l.out × (l.k ≤ limit) × (bump l.k (reg_lines (items_at l.work l.left (split_by l.m) l.rest l.f l.h l.q l.c) l.work l.e) ≡ reg_lines (items_at l.work l.left (split_by l.m) l.count l.g l.h l.at l.base) l.work l.initial.e)
-    × ((d : List ℤ) (r : ℕ) → Wrote l.out l.p (regs (items_at l.work l.left (split_by l.m) l.rest l.f l.h l.q l.c) l.work l.e) d r → Wrote l.initial.out l.o (regs (items_at l.work l.left (split_by l.m) l.count l.g l.h l.at l.base) l.work l.initial.e) d r)
-
-abbrev pub decreases-registers-loop-rest : goal.decreases-registers-loop-rest
-decreases-registers-loop-rest l = l.rest
+abbrev pub invariant-registers-loop : goal.invariant-registers-loop
+invariant-registers-loop l =
+    Sofar l.work l.initial.out l.left (split_by l.m) l.h l.q (l.count - l.counter) l.f l.c l.e l.p l.out × (l.k ≤ limit) × (bump l.k (reg_lines (items_at l.work l.left (split_by l.m) (l.count - l.counter) l.f l.h l.q l.c) l.work l.e) ≡ reg_lines (items_at l.work l.left (split_by l.m) l.count l.g l.h l.at l.base) l.work l.initial.e)
+    × ((d : List ℤ) (r : ℕ) → Wrote l.out l.p (regs (items_at l.work l.left (split_by l.m) (l.count - l.counter) l.f l.h l.q l.c) l.work l.e) d r → Wrote l.initial.out l.o (regs (items_at l.work l.left (split_by l.m) l.count l.g l.h l.at l.base) l.work l.initial.e) d r)

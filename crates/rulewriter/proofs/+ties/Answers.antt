@@ -1,17 +1,14 @@
-use borrow.Author.Rules.{rules}
-use Prim.Native.Nat.{ℕ, ◌<◌, ◌+◌, ◌*◌}
-use mathlib.Core.Path.{refl, sym, ◌∙◌}
+use Prim.Native.Nat.{◌+◌, ◌-◌}
+use mathlib.Core.Path.{◌≡◌, refl, sym, ◌∙◌}
 use mathlib.Core.Bool.{false}
 use native.Mathlib.Omega.{arith}
 use Rattle.laws.specs.Writes.{wrote_length}
 use Rattle.walk.specs.Decode.{read_part}
-use Rattle.walks.specs.Decode.{decode, decode_int, many_ties, terms_ties, ties_at, ties_int_at}
-use Rattle.scan.specs.Skip.{split_by, inside_same, inside_more, inner_some, skips_none, skips_var, skips_cmp, skips_not, skips_join, skips_cross, int_none, int_leaf, int_sum, int_if, Skipping, skipping_first, skipping_next, skipping_last, TermSkipping, terms_first as passing-first, terms_next as passing-next, terms_leaf as passing-leaf, terms_last as passing-last}
+use Rattle.scan.specs.Skip.{split_by, inside_same, inside_more, inner_some, skips_none, skips_var, skips_cmp, skips_not, skips_join, skips_cross, int_none, int_leaf, int_sum, int_if, skipping_first, skipping_next, skipping_last, terms_first as passing-first, terms_next as passing-next, terms_leaf as passing-leaf, terms_last as passing-last}
 use Rattle.output.proofs.Laws.{open_next}
-use Rattle.rulewriter.specs.Places.{Placed}
 use Rattle.rulewriter.proofs.Steps.{is_here, not_here, okay, placed_at, placed_skipped}
 use Rattle.rulewriter.proofs.Registered.{within_past}
-use Rattle.rulewriter.proofs.Extras.{extra_none, extra_same, extra_open, extra_length, Going, going_none, going_open, going_length, ties_zero, int_ties_zero, ties_var, ties_not, ties_join, ties_split, ties_cross, cmp_first, cmp_second, cmp_extras, int_ties_leaf, int_ties_sum, if_first, if_second, if_third, if_extras, members_last, terms_last, members_fit, members_more, term_fits, terms_more, terms_leaf, both_skipped, split_first, split_tie, tie_blocks, split_second, split_other, split_extras}
+use Rattle.rulewriter.proofs.Extras.{extra_none, extra_same, extra_open, extra_length, going_none, going_open, going_length, ties_zero, int_ties_zero, ties_var, ties_not, ties_join, ties_split, ties_cross, cmp_first, cmp_second, cmp_extras, int_ties_leaf, int_ties_sum, if_first, if_second, if_third, if_extras, members_last, terms_last, members_fit, members_more, term_fits, terms_more, terms_leaf, both_skipped, split_first, split_tie, tie_blocks, split_second, split_other, split_extras}
 use Rattle.rulewriter.proofs.+ties.Goals as goal
 
 pub int_ties-returns-then-left-eq0 : goal.int_ties-returns-then-left-eq0
@@ -62,34 +59,30 @@ int_ties-returns-in-23 t c =
 pub int_ties-returns-in_default : goal.int_ties-returns-in_default
 int_ties-returns-in_default t c = rw c.no_ties-in_default.ensures (extra_none _ _ (int_ties_leaf (read_part c.args.work.now) _ _ _ _ _ c.if-left-eq0.false refl _ c.word.ensures c.in_default.in_default-own.rest.0.1 c.in_default.in_default-own.rest.1) c.requires.placed.1 c.requires.placed.0.low, int_leaf c.args.work.now c.requires.placed.0.size _ _ _ _ c.requires.placed.0.inside c.requires.placed.0.low_base _ c.if-left-eq0.false refl _ _ c.word.ensures c.in_default.in_default-own.rest.0.1 c.in_default.in_default-own.rest.1 c.within-two.ensures)
 
-pub member_ties-loop-rest-init : goal.member_ties-loop-rest-init
-member_ties-loop-rest-init t c = rw c.no_ties-x.ensures (c.requires.placed.0, going_none _ _ _ c.requires.placed.1 c.requires.placed.0.low c.requires.placed.2, skipping_first (read_part c.args.work.now) _ _ _ _ _ c.requires.placed.0.inside c.requires.placed.0.low_base)
+pub member_ties-loop-init : goal.member_ties-loop-init
+member_ties-loop-init t c =
+    let q : c.args.count - 0 ≡ c.args.count = omega arith in
+    rw q (rw c.no_ties-x.ensures (c.requires.placed.0, going_none _ _ _ c.requires.placed.1 c.requires.placed.0.low c.requires.placed.2, skipping_first (read_part c.args.work.now) _ _ _ _ _ c.requires.placed.0.inside c.requires.placed.0.low_base))
 
 pub member_ties-write_ties-y-requires : goal.member_ties-write_ties-y-requires
 member_ties-write_ties-y-requires t c =
-    let i = c.loop-rest.invariant in
-    (omega (arith, c.decreases), ((i.0, going_open i.1, members_fit c.args.work.now _ _ _ _ c.loop-rest-test.true i.1), omega (arith, c.requires.left_bound)))
+    let i = c.loop.invariant in
+    (omega (arith, c.decreases), ((i.0, going_open i.1, members_fit c.args.work.now _ _ _ _ (omega arith) i.1), omega (arith, c.requires.left_bound)))
 
-pub member_ties-overflow_sub-rest : goal.member_ties-overflow_sub-rest
-member_ties-overflow_sub-rest t c = let y = c.loop-rest-test.true in omega (arith, y)
-
-pub member_ties-loop-rest-smaller : goal.member_ties-loop-rest-smaller
-member_ties-loop-rest-smaller t c = let y = c.loop-rest-test.true in omega (arith, y)
-
-pub member_ties-loop-rest-preserved : goal.member_ties-loop-rest-preserved
-member_ties-loop-rest-preserved t c =
-    let i = c.loop-rest.invariant in
-    let z = c.loop-rest-test.true in
+pub member_ties-loop-preserved : goal.member_ties-loop-preserved
+member_ties-loop-preserved t c =
+    let q : c.args.count - (c.loop.counter + 1) ≡ c.args.count - c.loop.counter - 1 = omega arith in
+    let i = c.loop.invariant in
     let f = c.write_ties-y.ensures in
-    rw c.two_ties-x.ensures (placed_skipped _ i.0 f.1 f.0.listed.low, members_more c.args.work.now _ _ _ _ z _ i.1 f.1 f.0, skipping_next (read_part c.args.work.now) _ _ _ _ _ _ _ _ _ _ i.2 z f.1)
+    rw q (rw c.two_ties-x.ensures (placed_skipped _ i.0 f.1 f.0.listed.low, members_more c.args.work.now _ _ _ _ (omega arith) _ i.1 f.1 f.0, skipping_next (read_part c.args.work.now) _ _ _ _ _ _ _ _ _ _ i.2 (omega arith) f.1))
 
 pub member_ties-shape_of-out : goal.member_ties-shape_of-out
-member_ties-shape_of-out t c = going_length c.loop-rest.invariant.1
+member_ties-shape_of-out t c = going_length c.loop.invariant.1
 
 pub member_ties-returns : goal.member_ties-returns
 member_ties-returns t c =
-    let i = c.loop-rest.invariant in
-    (rw c.no_ties-x.ensures at (members_last c.args.work.now _ _ _ _ i.1 c.loop-rest-test.false), skipping_last (read_part c.args.work.now) _ _ _ _ _ _ _ _ i.2 c.loop-rest-test.false)
+    let i = c.loop.invariant in
+    (rw c.no_ties-x.ensures at (members_last c.args.work.now _ _ _ _ i.1 (omega arith)), skipping_last (read_part c.args.work.now) _ _ _ _ _ _ _ _ i.2 (omega arith))
 
 pub split_ties-write_ties-a-requires : goal.split_ties-write_ties-a-requires
 split_ties-write_ties-a-requires t c = (omega (arith, c.decreases), ((record { size = c.requires.placed.0.size; inside = c.requires.placed.0.inside; low_base = omega (arith, c.bump-c.ensures); low = c.requires.placed.0.low }, c.requires.placed.1, split_first c.args.work.now _ _ _ _ c.bump-c.ensures c.requires.placed.2), omega (arith, c.requires.left_bound)))
@@ -125,50 +118,43 @@ split_ties-returns t c =
     let h = c.bump-c.ensures in
     rw (c.two_ties-3.ensures, c.two_ties-2.ensures, c.two_ties.ensures) (split_extras c.args.work.now _ _ _ _ h _ _ x.1 c.requires.placed.1 x.0 (tie_blocks c.args.work.now _ c.args.at _ _ h _ _ _ c.put_tie-b.result c.put_tie-b.ensures.0) y.0 (tie_blocks c.args.work.now _ c.args.at _ _ h _ _ _ c.put_tie-e.result c.put_tie-e.ensures.0), rw h at (both_skipped (read_part c.args.work.now) _ _ _ _ _ _ _ _ c.requires.placed.0.inside (omega (arith, h)) x.1 c.put_tie-e.ensures.1))
 
-pub term_ties-loop-rest-init : goal.term_ties-loop-rest-init
-term_ties-loop-rest-init t c = rw c.no_ties-x.ensures (c.requires.placed.0, going_none _ _ _ c.requires.placed.1 c.requires.placed.0.low c.requires.placed.2, passing-first c.args.work.now _ _ _ _ _ c.requires.placed.0.inside c.requires.placed.0.low_base)
-
-pub term_ties-overflow_sub-rest : goal.term_ties-overflow_sub-rest
-term_ties-overflow_sub-rest t c = let y = c.loop-rest-test.true in omega (arith, y)
+pub term_ties-loop-init : goal.term_ties-loop-init
+term_ties-loop-init t c =
+    let q : c.args.count - 0 ≡ c.args.count = omega arith in
+    rw q (rw c.no_ties-x.ensures (c.requires.placed.0, going_none _ _ _ c.requires.placed.1 c.requires.placed.0.low c.requires.placed.2, passing-first c.args.work.now _ _ _ _ _ c.requires.placed.0.inside c.requires.placed.0.low_base))
 
 pub term_ties-overflow_add-x : goal.term_ties-overflow_add-x
 term_ties-overflow_add-x t c = omega (arith, (c.is_leaf.ensures c.if-is_leaf.true).1)
 
-pub term_ties-loop-rest-smaller-then-is_leaf : goal.term_ties-loop-rest-smaller-then-is_leaf
-term_ties-loop-rest-smaller-then-is_leaf t c = let y = c.loop-rest-test.true in omega (arith, y)
-
-pub term_ties-loop-rest-preserved-then-is_leaf : goal.term_ties-loop-rest-preserved-then-is_leaf
-term_ties-loop-rest-preserved-then-is_leaf t c =
-    let i = c.loop-rest.invariant in
-    let z = c.loop-rest-test.true in
+pub term_ties-loop-preserved-then-is_leaf : goal.term_ties-loop-preserved-then-is_leaf
+term_ties-loop-preserved-then-is_leaf t c =
+    let q : c.args.count - (c.loop.counter + 1) ≡ c.args.count - c.loop.counter - 1 = omega arith in
+    let i = c.loop.invariant in
     let h = c.is_leaf.ensures c.if-is_leaf.true in
-    rw (c.two_ties-x.ensures, c.no_ties-e.ensures) (record { size = i.0.size; inside = omega (arith, h.1); low_base = i.0.low_base; low = i.0.low }, terms_leaf c.args.work.now _ _ _ c.loop-rest.x z i.1 i.0.size i.0.low_base i.0.low h, passing-leaf c.args.work.now _ _ _ _ _ i.0.size _ _ _ i.2 z h)
+    rw q (rw (c.two_ties-x.ensures, c.no_ties-e.ensures) (record { size = i.0.size; inside = omega (arith, h.1); low_base = i.0.low_base; low = i.0.low }, terms_leaf c.args.work.now _ _ _ c.loop.x (omega arith) i.1 i.0.size i.0.low_base i.0.low h, passing-leaf c.args.work.now _ _ _ _ _ i.0.size _ _ _ i.2 (omega arith) h))
 
-pub term_ties-overflow_add-x-in-loop-rest : goal.term_ties-overflow_add-x-in-loop-rest
-term_ties-overflow_add-x-in-loop-rest t c = omega (arith, c.loop-rest.invariant.0.inside)
+pub term_ties-overflow_add-x-in-loop : goal.term_ties-overflow_add-x-in-loop
+term_ties-overflow_add-x-in-loop t c = omega (arith, c.loop.invariant.0.inside)
 
 pub term_ties-int_ties-y-requires : goal.term_ties-int_ties-y-requires
 term_ties-int_ties-y-requires t c =
-    let i = c.loop-rest.invariant in
-    (omega (arith, c.decreases), ((record { size = i.0.size; inside = omega (arith, c.within-q.ensures); low_base = i.0.low_base; low = i.0.low }, going_open i.1, term_fits c.args.work.now _ _ _ _ c.loop-rest-test.true _ (sym (within_past c.args.work.now i.0.size _ _ c.within-q.ensures)) i.1), omega (arith, c.requires.left_bound)))
+    let i = c.loop.invariant in
+    (omega (arith, c.decreases), ((record { size = i.0.size; inside = omega (arith, c.within-q.ensures); low_base = i.0.low_base; low = i.0.low }, going_open i.1, term_fits c.args.work.now _ _ _ _ (omega arith) _ (sym (within_past c.args.work.now i.0.size _ _ c.within-q.ensures)) i.1), omega (arith, c.requires.left_bound)))
 
-pub term_ties-loop-rest-smaller : goal.term_ties-loop-rest-smaller
-term_ties-loop-rest-smaller t c = let y = c.loop-rest-test.true in omega (arith, y)
-
-pub term_ties-loop-rest-preserved : goal.term_ties-loop-rest-preserved
-term_ties-loop-rest-preserved t c =
-    let i = c.loop-rest.invariant in
-    let z = c.loop-rest-test.true in
+pub term_ties-loop-preserved : goal.term_ties-loop-preserved
+term_ties-loop-preserved t c =
+    let q : c.args.count - (c.loop.counter + 1) ≡ c.args.count - c.loop.counter - 1 = omega arith in
+    let i = c.loop.invariant in
     let f = c.int_ties-y.ensures in
-    rw c.two_ties-x-in-loop-rest.ensures (record { size = i.0.size; inside = f.1.inside; low_base = f.1.low; low = f.0.listed.low }, terms_more c.args.work.now _ _ _ _ z _ (sym (within_past c.args.work.now i.0.size _ _ c.within-q.ensures)) _ i.1 f.1 f.0, passing-next c.args.work.now _ _ _ _ _ i.0.size _ _ _ _ _ _ i.2 z c.within-q.ensures f.1)
+    rw q (rw c.two_ties-x-in-loop.ensures (record { size = i.0.size; inside = f.1.inside; low_base = f.1.low; low = f.0.listed.low }, terms_more c.args.work.now _ _ _ _ (omega arith) _ (sym (within_past c.args.work.now i.0.size _ _ c.within-q.ensures)) _ i.1 f.1 f.0, passing-next c.args.work.now _ _ _ _ _ i.0.size _ _ _ _ _ _ i.2 (omega arith) c.within-q.ensures f.1))
 
 pub term_ties-shape_of-out : goal.term_ties-shape_of-out
-term_ties-shape_of-out t c = going_length c.loop-rest.invariant.1
+term_ties-shape_of-out t c = going_length c.loop.invariant.1
 
 pub term_ties-returns : goal.term_ties-returns
 term_ties-returns t c =
-    let i = c.loop-rest.invariant in
-    (rw c.no_ties-x.ensures at (terms_last c.args.work.now _ _ _ _ i.1 c.loop-rest-test.false), passing-last c.args.work.now _ _ _ _ _ _ _ _ i.2 c.loop-rest-test.false)
+    let i = c.loop.invariant in
+    (rw c.no_ties-x.ensures at (terms_last c.args.work.now _ _ _ _ i.1 (omega arith)), passing-last c.args.work.now _ _ _ _ _ _ _ _ i.2 (omega arith))
 
 pub write_ties-returns-then-left-eq0 : goal.write_ties-returns-then-left-eq0
 write_ties-returns-then-left-eq0 t c = rw c.no_ties.ensures (extra_none _ _ (ties_zero _ _ _ _ _ c.if-left-eq0.true) c.requires.placed.1 c.requires.placed.0.low, skips_none c.args.work.now c.requires.placed.0.size _ _ _ _ c.requires.placed.0.inside c.requires.placed.0.low_base c.if-left-eq0.true)

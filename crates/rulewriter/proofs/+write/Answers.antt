@@ -1,29 +1,28 @@
-use borrow.Author.Rules.{rules, sfits_of}
-use Prim.Native.Nat.{ℕ, ◌<◌, ◌≤◌, ◌+◌, ◌*◌}
+use borrow.Author.Rules.{sfits_of}
+use Prim.Native.Nat.{◌+◌, ◌-◌}
 use mathlib.Core.Path.{◌≡◌, refl, sym, ap, ◌∙◌, subst}
 use mathlib.Core.Bool.{true}
-use mathlib.Core.List.{List}
 use native.Mathlib.Omega.{arith}
 use mir.Facts.{to_z-of_z}
 use mir.Syntax.{w32}
 use mir.Val.{SFits}
-use lib.IntN.{ℤ, pos}
+use lib.IntN.{pos}
 use lib.ListN.{length, get_or}
 use Rattle.laws.specs.Writes.{Wrote, wrote_length}
 use Rattle.walk.specs.Item.{Tally}
 use Rattle.walk.specs.Decode.{read_part, added}
 use Rattle.walk.specs.declared.Counters.{Counters}
 use Rattle.walk.specs.declared.Surveyed.{Surveyed}
-use Rattle.walks.specs.Item.{pools, texts, long_texts}
+use Rattle.walks.specs.Item.{pools, texts}
 use Rattle.walks.specs.Decode.{many, decode}
 use Rattle.scan.specs.Skip.{split_by, inside_same, inside_more, skips_none, skips_var, skips_cmp, skips_not, skips_join, skips_cross}
-use Rattle.scan.specs.SurveyLaws.{scanned, counters_of, SurveysAll, survey_not, survey_split, survey_cross, Sofar as Seen, sofar_none as seen_none, sofar_more as seen_more, sofar_done as Seen-done}
+use Rattle.scan.specs.SurveyLaws.{scanned, counters_of, SurveysAll, survey_not, survey_split, survey_cross, sofar_none as seen_none, sofar_more as seen_more, sofar_done as Seen-done}
 use Rattle.survey.proofs.Leaves.{join_is}
-use Rattle.output.specs.Suffix.{suffix, extra_lits}
+use Rattle.output.specs.Suffix.{suffix}
 use Rattle.output.proofs.Laws.{open_next, stack_down}
 use Rattle.rulewriter.specs.Places.{items_at}
 use Rattle.rulewriter.proofs.Surveying.{survey_none, survey_var, survey_cmp, survey_conj, survey_disj}
-use Rattle.rulewriter.proofs.Steps.{is_here, not_here, okay, placed_at, placed_with, fit_cmp, fit_not, fit_join, fit_cross, Sofar, sofar_none, sofar_more, sofar_skip, sofar_head}
+use Rattle.rulewriter.proofs.Steps.{is_here, not_here, okay, placed_at, placed_with, fit_cmp, fit_not, fit_join, fit_cross, sofar_none, sofar_more, sofar_skip, sofar_head}
 use Rattle.rulewriter.proofs.PoolLaws.{items_lits}
 use Rattle.rulewriter.proofs.Longer.{long_seen}
 use Rattle.rulewriter.proofs.Written.{write_none, write_var, write_cmp, write_not, write_conj, write_disjoint, write_split, write_cross, cross_text, texts_none, texts_more, longs_none, longs_skip, longs_more, one_lit, disj_pool, disj_pass, disj_two, disj_each, tallied}
@@ -139,35 +138,37 @@ write-returns-else-m-gt1 t c =
     let m = not_here c.args.m (omega (arith, c.if-m-gt1.false)) in
     (survey_cross c.args.work.now c.requires.placed.0.size _ _ _ _ _ _ c.requires.placed.0.inside c.requires.placed.0.low _ c.if-left-eq0.false refl _ _ _ _ _ _ _ m (sym c.in-Cross.is ∙ c.node_at.ensures) c.inner-i.ensures x.first x.second (skips_cross c.args.work.now c.requires.placed.0.size _ _ _ _ c.requires.placed.0.inside c.requires.placed.0.low_base _ c.if-left-eq0.false refl c.args.g _ _ _ _ _ _ (sym c.in-Cross.is ∙ c.node_at.ensures) c.inner-i.ensures (inside_same c.args.m c.args.base (omega (arith, c.if-m-gt1.false))) x.second.skips) refl x.is, write_cross c.args.work.now _ _ _ _ _ _ c.if-left-eq0.false refl _ _ _ _ _ _ _ _ _ c.inner-i.ensures m (sym c.in-Cross.is ∙ c.node_at.ensures) c.write_cross.ensures.1)
 
-pub write_all-loop-rest-init : goal.write_all-loop-rest-init
-write_all-loop-rest-init t c = rw c.no_members-r.ensures (sofar_none c.requires.placed.0 c.requires.placed.1 c.requires.placed.2, seen_none c.args.work.now _ _ _ _ _ _ _ _ c.requires.placed.0.inside c.requires.placed.0.low_base c.requires.placed.0.low, λ d r x. x)
+pub write_all-loop-init : goal.write_all-loop-init
+write_all-loop-init t c =
+    let q : c.args.count - 0 ≡ c.args.count = omega arith in
+    rw q (rw c.no_members-r.ensures (sofar_none c.requires.placed.0 c.requires.placed.1 c.requires.placed.2, seen_none c.args.work.now _ _ _ _ _ _ _ _ c.requires.placed.0.inside c.requires.placed.0.low_base c.requires.placed.0.low, λ d r x. x))
 
 pub write_all-write-y-requires : goal.write_all-write-y-requires
 write_all-write-y-requires t c =
-    let i = c.loop-rest.invariant.0 in
-    (omega (arith, c.decreases), ((rw c.counters.ensures i.placed, i.opened, sofar_head i c.loop-rest-test.true), c.requires.stacked))
+    let i = c.loop.invariant.0 in
+    (omega (arith, c.decreases), ((rw c.counters.ensures i.placed, i.opened, sofar_head i (omega arith)), c.requires.stacked))
 
 pub write_all-add_member-requires : goal.write_all-add_member-requires
 write_all-add_member-requires t c =
-    let i = c.loop-rest.invariant.1 in
+    let i = c.loop.invariant.1 in
     let e = c.write-y.ensures.0 in
     omega (arith, i.room, e.found.room, e.skips.inside)
 
-pub write_all-loop-rest-preserved : goal.write_all-loop-rest-preserved
+pub write_all-loop-preserved : goal.write_all-loop-preserved
 unfolding added
-write_all-loop-rest-preserved t c =
-    let i = c.loop-rest.invariant in
-    let y = c.loop-rest-test.true in
+write_all-loop-preserved t c =
+    let q : c.args.count - (c.loop.counter + 1) ≡ c.args.count - c.loop.counter - 1 = omega arith in
+    let i = c.loop.invariant in
     let e = rw c.counters.ensures at c.write-y.ensures in
-    rw (c.with_ints-r.ensures, c.add_member.ensures) (sofar_more i.0 y e.0.skips e.0.found.low e.1, seen_more _ _ _ _ _ _ _ _ _ _ _ _ _ _ i.1 y e.0 refl, λ d r x. i.2 d r (texts_more c.args.work.now _ _ _ _ _ _ _ _ _ y _ e.0 i.0.opened e.1 x))
+    rw q (rw (c.with_ints-r.ensures, c.add_member.ensures) (sofar_more i.0 (omega arith) e.0.skips e.0.found.low e.1, seen_more _ _ _ _ _ _ _ _ _ _ _ _ _ _ i.1 (omega arith) e.0 refl, λ d r x. i.2 d r (texts_more c.args.work.now _ _ _ _ _ _ _ _ _ (omega arith) _ e.0 i.0.opened e.1 x)))
 
 pub write_all-shape_of-out : goal.write_all-shape_of-out
-write_all-shape_of-out t c = c.loop-rest.invariant.0.same
+write_all-shape_of-out t c = c.loop.invariant.0.same
 
 pub write_all-returns : goal.write_all-returns
 write_all-returns t c =
     let e : counters_of c.no_members-r.result ≡ c.args.n = ap counters_of c.no_members-r.ensures in
-    (subst (λ (k : Counters). SurveysAll c.args.work.now c.args.left (split_by c.args.m) c.args.count c.args.g c.args.h c.args.at c.args.base k c.loop-rest.r) e (Seen-done _ _ _ _ _ _ _ _ _ _ _ _ c.loop-rest.invariant.1 c.loop-rest-test.false), subst (λ (k : Counters). Wrote c.args.out.now c.args.o (texts (items_at c.args.work.now c.args.left (split_by c.args.m) c.args.count c.args.g c.args.h c.args.at c.args.base) c.args.work.now k (suffix c.args.s)) c.loop-rest.out c.loop-rest.p) e (c.loop-rest.invariant.2 _ _ (texts_none c.args.work.now _ _ _ _ _ _ _ _ _ c.loop-rest-test.false c.loop-rest.invariant.0.opened)))
+    (subst (λ (k : Counters). SurveysAll c.args.work.now c.args.left (split_by c.args.m) c.args.count c.args.g c.args.h c.args.at c.args.base k c.loop.r) e (Seen-done _ _ _ _ _ _ _ _ _ _ _ _ c.loop.invariant.1 (omega arith)), subst (λ (k : Counters). Wrote c.args.out.now c.args.o (texts (items_at c.args.work.now c.args.left (split_by c.args.m) c.args.count c.args.g c.args.h c.args.at c.args.base) c.args.work.now k (suffix c.args.s)) c.loop.out c.loop.p) e (c.loop.invariant.2 _ _ (texts_none c.args.work.now _ _ _ _ _ _ _ _ _ (omega arith) c.loop.invariant.0.opened)))
 
 pub write_cross-surveys-x-requires : goal.write_cross-surveys-x-requires
 write_cross-surveys-x-requires t c = let p = c.requires.placed.0 in (p.size, (p.inside, (p.low_base, p.low)))
@@ -240,55 +241,44 @@ write_disj-shape_of-out-in-Each t c = wrote_length c.put_pool-in-Each.ensures �
 pub write_disj-returns-in-Each : goal.write_disj-returns-in-Each
 write_disj-returns-in-Each t c = disj_each _ _ _ _ _ c.args.x c.requires.tallied.0.unit _ (sym c.mode_of.ensures ∙ c.in-Each.is) c.requires.placed.1 c.write_longs-p.ensures c.put_pool-in-Each.ensures
 
-pub write_longs-loop-rest-init : goal.write_longs-loop-rest-init
-write_longs-loop-rest-init t c = (sofar_none c.requires.placed.0 c.requires.placed.1 c.requires.placed.2, omega arith, λ d r y. y)
+pub write_longs-loop-init : goal.write_longs-loop-init
+write_longs-loop-init t c =
+    let q : c.args.count - 0 ≡ c.args.count = omega arith in
+    rw q ((sofar_none c.requires.placed.0 c.requires.placed.1 c.requires.placed.2, omega arith, λ d r y. y))
 
 pub write_longs-probe-y-requires : goal.write_longs-probe-y-requires
-write_longs-probe-y-requires t c = c.loop-rest.invariant.0.placed
+write_longs-probe-y-requires t c = c.loop.invariant.0.placed
 
-pub write_longs-overflow_sub-rest : goal.write_longs-overflow_sub-rest
-write_longs-overflow_sub-rest t c = let y = c.loop-rest-test.true in omega (arith, y)
-
-pub write_longs-loop-rest-smaller-then-a-eq0 : goal.write_longs-loop-rest-smaller-then-a-eq0
-write_longs-loop-rest-smaller-then-a-eq0 t c = let y = c.loop-rest-test.true in omega (arith, y)
-
-pub write_longs-loop-rest-preserved-then-a-eq0 : goal.write_longs-loop-rest-preserved-then-a-eq0
-write_longs-loop-rest-preserved-then-a-eq0 t c =
-    let i = c.loop-rest.invariant in
-    let y = c.loop-rest-test.true in
+pub write_longs-loop-preserved-then-a-eq0 : goal.write_longs-loop-preserved-then-a-eq0
+write_longs-loop-preserved-then-a-eq0 t c =
+    let q : c.args.count - (c.loop.counter + 1) ≡ c.args.count - c.loop.counter - 1 = omega arith in
+    let i = c.loop.invariant in
     let u = c.probe-y.ensures.single c.if-a-eq0.true in
-    (sofar_skip i.0 y u.skips (rw c.counters-e.ensures u.found.low), omega (arith, i.1, u.found.room), λ d r v. i.2 d r (longs_skip c.args.work.now _ _ _ _ _ _ _ _ _ y _ u _ _ _ _ c.if-a-eq0.true (rw c.counters-e.ensures at v)))
+    rw q ((sofar_skip i.0 (omega arith) u.skips (rw c.counters-e.ensures u.found.low), omega (arith, i.1, u.found.room), λ d r v. i.2 d r (longs_skip c.args.work.now _ _ _ _ _ _ _ _ _ (omega arith) _ u _ _ _ _ c.if-a-eq0.true (rw c.counters-e.ensures at v))))
 
 pub write_longs-pushed-requires : goal.write_longs-pushed-requires
 write_longs-pushed-requires t c =
-    let i = c.loop-rest.invariant in
+    let i = c.loop.invariant in
     (stack_down 1 c.requires.stacked.0 (omega arith), c.requires.stacked.1, omega (arith, i.1, i.0.placed.inside))
 
 pub write_longs-write-z-requires : goal.write_longs-write-z-requires
 write_longs-write-z-requires t c =
-    let y = c.loop-rest-test.true in
-    let i = c.loop-rest.invariant.0 in
-    (omega (arith, c.decreases), ((i.placed, i.opened, sofar_head i y), record { size = c.pushed.ensures.2.size; room = omega (arith, c.pushed.ensures.1, c.requires.stacked.0.room); inside = c.pushed.ensures.2.inside }))
-
-pub write_longs-overflow_sub-rest-in-loop-rest : goal.write_longs-overflow_sub-rest-in-loop-rest
-write_longs-overflow_sub-rest-in-loop-rest t c = let y = c.loop-rest-test.true in omega (arith, y)
+    let i = c.loop.invariant.0 in
+    (omega (arith, c.decreases), ((i.placed, i.opened, sofar_head i (omega arith)), record { size = c.pushed.ensures.2.size; room = omega (arith, c.pushed.ensures.1, c.requires.stacked.0.room); inside = c.pushed.ensures.2.inside }))
 
 pub write_longs-overflow_add-j : goal.write_longs-overflow_add-j
-write_longs-overflow_add-j t c = omega (arith, c.loop-rest.invariant.1, c.loop-rest.invariant.0.placed.inside)
+write_longs-overflow_add-j t c = omega (arith, c.loop.invariant.1, c.loop.invariant.0.placed.inside)
 
-pub write_longs-loop-rest-smaller : goal.write_longs-loop-rest-smaller
-write_longs-loop-rest-smaller t c = let y = c.loop-rest-test.true in omega (arith, y)
-
-pub write_longs-loop-rest-preserved : goal.write_longs-loop-rest-preserved
-write_longs-loop-rest-preserved t c =
-    let i = c.loop-rest.invariant in
-    let y = c.loop-rest-test.true in
+pub write_longs-loop-preserved : goal.write_longs-loop-preserved
+write_longs-loop-preserved t c =
+    let q : c.args.count - (c.loop.counter + 1) ≡ c.args.count - c.loop.counter - 1 = omega arith in
+    let i = c.loop.invariant in
     let e = c.write-z.ensures in
     let b = long_seen c.probe-y.ensures c.if-a-eq0.false e.0 in
-    (sofar_more i.0 y e.0.skips (rw c.counters-e-in-loop-rest.ensures e.0.found.low) e.1, omega (arith, i.1, e.0.found.room, b), λ d r v. i.2 d r (longs_more c.args.work.now _ _ _ _ _ _ _ _ _ y _ e.0 _ _ _ _ b i.0.opened _ c.pushed.ensures.0 e.1 (rw c.counters-e-in-loop-rest.ensures at v)))
+    rw q ((sofar_more i.0 (omega arith) e.0.skips (rw c.counters-e-in-loop.ensures e.0.found.low) e.1, omega (arith, i.1, e.0.found.room, b), λ d r v. i.2 d r (longs_more c.args.work.now _ _ _ _ _ _ _ _ _ (omega arith) _ e.0 _ _ _ _ b i.0.opened _ c.pushed.ensures.0 e.1 (rw c.counters-e-in-loop.ensures at v))))
 
 pub write_longs-shape_of-out : goal.write_longs-shape_of-out
-write_longs-shape_of-out t c = c.loop-rest.invariant.0.same
+write_longs-shape_of-out t c = c.loop.invariant.0.same
 
 pub write_longs-returns : goal.write_longs-returns
-write_longs-returns t c = c.loop-rest.invariant.2 _ _ (longs_none c.args.work.now _ _ _ _ _ _ _ _ _ _ _ _ _ c.loop-rest-test.false c.loop-rest.invariant.0.opened)
+write_longs-returns t c = c.loop.invariant.2 _ _ (longs_none c.args.work.now _ _ _ _ _ _ _ _ _ _ _ _ _ (omega arith) c.loop.invariant.0.opened)

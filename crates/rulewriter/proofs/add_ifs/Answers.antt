@@ -1,4 +1,3 @@
-use borrow.Author.Rules.{rules}
 use mathlib.Core.Path.{sym, ◌∙◌}
 use Rattle.walk.specs.Decode.{read_part}
 use Rattle.walks.specs.Decode.{decode}

@@ -2,7 +2,6 @@ use Rattle.rulewriter.proofs.Extras.{extra_none, extra_open, extra_length}
 use Rattle.rulewriter.proofs.Pairs.{extras_none, extras_first, extras_second, extras_written}
 use mathlib.Core.Path.{◌∙◌}
 use native.Mathlib.Omega.{arith}
-use borrow.Author.Rules.{rules}
 use Rattle.rulewriter.proofs.pair_ties.Goals as goal
 
 pub returns-then-next-lt-LIMIT : goal.returns-then-next-lt-LIMIT

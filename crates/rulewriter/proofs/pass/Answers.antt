@@ -1,4 +1,3 @@
-use borrow.Author.Rules.{rules}
 use mathlib.Core.Path.{refl, sym, ◌∙◌}
 use Rattle.rulewriter.proofs.Longer.{passed_found, passed_off}
 use Rattle.rulewriter.proofs.pass.Goals as goal

@@ -3,7 +3,6 @@ use Rattle.rulewriter.proofs.Registered.{puts_length}
 use Rattle.rulewriter.proofs.Pairs.{first_fit, second_fit, pair_adds}
 use mathlib.Core.Path.{◌∙◌}
 use native.Mathlib.Omega.{arith}
-use borrow.Author.Rules.{rules}
 use Rattle.rulewriter.proofs.register_pair.Goals as goal
 
 pub register_int-a-requires : goal.register_int-a-requires

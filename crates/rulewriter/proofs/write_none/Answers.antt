@@ -1,4 +1,3 @@
-use borrow.Author.Rules.{rules}
 use mathlib.Core.Path.{ap, ◌∙◌}
 use Rattle.laws.specs.Writes.{wrote_length}
 use Rattle.walk.specs.declared.Surveyed.{Surveyed}

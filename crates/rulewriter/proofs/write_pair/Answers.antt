@@ -2,7 +2,6 @@ use Rattle.rulewriter.proofs.Extras.{extra_open, extra_length}
 use Rattle.rulewriter.proofs.Pairs.{next_both, extras_fit, unequal_fit, pair_blocks}
 use mathlib.Core.Path.{refl, ◌∙◌}
 use native.Mathlib.Omega.{arith}
-use borrow.Author.Rules.{rules}
 use Rattle.rulewriter.proofs.write_pair.Goals as goal
 
 pub skip_int-x-requires : goal.skip_int-x-requires

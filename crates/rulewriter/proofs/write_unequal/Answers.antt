@@ -3,7 +3,6 @@ use Rattle.output.proofs.Laws.{open_next}
 use Rattle.rulewriter.proofs.Registered.{puts_length}
 use Rattle.rulewriter.proofs.Pairs.{unequal_block}
 use mathlib.Core.Path.{◌∙◌}
-use borrow.Author.Rules.{rules}
 use Rattle.rulewriter.proofs.write_unequal.Goals as goal
 
 pub register_pair-a-requires : goal.register_pair-a-requires
