@@ -40,10 +40,9 @@ fn put_rule(work: &[i32], at: usize, n: Counters, out: &mut [i32], o: usize, k: 
     ensures { RulePut work.now at n out.old o k out.new result.next result.n result.at result.clauses }
 {
     let r = rulewriter::write_rule(work, at + 1, n, out, o);
-    let m = r.n;
     Step {
         next: r.at,
-        n: m,
+        n: r.n,
         at: r.o,
         clauses: rows::lesser(bump(k, r.lines), r.o),
     }
@@ -66,10 +65,9 @@ fn write_one(
         return put_rule(work, at, n, out, o, k);
     }
     let t = tablewriter::write_table(set, work, at, n, out, o, k);
-    let m = t.n;
     Step {
         next: t.next,
-        n: m,
+        n: t.n,
         at: t.at,
         clauses: t.clauses,
     }
@@ -139,6 +137,7 @@ pub fn write_by_maps(
     };
     let mut p = o;
     let mut k = 0;
+    // Statements differ in length: the loop counts no index.
     while q < end {
         let r = write_mapped(set, work, q, n, out, p, k);
         q = r.next;
@@ -223,10 +222,9 @@ fn rewrite_pairs(
     let next = stmtwords::statement_end(work, at);
     let mut none = [0i32; 0];
     let r = differing::rewrite_different(set, work, &mut none, at, room, c, out, o, k);
-    let d = r.walk;
     Walked {
         next,
-        c: d,
+        c: r.walk,
         at: r.at,
         clauses: r.clauses,
     }
@@ -273,6 +271,7 @@ pub fn write_numbered(
     };
     let mut p = o;
     let mut k = 0;
+    // Statements differ in length: the loop counts no index.
     while q < end {
         let r = write_again(set, work, q, room, c, out, p, k);
         q = r.next;
