@@ -80,13 +80,17 @@ compared_16 : (p q : Problem) → same_words (declaration_words p) (declaration_
 unfolding compared agreed_of
 compared_16 p q e = rw e refl
 
+declared_some : (p : Problem) → 1 ≤ length (declaration_words p)
+unfolding declaration_words
+declared_some p = omega arith
+
 module _ (first second : List ℤ) (d e : Declared) where
   -- the words before both counts
-  pub compare_inside : ReadyBoth first second d e → d.at ≡ e.at → (1 ≤ d.at) × (d.at - 1 ≤ length first) × (d.at - 1 ≤ length second)
+  pub compare_inside : ReadyBoth first second d e → d.at ≡ e.at → (2 ≤ d.at) × (d.at - 1 ≤ length first) × (d.at - 1 ≤ length second)
   compare_inside y g =
       let a = shape y.size first d y.left in
       let b = shape y.size second e y.right in
-      (omega (arith, a.place), omega (arith, a.place, a.size), omega (arith, b.place, b.size))
+      (omega (arith, a.place, declared_some y.left.it), omega (arith, a.place, a.size), omega (arith, b.place, b.size))
 
   pub compare_room : ReadyBoth first second d e → d.at ≤ length first
   compare_room y = let a = shape y.size first d y.left in omega (arith, a.place, a.size)

@@ -6,13 +6,13 @@ use Rattle.join.proofs.compare.Goals as goal
 use Rattle.join.proofs.compare.Goals.{then-at-e-via-then-at-e, then-at-e-via-else-at-e+then-ne}
 
 pub slice_bounds-ne-count : goal.slice_bounds-ne-count
-slice_bounds-ne-count c = (compare_inside _ _ _ _ c.requires c.if-at-e.false).0
+slice_bounds-ne-count c = let q = compare_inside _ _ _ _ c.requires c.if-at-e.false in omega (arith, q.0)
 
 pub slice_bounds-ne-length : goal.slice_bounds-ne-length
 slice_bounds-ne-length c = let q = compare_inside _ _ _ _ c.requires c.if-at-e.false in let p = q.1 in search rules
 
 pub slice_bounds-ne-count-else-at-e : goal.slice_bounds-ne-count-else-at-e
-slice_bounds-ne-count-else-at-e c = (compare_inside _ _ _ _ c.requires c.if-at-e.false).0
+slice_bounds-ne-count-else-at-e c = let q = compare_inside _ _ _ _ c.requires c.if-at-e.false in omega (arith, q.0)
 
 pub slice_bounds-ne-length-else-at-e : goal.slice_bounds-ne-length-else-at-e
 slice_bounds-ne-length-else-at-e c = let q = compare_inside _ _ _ _ c.requires c.if-at-e.false in let p = q.2 in search rules

@@ -26,7 +26,7 @@ pub bounds-buffer-at : goal.bounds-buffer-at
 bounds-buffer-at c = let q = write_place _ _ _ _ c.requires in let s = write_first _ _ _ _ c.requires in omega (arith, q.1, c.copy_words.auto.work)
 
 pub overflow_sub-second : goal.overflow_sub-second
-overflow_sub-second c = (write_place _ _ _ _ c.requires).2
+overflow_sub-second c = let q = write_place _ _ _ _ c.requires in omega (arith, q.2)
 
 pub copy_words-requires-2 : goal.copy_words-requires-2
 copy_words-requires-2 c = write_second _ _ _ _ c.requires c.copy_words.new.work (to_z w32 (c.args.d.first + c.args.d.second)) c.copy_words.auto.work
