@@ -54,7 +54,7 @@ pub fn read_int(c: &mut Cursor, vars: Variables, left: usize) -> Result<(), Refu
             Ok(())
         }
         22 => {
-            let count = c.up_to(memory::MAX_COUNT, Refusal::OutOfRange)?;
+            let count = c.at_most_or(memory::MAX_COUNT, Refusal::OutOfRange)?;
             read_terms(c, count, vars, left - 1)
         }
         23 => read_if(c, vars, left - 1),
@@ -70,7 +70,7 @@ pub fn read_int(c: &mut Cursor, vars: Variables, left: usize) -> Result<(), Refu
 pub fn read_comparison(c: &mut Cursor, vars: Variables, left: usize) -> Result<(), Refusal>
     ensures { parsed result c.new.rest.now ≡ passed (comparison_of (int_of vars.bools vars.ints left) c.old.rest.now) }
 {
-    c.up_to(5, Refusal::OutOfRange)?;
+    c.at_most_or(5, Refusal::OutOfRange)?;
     read_int(c, vars, left)?;
     read_int(c, vars, left)
 }
@@ -98,7 +98,7 @@ pub fn read_members(
 pub fn read_list(c: &mut Cursor, vars: Variables, left: usize) -> Result<(), Refusal>
     ensures { parsed result c.new.rest.now ≡ passed (list_of (bool_of vars.bools vars.ints left) c.old.rest.now) }
 {
-    let count = c.up_to(memory::MAX_COUNT, Refusal::OutOfRange)?;
+    let count = c.at_most_or(memory::MAX_COUNT, Refusal::OutOfRange)?;
     read_members(c, count, vars, left)
 }
 
@@ -124,7 +124,7 @@ pub fn read_bool(c: &mut Cursor, vars: Variables, left: usize) -> Result<(), Ref
     }
     match code {
         10 => {
-            c.up_to(1, Refusal::OutOfRange)?;
+            c.at_most_or(1, Refusal::OutOfRange)?;
             Ok(())
         }
         11 => {

@@ -35,10 +35,10 @@ pub fn read_set(set: &[i32]) -> Result<Declared, Refusal>
     ensures { by_number result ≡ set_at (read-set-words set.now) }
 {
     let mut c = Cursor { rest: set };
-    let bools = c.up_to(memory::MAX_BOOLS, Refusal::OutOfRange)?;
-    let ints = c.up_to(memory::MAX_INTS, Refusal::OutOfRange)?;
+    let bools = c.at_most_or(memory::MAX_BOOLS, Refusal::OutOfRange)?;
+    let ints = c.at_most_or(memory::MAX_INTS, Refusal::OutOfRange)?;
     domains::read_domains(&mut c, ints)?;
-    let stmts = c.up_to(memory::MAX_COUNT, Refusal::OutOfRange)?;
+    let stmts = c.at_most_or(memory::MAX_COUNT, Refusal::OutOfRange)?;
     let at = set.len() - c.rest.len();
     statements::read_stmts(&mut c, stmts, Variables { bools, ints })?;
     if c.rest.is_empty() {

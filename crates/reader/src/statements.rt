@@ -63,8 +63,8 @@ pub fn read_columns(c: &mut Cursor, count: usize, vars: Variables) -> Result<(),
 pub fn read_table(c: &mut Cursor, vars: Variables) -> Result<(), Refusal>
     ensures { parsed result c.new.rest.now ≡ passed (table_of vars.bools vars.ints c.old.rest.now) }
 {
-    let columns = c.up_to(memory::MAX_COUNT, Refusal::OutOfRange)?;
-    let rows = c.up_to(memory::MAX_COUNT, Refusal::OutOfRange)?;
+    let columns = c.at_most_or(memory::MAX_COUNT, Refusal::OutOfRange)?;
+    let rows = c.at_most_or(memory::MAX_COUNT, Refusal::OutOfRange)?;
     read_columns(c, columns, vars)?;
     read_rows(c, rows, columns)
 }
@@ -74,7 +74,7 @@ pub fn read_table(c: &mut Cursor, vars: Variables) -> Result<(), Refusal>
 pub fn read_different(c: &mut Cursor, vars: Variables) -> Result<(), Refusal>
     ensures { parsed result c.new.rest.now ≡ passed (different-of vars.bools vars.ints c.old.rest.now) }
 {
-    let count = c.up_to(memory::MAX_COUNT, Refusal::OutOfRange)?;
+    let count = c.at_most_or(memory::MAX_COUNT, Refusal::OutOfRange)?;
     read_columns(c, count, vars)
 }
 

@@ -14,3 +14,14 @@ abbrev pub parsed_or : {A : Type 0} → ℕ → Result (Option A) Refusal → Li
 parsed_or k (Ok (Some a)) r = ok a r
 parsed_or k (Ok None) r = refuse k
 parsed_or k (Err e) r = refuse (number_of e)
+
+-- what was read with the words after it, or the refusal where it is a number itself
+abbrev pub numbered : {A : Type 0} → Result A ℕ → List ℤ → Parsed A
+numbered (Ok a) r = ok a r
+numbered (Err k) r = refuse k
+
+-- P holds where no number was read
+abbrev pub StaysOnNone : {A : Type 0} → Result (Option A) Refusal → Type 0 → Type 0
+StaysOnNone (Ok (Some a)) P = Unit {0}
+StaysOnNone (Ok None) P = P
+StaysOnNone (Err e) P = P
