@@ -41,6 +41,28 @@ module _ (ws : List ℤ) (at : ℕ) where
     enum_inv (Range low high) h z go = absurd (z (sym (kind_is (Range low high) h)))
     enum_inv (Enumerative xs) h z go = go xs refl h
 
+    range_inv : {X : Type 0} (dm : Domain) → Has ws at (encode_domain dm) → k ≡ 0 → ((low high : ℤ) → dm ≡ Range low high → Has ws at (pos 0 ∷ low ∷ high ∷ []) → X) → X
+    range_inv (Range low high) h z go = go low high refl h
+    range_inv (Enumerative xs) h z go = absurd (let e : 1 ≡ k = kind_is (Enumerative xs) h in omega arith)
+
+    -- ---- `domain_end`
+
+    pub range_fits : DomainAt ws at → k ≡ 0 → at + 3 ≤ length ws
+    range_fits a z = range_inv a.it a.words z λ low high q h. omega (arith, has_fits ws at _ h (omega arith))
+
+    pub range_end : k ≡ 0 → (dm : Domain) → Has ws at (encode_domain dm) → at + 3 ≡ at + length (encode_domain dm)
+    range_end z dm h = range_inv dm h z λ low high q g. rw q refl
+
+    module _ (n : ℕ) (hn : get_or ws (at + 1) (pos 0) ≡ pos n) where
+      count_is : (xs : List ℤ) → Has ws at (pos 1 ∷ pos (length xs) ∷ xs) → length xs ≡ n
+      count_is xs h = pos_eq _ _ _ (has_word ws (at + 1) _ _ (pos 0) (has_rest ws at _ _ h)) hn
+
+      pub enum_fits : DomainAt ws at → (k ≡ 0 → ⊥) → at + 2 + n ≤ length ws
+      enum_fits a z = enum_inv a.it a.words z λ xs q h. omega (arith, has_fits ws at _ h (omega arith), count_is xs h)
+
+      pub enum_end : (k ≡ 0 → ⊥) → (dm : Domain) → Has ws at (encode_domain dm) → at + 2 + n ≡ at + length (encode_domain dm)
+      enum_end z dm h = enum_inv dm h z λ xs q g. rw q (omega (arith, count_is xs g))
+
     -- ---- `domain_at`
 
     pub count_plain : DomainAt ws at → (k ≡ 0 → ⊥) → Plain ws (at + 1)

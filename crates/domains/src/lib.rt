@@ -35,10 +35,11 @@ pub fn domain_end(words: &[i32], at: usize) -> usize
     requires { DomainAt words.now at }
     ensures { (dm : Domain) → Has words.now at (encode_domain dm) → result ≡ at + length (encode_domain dm) }
 {
-    match domain_at(words, at) {
-        Values::Range(..) => at + 3,
-        Values::Enumerative(values) => at + 2 + values.len(),
+    if number(words, at) == 0 {
+        return at + 3;
     }
+    let n = number(words, at + 1);
+    at + 2 + n
 }
 
 // The place of variable v's domain.
