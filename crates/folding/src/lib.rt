@@ -30,11 +30,11 @@ pub struct Folded {
 
 // The same of a list's members, whether one of them settles the list, and how many are kept.
 #[derive(Clone, Copy)]
-struct Listed {
-    next: usize,
-    end: usize,
-    hit: bool,
-    kept: usize,
+pub struct Listed {
+    pub next: usize,
+    pub end: usize,
+    pub hit: bool,
+    pub kept: usize,
 }
 
 // The operators with two sides, each with its code.

@@ -12,7 +12,7 @@ ghost use Rattle.passes.specs.Skip.{SomeInt, SomeTerms, SomeBool, SomeMembers, I
 ghost use Rattle.passes.specs.Contract.{Stands, StandMembers, ComparisonPost, PropPost, MembersPost};
 ghost use Rattle.passes.specs.Statements.{ReadyColumns, ColumnsPost, ReadyStmt, StmtPost, ReadyStmts, StmtsPost, StandsStmt, PropStmtPost, StandStmts, PropStmtsPost, SomeColumns, SkipColumnsPost, SkipStmtPost};
 
-use folding::Span;
+pub use folding::Span;
 
 // What requiring comes to, the worse the greater.
 #[derive(Clone, Copy, PartialEq, Eq, PartialOrd, Ord)]
@@ -32,9 +32,9 @@ pub struct Required {
 
 // The place behind an expression's own words, and how many expressions that stand in it follow there.
 #[derive(Clone, Copy)]
-struct Step {
-    next: usize,
-    inner: usize,
+pub struct Step {
+    pub next: usize,
+    pub inner: usize,
 }
 
 // Over all of an If's words, of any other integer expression's own two: how many terms follow.
