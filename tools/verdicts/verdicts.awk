@@ -25,6 +25,7 @@ function function_at(file, old,    line, found, here, type, fn, indent, at, n, s
             started = above ? above : n
         } else if (match(line, /^impl(<[^>]*>)? [A-Za-z0-9_]+/)) { type = substr(line, 1, RLENGTH); sub(/.* /, "", type); type = type "/" }
         above = line ~ /^ *#\[/ ? (above ? above : n) : 0
+        if (match(line, /#\[cycle\([A-Za-z0-9_]+\)\]/)) is_cycle[substr(line, RSTART + 8, RLENGTH - 10)] = 1
         if (index(line, old)) { found++; here = fn == "" ? "" : type fn; from = started }
         if (fn != "" && line == indent "}") { if (here == type fn && from == started) ended = n; fn = "" }
         if (line == "}") type = ""
@@ -65,7 +66,7 @@ function read_log(    line, rest, text, current) {
     close(log_file)
 }
 
-# The folders of proofs: `f`, or of a cycle `+f_g`, whose answers begin with the function's name.
+# The folders of proofs: `f`, or of a cycle `+name`, whose answers begin with the function's name where the cycle has several.
 function read_proofs(    path) {
     while ((getline path) > 0) {
         sub(/^proofs\//, "", path)
@@ -80,8 +81,8 @@ function is_own(e, place,    folder, last, in_folder) {
     if (index(error_path[e], "proofs/" place "/") == 1) return 1
     in_folder = "proofs/" folder "+"
     if (index(error_path[e], in_folder) != 1) return 0
-    # in a cycle of one function the answers have no such prefix
-    if (index(error_path[e], in_folder last "/") == 1) return 1
+    # in a cycle of one function, which src gives no name, the answers have no such prefix
+    if (index(error_path[e], in_folder last "/") == 1 && !(last in is_cycle)) return 1
     return index(error_at[e], last "-") == 1 || error_at[e] == "decreases-" last || error_at[e] == last
 }
 
