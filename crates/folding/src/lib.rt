@@ -82,8 +82,12 @@ fn shift(work: &mut [i32], from: usize, end: usize, to: usize) -> usize
     requires { (to ≤ from) × (from ≤ end) × (end ≤ length work.old) }
     ensures { Stored work.old to (slice from end work.old) work.new result }
 {
-    work.copy_within(from..end, to);
-    to + (end - from)
+    let mut p = to;
+    for i in from..end {
+        work[p] = work[i];
+        p += 1;
+    }
+    p
 }
 
 // ---- the table

@@ -1,20 +1,19 @@
 -- A word read, a number stored; what a turn of each loop leaves to do, and its end. Assumes nothing.
-use mathlib.Core.Path.{◌≡◌, refl, sym, ap}
-use mathlib.Core.List.{List}
+use mathlib.Core.Path.{◌≡◌, refl, sym, ap, ◌∙◌}
+use mathlib.Core.List.{List, [], ◌∷◌, ◌++◌, append_assoc, append-nil}
 use Prim.Native.Nat.{ℕ, suc, ◌+◌, ◌-◌, ◌≤◌, ◌<◌}
 use native.Mathlib.Omega.{arith}
+use native.Mathlib.Numerals.{add-one}
 use lib.IntN.{ℤ, pos, negsuc, nat_abs}
-use lib.ListN.{length, take, drop, set, length-drop}
-use lib.Seq.{length-take-le}
+use lib.ListN.{length, take, drop, get_or, set, length-set, length-drop}
+use lib.Seq.{take-suc, take-suc-set, drop-set-lt, get_or-drop, length-take-le}
 use lib.Signed.{mag}
 use mir.Syntax.{w32}
 use mir.Val.{to_z, of_z}
 use mir.Facts.{to_z-of_z}
-use Rattle.laws.specs.Slices.{Stored}
+use Rattle.laws.specs.Slices.{Stored, drop_up}
 use Rattle.std.proofs.Common.{Result, Ok, Err}
 use Rattle.std.specs.Result.{OkIff, result_unwrap_or}
-use Rattle.std.proofs.lemmas.Slice.{take-put_mid, drop-put_mid}
-use borrow.Rule.Slice.PartMut.{put_mid}
 use Rattle.std.specs.Int.{FitsUnsignedBits}
 use Rattle.memory.specs.Cleared.{cleared}
 use Rattle.memory.specs.Number.{nat}
@@ -54,13 +53,30 @@ clear_none w i to l = let m : to - i ≡ 0 = omega arith in rw m refl
 
 -- ---- `copy_words`
 
-pub copied : (ws : List ℤ) (at n : ℕ) (out : List ℤ) (o : ℕ) (part : List ℤ) → at + n ≤ length ws → o + n ≤ length out → part ≡ take (at + n - at) (drop at ws) → Stored out o (take n (drop at ws)) (put_mid o (o + n - o) out part) (o + n)
-copied ws at n out o part h l e =
-    let m : at + n - at ≡ n = omega arith in
-    let k : o + n - o ≡ n = omega arith in
-    let f : part ≡ take n (drop at ws) = rw m at e in
-    let s : length (take n (drop at ws)) ≡ n = length-take-le n (drop at ws) (omega (arith, length-drop at ws)) in
-    rw (k, f) (record {
-      above = drop-put_mid o n out (take n (drop at ws)) (o + n) (omega arith) (omega arith) s;
-      pushed = record { end = ap (λ j. o + j) (sym s); words = take-put_mid o n out (take n (drop at ws)) (o + n) (ap (λ j. o + j) (sym s)) (omega arith) };
-    })
+pub record Copying (ws : List ℤ) (at : ℕ) (out₀ : List ℤ) (o : ℕ) (out : List ℤ) (i : ℕ) : Type 0 where
+  pub size : length out ≡ length out₀
+  pub low : take (o + i) out ≡ take o out₀ ++ take i (drop at ws)
+  pub high : drop (o + i) out ≡ drop (o + i) out₀
+
+module _ (ws : List ℤ) (at : ℕ) (out₀ : List ℤ) (o : ℕ) where
+  pub copying_none : Copying ws at out₀ o out₀ 0
+  copying_none = let z : o + 0 ≡ o = omega arith in record { size = refl; low = rw z (sym (append-nil (take o out₀))); high = refl }
+
+  pub copying_next : (out : List ℤ) (i : ℕ) (out' : List ℤ) → at + i < length ws → o + i < length out → out' ≡ set out (o + i) (get_or ws (at + i) (pos 0)) → Copying ws at out₀ o out i → Copying ws at out₀ o out' (i + 1)
+  copying_next out i out' h l e c =
+      let w = get_or ws (at + i) (pos 0) in
+      let n : o + (i + 1) ≡ suc (o + i) = omega arith in
+      let j : i + 1 ≡ suc i = add-one i in
+      let g : get_or (drop at ws) i (pos 0) ≡ w = get_or-drop at ws i (pos 0) in
+      let t : take (suc i) (drop at ws) ≡ take i (drop at ws) ++ (w ∷ []) = take-suc (drop at ws) i (pos 0) (omega (arith, length-drop at ws)) ∙ ap (λ x. take i (drop at ws) ++ (x ∷ [])) g in
+      record {
+        size = ap length e ∙ length-set out (o + i) w ∙ c.size;
+        low = rw (e, n, j, take-suc-set out (o + i) w l, c.low, t) (append_assoc (take o out₀) (take i (drop at ws)) (w ∷ []));
+        high = rw (e, n) (drop-set-lt (suc (o + i)) out (o + i) w (omega arith) ∙ drop_up (o + i) (suc (o + i)) out out₀ c.high (omega arith));
+      }
+
+  pub copying_end : (out : List ℤ) (i n : ℕ) → i ≡ n → at + n ≤ length ws → Copying ws at out₀ o out i → Stored out₀ o (take n (drop at ws)) out (o + n)
+  copying_end out i n e h c = rw (← e) (record {
+    above = c.high;
+    pushed = record { end = omega (arith, length-take-le i (drop at ws) (omega (arith, length-drop at ws))); words = c.low };
+  })

@@ -130,6 +130,8 @@ pub fn copy_words(words: &[i32], at: usize, n: usize, work: &mut [i32], o: usize
     requires { (at + n ≤ length words.now) × (o + n ≤ length work.old) }
     ensures { Stored work.old o (take n (drop at words.now)) work.new result }
 {
-    work[o..o + n].copy_from_slice(&words[at..at + n]);
+    for k in 0..n {
+        copy_word(words, at + k, work, o + k);
+    }
     o + n
 }

@@ -1,21 +1,24 @@
-use mathlib.Core.Path.{◌≡◌, sym, ap, ◌∙◌}
-use mathlib.Core.List.{◌++◌}
-use Prim.Native.Nat.{◌+◌, ◌-◌, ◌≤◌}
 use native.Mathlib.Omega.{arith}
-use lib.ListN.{length, take, drop, length-take, length-drop}
-use lib.Seq.{slice, take-paste, drop-paste}
-use Rattle.std.proofs.lemmas.List.{drop-take}
+use lib.IntN.{pos}
+use lib.ListN.{get_or}
+use mir.Facts.{to_z-of_z}
+use mir.Syntax.{w32}
+use mir.Val.{SFits}
+use borrow.Author.Rules.{rules}
+use Rattle.laws.specs.Slices.{moving_none, moving_next, moving_end}
 use Rattle.folding.proofs.shift.Goals as goal
 
+pub loop-i-init : goal.loop-i-init
+loop-i-init c = moving_none _ _ _
+
+pub loop-i-preserved : goal.loop-i-preserved
+loop-i-preserved c =
+    let l = c.loop-i in
+    let f : SFits w32 (get_or l.work l.i (pos 0)) = search rules in
+    rw (to_z-of_z f) (moving_next _ _ _ _ _ _ _ c.requires.0 (omega arith) l.invariant)
+
+pub shape_of-work : goal.shape_of-work
+shape_of-work c = c.loop-i.invariant.size
+
 pub returns : goal.returns
-returns c =
-    let l = c.args.work.now in
-    let n = c.args.end - c.args.from in
-    let part = drop c.args.from l in
-    let e : c.args.from + n ≡ c.args.end = omega arith in
-    let few : n ≤ length part = omega (arith, length-drop c.args.from l) in
-    let s : take n part ≡ slice c.args.from c.args.end l = sym (drop-take c.args.from n l) ∙ ap (λ k. slice c.args.from k l) e in
-    rw c.copy_within.ensures.after record {
-      pushed = record { end = omega (arith, ap length s, length-take n part); words = take-paste l c.args.to part n (omega arith) few ∙ ap (λ k. take c.args.to l ++ k) s };
-      above = drop-paste l c.args.to part n (omega arith) few;
-    }
+returns c = moving_end _ _ _ _ _ _ _ (omega arith) c.requires.2 c.loop-i.invariant
