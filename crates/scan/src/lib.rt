@@ -28,6 +28,7 @@ fn constant_at(x: usize, g: bool, q: usize) -> Node
 }
 
 // What the code word at a place asks; of a comparison, its operator's code and where its first side stands.
+#[inline]
 pub fn node_at(work: &[i32], g: bool, at: usize) -> Node
     requires { (folded_end ≤ length work.now) × (at ≤ folded_end) }
     ensures { result ≡ node_of (read_part work.now) g at (word_in (read_part work.now) at) }
