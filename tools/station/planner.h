@@ -7,7 +7,7 @@
                be lent, 0 included; NULL only with length 0. The slices of one call do not overlap, and int32_t and size_t are aligned.
    Memory      No heap, no globals, no files: an entry uses the lent slices and the stack, nothing else. So calls on different
                slices may run at once in any number of threads. Every call ends.
-   Stack       Lend a thread 512 KiB. The most that compile_set or compile_set_with was seen to use is 264,232 bytes: stack.c beside this paints a
+   Stack       Lend a thread 512 KiB. The most that compile_set or compile_set_with was seen to use is 261,176 bytes: stack.c beside this paints a
                thread's stack, calls with the deepest and widest sets (2,604 of them, with Ifs in conditions and branches), and
                looks how far down the paint is gone. This is measured, not proved.
    Work slice  PLANNER_WORK_WORDS words or more, else PLANNER_SHORT_WORK. What is in it does not matter; it is zero after
