@@ -652,6 +652,27 @@ fn all_different(walk: &Walk<'_>, at: usize, n: usize) -> Tested
 // ---- statements
 
 // The place behind the statement, and the refusal that it hits.
+fn one_statement(walk: &Walk<'_>, at: usize) -> Tested
+    requires { ReadyStmt walk.now.set.now walk.now.work.now at walk.now.ints }
+    ensures { StmtPost walk.now.set.now walk.now.work.now at walk.now.ints result.next (hit result.refusal) }
+{
+    let code = domains::number(walk.set, at);
+    if code == 1 {
+        return rules(walk, at + 1, 1);
+    }
+    let n = domains::number(walk.set, at + 1);
+    if code == 3 {
+        return all_different(walk, at + 2, n);
+    }
+    let k = domains::number(walk.set, at + 2);
+    let t = columns(walk, at + 3, n);
+    Tested {
+        next: t.next + n * k,
+        refusal: t.refusal,
+    }
+}
+
+// The same for callers that hold no walk.
 pub fn statement(set: &[i32], work: &[i32], at: usize, ni: usize) -> Tested
     requires { ReadyStmt set.now work.now at ni × (ni ≤ max_ints) }
     ensures { StmtPost set.now work.now at ni result.next (hit result.refusal) }
@@ -661,20 +682,7 @@ pub fn statement(set: &[i32], work: &[i32], at: usize, ni: usize) -> Tested
         work,
         ints: ni,
     };
-    let code = domains::number(set, at);
-    if code == 1 {
-        return rules(walk, at + 1, 1);
-    }
-    let n = domains::number(set, at + 1);
-    if code == 3 {
-        return all_different(walk, at + 2, n);
-    }
-    let k = domains::number(set, at + 2);
-    let t = columns(walk, at + 3, n);
-    Tested {
-        next: t.next + n * k,
-        refusal: t.refusal,
-    }
+    one_statement(walk, at)
 }
 
 fn statements(walk: &Walk<'_>, at: usize, n: usize) -> Option<Limit>
@@ -684,7 +692,7 @@ fn statements(walk: &Walk<'_>, at: usize, n: usize) -> Option<Limit>
     let mut next = at;
     let mut refusal = None;
     for _ in 0..n {
-        let t = statement(walk.set, walk.work, next, walk.ints);
+        let t = one_statement(walk, next);
         refusal = first(refusal, t.refusal);
         next = t.next;
     }
